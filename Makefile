@@ -1,0 +1,23 @@
+PROGRAM = crates/invdesk/out/invdesk
+PREFIX ?= /usr/local
+
+# The program, built once it is proved, on the first example.
+run:
+	cd crates/invdesk && rt run < stdin
+
+# The gate: every proof from nothing, the must-fail edits, the tests, and the program's stored run.
+test:
+	rt ci
+
+# The program, built once it is proved.
+build:
+	cd crates/invdesk && rt run < /dev/null
+
+install: build
+	install -D $(PROGRAM) $(PREFIX)/bin/invdesk
+
+# Lines per second and peak memory over 10,000 lines.
+bench: build
+	python3 tools/bench.py $(PROGRAM)
+
+.PHONY: run test build install bench
