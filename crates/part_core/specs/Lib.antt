@@ -1,0 +1,16 @@
+pub mod Catalogue
+pub mod Catalogues
+pub mod Checks
+pub mod Counter
+pub mod Day
+pub mod Flags
+pub mod Lending
+pub mod Numbered
+pub mod Pattern
+pub mod Refusal
+pub mod Select
+pub mod Serial
+pub mod Sheet
+pub mod Slots
+pub mod Status
+pub mod Text
