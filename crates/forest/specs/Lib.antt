@@ -1,0 +1,5 @@
+pub mod Forest
+pub mod Moves
+pub mod Rows
+pub mod Sound
+pub mod Tables
