@@ -1,0 +1,3 @@
+pub mod Stock
+pub mod Sums
+pub mod Yards

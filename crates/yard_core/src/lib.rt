@@ -1,0 +1,11 @@
+//! The yard: locations, items and their history, and the moves on them.
+#![tactic(auto)]
+
+mod location;
+mod sums;
+mod yard;
+
+pub use forest::{Entry, Item, Kind, Lot, Note, Place, Reason};
+pub use location::Location;
+pub use sums::Sums;
+pub use yard::Yard;

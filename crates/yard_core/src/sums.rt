@@ -1,0 +1,40 @@
+//! What the history records of a part, and what lies in stock.
+ghost use Rattle.std.specs.Prelude.{◌≡◌, if◌then◌else◌, ◌==◌};
+ghost use Rattle.forest.specs.Forest.{counted};
+
+use forest::{Entry, Item, Kind};
+use part_core::Id;
+
+/// The sums over one part: what the history records of it by kind, and its pieces that are at
+/// locations, sent, and used, loose or installed at any depth. Each fits 128 bits whatever the history.
+#[derive(Clone, Copy, Debug)]
+pub struct Sums {
+    pub received: u128,
+    pub found: u128,
+    pub built: u128,
+    pub returned: u128,
+    pub consumed: u128,
+    pub shipped: u128,
+    pub written: u128,
+    pub present: u128,
+    pub sent: u128,
+    pub used: u128,
+}
+
+/// The item's quantity, where it is of the part.
+pub fn amount_of(part: Id, item: &Item) -> u64
+    ensures { result ≡ (if item.now.part == part then item.now.quantity else 0) }
+{
+    if item.part == part { item.quantity } else { 0 }
+}
+
+/// The entry's quantity, where it is of the kind and the part.
+pub fn counted_of(kind: Kind, part: Id, entry: &Entry) -> u64
+    ensures { result ≡ counted kind part entry.now.note }
+{
+    if entry.note.kind.code() == kind.code() && entry.note.part == part {
+        entry.note.quantity
+    } else {
+        0
+    }
+}
