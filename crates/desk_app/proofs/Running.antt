@@ -1,0 +1,139 @@
+-- A run, line by line.
+use Rattle.std.proofs.Common.{◌≡◌, ◌+◌, ◌<◌, ◌≤◌, ◌==◌, ℕ, Bool, true, false, ◌&&◌, cond, List, [], ◌∷◌, ◌++◌, take, drop, length, arith, ap, sym, refl, ◌∙◌, subst, append_assoc, append-nil, inl, inr, length-append, take-append-drop}
+use Rattle.std.specs.Prelude.{Option, Some, None, ◌⊎◌, Result, Ok, Err, IfErr, OnErr}
+use Rattle.std.specs.Result.{IsErrAnd}
+use Rattle.std.specs.Io.KnownBytes.{Keeps, Appends}
+use Rattle.std.proofs.KnownBytes.{Appends-nil, Appends-trans}
+use Rattle.desk_app.specs.declared.lines.Lines.{Lines}
+use Rattle.desk_app.specs.Cuts.{unread, left, held, has_end, first_of, rest_of, TakesLine}
+use Rattle.desk_core.specs.Machine.{State}
+use Rattle.desk_app.specs.declared.end.Stop.{Stop}
+use Rattle.desk_app.specs.declared.end.Stop.TheVariants.{ReadFailed}
+use Rattle.desk_app.specs.Runs.{onto_first, lines_of, line_step, line_after, line_out, is_fine, run_after, run_out, all_fine, Stopped, Finished, CutShort}
+use Rattle.desk_app.proofs.Stepping.{step-held}
+
+-- the lines so far and those to come are all lines; the state, the text and the tests are theirs
+abbrev pub Running : Option (List ℕ) → Option (List ℕ) → Option (List ℕ) → Option (List ℕ) → State → State → ℕ → Bool → Type 0
+Running None r w w' s s' n f = Unit {0}
+Running (Some xs) None w w' s s' n f = ⊥
+Running (Some xs) (Some ys) w w' s s' n f = (done : List (List ℕ)) × (lines_of xs ≡ done ++ lines_of ys) × (s' ≡ run_after s 1 done) × Appends w w' (run_out s 1 done) × (f ≡ all_fine s 1 done) × (n ≡ 1 + length done)
+
+pub lines_first : (ys : List ℕ) → 0 < length ys → lines_of ys ≡ first_of ys ∷ lines_of (rest_of ys)
+lines_first [] h = absurd (omega arith)
+lines_first (b ∷ []) h = elim (b == 10) as (λ c. cond c ([] ∷ []) ((b ∷ []) ∷ []) ≡ cond c [] (b ∷ []) ∷ lines_of (cond c [] [])) [ true ↦ refl | false ↦ refl ]
+lines_first (b ∷ x ∷ bs) h =
+    elim (b == 10) as (λ c. cond c ([] ∷ lines_of (x ∷ bs)) (onto_first b (lines_of (x ∷ bs))) ≡ cond c [] (b ∷ first_of (x ∷ bs)) ∷ lines_of (cond c (x ∷ bs) (rest_of (x ∷ bs)))) [
+      | true ↦ refl
+      | false ↦ ap (onto_first b) (lines_first (x ∷ bs) (omega arith))
+    ]
+
+pub run_after-push : (s : State) (n : ℕ) (ls : List (List ℕ)) (l : List ℕ) → run_after s n (ls ++ l ∷ []) ≡ line_after (run_after s n ls) (n + length ls) l
+run_after-push s n [] l = let e : n ≡ n + 0 = omega arith in ap (λ k. line_after s k l) e
+run_after-push s n (k ∷ ls) l =
+    let e : n + 1 + length ls ≡ n + length (k ∷ ls) = omega arith in
+    run_after-push (line_after s n k) (n + 1) ls l ∙ ap (λ m. line_after (run_after s n (k ∷ ls)) m l) e
+
+pub run_out-push : (s : State) (n : ℕ) (ls : List (List ℕ)) (l : List ℕ) → run_out s n (ls ++ l ∷ []) ≡ run_out s n ls ++ line_out (run_after s n ls) (n + length ls) l
+run_out-push s n [] l = let e : n ≡ n + 0 = omega arith in append-nil (line_out s n l) ∙ ap (λ k. line_out s k l) e
+run_out-push s n (k ∷ ls) l =
+    let e : n + 1 + length ls ≡ n + length (k ∷ ls) = omega arith in
+    ap (λ v. line_out s n k ++ v) (run_out-push (line_after s n k) (n + 1) ls l ∙ ap (λ m. run_out (line_after s n k) (n + 1) ls ++ line_out (run_after s n (k ∷ ls)) m l) e)
+      ∙ sym (append_assoc (line_out s n k) _ _)
+
+and_assoc : (a b c : Bool) → ((a && b) && c) ≡ (a && (b && c))
+and_assoc true b c = refl
+and_assoc false b c = refl
+
+and_true : (a : Bool) → (a && true) ≡ a
+and_true true = refl
+and_true false = refl
+
+pub all_fine-push : (s : State) (n : ℕ) (ls : List (List ℕ)) (l : List ℕ) → all_fine s n (ls ++ l ∷ []) ≡ (all_fine s n ls && is_fine (run_after s n ls) (n + length ls) l)
+all_fine-push s n [] l = let e : n ≡ n + 0 = omega arith in and_true (is_fine s n l) ∙ ap (λ k. is_fine s k l) e
+all_fine-push s n (k ∷ ls) l =
+    let e : n + 1 + length ls ≡ n + length (k ∷ ls) = omega arith in
+    ap (λ v. is_fine s n k && v) (all_fine-push (line_after s n k) (n + 1) ls l ∙ ap (λ m. all_fine (line_after s n k) (n + 1) ls && is_fine (run_after s n (k ∷ ls)) m l) e)
+      ∙ sym (and_assoc (is_fine s n k) _ _)
+
+pub running_start : (o w : Option (List ℕ)) (t : Lines) (s : State) → unread t ≡ [] → Running o (left o t) w w s s 1 true
+running_start None w t s h = tt
+running_start (Some xs) w t s h = ([], ap (λ u. lines_of (u ++ xs)) (sym h), refl, Appends-nil w, refl, refl)
+
+pub running_stop : (stop : Stop) (o r w w' : Option (List ℕ)) (s s' : State) (n : ℕ) (f : Bool) → Running o r w w' s s' n f → Stopped stop o w w' s s'
+running_stop stop None r w w' s s' n f p = tt
+running_stop stop (Some xs) None w w' s s' n f p = absurd p
+running_stop stop (Some xs) (Some ys) w w' s s' n f (done, e, a, o, t, c) = (done, lines_of ys, run_out s 1 done, [], e, a, sym (append-nil _), o, λ h. refl)
+
+pub running_done : (o r r' w w' : Option (List ℕ)) (s s' : State) (n : ℕ) (f : Bool) (line : List ℕ) → Running o r w w' s s' n f → TakesLine r false line r' → Finished o w w' s s' f
+running_done None r r' w w' s s' n f line p t = tt
+running_done (Some xs) None r' w w' s s' n f line p t = absurd p
+running_done (Some xs) (Some ys) None w w' s s' n f line p t = absurd t
+running_done (Some xs) (Some ys) (Some zs) w w' s s' n f line (done, e, a, o, g, c) t =
+    let all : done ≡ lines_of xs = sym (append-nil done) ∙ ap (λ v. done ++ lines_of v) (sym t.0) ∙ sym e in
+    (a ∙ ap (run_after s 1) all, subst (λ v. Appends w w' (run_out s 1 v)) all o, g ∙ ap (all_fine s 1) all)
+
+-- the line that was taken
+abbrev Taken : List ℕ → List (List ℕ) → List ℕ → List ℕ → Type 0
+Taken xs done ys zs = lines_of xs ≡ (done ++ first_of ys ∷ []) ++ lines_of zs
+
+taken : (xs ys zs : List ℕ) (done : List (List ℕ)) → lines_of xs ≡ done ++ lines_of ys → 0 < length ys → zs ≡ rest_of ys → Taken xs done ys zs
+taken xs ys zs done e h z = e ∙ ap (λ v. done ++ v) (lines_first ys h ∙ ap (λ v. first_of ys ∷ lines_of v) (sym z)) ∙ sym (append_assoc done (first_of ys ∷ []) (lines_of zs))
+
+-- the step of the line that was taken is that of the whole line, in the state of the lines before it
+step_there : (s s' : State) (n : ℕ) (done : List (List ℕ)) (line l : List ℕ) → s' ≡ run_after s 1 done → n ≡ 1 + length done → line ≡ held l
+    → line_step s' n line ≡ line_step (run_after s 1 done) (1 + length done) l
+step_there s s' n done line l a c h = ap (line_step s' n) h ∙ step-held s' n l ∙ ap (λ v. line_step v n l) a ∙ ap (λ m. line_step (run_after s 1 done) m l) c
+
+pub running_line : (o r r' w w' w'' : Option (List ℕ)) (s s' s'' : State) (n : ℕ) (f f' : Bool) (line : List ℕ) → Running o r w w' s s' n f → TakesLine r true line r'
+    → s'' ≡ line_after s' n line → Appends w' w'' (line_out s' n line) → f' ≡ (f && is_fine s' n line) → Running o r' w w'' s s'' (n + 1) f'
+running_line None r r' w w' w'' s s' s'' n f f' line p t a' o' g' = tt
+running_line (Some xs) None r' w w' w'' s s' s'' n f f' line p t a' o' g' = absurd p
+running_line (Some xs) (Some ys) None w w' w'' s s' s'' n f f' line p t a' o' g' = absurd t
+running_line (Some xs) (Some ys) (Some zs) w w' w'' s s' s'' n f f' line (done, e, a, o, g, c) t a' o' g' =
+    let l = first_of ys in
+    let there = step_there s s' n done line l a c t.1 in
+    (done ++ l ∷ [], taken xs ys zs done e t.0 t.2, a' ∙ ap (λ v. v.0) there ∙ sym (run_after-push s 1 done l),
+      subst (Appends w w'') (ap (λ v. run_out s 1 done ++ v.1) there ∙ sym (run_out-push s 1 done l)) (Appends-trans w w' w'' _ _ o o'),
+      g' ∙ ap (λ v. v && is_fine s' n line) g ∙ ap (λ v. all_fine s 1 done && v.2) there ∙ sym (all_fine-push s 1 done l),
+      omega (arith, length-append done (l ∷ [])))
+
+appends_kept : (a b c : Option (List ℕ)) (bs : List ℕ) → Appends a b bs → Keeps b c → Appends a c bs
+appends_kept None b c bs p k = tt
+appends_kept (Some x) None c bs p k = absurd p
+appends_kept (Some x) (Some y) None bs p k = absurd k
+appends_kept (Some x) (Some y) (Some z) bs p k = k ∙ p
+
+pub running_cut : (stop : Stop) (o r r' w w' w'' : Option (List ℕ)) (s s' s'' : State) (n : ℕ) (f : Bool) (line : List ℕ) → (stop ≡ ReadFailed → ⊥) → Running o r w w' s s' n f → TakesLine r true line r'
+    → CutShort w' w'' s' s'' n line → Stopped stop o w w'' s s''
+running_cut stop None r r' w w' w'' s s' s'' n f line q p t x = tt
+running_cut stop (Some xs) None r' w w' w'' s s' s'' n f line q p t x = absurd p
+running_cut stop (Some xs) (Some ys) None w w' w'' s s' s'' n f line q p t x = absurd t
+running_cut stop (Some xs) (Some ys) (Some zs) w w' w'' s s' s'' n f line q (done, e, a, o, g, c) t (inl (same, kept)) =
+    (done, lines_of ys, run_out s 1 done, [], e, same ∙ a, sym (append-nil _), appends_kept _ _ _ _ o kept, λ h. refl)
+running_cut stop (Some xs) (Some ys) (Some zs) w w' w'' s s' s'' n f line q (done, e, a, o, g, c) t (inr (part, more, a', split, o')) =
+    let l = first_of ys in
+    let there = step_there s s' n done line l a c t.1 in
+    let out : line_out (run_after s 1 done) (1 + length done) l ≡ part ++ more = sym (ap (λ v. v.1) there) ∙ split in
+    (done ++ l ∷ [], lines_of zs, run_out s 1 done ++ part, more, taken xs ys zs done e t.0 t.2, a' ∙ ap (λ v. v.0) there ∙ sym (run_after-push s 1 done l),
+      run_out-push s 1 done l ∙ ap (λ v. run_out s 1 done ++ v) out ∙ sym (append_assoc (run_out s 1 done) part more),
+      Appends-trans w w' w'' _ _ o o', λ h. absurd (q h))
+
+pub cut_short : (w w' : Option (List ℕ)) (s s' : State) (n k : ℕ) (line text : List ℕ) (f : Bool) → line_step s n line ≡ (s', text, f)
+    → Appends w w' (take k text) → CutShort w w' s s' n line
+cut_short w w' s s' n k line text f e o = inr (take k text, drop k text, sym (ap (λ p. p.0) e), ap (λ p. p.1) e ∙ sym (take-append-drop k text), o)
+
+pub on_err : {T E Q : Type 0} (r : Result T E) → Q → OnErr r Q
+on_err (Ok x) q = tt
+on_err (Err e) q = q
+
+pub if_err : {T E : Type 0} {Q : E → Type 0} (r : Result T E) → ((e : E) → Q e) → IfErr r Q
+if_err (Ok x) q = tt
+if_err (Err e) q = q e
+
+pub stopped_start : (stop : Stop) (o w : Option (List ℕ)) (s : State) → Stopped stop o w w s s
+stopped_start stop None w s = tt
+stopped_start stop (Some xs) w s = ([], lines_of xs, [], [], refl, refl, refl, Appends-nil w, λ h. refl)
+
+pub if_err_as : {T E : Type 0} (Q : E → Type 0) (r : Result T E) (e : E) → IsErrAnd r (λ d. d ≡ e) → Q e → IfErr r Q
+if_err_as Q (Ok x) e h q = tt
+if_err_as Q (Err d) e h q = subst Q (sym h) q

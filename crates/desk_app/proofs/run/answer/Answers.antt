@@ -1,0 +1,26 @@
+use Rattle.std.proofs.Common.{◌≡◌, ◌∙◌, ap, sym, subst, string_bytes}
+use Rattle.std.specs.Io.KnownBytes.{Appends}
+use Rattle.std.proofs.KnownBytes.{Appends-nil}
+use Rattle.desk_core.specs.Shops.{state_of}
+use Rattle.desk_app.proofs.Stepping.{blank_step}
+use Rattle.desk_app.proofs.Running.{cut_short, on_err}
+use Rattle.desk_app.proofs.run.answer.Goals as goal
+
+pub returns-then-is_blank-clause-fine : goal.returns-then-is_blank-clause-fine
+returns-then-is_blank-clause-fine g c = sym (ap (λ t. t.2) (blank_step (state_of c.args.shop.now) c.args.number c.args.line.now (sym c.is_blank.ensures ∙ c.if-is_blank.true)))
+
+pub returns-then-is_blank-clause-ok : goal.returns-then-is_blank-clause-ok
+returns-then-is_blank-clause-ok g c = sym (ap (λ t. t.0) (blank_step (state_of c.args.shop.now) c.args.number c.args.line.now (sym c.is_blank.ensures ∙ c.if-is_blank.true)))
+
+pub returns-then-is_blank-clause-out : goal.returns-then-is_blank-clause-out
+returns-then-is_blank-clause-out g c =
+    subst (Appends (g.W.Write.contents c.args.writer.now) (g.W.Write.contents c.args.writer.now))
+    (sym (ap (λ t. t.1) (blank_step (state_of c.args.shop.now) c.args.number c.args.line.now (sym c.is_blank.ensures ∙ c.if-is_blank.true))))
+    (Appends-nil (g.W.Write.contents c.args.writer.now))
+
+pub returns-in_err-send-clause-cut : goal.returns-in_err-send-clause-cut
+returns-in_err-send-clause-cut g c =
+    let sent = rw c.as_bytes.ensures.value at c.in_err-send.ensures in
+    on_err c.from_residual-in_err-send.result
+    (cut_short (g.W.Write.contents c.args.writer.now) (g.W.Write.contents c.send.new.writer) (state_of c.args.shop.now) (state_of c.tell.new.shop) c.args.number sent.1
+    c.args.line.now (string_bytes c.in_ok-told.told.text) c.in_ok-told.told.fine c.in_ok-told.ensures.ok sent.3)

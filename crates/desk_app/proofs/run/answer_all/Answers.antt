@@ -1,0 +1,45 @@
+use Rattle.std.proofs.Common.{◌≡◌, ◌&&◌, ◌∙◌, sym, refl, true, false}
+use Rattle.desk_core.specs.Shops.{state_of}
+use Rattle.desk_app.specs.Cuts.{left}
+use Rattle.desk_app.specs.Runs.{is_fine, Stopped}
+use Rattle.desk_app.proofs.Running.{running_stop, running_line, running_cut, stopped_start, if_err, if_err_as}
+use Rattle.desk_app.proofs.run.answer_all.Goals as goal
+use Rattle.desk_app.proofs.run.answer_all.Goals.{then-all, else-all}
+
+pub returns-in_err-lines-clause-stopped : goal.returns-in_err-lines-clause-stopped
+returns-in_err-lines-clause-stopped g c = if_err c.from_residual.result (λ stop. stopped_start stop (g.R.Read.remaining c.args.reader.now) (g.W.Write.contents c.args.writer.now) (state_of c.args.shop.now))
+
+pub returns-in_err-next_line-clause-stopped : goal.returns-in_err-next_line-clause-stopped
+returns-in_err-next_line-clause-stopped g c = if_err c.from_residual-in_err-next_line.result (λ stop. running_stop stop _ _ _ _ _ _ _ _ c.loop-number.invariant.running)
+
+pub returns-in_err-fine-clause-stopped : goal.returns-in_err-fine-clause-stopped
+returns-in_err-fine-clause-stopped g c =
+    let takes = rw c.if-not-branch.false at c.in_ok-next_line.ensures.takes in
+    let cut = rw c.deref.ensures.value at c.in_err-fine.ensures.cut in
+    if_err_as
+    (λ stop. Stopped stop (g.R.Read.remaining c.args.reader.now) (g.W.Write.contents c.args.writer.now) (g.W.Write.contents c.answer.new.writer) (state_of c.args.shop.now) (state_of c.answer.new.shop))
+    c.from_residual-in_err-fine.result c.in_err-fine.field-0.0 c.from_residual-in_err-fine.ensures.1
+    (running_cut c.in_err-fine.field-0.0 (g.R.Read.remaining c.args.reader.now) (left (g.R.Read.remaining c.loop-number.reader) c.loop-number.lines) (left (g.R.Read.remaining c.next_line.new.reader) c.next_line.new.self)
+    (g.W.Write.contents c.args.writer.now) (g.W.Write.contents c.loop-number.writer) (g.W.Write.contents c.answer.new.writer)
+    (state_of c.args.shop.now) (state_of c.loop-number.shop) (state_of c.answer.new.shop) c.loop-number.number c.loop-number.all c.next_line.new.line.items c.in_err-fine.ensures.err c.loop-number.invariant.running takes cut)
+
+pub loop-number-preserved : goal.loop-number-preserved
+loop-number-preserved g c =
+    let takes = rw c.if-not-branch.false at c.in_ok-next_line.ensures.takes in
+    let ok = rw c.deref.ensures.value at c.in_ok-fine.ensures.ok in
+    let out = rw c.deref.ensures.value at c.in_ok-fine.ensures.out in
+    let fine = rw c.deref.ensures.value at c.in_ok-fine.ensures.fine in
+    let both : c.if-all.all ≡ (c.loop-number.all && is_fine (state_of c.loop-number.shop) c.loop-number.number c.next_line.new.line.items) =
+      elim c.if-all.branch [
+        | then-all w ↦ rw w.if-all.true (w.all-is ∙ fine)
+        | else-all w ↦ rw w.if-all.false (w.all-is ∙ w.if-all.false)
+      ] in
+    record {
+      running = running_line (g.R.Read.remaining c.args.reader.now) (left (g.R.Read.remaining c.loop-number.reader) c.loop-number.lines) (left (g.R.Read.remaining c.next_line.new.reader) c.next_line.new.self)
+        (g.W.Write.contents c.args.writer.now) (g.W.Write.contents c.loop-number.writer) (g.W.Write.contents c.answer.new.writer)
+        (state_of c.args.shop.now) (state_of c.loop-number.shop) (state_of c.answer.new.shop) c.loop-number.number c.loop-number.all c.if-all.all c.next_line.new.line.items c.loop-number.invariant.running takes ok out both;
+      sound = c.in_ok-fine.ensures.sound
+    }
+
+pub returns-clause-stopped : goal.returns-clause-stopped
+returns-clause-stopped g c = running_stop _ _ _ _ _ _ _ _ _ c.loop-number.invariant.running

@@ -1,0 +1,100 @@
+-- A run over the lines of a text.
+use Rattle.std.specs.Prelude.{◌≡◌, ℕ, ◌+◌, ◌==◌, ◌&&◌, Bool, true, false, List, [], ◌∷◌, ◌++◌, if◌then◌else◌, ◌⊎◌, Option, Some, None, Result, Ok, Err}
+use Rattle.std.specs.Io.KnownBytes.{Appends, Keeps}
+use Rattle.part_core.specs.declared.refusal.Refusal.TheVariants.{NoSuch}
+use Rattle.desk_core.specs.Machine.{State, Outcome, step}
+use Rattle.desk_app.specs.declared.end.Stop.{Stop}
+use Rattle.desk_app.specs.declared.end.Stop.TheVariants.{ReadFailed}
+use Rattle.desk_app.specs.declared.fault.What.{What}
+use Rattle.desk_app.specs.declared.read.Ask.{Ask}
+use Rattle.desk_app.specs.declared.read.Ask.TheVariants.{Request, Ledger}
+use Rattle.desk_app.specs.Reading.{ask}
+use Rattle.desk_app.specs.Ledger.{ledger_lines}
+use Rattle.desk_app.specs.Writing.{answer_line, refused_line, fault_line, report_line}
+
+-- ---- one line: the state after it, the text with LF that is answered, and whether nothing was refused or faulty
+
+abbrev pub Told : Type 0
+Told = State × List ℕ × Bool
+
+abbrev pub by_outcome : State × Outcome → Told
+by_outcome (s, Ok answer) = (s, answer_line answer, true)
+by_outcome (s, Err refusal) = (s, refused_line refusal, false)
+
+abbrev pub by_ledger : State → Option (List (List (List ℕ))) → Told
+by_ledger s None = (s, refused_line NoSuch, false)
+by_ledger s (Some lines) = (s, report_line lines, true)
+
+abbrev pub by_ask : State → ℕ → Result Ask What → Told
+by_ask s number (Ok (Request request)) = by_outcome (step s request)
+by_ask s number (Ok (Ledger part)) = by_ledger s (ledger_lines part s)
+by_ask s number (Err what) = (s, fault_line what number, false)
+
+-- nothing, or one CR
+abbrev pub is_blank : List ℕ → Bool
+is_blank [] = true
+is_blank (b ∷ []) = b == 13
+is_blank (b ∷ c ∷ bs) = false
+
+-- a blank line gives nothing
+unfoldable pub line_step : State → ℕ → List ℕ → Told
+line_step s number line = if is_blank line then (s, [], true) else by_ask s number (ask line)
+
+abbrev pub line_after : State → ℕ → List ℕ → State
+line_after s number line = (line_step s number line).0
+
+abbrev pub line_out : State → ℕ → List ℕ → List ℕ
+line_out s number line = (line_step s number line).1
+
+abbrev pub is_fine : State → ℕ → List ℕ → Bool
+is_fine s number line = (line_step s number line).2
+
+-- ---- many lines, of which the first has the number
+
+abbrev pub onto_first : ℕ → List (List ℕ) → List (List ℕ)
+onto_first b [] = (b ∷ []) ∷ []
+onto_first b (l ∷ ls) = (b ∷ l) ∷ ls
+
+-- the text cut at LF; the last line needs none
+abbrev pub lines_of : List ℕ → List (List ℕ)
+lines_of [] = []
+lines_of (b ∷ bs) = if b == 10 then [] ∷ lines_of bs else onto_first b (lines_of bs)
+
+abbrev pub run_after : State → ℕ → List (List ℕ) → State
+run_after s number [] = s
+run_after s number (l ∷ ls) = run_after (line_after s number l) (number + 1) ls
+
+abbrev pub run_out : State → ℕ → List (List ℕ) → List ℕ
+run_out s number [] = []
+run_out s number (l ∷ ls) = line_out s number l ++ run_out (line_after s number l) (number + 1) ls
+
+abbrev pub all_fine : State → ℕ → List (List ℕ) → Bool
+all_fine s number [] = true
+all_fine s number (l ∷ ls) = is_fine s number l && all_fine (line_after s number l) (number + 1) ls
+
+-- what is answered to a text
+abbrev pub lines_out : State → List ℕ → List ℕ
+lines_out s bytes = run_out s 1 (lines_of bytes)
+
+abbrev pub lines_after : State → List ℕ → State
+lines_after s bytes = run_after s 1 (lines_of bytes)
+
+abbrev pub lines_fine : State → List ℕ → Bool
+lines_fine s bytes = all_fine s 1 (lines_of bytes)
+
+-- ---- how a run ends, of known bytes and with a writer of known contents
+
+-- all lines were run, and all their answers written
+abbrev pub Finished : Option (List ℕ) → Option (List ℕ) → Option (List ℕ) → State → State → Bool → Type 0
+Finished None w w' s s' all = Unit {0}
+Finished (Some xs) w w' s s' all = (s' ≡ lines_after s xs) × Appends w w' (lines_out s xs) × (all ≡ lines_fine s xs)
+
+-- some of the lines were run, and a front of their answers written: all of them, where it was the reader that failed
+abbrev pub Stopped : Stop → Option (List ℕ) → Option (List ℕ) → Option (List ℕ) → State → State → Type 0
+Stopped stop None w w' s s' = Unit {0}
+Stopped stop (Some xs) w w' s s' = (done : List (List ℕ)) × (rest : List (List ℕ)) × (part : List ℕ) × (more : List ℕ)
+    × (lines_of xs ≡ done ++ rest) × (s' ≡ run_after s 1 done) × (run_out s 1 done ≡ part ++ more) × Appends w w' part × (stop ≡ ReadFailed → more ≡ [])
+
+-- a line that was not answered whole: it was not run, or it was run and a front of its answer is written
+abbrev pub CutShort : Option (List ℕ) → Option (List ℕ) → State → State → ℕ → List ℕ → Type 0
+CutShort w w' s s' number line = ((s' ≡ s) × Keeps w w') ⊎ ((part : List ℕ) × (more : List ℕ) × (s' ≡ line_after s number line) × (line_out s number line ≡ part ++ more) × Appends w w' part)
