@@ -1,0 +1,11 @@
+//! Tests that cross crates: the worked examples, and readers and writers that fail.
+#![tactic(auto)]
+
+#[cfg(test)]
+mod devices;
+#[cfg(test)]
+mod examples;
+#[cfg(test)]
+mod lines;
+#[cfg(test)]
+mod sheets;
