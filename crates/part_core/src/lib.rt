@@ -1,6 +1,7 @@
 #![tactic(auto)]
 
 mod catalogue;
+mod category;
 mod counter;
 mod day;
 mod flags;
@@ -16,13 +17,14 @@ mod status;
 mod text;
 
 pub use catalogue::Catalogue;
+pub use category::Category;
 pub use counter::Counter;
 pub use day::Day;
 pub use flags::Flags;
 pub use limits::{Limits, MOST};
 pub use part::Part;
 pub use refusal::{CoreFault, Refusal};
-pub use row::{Row, compare_numbers};
+pub use row::{Row, compare_numbers, is_same_number};
 pub use serial::Serial;
 pub use sheet::{Pending, Sheet};
 pub use status::Status;
