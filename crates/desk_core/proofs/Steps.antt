@@ -6,7 +6,9 @@ use Rattle.std.proofs.lemmas.Grind.{common_steps}
 use Rattle.std.proofs.lemmas.Bool.{ltb-false}
 use Rattle.std.proofs.lemmas.List.{append-nil}
 use Rattle.part_core.specs.Sheet.{Table, key_cmp}
+use Rattle.part_core.specs.Catalogue.{Parts, part_in, retire, retired_part}
 use Rattle.part_core.specs.Checks.{Check, first, NoneHolds}
+use Rattle.part_core.specs.declared.part.Part.{Part}
 use Rattle.part_core.specs.Day.{CivilDay}
 use Rattle.part_core.specs.declared.limits.Limits.{Limits}
 use Rattle.part_core.specs.declared.refusal.Refusal.{Refusal}
@@ -27,7 +29,7 @@ use Rattle.yard_core.proofs.Items.{own_number, outside}
 use Rattle.yard_core.proofs.Totals.{bare-content}
 use Rattle.yard_core.proofs.Moving.{IsSound-empty, IsSound-make, IsSound-shrink, is_root-outside}
 use Rattle.desk_core.specs.declared.command.Command.{Command}
-use Rattle.desk_core.specs.declared.command.Command.TheVariants.{AddLocation, AddPart, Found, Remove}
+use Rattle.desk_core.specs.declared.command.Command.TheVariants.{AddCategory, AddLocation, AddPart, RetirePart, Found, Remove}
 use Rattle.desk_core.specs.declared.command.Request.{Request}
 use Rattle.desk_core.specs.declared.command.Answer.{Answer}
 use Rattle.desk_core.specs.declared.command.Fault.{Fault}
@@ -82,6 +84,22 @@ module _ {X : Type 0} (t : Table X) where
       go true e = grind (arith, common_steps)
       go false e = absurd (let none = below k (ltb-false k next e) in let bad : Some x ≡ None = sym there ∙ none in cc)
 
+-- a retired part stands where it stood
+module _ (n : ℕ) (p : Parts) where
+  retired-categories : (retire n p).categories ≡ p.categories
+  retired-categories = go (part_in n p) refl
+    where
+      go : (o : Option Part) → part_in n p ≡ o → (retire n p).categories ≡ p.categories
+      go None e = rw e refl
+      go (Some row) e = rw e refl
+
+  retired-below : (next : ℕ) → IsBelow next p.parts → IsBelow next (retire n p).parts
+  retired-below next below = go (part_in n p) refl
+    where
+      go : (o : Option Part) → part_in n p ≡ o → IsBelow next (retire n p).parts
+      go None e = rw e below
+      go (Some row) e = rw e (below-insert p.parts next next n (retired_part row) (omega arith) (below-there p.parts next n row e below) below)
+
 -- ---- bare items
 
 bare-at : (n : ℕ) (xs : List Item) (x : Item) → AreBare xs → row_at n xs ≡ Some x → (is_root x ≡ true) × (x.lot.serial ≡ None)
@@ -131,21 +149,41 @@ module _ (s : State) (sound : IsSoundState s) where
       (subst (λ (x : Item). q ≤ x.quantity) (sym is) enough)
 
   effect-IsSound : (day : CivilDay) (c : Command) → check s c ≡ None → IsSoundState (effect s day c).0
-  effect-IsSound day (AddLocation name) none =
+  effect-IsSound day (AddCategory name parent) none =
+      record {
+        stock = sound.stock;
+        bare = sound.bare;
+        categories_below = below-insert s.parts.categories s.counter.next (s.counter.next + 1) s.counter.next _ (omega arith) (omega arith) sound.categories_below;
+        parts_below = below-more s.parts.parts s.counter.next (s.counter.next + 1) (omega arith) sound.parts_below;
+        locations_below = below-more s.stock.locations s.counter.next (s.counter.next + 1) (omega arith) sound.locations_below;
+        items_below = below-more s.stock.items s.counter.next (s.counter.next + 1) (omega arith) sound.items_below;
+      }
+  effect-IsSound day (AddLocation name parent) none =
       record {
         stock = record { items = sound.stock.items; history = sound.stock.history; balanced = sound.stock.balanced };
         bare = sound.bare;
+        categories_below = below-more s.parts.categories s.counter.next (s.counter.next + 1) (omega arith) sound.categories_below;
         parts_below = below-more s.parts.parts s.counter.next (s.counter.next + 1) (omega arith) sound.parts_below;
         locations_below = below-insert s.stock.locations s.counter.next (s.counter.next + 1) s.counter.next _ (omega arith) (omega arith) sound.locations_below;
         items_below = below-more s.stock.items s.counter.next (s.counter.next + 1) (omega arith) sound.items_below;
       }
-  effect-IsSound day (AddPart name flags) none =
+  effect-IsSound day (AddPart name category template flags) none =
       record {
         stock = sound.stock;
         bare = sound.bare;
+        categories_below = below-more s.parts.categories s.counter.next (s.counter.next + 1) (omega arith) sound.categories_below;
         parts_below = below-insert s.parts.parts s.counter.next (s.counter.next + 1) s.counter.next _ (omega arith) (omega arith) sound.parts_below;
         locations_below = below-more s.stock.locations s.counter.next (s.counter.next + 1) (omega arith) sound.locations_below;
         items_below = below-more s.stock.items s.counter.next (s.counter.next + 1) (omega arith) sound.items_below;
+      }
+  effect-IsSound day (RetirePart part) none =
+      record {
+        stock = sound.stock;
+        bare = sound.bare;
+        categories_below = subst (IsBelow s.counter.next) (sym (retired-categories part s.parts)) sound.categories_below;
+        parts_below = retired-below part s.parts s.counter.next sound.parts_below;
+        locations_below = sound.locations_below;
+        items_below = sound.items_below;
       }
   effect-IsSound day (Found part l q) none =
       let x : Item = found_item s.counter.next part l q in
@@ -157,6 +195,7 @@ module _ (s : State) (sound : IsSoundState s) where
         stock = IsSound-make kind.Found (found_item s.counter.next part l q) day s.stock sound.stock can;
         bare = subst AreBare (sym (values-new (found_item s.counter.next part l q) s.stock.items sound.stock.items.own new))
             (bare-insert (found_item s.counter.next part l q) (table.values s.stock.items) refl refl sound.bare);
+        categories_below = below-more s.parts.categories s.counter.next (s.counter.next + 1) (omega arith) sound.categories_below;
         parts_below = below-more s.parts.parts s.counter.next (s.counter.next + 1) (omega arith) sound.parts_below;
         locations_below = below-more s.stock.locations s.counter.next (s.counter.next + 1) (omega arith) sound.locations_below;
         items_below = below-insert s.stock.items s.counter.next (s.counter.next + 1) s.counter.next (found_item s.counter.next part l q) (omega arith) (omega arith) sound.items_below;
@@ -173,6 +212,7 @@ module _ (s : State) (sound : IsSoundState s) where
         stock = IsSound-shrink Removed n q day s.stock sound.stock can;
         bare = subst AreBare (sym (ap (λ m. table.values (table.insert s.stock.items (m ∷ []) left)) (sym number) ∙ values-changed left (item_at n s.stock) s.stock.items sound.stock.items.own at_own))
             (bare-set left (table.values s.stock.items) (is_root-outside left (left_outside ((item_at n s.stock).quantity - q) (item_at n s.stock).place (outside _ loose))) can.no_serial sound.bare);
+        categories_below = sound.categories_below;
         parts_below = sound.parts_below;
         locations_below = sound.locations_below;
         items_below = below-insert s.stock.items s.counter.next s.counter.next n left (omega arith) (below-there s.stock.items s.counter.next n (item_at n s.stock) there sound.items_below) sound.items_below;
@@ -234,8 +274,10 @@ run-push s (r1 ∷ rs) (Err (Refused x) ∷ os) t r o u len e d =
 -- ---- numbers
 
 effect-drawn : (s : State) (day : CivilDay) (c : Command) → AreDrawn s.counter.next (effect s day c).1.ids (effect s day c).0.counter.next
-effect-drawn s day (AddLocation name) = (refl, refl)
-effect-drawn s day (AddPart name flags) = (refl, refl)
+effect-drawn s day (AddCategory name parent) = (refl, refl)
+effect-drawn s day (AddLocation name parent) = (refl, refl)
+effect-drawn s day (AddPart name category template flags) = (refl, refl)
+effect-drawn s day (RetirePart part) = refl
 effect-drawn s day (Found part l q) = (refl, refl)
 effect-drawn s day (Remove n q) = refl
 
@@ -268,6 +310,7 @@ pub start-IsSound : (limits : Limits) → IsSoundState (start limits)
 start-IsSound limits = record {
   stock = IsSound-empty;
   bare = subst AreBare (sym (ap (map (λ (e : List ℕ × Item). e.1)) entries-empty)) tt;
+  categories_below = λ n above. table.get-empty key_cmp (n ∷ []);
   parts_below = λ n above. table.get-empty key_cmp (n ∷ []);
   locations_below = λ n above. table.get-empty key_cmp (n ∷ []);
   items_below = λ n above. table.get-empty key_cmp (n ∷ []);

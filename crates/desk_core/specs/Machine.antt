@@ -5,12 +5,12 @@ use Rattle.part_core.specs.Sheet.{Table}
 use Rattle.part_core.specs.Checks.{Check, first, AreInOrder}
 use Rattle.part_core.specs.Counter.{Numbering, lacks}
 use Rattle.part_core.specs.Counter as counter
-use Rattle.part_core.specs.Catalogue.{Parts, no_parts, part_checks, add_part}
+use Rattle.part_core.specs.Catalogue.{Parts, no_parts, part_in, category_checks, add_category, part_checks, add_part, retire_checks, retire, is_retired}
 use Rattle.part_core.specs.Day.{CivilDay}
 use Rattle.part_core.specs.declared.limits.Limits.{Limits}
 use Rattle.part_core.specs.declared.part.Part.{Part}
 use Rattle.part_core.specs.declared.refusal.Refusal.{Refusal}
-use Rattle.part_core.specs.declared.refusal.Refusal.TheVariants.{NoSuch, BadNumber, WrongFlag, NotLoose, Short, Full}
+use Rattle.part_core.specs.declared.refusal.Refusal.TheVariants.{NoSuch, BadNumber, WrongFlag, Retired, NotLoose, Short, Full}
 use Rattle.part_core.specs.declared.status.Status.TheVariants.{Okay}
 use Rattle.forest.specs.declared.item.Item.{Item}
 use Rattle.forest.specs.declared.entry.Kind.TheVariants as kind
@@ -20,7 +20,7 @@ use Rattle.forest.specs.Forest.{is_at}
 use Rattle.forest.specs.Moves.{largest}
 use Rattle.yard_core.specs.Stock.{Stock, empty_stock, has_location, location_checks, add_location, item_at, make, shrink, AreBare, IsSound}
 use Rattle.desk_core.specs.declared.command.Command.{Command}
-use Rattle.desk_core.specs.declared.command.Command.TheVariants.{AddLocation, AddPart, Found, Remove}
+use Rattle.desk_core.specs.declared.command.Command.TheVariants.{AddCategory, AddLocation, AddPart, RetirePart, Found, Remove}
 use Rattle.desk_core.specs.declared.command.Request.{Request}
 use Rattle.desk_core.specs.declared.command.Answer.{Answer}
 use Rattle.desk_core.specs.declared.command.Fault.{Fault}
@@ -41,9 +41,6 @@ start limits = record { parts = no_parts; stock = empty_stock; counter = counter
 abbrev pub is_bad_quantity : ℕ → Bool
 is_bad_quantity q = q == 0 || nat_lt largest q
 
-abbrev pub part_in : ℕ → State → Option Part
-part_in p s = table.get s.parts.parts (p ∷ [])
-
 -- a part that is there and has no stock
 abbrev pub is_virtual : Option Part → Bool
 is_virtual None = false
@@ -55,9 +52,10 @@ lacks_entries n s = nat_lt s.counter.limits.entries (table.len s.stock.history +
 
 abbrev pub found_checks : ℕ → ℕ → ℕ → State → List Check
 found_checks part location quantity s =
-    (is_none (part_in part s) || is_none (has_location location s.stock), NoSuch)
+    (is_none (part_in part s.parts) || is_none (has_location location s.stock), NoSuch)
     ∷ (is_bad_quantity quantity, BadNumber)
-    ∷ (is_virtual (part_in part s), WrongFlag)
+    ∷ (is_virtual (part_in part s.parts), WrongFlag)
+    ∷ (is_retired (part_in part s.parts), Retired)
     ∷ (lacks 1 s.counter || lacks_entries 1 s, Full)
     ∷ []
 
@@ -72,8 +70,10 @@ remove_checks n quantity s =
 
 -- the conditions of a command's refusals, in the order of checks
 abbrev pub checks : State → Command → List Check
-checks s (AddLocation name) = location_checks name s.stock s.counter
-checks s (AddPart name flags) = part_checks name flags s.parts s.counter
+checks s (AddCategory name parent) = category_checks name parent s.parts s.counter
+checks s (AddLocation name parent) = location_checks name parent s.stock s.counter
+checks s (AddPart name category template flags) = part_checks (record { name = name; category = category; template = template; flags = flags }) s.parts s.counter
+checks s (RetirePart part) = retire_checks part s.parts
 checks s (Found part location quantity) = found_checks part location quantity s
 checks s (Remove n quantity) = remove_checks n quantity s
 
@@ -98,10 +98,16 @@ drawn c = record c { next = c.next + 1 }
 
 -- the state after an accepted command, and its answer: the numbers drawn, and how many entries were written
 abbrev pub effect : State → CivilDay → Command → State × Answer
-effect s day (AddLocation name) =
-    (record s { stock = add_location s.counter.next name s.stock; counter = drawn s.counter }, record { ids = s.counter.next ∷ []; entries = 0 })
-effect s day (AddPart name flags) =
-    (record s { parts = add_part s.counter.next name flags s.parts; counter = drawn s.counter }, record { ids = s.counter.next ∷ []; entries = 0 })
+effect s day (AddCategory name parent) =
+    (record s { parts = add_category s.counter.next name parent s.parts; counter = drawn s.counter }, record { ids = s.counter.next ∷ []; entries = 0 })
+effect s day (AddLocation name parent) =
+    (record s { stock = add_location s.counter.next name parent s.stock; counter = drawn s.counter }, record { ids = s.counter.next ∷ []; entries = 0 })
+effect s day (AddPart name category template flags) = (
+  record s { parts = add_part s.counter.next (record { name = name; category = category; template = template; flags = flags }) s.parts; counter = drawn s.counter },
+  record { ids = s.counter.next ∷ []; entries = 0 },
+)
+effect s day (RetirePart part) =
+    (record s { parts = retire part s.parts }, record { ids = []; entries = 0 })
 effect s day (Found part location quantity) =
     (record s { stock = make kind.Found (found_item s.counter.next part location quantity) day s.stock; counter = drawn s.counter }, record { ids = s.counter.next ∷ []; entries = 1 })
 effect s day (Remove n quantity) =
@@ -166,6 +172,7 @@ IsBelow next t = (n : ℕ) → next ≤ n → table.get t (n ∷ []) ≡ None
 pub record IsSoundState (s : State) : Type 0 where
   pub stock : IsSound s.stock
   pub bare : AreBare (table.values s.stock.items)
+  pub categories_below : IsBelow s.counter.next s.parts.categories
   pub parts_below : IsBelow s.counter.next s.parts.parts
   pub locations_below : IsBelow s.counter.next s.stock.locations
   pub items_below : IsBelow s.counter.next s.stock.items

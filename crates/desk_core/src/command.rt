@@ -10,14 +10,26 @@ use thiserror::Error;
 /// their ranges is part of the command's checks.
 #[derive(Drop)]
 pub enum Command {
-    /// A new location.
+    /// A new category of parts, under a parent or at the top.
+    AddCategory {
+        name: Name,
+        parent: Option<u64>,
+    },
+    /// A new location, under a parent or at the top.
     AddLocation {
         name: Name,
+        parent: Option<u64>,
     },
-    /// A new part.
+    /// A new part, in a category or none, and a variant of its template where it names one.
     AddPart {
         name: Name,
+        category: Option<u64>,
+        template: Option<u64>,
         flags: Flags,
+    },
+    /// A part is retired, once and for good.
+    RetirePart {
+        part: u64,
     },
     /// Stock that was found at a location: a new item.
     Found {

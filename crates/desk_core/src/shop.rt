@@ -81,30 +81,67 @@ impl Shop {
         self.yard.entries() >= self.counter.limits().entries
     }
 
-    fn add_location(&mut self, day: Day, name: &Name) -> Result<Answer, Fault>
+    fn add_category(&mut self, day: Day, name: &Name, parent: Option<u64>) -> Result<Answer, Fault>
         requires { kept_state self.old ≡ state_of self.old }
-        ensures ok { IfOk result (λ answer. (check (state_of self.old) (Command.AddLocation name.now) ≡ None) × (effect (state_of self.old) day (Command.AddLocation name.now) ≡ (state_of self.new, answer))) }
-        ensures refused { (refusal : Refusal) → result ≡ Err (Fault.Refused refusal) → check (state_of self.old) (Command.AddLocation name.now) ≡ Some refusal }
+        ensures ok { IfOk result (λ answer. (check (state_of self.old) (Command.AddCategory name.now parent) ≡ None) × (effect (state_of self.old) day (Command.AddCategory name.now parent) ≡ (state_of self.new, answer))) }
+        ensures refused { (refusal : Refusal) → result ≡ Err (Fault.Refused refusal) → check (state_of self.old) (Command.AddCategory name.now parent) ≡ Some refusal }
         ensures rest { OnErr result (self.new.counter ≡ self.old.counter) }
         ensures kept { kept_of self.new.yard ≡ kept_of self.old.yard }
         ensures kept_parts { kept_parts self.new.catalogue ≡ kept_parts self.old.catalogue }
     {
         let ids = Ids::one(self.alloc, self.counter.next())?;
-        self.yard.add_location(&mut self.counter, name)?;
+        self.catalogue
+            .add_category(&mut self.counter, name, parent)?;
         Ok(Answer { ids, entries: 0 })
     }
 
-    fn add_part(&mut self, day: Day, name: &Name, flags: Flags) -> Result<Answer, Fault>
+    fn add_location(&mut self, day: Day, name: &Name, parent: Option<u64>) -> Result<Answer, Fault>
         requires { kept_state self.old ≡ state_of self.old }
-        ensures ok { IfOk result (λ answer. (check (state_of self.old) (Command.AddPart name.now flags) ≡ None) × (effect (state_of self.old) day (Command.AddPart name.now flags) ≡ (state_of self.new, answer))) }
-        ensures refused { (refusal : Refusal) → result ≡ Err (Fault.Refused refusal) → check (state_of self.old) (Command.AddPart name.now flags) ≡ Some refusal }
+        ensures ok { IfOk result (λ answer. (check (state_of self.old) (Command.AddLocation name.now parent) ≡ None) × (effect (state_of self.old) day (Command.AddLocation name.now parent) ≡ (state_of self.new, answer))) }
+        ensures refused { (refusal : Refusal) → result ≡ Err (Fault.Refused refusal) → check (state_of self.old) (Command.AddLocation name.now parent) ≡ Some refusal }
         ensures rest { OnErr result (self.new.counter ≡ self.old.counter) }
         ensures kept { kept_of self.new.yard ≡ kept_of self.old.yard }
         ensures kept_parts { kept_parts self.new.catalogue ≡ kept_parts self.old.catalogue }
     {
         let ids = Ids::one(self.alloc, self.counter.next())?;
-        self.catalogue.add_part(&mut self.counter, name, flags)?;
+        self.yard.add_location(&mut self.counter, name, parent)?;
         Ok(Answer { ids, entries: 0 })
+    }
+
+    fn add_part(
+        &mut self,
+        day: Day,
+        name: &Name,
+        category: Option<u64>,
+        template: Option<u64>,
+        flags: Flags,
+    ) -> Result<Answer, Fault>
+        requires { kept_state self.old ≡ state_of self.old }
+        ensures ok { IfOk result (λ answer. (check (state_of self.old) (Command.AddPart name.now category template flags) ≡ None) × (effect (state_of self.old) day (Command.AddPart name.now category template flags) ≡ (state_of self.new, answer))) }
+        ensures refused { (refusal : Refusal) → result ≡ Err (Fault.Refused refusal) → check (state_of self.old) (Command.AddPart name.now category template flags) ≡ Some refusal }
+        ensures rest { OnErr result (self.new.counter ≡ self.old.counter) }
+        ensures kept { kept_of self.new.yard ≡ kept_of self.old.yard }
+        ensures kept_parts { kept_parts self.new.catalogue ≡ kept_parts self.old.catalogue }
+    {
+        let ids = Ids::one(self.alloc, self.counter.next())?;
+        self.catalogue
+            .add_part(&mut self.counter, name, category, template, flags)?;
+        Ok(Answer { ids, entries: 0 })
+    }
+
+    fn retire_part(&mut self, day: Day, part: u64) -> Result<Answer, Fault>
+        requires { kept_state self.old ≡ state_of self.old }
+        ensures ok { IfOk result (λ answer. (check (state_of self.old) (Command.RetirePart part) ≡ None) × (effect (state_of self.old) day (Command.RetirePart part) ≡ (state_of self.new, answer))) }
+        ensures refused { (refusal : Refusal) → result ≡ Err (Fault.Refused refusal) → check (state_of self.old) (Command.RetirePart part) ≡ Some refusal }
+        ensures rest { OnErr result (self.new.counter ≡ self.old.counter) }
+        ensures kept { kept_of self.new.yard ≡ kept_of self.old.yard }
+        ensures kept_parts { kept_parts self.new.catalogue ≡ kept_parts self.old.catalogue }
+    {
+        self.catalogue.retire(part)?;
+        Ok(Answer {
+            ids: Ids::none(self.alloc),
+            entries: 0,
+        })
     }
 
     fn found(&mut self, day: Day, part: u64, location: u64, quantity: u64) -> Result<Answer, Fault>
@@ -119,6 +156,7 @@ impl Shop {
             return Err(Fault::Refused(Refusal::NoSuch));
         };
         let is_virtual = row.flags.is_virtual;
+        let is_retired = row.retired;
         if self.yard.location(location).is_none() {
             return Err(Fault::Refused(Refusal::NoSuch));
         }
@@ -127,6 +165,9 @@ impl Shop {
         }
         if is_virtual {
             return Err(Fault::Refused(Refusal::WrongFlag));
+        }
+        if is_retired {
+            return Err(Fault::Refused(Refusal::Retired));
         }
         if self.counter.lacks(1) || self.lacks_entry() {
             return Err(Fault::Refused(Refusal::Full));
@@ -181,8 +222,19 @@ impl Shop {
         ensures kept_parts { kept_parts self.new.catalogue ≡ kept_parts self.old.catalogue }
     {
         match &request.command {
-            Command::AddLocation { name } => self.add_location(request.day, name),
-            Command::AddPart { name, flags } => self.add_part(request.day, name, *flags),
+            Command::AddCategory { name, parent } => {
+                self.add_category(request.day, name, *parent)
+            }
+            Command::AddLocation { name, parent } => {
+                self.add_location(request.day, name, *parent)
+            }
+            Command::AddPart {
+                name,
+                category,
+                template,
+                flags,
+            } => self.add_part(request.day, name, *category, *template, *flags),
+            Command::RetirePart { part } => self.retire_part(request.day, *part),
             Command::Found {
                 part,
                 location,
