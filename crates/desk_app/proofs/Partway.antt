@@ -1,5 +1,5 @@
 -- A line that is taken piece by piece.
-use Rattle.std.proofs.Common.{◌≡◌, ◌+◌, ◌≤◌, ◌<◌, ◌==◌, ℕ, Bool, true, false, cond, List, [], ◌∷◌, ◌++◌, take, length, arith, ap, sym, refl, ◌∙◌, subst, append_assoc, length-append, append-nil, length-take, length-drop, drop, ◌-◌}
+use Rattle.std.proofs.Common.{◌≡◌, ◌≤◌, ◌<◌, ◌==◌, ℕ, Bool, true, false, cond, List, [], ◌∷◌, ◌++◌, length, arith, ap, sym, refl, ◌∙◌, subst, append_assoc, length-append, append-nil, length-take, length-drop, drop, ◌-◌}
 use Rattle.std.specs.Prelude.{Option, Some, None}
 use Rattle.std.specs.Io.KnownBytes.{Keeps, IsAtEnd, prepend_known}
 use Rattle.desk_app.proofs.Cutting.{held_short, held-held}
@@ -56,14 +56,14 @@ partway_ended (Some xs) (Some ks) f l l' u u' p h n e e' =
 pub partway_more : (o k : Option (List ℕ)) (f : Bool) (l l' u u' : List ℕ) → Partway o f l (prepend_known u k) → has_end u ≡ false → 0 < length u → l' ≡ held (l ++ first_of u) → u' ≡ rest_of u → Partway o true l' (prepend_known u' k)
 partway_more None k f l l' u u' p h n e e' = tt
 partway_more (Some xs) None f l l' u u' p h n e e' = absurd p
-partway_more (Some xs) (Some ks) f l l' u u' p h n e e' = 
+partway_more (Some xs) (Some ks) f l l' u u' p h n e e' =
     let r = first_open u ks h in
     let none : u' ≡ [] = e' ∙ r.3 in
     let rest : u' ++ ks ≡ ks = ap (λ v. v ++ ks) none in
     let line : held (l' ++ first_of (u' ++ ks)) ≡ held (l ++ first_of (u ++ ks)) =
-      ap (λ v. held (v ++ first_of (u' ++ ks))) e ∙ held-held (l ++ first_of u) (first_of (u' ++ ks))
-        ∙ ap (λ v. held ((l ++ first_of u) ++ first_of v)) rest ∙ ap (λ v. held ((l ++ v) ++ first_of ks)) r.2
-        ∙ ap held (append_assoc l u (first_of ks)) ∙ ap (λ v. held (l ++ v)) (sym r.0) in
+    ap (λ v. held (v ++ first_of (u' ++ ks))) e ∙ held-held (l ++ first_of u) (first_of (u' ++ ks))
+    ∙ ap (λ v. held ((l ++ first_of u) ++ first_of v)) rest ∙ ap (λ v. held ((l ++ v) ++ first_of ks)) r.2
+    ∙ ap held (append_assoc l u (first_of ks)) ∙ ap (λ v. held (l ++ v)) (sym r.0) in
     (line ∙ p.0, p.1 ∙ r.1 ∙ ap rest_of (sym rest), (λ t. absurd (cc)), λ _. partway_some xs (u ++ ks) f l p (omega (arith, length-append u ks)))
 
 pub unread_some : (s : Lines) → s.at < s.filled → 0 < length (unread s)

@@ -1,6 +1,6 @@
 -- A line, of which as much is here as is held.
-use Rattle.std.proofs.Common.{◌≡◌, ◌+◌, ◌≤◌, ◌==◌, ℕ, Bool, true, false, List, [], ◌∷◌, length, nat_le, arith, ap, sym, refl, ◌∙◌, length-take, take}
-use Rattle.std.specs.Prelude.{Option, Some, None, Result, Ok, Err}
+use Rattle.std.proofs.Common.{◌≡◌, ◌+◌, ◌≤◌, ℕ, Bool, true, false, List, [], ◌∷◌, length, nat_le, arith, ap, sym, refl, ◌∙◌, length-take, take}
+use Rattle.std.specs.Prelude.{Err}
 use Rattle.desk_core.specs.Machine.{State}
 use Rattle.desk_app.specs.declared.fault.What.TheVariants.{TooLong}
 use Rattle.desk_app.specs.Cuts.{held}

@@ -1,5 +1,5 @@
 -- A part's flags, as words.
-use Rattle.std.specs.Prelude.{ℕ, List, [], ◌∷◌, Bool, true, false, not, codes, Option, Some, None, Result, Ok, Err}
+use Rattle.std.specs.Prelude.{ℕ, List, [], ◌∷◌, Bool, true, false, not, codes, Option, Result, Ok}
 use Rattle.part_core.specs.declared.flags.Flags.{Flags}
 use Rattle.desk_app.specs.declared.fault.What.{What}
 use Rattle.desk_app.specs.declared.fault.What.TheVariants.{BadWord}
@@ -12,13 +12,13 @@ abbrev pub flag_named : List ℕ → Option Flag
 flag_named word =
     find_named word
     ((codes "template", Template)
-      ∷ (codes "assembly", Assembly)
-      ∷ (codes "component", Component)
-      ∷ (codes "trackable", Trackable)
-      ∷ (codes "purchaseable", Purchaseable)
-      ∷ (codes "salable", Salable)
-      ∷ (codes "virtual", Virtual)
-      ∷ [])
+    ∷ (codes "assembly", Assembly)
+    ∷ (codes "component", Component)
+    ∷ (codes "trackable", Trackable)
+    ∷ (codes "purchaseable", Purchaseable)
+    ∷ (codes "salable", Salable)
+    ∷ (codes "virtual", Virtual)
+    ∷ [])
 
 abbrev pub no_flags : Flags
 no_flags = record { template = false; assembly = false; component = false; trackable = false; purchaseable = false; salable = false; is_virtual = false }

@@ -3,7 +3,8 @@ use Rattle.std.specs.Prelude.{ℕ, List, [], ◌∷◌, decimal, codes, Option, 
 use Rattle.part_core.specs.declared.part.Part.{Part}
 use Rattle.yard_core.specs.declared.sums.Sums.{Sums}
 use Rattle.yard_core.specs.Sums.{sums_of}
-use Rattle.desk_core.specs.Machine.{State, part_in}
+use Rattle.part_core.specs.Catalogue.{part_in}
+use Rattle.desk_core.specs.Machine.{State}
 
 -- a line of a name and an amount
 abbrev pub amount_line : List ℕ → ℕ → List (List ℕ)
@@ -30,4 +31,4 @@ ledger_of_part number (Some part) sums = Some (ledger_of number part.name sums)
 
 -- none where there is no such part
 abbrev pub ledger_lines : ℕ → State → Option (List (List (List ℕ)))
-ledger_lines number s = ledger_of_part number (part_in number s) (sums_of number s.stock)
+ledger_lines number s = ledger_of_part number (part_in number s.parts) (sums_of number s.stock)

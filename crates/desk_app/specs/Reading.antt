@@ -1,5 +1,5 @@
 -- What a line asks, or its first fault.
-use Rattle.std.specs.Prelude.{◌≡◌, ℕ, List, [], ◌∷◌, ◌||◌, ◌&&◌, Bool, true, false, not, nat_le, length, codes, is_some, Option, Some, None, option_and_then, Result, Ok, Err, if◌then◌else◌}
+use Rattle.std.specs.Prelude.{ℕ, List, [], ◌∷◌, ◌||◌, ◌&&◌, Bool, true, false, nat_le, length, codes, is_some, Option, Some, None, option_and_then, Result, Ok, if◌then◌else◌}
 use Rattle.std.specs.Str.{bytes_eq, is_utf8}
 use Rattle.serde_json.specs.Data.{Data, Items, no_items, item, Members, no_members, member}
 use Rattle.serde_json.specs.Read.{read}
@@ -10,7 +10,6 @@ use Rattle.part_core.specs.Day as days
 use Rattle.part_core.specs.declared.flags.Flags.{Flags}
 use Rattle.desk_core.specs.declared.command.Command.{Command}
 use Rattle.desk_core.specs.declared.command.Command.TheVariants as commands
-use Rattle.desk_core.specs.declared.command.Request.{Request}
 use Rattle.desk_app.specs.declared.fault.What.{What}
 use Rattle.desk_app.specs.declared.fault.What.TheVariants.{TooLong, NotJson, NotObject, NoField, WrongType, UnknownCommand, UnknownField, BadDay, BadText, BadWord}
 use Rattle.desk_app.specs.declared.read.Ask.{Ask}
@@ -87,13 +86,13 @@ knows_all names d = in_members (as_object d)
 abbrev pub location_of : Data → Result Command What
 location_of d = do
   name ← name_in d
-  Ok (commands.AddLocation name)
+  Ok (commands.AddLocation name None)
 
 abbrev pub part_of : Data → Result Command What
 part_of d = do
   name ← name_in d
   flags ← flags_in d
-  Ok (commands.AddPart name flags)
+  Ok (commands.AddPart name None None flags)
 
 abbrev pub found_of : Data → Result Command What
 found_of d = do

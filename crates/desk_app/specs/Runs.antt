@@ -1,10 +1,10 @@
 -- A run over the lines of a text.
-use Rattle.std.specs.Prelude.{◌≡◌, ℕ, ◌+◌, ◌==◌, ◌&&◌, Bool, true, false, List, [], ◌∷◌, ◌++◌, if◌then◌else◌, ◌⊎◌, Option, Some, None, Result, Ok, Err}
+use Rattle.std.specs.Prelude.{◌≡◌, ◌≢◌, ◌≤◌, ℕ, length, ◌+◌, ◌==◌, ◌&&◌, Bool, true, false, List, [], ◌∷◌, ◌++◌, if◌then◌else◌, ◌⊎◌, Option, Some, None, Result, Ok, Err}
 use Rattle.std.specs.Io.KnownBytes.{Appends, Keeps}
 use Rattle.part_core.specs.declared.refusal.Refusal.TheVariants.{NoSuch}
 use Rattle.desk_core.specs.Machine.{State, Outcome, step}
 use Rattle.desk_app.specs.declared.end.Stop.{Stop}
-use Rattle.desk_app.specs.declared.end.Stop.TheVariants.{ReadFailed}
+use Rattle.desk_app.specs.declared.end.Stop.TheVariants.{ReadFailed, WriteFailed}
 use Rattle.desk_app.specs.declared.fault.What.{What}
 use Rattle.desk_app.specs.declared.read.Ask.{Ask}
 use Rattle.desk_app.specs.declared.read.Ask.TheVariants.{Request, Ledger}
@@ -89,12 +89,19 @@ abbrev pub Finished : Option (List ℕ) → Option (List ℕ) → Option (List �
 Finished None w w' s s' all = Unit {0}
 Finished (Some xs) w w' s s' all = (s' ≡ lines_after s xs) × Appends w w' (lines_out s xs) × (all ≡ lines_fine s xs)
 
--- some of the lines were run, and a front of their answers written: all of them, where it was the reader that failed
+-- whole answers of all these lines, or of all but the last
+abbrev pub AreWhole : State → List (List ℕ) → List ℕ → Type 0
+AreWhole s done part = (told : List (List ℕ)) × (untold : List (List ℕ)) × (done ≡ told ++ untold) × (length untold ≤ 1) × (part ≡ run_out s 1 told)
+
+-- some of the lines were run, and a front of their answers written. Where it was the reader that failed, that is all of them;
+-- unless it was the writer, it is whole answers, of all lines that were run but at most the last
 abbrev pub Stopped : Stop → Option (List ℕ) → Option (List ℕ) → Option (List ℕ) → State → State → Type 0
 Stopped stop None w w' s s' = Unit {0}
 Stopped stop (Some xs) w w' s s' = (done : List (List ℕ)) × (rest : List (List ℕ)) × (part : List ℕ) × (more : List ℕ)
-    × (lines_of xs ≡ done ++ rest) × (s' ≡ run_after s 1 done) × (run_out s 1 done ≡ part ++ more) × Appends w w' part × (stop ≡ ReadFailed → more ≡ [])
+    × (lines_of xs ≡ done ++ rest) × (s' ≡ run_after s 1 done) × (run_out s 1 done ≡ part ++ more) × Appends w w' part
+    × (stop ≡ ReadFailed → more ≡ []) × (stop ≢ WriteFailed → AreWhole s done part)
 
--- a line that was not answered whole: it was not run, or it was run and a front of its answer is written
-abbrev pub CutShort : Option (List ℕ) → Option (List ℕ) → State → State → ℕ → List ℕ → Type 0
-CutShort w w' s s' number line = ((s' ≡ s) × Keeps w w') ⊎ ((part : List ℕ) × (more : List ℕ) × (s' ≡ line_after s number line) × (line_out s number line ≡ part ++ more) × Appends w w' part)
+-- a line that was not answered whole: it was not run, or it was run and a front of its answer is written, which is nothing
+-- unless the writer failed
+abbrev pub CutShort : Stop → Option (List ℕ) → Option (List ℕ) → State → State → ℕ → List ℕ → Type 0
+CutShort stop w w' s s' number line = ((s' ≡ s) × Keeps w w') ⊎ ((part : List ℕ) × (more : List ℕ) × (s' ≡ line_after s number line) × (line_out s number line ≡ part ++ more) × Appends w w' part × (stop ≢ WriteFailed → part ≡ []))

@@ -38,7 +38,7 @@ fn lines(alloc: Global, number: u64, name: &str, sums: &Sums) -> Result<Value, A
         amount(alloc, "written", sums.written)?,
         amount(alloc, "present", sums.present)?,
         amount(alloc, "sent", sums.sent)?,
-        amount(alloc, "used", sums.used)?
+        amount(alloc, "used", sums.used)?,
     ]?;
     Ok(Value::Array(lines))
 }

@@ -89,11 +89,7 @@ impl Lines {
     }
 
     /// Takes the next line: false where there is none. As much is held as shows that it is too long.
-    pub fn next_line<R: Read>(
-        &mut self,
-        reader: &mut R,
-        line: &mut Vec<u8>,
-    ) -> Result<bool, Stop>
+    pub fn next_line<R: Read>(&mut self, reader: &mut R, line: &mut Vec<u8>) -> Result<bool, Stop>
         ensures short { OnOk result (length line.new.items ≤ 65537) }
         ensures takes { IfOk result (λ found. TakesLine (left (R.remaining reader.old) self.old) found line.new.items (left (R.remaining reader.new) self.new)) }
     {

@@ -23,7 +23,7 @@ fn add_location(alloc: Global, object: &Value) -> Result<Command, ReadError>
     ensures { Gives result (location_of (view object.now)) }
 {
     let name = name(alloc, object)?;
-    Ok(Command::AddLocation { name })
+    Ok(Command::AddLocation { name, parent: None })
 }
 
 fn add_part(alloc: Global, object: &Value) -> Result<Command, ReadError>
@@ -31,7 +31,12 @@ fn add_part(alloc: Global, object: &Value) -> Result<Command, ReadError>
 {
     let name = name(alloc, object)?;
     let flags = flags(object)?;
-    Ok(Command::AddPart { name, flags })
+    Ok(Command::AddPart {
+        name,
+        category: None,
+        template: None,
+        flags,
+    })
 }
 
 fn found(object: &Value) -> Result<Command, ReadError>

@@ -15,12 +15,15 @@ fn shown(alloc: Global, ask: &Ask) -> Result<String, AllocError> {
     };
     let day = request.day;
     match &request.command {
-        Command::AddLocation { name } => {
+        Command::AddLocation { name, parent: None } => {
             format!(in alloc; "{day:?} add_location {}", name.as_str())
         }
-        Command::AddPart { name, flags } => {
-            format!(in alloc; "{day:?} add_part {} {flags:?}", name.as_str())
-        }
+        Command::AddPart {
+            name,
+            category: None,
+            template: None,
+            flags,
+        } => { format!(in alloc; "{day:?} add_part {} {flags:?}", name.as_str()) }
         Command::Found {
             part,
             location,
@@ -29,6 +32,7 @@ fn shown(alloc: Global, ask: &Ask) -> Result<String, AllocError> {
         Command::Remove { item, quantity } => {
             format!(in alloc; "{day:?} remove of {item}, {quantity}")
         }
+        _ => format!(in alloc; "another command"),
     }
 }
 
@@ -59,7 +63,11 @@ fn reads_what_a_line_asks(rt: HostRuntime) -> Result<(), Fail> {
         ),
     ] {
         let ask = read_line(alloc, line.as_bytes()).map_err(|_| "it is a request")?;
-        assert_eq!(rt; shown(alloc, &ask)?, format!(in alloc; "{day}{want}")?, "at {line}");
+        assert_eq!(rt;
+            shown(alloc, &ask)?,
+            format!(in alloc; "{day}{want}")?,
+            "at {line}"
+        );
     }
     let ask = read_line(alloc, br#"{"of":2,"report":"ledger"}"#).map_err(|_| "it is a report")?;
     assert_eq!(rt; shown(alloc, &ask)?.as_str(), "ledger of 2");
@@ -78,36 +86,72 @@ fn finds_the_first_fault(rt: HostRuntime) -> Result<(), Fail> {
         (r#"{"do":1}"#, What::WrongType),
         (r#"{"do":null,"report":"ledger"}"#, What::WrongType),
         (r#"{"do":"fly","x":1}"#, What::UnknownCommand),
-        (r#"{"do":"remove","day":1,"report":"ledger"}"#, What::UnknownField),
+        (
+            r#"{"do":"remove","day":1,"report":"ledger"}"#,
+            What::UnknownField,
+        ),
         (r#"{"do":"remove","item":1,"quantity":1}"#, What::NoField),
         (r#"{"do":"remove","day":1}"#, What::WrongType),
         (r#"{"do":"remove","day":"2030-02-30"}"#, What::BadDay),
         (r#"{"do":"remove","day":"1999-12-31"}"#, What::BadDay),
         (r#"{"do":"remove","day":"2030-1-2"}"#, What::BadDay),
         (r#"{"do":"remove","day":"2030-01-02"}"#, What::NoField),
-        (r#"{"do":"remove","day":"2030-01-02","item":null}"#, What::WrongType),
-        (r#"{"do":"remove","day":"2030-01-02","item":-1}"#, What::WrongType),
-        (r#"{"do":"remove","day":"2030-01-02","item":1.0}"#, What::WrongType),
-        (r#"{"do":"remove","day":"2030-01-02","item":1e2}"#, What::WrongType),
-        (r#"{"do":"remove","day":"2030-01-02","item":-0}"#, What::WrongType),
+        (
+            r#"{"do":"remove","day":"2030-01-02","item":null}"#,
+            What::WrongType,
+        ),
+        (
+            r#"{"do":"remove","day":"2030-01-02","item":-1}"#,
+            What::WrongType,
+        ),
+        (
+            r#"{"do":"remove","day":"2030-01-02","item":1.0}"#,
+            What::WrongType,
+        ),
+        (
+            r#"{"do":"remove","day":"2030-01-02","item":1e2}"#,
+            What::WrongType,
+        ),
+        (
+            r#"{"do":"remove","day":"2030-01-02","item":-0}"#,
+            What::WrongType,
+        ),
         (
             r#"{"do":"remove","day":"2030-01-02","item":18446744073709551616}"#,
             What::WrongType,
         ),
-        (r#"{"do":"add_location","day":"2030-01-02","name":""}"#, What::BadText),
-        (r#"{"do":"add_location","day":"2030-01-02","name":"a\tb"}"#, What::BadText),
-        (r#"{"do":"add_part","day":"2030-01-02","name":"","flags":1}"#, What::BadText),
-        (r#"{"do":"add_part","day":"2030-01-02","name":"x","flags":{}}"#, What::WrongType),
+        (
+            r#"{"do":"add_location","day":"2030-01-02","name":""}"#,
+            What::BadText,
+        ),
+        (
+            r#"{"do":"add_location","day":"2030-01-02","name":"a\tb"}"#,
+            What::BadText,
+        ),
+        (
+            r#"{"do":"add_part","day":"2030-01-02","name":"","flags":1}"#,
+            What::BadText,
+        ),
+        (
+            r#"{"do":"add_part","day":"2030-01-02","name":"x","flags":{}}"#,
+            What::WrongType,
+        ),
         (
             r#"{"do":"add_part","day":"2030-01-02","name":"x","flags":["x",5]}"#,
             What::WrongType,
         ),
-        (r#"{"do":"add_part","day":"2030-01-02","name":"x","flags":["x"]}"#, What::BadWord),
+        (
+            r#"{"do":"add_part","day":"2030-01-02","name":"x","flags":["x"]}"#,
+            What::BadWord,
+        ),
         (
             r#"{"do":"add_part","day":"2030-01-02","name":"x","flags":["salable","salable"]}"#,
             What::BadWord,
         ),
-        (r#"{"report":"ledger","day":"2030-01-02"}"#, What::UnknownField),
+        (
+            r#"{"report":"ledger","day":"2030-01-02"}"#,
+            What::UnknownField,
+        ),
         (r#"{"report":1}"#, What::NoField),
         (r#"{"report":1,"of":"2"}"#, What::WrongType),
         (r#"{"report":1,"of":2}"#, What::WrongType),
@@ -117,9 +161,15 @@ fn finds_the_first_fault(rt: HostRuntime) -> Result<(), Fail> {
         assert_eq!(rt; found, Some(ReadError::Wrong(want)), "at {line}");
     }
     let mut long = vec![in alloc; b' '; 65_536]?;
-    assert_eq!(rt; read_line(alloc, &long).err(), Some(ReadError::Wrong(What::NotJson)));
+    assert_eq!(rt;
+        read_line(alloc, &long).err(),
+        Some(ReadError::Wrong(What::NotJson))
+    );
     long.push(b' ')?;
-    assert_eq!(rt; read_line(alloc, &long).err(), Some(ReadError::Wrong(What::TooLong)));
+    assert_eq!(rt;
+        read_line(alloc, &long).err(),
+        Some(ReadError::Wrong(What::TooLong))
+    );
     Ok(())
 }
 
@@ -130,13 +180,22 @@ fn writes_lines(rt: HostRuntime) -> Result<(), Fail> {
         ids: Ids::one(alloc, 3)?,
         entries: 1,
     };
-    assert_eq!(rt; answer_line(alloc, &one)?.as_str(), "{\"entries\":1,\"ids\":[3]}\n");
+    assert_eq!(rt;
+        answer_line(alloc, &one)?.as_str(),
+        "{\"entries\":1,\"ids\":[3]}\n"
+    );
     let none = Answer {
         ids: Ids::none(alloc),
         entries: 12,
     };
-    assert_eq!(rt; answer_line(alloc, &none)?.as_str(), "{\"entries\":12,\"ids\":[]}\n");
-    assert_eq!(rt; refused_line(alloc, Refusal::Short)?.as_str(), "{\"refused\":\"Short\"}\n");
+    assert_eq!(rt;
+        answer_line(alloc, &none)?.as_str(),
+        "{\"entries\":12,\"ids\":[]}\n"
+    );
+    assert_eq!(rt;
+        refused_line(alloc, Refusal::Short)?.as_str(),
+        "{\"refused\":\"Short\"}\n"
+    );
     let fault = fault_line(alloc, What::NotJson, 1)?;
     assert_eq!(rt; fault.as_str(), "{\"fault\":\"NotJson\",\"line\":1}\n");
     let sums = Sums {
@@ -152,6 +211,9 @@ fn writes_lines(rt: HostRuntime) -> Result<(), Fail> {
         used: 6,
     };
     let ledger = ledger_line(alloc, 2, "5\" \\ Screw", &sums)?;
-    assert_eq!(rt; ledger.as_str(), "{\"report\":[[\"ledger\",\"2\",\"5\\\" \\\\ Screw\"],[\"received\",\"0\"],[\"found\",\"100\"],[\"built\",\"1\"],[\"returned\",\"2\"],[\"consumed\",\"3\"],[\"shipped\",\"4\"],[\"written\",\"30\"],[\"present\",\"70\"],[\"sent\",\"5\"],[\"used\",\"6\"]]}\n");
+    assert_eq!(rt;
+        ledger.as_str(),
+        "{\"report\":[[\"ledger\",\"2\",\"5\\\" \\\\ Screw\"],[\"received\",\"0\"],[\"found\",\"100\"],[\"built\",\"1\"],[\"returned\",\"2\"],[\"consumed\",\"3\"],[\"shipped\",\"4\"],[\"written\",\"30\"],[\"present\",\"70\"],[\"sent\",\"5\"],[\"used\",\"6\"]]}\n"
+    );
     Ok(())
 }

@@ -6,4 +6,5 @@ abbrev pub invariant-loop-i : goal.invariant-loop-i
 invariant-loop-i l = record {
   ends : has_end l.piece ≡ has_end (drop l.i l.piece);
   first : first_of l.piece ≡ take l.i l.piece ++ first_of (drop l.i l.piece);
-  rest : rest_of l.piece ≡ rest_of (drop l.i l.piece) }
+  rest : rest_of l.piece ≡ rest_of (drop l.i l.piece);
+}

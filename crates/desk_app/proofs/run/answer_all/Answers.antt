@@ -1,4 +1,4 @@
-use Rattle.std.proofs.Common.{◌≡◌, ◌&&◌, ◌∙◌, sym, refl, true, false}
+use Rattle.std.proofs.Common.{◌≡◌, ◌&&◌, ◌∙◌}
 use Rattle.desk_core.specs.Shops.{state_of}
 use Rattle.desk_app.specs.Cuts.{left}
 use Rattle.desk_app.specs.Runs.{is_fine, Stopped}
@@ -30,15 +30,15 @@ loop-number-preserved g c =
     let out = rw c.deref.ensures.value at c.in_ok-fine.ensures.out in
     let fine = rw c.deref.ensures.value at c.in_ok-fine.ensures.fine in
     let both : c.if-all.all ≡ (c.loop-number.all && is_fine (state_of c.loop-number.shop) c.loop-number.number c.next_line.new.line.items) =
-      elim c.if-all.branch [
-        | then-all w ↦ rw w.if-all.true (w.all-is ∙ fine)
-        | else-all w ↦ rw w.if-all.false (w.all-is ∙ w.if-all.false)
-      ] in
+    elim c.if-all.branch [
+      | then-all w ↦ rw w.if-all.true (w.all-is ∙ fine)
+      | else-all w ↦ rw w.if-all.false (w.all-is ∙ w.if-all.false)
+    ] in
     record {
       running = running_line (g.R.Read.remaining c.args.reader.now) (left (g.R.Read.remaining c.loop-number.reader) c.loop-number.lines) (left (g.R.Read.remaining c.next_line.new.reader) c.next_line.new.self)
-        (g.W.Write.contents c.args.writer.now) (g.W.Write.contents c.loop-number.writer) (g.W.Write.contents c.answer.new.writer)
-        (state_of c.args.shop.now) (state_of c.loop-number.shop) (state_of c.answer.new.shop) c.loop-number.number c.loop-number.all c.if-all.all c.next_line.new.line.items c.loop-number.invariant.running takes ok out both;
-      sound = c.in_ok-fine.ensures.sound
+          (g.W.Write.contents c.args.writer.now) (g.W.Write.contents c.loop-number.writer) (g.W.Write.contents c.answer.new.writer)
+          (state_of c.args.shop.now) (state_of c.loop-number.shop) (state_of c.answer.new.shop) c.loop-number.number c.loop-number.all c.if-all.all c.next_line.new.line.items c.loop-number.invariant.running takes ok out both;
+      sound = c.in_ok-fine.ensures.sound;
     }
 
 pub returns-clause-stopped : goal.returns-clause-stopped

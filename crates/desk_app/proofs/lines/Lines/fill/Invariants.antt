@@ -1,6 +1,5 @@
 use Rattle.std.proofs.Common.{◌≡◌, ◌≤◌}
 use Rattle.std.specs.Io.KnownBytes.{Keeps}
-use Rattle.desk_app.specs.Cuts.{left}
 use Rattle.desk_app.proofs.lines.Lines.fill.Given as goal
 
 abbrev pub invariant-loop-self : goal.invariant-loop-self
@@ -9,7 +8,8 @@ invariant-loop-self g l = record {
   at : l.self.at ≡ l.initial.self.at;
   filled : l.self.filled ≡ l.initial.self.filled;
   reads : l.self.reads ≤ l.initial.self.reads;
-  empty : l.self.filled ≤ l.self.at }
+  empty : l.self.filled ≤ l.self.at;
+}
 
 abbrev pub decreases-loop-self : goal.decreases-loop-self
 decreases-loop-self g l = l.self.reads

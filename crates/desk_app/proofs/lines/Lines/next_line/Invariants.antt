@@ -6,7 +6,8 @@ use Rattle.desk_app.proofs.lines.Lines.next_line.Given as goal
 abbrev pub invariant-loop-found : goal.invariant-loop-found
 invariant-loop-found g l = record {
   short : length l.line.items ≤ 65537;
-  partway : Partway (left (g.R.Read.remaining l.initial.reader) l.initial.self) l.found l.line.items (left (g.R.Read.remaining l.reader) l.self) }
+  partway : Partway (left (g.R.Read.remaining l.initial.reader) l.initial.self) l.found l.line.items (left (g.R.Read.remaining l.reader) l.self);
+}
 
 abbrev pub decreases-loop-found : goal.decreases-loop-found
 decreases-loop-found g l = l.self.reads + min 1 (l.self.filled - l.self.at)
