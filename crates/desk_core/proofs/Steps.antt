@@ -27,7 +27,8 @@ use Rattle.yard_core.specs.Stock.{Stock, empty_stock, item_at, no_item, content,
 use Rattle.yard_core.proofs.Rows.{get-row_at, values-changed, values-new}
 use Rattle.yard_core.proofs.Items.{own_number, outside}
 use Rattle.yard_core.proofs.Totals.{bare-content}
-use Rattle.yard_core.proofs.Moving.{IsSound-empty, IsSound-make, IsSound-shrink, is_root-outside}
+use Rattle.yard_core.proofs.Changing.{shrunk}
+use Rattle.yard_core.proofs.Moving.{IsSound-empty, made, is_root-outside}
 use Rattle.desk_core.specs.declared.command.Command.{Command}
 use Rattle.desk_core.specs.declared.command.Command.TheVariants.{AddCategory, AddLocation, AddPart, RetirePart, Found, Remove}
 use Rattle.desk_core.specs.declared.command.Request.{Request}
@@ -192,7 +193,7 @@ module _ (s : State) (sound : IsSoundState s) where
       let new = sound.items_below s.counter.next (omega arith) in
       let can : CanMakeItem kind.Found (found_item s.counter.next part l q) s.stock = record { is_new = new; loose = refl; recorded = tt; good = (bounds.0, bounds.1, tt) } in
       record {
-        stock = IsSound-make kind.Found (found_item s.counter.next part l q) day s.stock sound.stock can;
+        stock = (made kind.Found (found_item s.counter.next part l q) day s.stock (make kind.Found (found_item s.counter.next part l q) day s.stock) sound.stock can refl).0;
         bare = subst AreBare (sym (values-new (found_item s.counter.next part l q) s.stock.items sound.stock.items.own new))
             (bare-insert (found_item s.counter.next part l q) (table.values s.stock.items) refl refl sound.bare);
         categories_below = below-more s.parts.categories s.counter.next (s.counter.next + 1) (omega arith) sound.categories_below;
@@ -209,7 +210,7 @@ module _ (s : State) (sound : IsSoundState s) where
       let left = with_quantity ((item_at n s.stock).quantity - q) (item_at n s.stock) in
       let at_own = ap (λ m. table.get s.stock.items (m ∷ [])) number ∙ there in
       record {
-        stock = IsSound-shrink Removed n q day s.stock sound.stock can;
+        stock = (shrunk Removed n q day s.stock (shrink Removed n q day s.stock) sound.stock can refl).0;
         bare = subst AreBare (sym (ap (λ m. table.values (table.insert s.stock.items (m ∷ []) left)) (sym number) ∙ values-changed left (item_at n s.stock) s.stock.items sound.stock.items.own at_own))
             (bare-set left (table.values s.stock.items) (is_root-outside left (left_outside ((item_at n s.stock).quantity - q) (item_at n s.stock).place (outside _ loose))) can.no_serial sound.bare);
         categories_below = sound.categories_below;

@@ -2,4 +2,8 @@ pub mod Notes
 pub mod Rows
 pub mod Items
 pub mod Moving
+pub mod Changing
+pub mod Lifting
+pub mod Cutting
+pub mod Pouring
 pub mod Totals
