@@ -10,7 +10,7 @@ use Rattle.forest.specs.declared.place.Place.{Place}
 use Rattle.forest.specs.declared.place.Place.TheVariants.{At, In, Output, Sent, Used, Off, Gone}
 use Rattle.forest.specs.Forest.{is_at}
 use Rattle.forest.specs.Rows.{entry_on}
-use Rattle.forest.specs.Moves.{cut_node, find_root, insert_root, leaf, replaced, place_left, largest, CanCut}
+use Rattle.forest.specs.Moves.{insert_root, leaf, largest, CanCut}
 use Rattle.forest.specs.Moves as moves
 use Rattle.forest.specs.Tables.{node_of}
 use Rattle.forest.proofs.Conservation.{cut-keeps}

@@ -7,7 +7,7 @@ use Rattle.part_core.specs.Sheet.{Table}
 use Rattle.forest.specs.declared.item.Item.{Item}
 use Rattle.forest.specs.declared.entry.Kind.TheVariants.{Poured}
 use Rattle.forest.specs.Rows.{entry_to, lies_in, parent_in, set_row}
-use Rattle.forest.specs.Moves.{find_root, replaced, place_left, largest, CanPour}
+use Rattle.forest.specs.Moves.{replaced, CanPour}
 use Rattle.forest.specs.Moves as moves
 use Rattle.forest.proofs.Conservation.{pour-keeps}
 use Rattle.yard_core.specs.Stock.{Stock, item_at, machine_of, pour, tree_of, with_quantity, IsItemTable, IsSound, CanPourItem, IsPoured}
