@@ -1,0 +1,11 @@
+pub mod Pushes
+pub mod Member
+pub mod Reached
+pub mod Closed
+pub mod Pigeonhole
+pub mod Rows
+pub mod Cycles
+pub mod Tables
+pub mod Edges
+pub mod Kept
+pub mod Variants

@@ -1,0 +1,114 @@
+-- What stands in a list, and tests over lists.
+use Rattle.std.proofs.Common.{◌≡◌, ℕ, Bool, true, false, ◌||◌, ◌⊎◌, inl, inr, List, [], ◌∷◌, ◌++◌, map, refl, sym, ap, ◌∙◌, eqb-true, eq-eqb}
+use Rattle.std.specs.Prelude.{◌==◌, ◌&&◌}
+use Rattle.std.specs.List.{list_any}
+use Rattle.std.proofs.lemmas.List.Folds.{list_any-append}
+use Rattle.bom_core.specs.Search.{is_among}
+
+pub or_cases : (a b : Bool) → (a || b) ≡ true → (a ≡ true) ⊎ (b ≡ true)
+or_cases true b e = inl refl
+or_cases false b e = inr e
+
+pub or_left : (a b : Bool) → a ≡ true → (a || b) ≡ true
+or_left true b e = refl
+or_left false b e = cc
+
+pub or_right : (a b : Bool) → b ≡ true → (a || b) ≡ true
+or_right true b e = refl
+or_right false b e = e
+
+pub or_assoc : (a b c : Bool) → (a || (b || c)) ≡ ((a || b) || c)
+or_assoc true b c = refl
+or_assoc false b c = refl
+
+pub or_false : (a : Bool) → (a || false) ≡ a
+or_false true = refl
+or_false false = refl
+
+pub and_parts : (a b : Bool) → (a && b) ≡ true → (a ≡ true) × (b ≡ true)
+and_parts true b e = (refl, e)
+and_parts false b e = cc
+
+pub and_both : (a b : Bool) → a ≡ true → b ≡ true → (a && b) ≡ true
+and_both true b e f = f
+and_both false b e f = cc
+
+pub not_true : (b : Bool) → (b ≡ true → ⊥) → b ≡ false
+not_true true f = absurd (f refl)
+not_true false f = refl
+
+-- two tests that hold alike are the same
+pub same_test : (a b : Bool) → (a ≡ true → b ≡ true) → (b ≡ true → a ≡ true) → a ≡ b
+same_test true true f g = refl
+same_test true false f g = sym (f refl)
+same_test false true f g = g refl
+same_test false false f g = refl
+
+-- x stands in the list
+abbrev pub Stands : {X : Type 0} → X → List X → Type 0
+Stands x [] = ⊥
+Stands x (y ∷ ys) = (y ≡ x) ⊎ Stands x ys
+
+module _ {X : Type 0} where
+  pub any-found : (p : X → Bool) (xs : List X) → list_any p xs ≡ true → (x : X) × Stands x xs × (p x ≡ true)
+  any-found p [] e = cc
+  any-found p (x ∷ xs) e =
+      elim (or_cases (p x) (list_any p xs) e) [
+        | inl h ↦ (x, inl refl, h)
+        | inr h ↦ let f = any-found p xs h in (f.0, inr f.1, f.2)
+      ]
+
+  pub any-from : (p : X → Bool) (xs : List X) (x : X) → Stands x xs → p x ≡ true → list_any p xs ≡ true
+  any-from p [] x s e = absurd s
+  any-from p (y ∷ ys) x s e =
+      elim s [
+        | inl h ↦ or_left (p y) (list_any p ys) (ap p h ∙ e)
+        | inr h ↦ or_right (p y) (list_any p ys) (any-from p ys x h e)
+      ]
+
+  -- a test that fails on a list fails at each of its elements
+  pub any-none : (p : X → Bool) (xs : List X) (x : X) → list_any p xs ≡ false → Stands x xs → p x ≡ false
+  any-none p xs x e s = elim (p x) as (λ b. p x ≡ b → b ≡ false) [ true ↦ λ h. (let t = any-from p xs x s h in cc) | false ↦ λ h. refl ] refl
+
+  pub Stands-append_left : (x : X) (xs ys : List X) → Stands x xs → Stands x (xs ++ ys)
+  Stands-append_left x [] ys s = absurd s
+  Stands-append_left x (z ∷ xs) ys s =
+      elim s [
+        | inl h ↦ inl h
+        | inr h ↦ inr (Stands-append_left x xs ys h)
+      ]
+
+  pub any-same : (p q : X → Bool) → ((x : X) → p x ≡ q x) → (xs : List X) → list_any p xs ≡ list_any q xs
+  any-same p q e [] = refl
+  any-same p q e (x ∷ xs) = ap (λ b. b || list_any p xs) (e x) ∙ ap (λ b. q x || b) (any-same p q e xs)
+
+  pub Stands-map : {Y : Type 0} (f : X → Y) (x : X) (xs : List X) → Stands x xs → Stands (f x) (map f xs)
+  Stands-map f x [] s = absurd s
+  Stands-map f x (z ∷ xs) s =
+      elim s [
+        | inl h ↦ inl (ap f h)
+        | inr h ↦ inr (Stands-map f x xs h)
+      ]
+
+  pub Stands-from_map : {Y : Type 0} (f : X → Y) (y : Y) (xs : List X) → Stands y (map f xs) → (x : X) × Stands x xs × (f x ≡ y)
+  Stands-from_map f y [] s = absurd s
+  Stands-from_map f y (z ∷ xs) s =
+      elim s [
+        | inl h ↦ (z, inl refl, h)
+        | inr h ↦ let r = Stands-from_map f y xs h in (r.0, inr r.1, r.2)
+      ]
+
+-- numbers
+pub among-Stands : (xs : List ℕ) (p : ℕ) → is_among xs p ≡ true → Stands p xs
+among-Stands [] p e = cc
+among-Stands (x ∷ xs) p e =
+    elim (or_cases (x == p) (is_among xs p) e) [
+      | inl h ↦ inl (eqb-true _ _ h)
+      | inr h ↦ inr (among-Stands xs p h)
+    ]
+
+pub among-from : (xs : List ℕ) (p : ℕ) → Stands p xs → is_among xs p ≡ true
+among-from xs p s = any-from (λ q. q == p) xs p s (eq-eqb p p refl)
+
+pub among-append : (xs ys : List ℕ) (p : ℕ) → is_among (xs ++ ys) p ≡ (is_among xs p || is_among ys p)
+among-append xs ys p = list_any-append (λ q. q == p) xs ys

@@ -1,0 +1,11 @@
+use Rattle.std.proofs.Common.{◌≡◌, drop}
+use Rattle.part_core.specs.Sheet.{now_of}
+use Rattle.bom_core.specs.Changes.{removed_all}
+use Rattle.bom_core.proofs.boms.remove_all.Given as goal
+
+abbrev pub invariant-loop-number : goal.invariant-loop-number
+invariant-loop-number l =
+    record {
+      removed : removed_all (drop l.number-index l.numbers) (now_of l.substitutes) ≡ removed_all l.numbers (now_of l.initial.substitutes);
+      kept : l.substitutes.kept ≡ l.initial.substitutes.kept;
+    }

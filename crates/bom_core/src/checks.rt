@@ -1,0 +1,103 @@
+//! Why a change of the bills is refused.
+ghost use Rattle.std.specs.Prelude.{◌≡◌, ◌↔◌, ℕ};
+ghost use Rattle.part_core.specs.Catalogues.{parts_of};
+ghost use Rattle.part_core.specs.Checks.{first};
+ghost use Rattle.bom_core.specs.Bills.{is_variant, part_rows};
+ghost use Rattle.bom_core.specs.Changes.{has_row, is_assembly, is_component, is_virtual, is_retired, is_bad_quantity, is_open, line_row_checks};
+
+use crate::line::LineFlags;
+use part_core::{Catalogue, Id, Quantity, Refusal};
+
+/// Whether the part is a variant of the template. It looks at every part.
+pub fn is_variant(catalogue: &Catalogue, part: Id, template: Id) -> bool
+    ensures { result ≡ is_variant (part_rows (parts_of catalogue.now)) part template }
+{
+    catalogue
+        .parts()
+        .any(|row| row.number == part && row.template == Some(template))
+}
+
+/// Whether the catalogue has the part.
+pub fn has_part(catalogue: &Catalogue, number: Id) -> bool
+    ensures { result ≡ has_row (parts_of catalogue.now).parts number }
+{
+    match catalogue.part(number) {
+        Some(_) => true,
+        None => false,
+    }
+}
+
+fn is_assembly(catalogue: &Catalogue, number: Id) -> bool
+    ensures { result ≡ is_assembly (parts_of catalogue.now) number }
+{
+    match catalogue.part(number) {
+        Some(part) => part.flags.assembly,
+        None => false,
+    }
+}
+
+pub fn is_component(catalogue: &Catalogue, number: Id) -> bool
+    ensures { result ≡ is_component (parts_of catalogue.now) number }
+{
+    match catalogue.part(number) {
+        Some(part) => part.flags.component,
+        None => false,
+    }
+}
+
+pub fn is_virtual(catalogue: &Catalogue, number: Id) -> bool
+    ensures { result ≡ is_virtual (parts_of catalogue.now) number }
+{
+    match catalogue.part(number) {
+        Some(part) => part.flags.is_virtual,
+        None => false,
+    }
+}
+
+pub fn is_retired(catalogue: &Catalogue, number: Id) -> bool
+    ensures { result ≡ is_retired (parts_of catalogue.now) number }
+{
+    match catalogue.part(number) {
+        Some(part) => part.retired,
+        None => false,
+    }
+}
+
+/// Whether the part, or a variant of it, is among those with an open build.
+pub fn is_open(catalogue: &Catalogue, open_parts: &[Id], part: Id) -> bool
+    ensures { result ≡ is_open (parts_of catalogue.now) open_parts.now part }
+{
+    open_parts.iter().any(|other| part == *other || is_variant(catalogue, *other, part))
+}
+
+/// Why a new line is refused, whatever the other lines are.
+pub fn line_refusal(
+    catalogue: &Catalogue,
+    open_parts: &[Id],
+    assembly: Id,
+    component: Id,
+    quantity: Quantity,
+    flags: LineFlags,
+) -> Option<Refusal>
+    ensures { result ≡ first (line_row_checks assembly component quantity flags open_parts.now (parts_of catalogue.now)) }
+{
+    if !(has_part(catalogue, assembly) && has_part(catalogue, component)) {
+        return Some(Refusal::NoSuch);
+    }
+    if quantity < 1 || quantity > 1_000_000_000 {
+        return Some(Refusal::BadNumber);
+    }
+    if !is_assembly(catalogue, assembly)
+        || !is_component(catalogue, component)
+        || (is_virtual(catalogue, component) && !flags.consumable)
+    {
+        return Some(Refusal::WrongFlag);
+    }
+    if is_retired(catalogue, assembly) || is_retired(catalogue, component) {
+        return Some(Refusal::Retired);
+    }
+    if is_open(catalogue, open_parts, assembly) {
+        return Some(Refusal::InUse);
+    }
+    None
+}

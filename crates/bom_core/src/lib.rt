@@ -1,0 +1,16 @@
+//! Bills of materials: which parts an assembly is built from.
+#![tactic(auto)]
+
+mod boms;
+mod checks;
+mod laws;
+mod line;
+mod search;
+mod substitute;
+#[cfg(test)]
+mod tests;
+
+pub use boms::Boms;
+pub use laws::{a_new_part_makes_no_cycle, no_bills_are_sound, walks_are_short};
+pub use line::{Line, LineFlags};
+pub use substitute::Substitute;

@@ -1,0 +1,93 @@
+//! Lines of bills.
+ghost use Rattle.std.specs.Prelude.{◌≡◌, ◌↔◌, ◌∷◌, [], IsTrue, IfOk};
+ghost use Rattle.part_core.specs.Numbered.{number_digits, number_exact};
+
+use part_core::{Id, Quantity, Row, compare_numbers};
+use std::alloc::{AllocError, Global};
+use std::cmp::Ordering;
+
+/// What a line asks for.
+#[derive(Clone, Copy, Debug, Default, PartialEq, Eq)]
+pub struct LineFlags {
+    /// A build may be done without it.
+    pub optional: bool,
+    /// It is used up without being counted.
+    pub consumable: bool,
+    /// It also stands in the bills of the assembly's variants.
+    pub inherited: bool,
+    /// Variants of the component fit it too.
+    pub variants: bool,
+}
+
+impl LineFlags {
+    /// Whether the flags are the same.
+    pub fn equals(&self, other: &LineFlags) -> bool
+        ensures { IsTrue result ↔ (self.now ≡ other.now) }
+    {
+        if self.optional != other.optional {
+            return false;
+        }
+        if self.consumable != other.consumable {
+            return false;
+        }
+        if self.inherited != other.inherited {
+            return false;
+        }
+        self.variants == other.variants
+    }
+}
+
+/// A line of an assembly's bill: so many of a component go into one unit of the assembly.
+#[derive(Drop, Debug)]
+pub struct Line {
+    pub number: Id,
+    pub assembly: Id,
+    pub component: Id,
+    /// For one unit of the assembly: 1 to 1,000,000,000.
+    pub quantity: Quantity,
+    pub flags: LineFlags,
+}
+
+impl Row for Line {
+    type Key = u64;
+
+    ghost digits = { number_digits };
+
+    ghost key_of = { λ row. row.number ∷ [] };
+
+    ghost exact = { number_exact };
+
+    fn key(&self, _alloc: Global) -> Result<u64, AllocError> {
+        Ok(self.number)
+    }
+
+    fn compare(key: &u64, other: &u64) -> Ordering {
+        compare_numbers(*key, *other)
+    }
+
+    fn equals(&self, other: &Self) -> bool {
+        if self.number != other.number {
+            return false;
+        }
+        if self.assembly != other.assembly {
+            return false;
+        }
+        if self.component != other.component {
+            return false;
+        }
+        if self.quantity != other.quantity {
+            return false;
+        }
+        self.flags.equals(&other.flags)
+    }
+
+    fn copy(&self, _alloc: Global) -> Result<Self, AllocError> {
+        Ok(Line {
+            number: self.number,
+            assembly: self.assembly,
+            component: self.component,
+            quantity: self.quantity,
+            flags: self.flags,
+        })
+    }
+}

@@ -1,0 +1,51 @@
+//! Substitutes on lines of bills.
+ghost use Rattle.std.specs.Prelude.{◌≡◌, ◌↔◌, ◌∷◌, [], IsTrue, IfOk};
+ghost use Rattle.part_core.specs.Numbered.{number_digits, number_exact};
+
+use part_core::{Id, Row, compare_numbers};
+use std::alloc::{AllocError, Global};
+use std::cmp::Ordering;
+
+/// A part that may go in for a line's component.
+#[derive(Drop, Debug)]
+pub struct Substitute {
+    pub number: Id,
+    pub line: Id,
+    pub part: Id,
+}
+
+impl Row for Substitute {
+    type Key = u64;
+
+    ghost digits = { number_digits };
+
+    ghost key_of = { λ row. row.number ∷ [] };
+
+    ghost exact = { number_exact };
+
+    fn key(&self, _alloc: Global) -> Result<u64, AllocError> {
+        Ok(self.number)
+    }
+
+    fn compare(key: &u64, other: &u64) -> Ordering {
+        compare_numbers(*key, *other)
+    }
+
+    fn equals(&self, other: &Self) -> bool {
+        if self.number != other.number {
+            return false;
+        }
+        if self.line != other.line {
+            return false;
+        }
+        self.part == other.part
+    }
+
+    fn copy(&self, _alloc: Global) -> Result<Self, AllocError> {
+        Ok(Substitute {
+            number: self.number,
+            line: self.line,
+            part: self.part,
+        })
+    }
+}
