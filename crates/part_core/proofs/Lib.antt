@@ -6,3 +6,6 @@ pub mod Listing
 pub mod Ends
 pub mod Ordered
 pub mod Selects
+pub mod Numerals
+pub mod Readings
+pub mod Tables
