@@ -2,10 +2,10 @@
 use Rattle.std.proofs.Common.{◌≡◌, ◌↔◌, ◌⊎◌, inl, inr, ℕ, suc, zero, Bool, true, List, map, length, subst, eqb-true}
 use Rattle.std.specs.Prelude.{◌&&◌, ◌==◌}
 use Rattle.part_core.specs.declared.part.Part.{Part}
-use Rattle.part_core.specs.Catalogue.{Parts}
+use Rattle.part_core.specs.Catalogue.{Parts, is_number}
 use Rattle.bom_core.specs.declared.line.Line.{Line}
 use Rattle.bom_core.specs.declared.substitute.Substitute.{Substitute}
-use Rattle.bom_core.specs.Bills.{Bills, contains, is_number, is_variant, covers, is_effective, is_substitute, fits_line, part_rows, line_rows, substitute_rows}
+use Rattle.bom_core.specs.Bills.{Bills, contains, is_variant, covers, is_effective, is_substitute, fits_line, part_rows, line_rows, substitute_rows}
 use Rattle.bom_core.specs.Walks.{StepsFrom, HasWalk, NamesParts, numbers_of, has_walk, contains_itself}
 use Rattle.bom_core.proofs.Member.{or_cases, and_parts, any-found, any-from, Stands, Stands-map}
 use Rattle.bom_core.proofs.Pigeonhole.{leads_is_walk, end_stands}
@@ -28,7 +28,7 @@ steps-back step n a b w = steps-turned (λ p q. step q p) n b a w
 -- a variant is a part
 variant-known : (parts : List Part) (p t : ℕ) → is_variant parts p t ≡ true → Stands p (map (λ x. x.number) parts)
 variant-known parts p t e =
-    let f = any-found (λ (x : Part). (x.number == p) && is_number x.template t) parts e in
+    let f = any-found (λ (x : Part). (x.number == p) && is_number t x.template) parts e in
     let h = and_parts (f.0.number == p) _ f.2 in
     subst (λ n. Stands n (map (λ x. x.number) parts)) (eqb-true _ _ h.0) (Stands-map (λ (x : Part). x.number) f.0 parts f.1)
 

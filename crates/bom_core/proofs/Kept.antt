@@ -1,5 +1,5 @@
 -- Sound bills stay sound.
-use Rattle.std.proofs.Common.{◌≡◌, ◌≢◌, inl, inr, ◌+◌, ◌<◌, ℕ, Bool, true, false, cond, ◌||◌, List, [], ◌∷◌, Some, None, refl, sym, ap, ◌∙◌, subst, arith, eq-eqb}
+use Rattle.std.proofs.Common.{◌≡◌, ◌≢◌, inl, inr, ◌+◌, ◌<◌, ◌≤◌, ℕ, Bool, true, false, cond, ◌||◌, List, [], ◌∷◌, Some, None, refl, sym, ap, ◌∙◌, subst, arith, eq-eqb}
 use Rattle.std.specs.Prelude.{◌==◌, ◌&&◌, not, filter}
 use Rattle.std.specs.FinMap as table
 use Rattle.part_core.specs.Sheet.{Table}
@@ -99,9 +99,9 @@ sound-without_line parts bills n next sound =
             (Stands-map (λ (x : Substitute). x.number) s _ (Stands-filter (λ (x : Substitute). x.line == n) (substitute_rows bills) s (get-Stands bills.substitutes k s old) (eq-eqb _ _ of_line)))
             (sound.own_substitutes k s old)
 
--- one number more is drawn
-catalogue-more : (parts : Parts) (next : ℕ) → IsSoundCatalogue parts next → IsSoundCatalogue parts (next + 1)
-catalogue-more parts next c = record { own = c.own; numbers = λ k x e. let below = c.numbers k x e in omega arith; there = c.there; templates = c.templates }
+-- more numbers are drawn
+pub catalogue-more : (parts : Parts) (next more : ℕ) → next ≤ more → IsSoundCatalogue parts next → IsSoundCatalogue parts more
+catalogue-more parts next more le c = record { own = c.own; numbers = λ k x e. let below = c.numbers k x e in omega arith; there = c.there; templates = c.templates }
 
 -- a new line
 
@@ -119,7 +119,7 @@ module _ (parts : Parts) (bills : Bills) (l : Line) (sound : IsSoundBill parts b
 
   pub sound-with_line : contains_itself parts (with_line l bills) ≡ false → IsSoundBill parts (with_line l bills) (l.number + 1)
   sound-with_line none = record {
-    catalogue = catalogue-more parts l.number sound.catalogue;
+    catalogue = catalogue-more parts l.number (l.number + 1) (omega arith) sound.catalogue;
     own_lines = λ k x e. elim (get-insert_cases bills.lines (l.number ∷ []) l k x e) [
       | inl s ↦ s.0 ∙ ap (λ (y : Line). y.number ∷ []) s.1
       | inr s ↦ sound.own_lines k x s
@@ -172,7 +172,7 @@ module _ (parts : Parts) (bills : Bills) (s : Substitute) (sound : IsSoundBill p
 
   pub sound-with_substitute : contains_itself parts (with_substitute s bills) ≡ false → IsSoundBill parts (with_substitute s bills) (s.number + 1)
   sound-with_substitute none = record {
-    catalogue = catalogue-more parts s.number sound.catalogue;
+    catalogue = catalogue-more parts s.number (s.number + 1) (omega arith) sound.catalogue;
     own_lines = sound.own_lines;
     own_substitutes = λ k x e. elim (get-insert_cases bills.substitutes (s.number ∷ []) s k x e) [
       | inl i ↦ i.0 ∙ ap (λ (y : Substitute). y.number ∷ []) i.1

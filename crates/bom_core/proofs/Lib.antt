@@ -9,3 +9,4 @@ pub mod Tables
 pub mod Edges
 pub mod Kept
 pub mod Variants
+pub mod Beside

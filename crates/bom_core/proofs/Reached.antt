@@ -7,7 +7,8 @@ use Rattle.bom_core.specs.declared.line.Line.{Line}
 use Rattle.bom_core.specs.declared.substitute.Substitute.{Substitute}
 use Rattle.bom_core.specs.declared.search.Direction.{Direction}
 use Rattle.bom_core.specs.declared.search.Direction.TheVariants.{Down, Up}
-use Rattle.bom_core.specs.Bills.{is_number, is_variant, covers, is_effective, is_substitute, fits_line, contains_by}
+use Rattle.part_core.specs.Catalogue.{is_number}
+use Rattle.bom_core.specs.Bills.{is_variant, covers, is_effective, is_substitute, fits_line, contains_by}
 use Rattle.bom_core.specs.Search.{is_among, push_new, push_all, variants_in, covered, template_list, templates_in, covered_by, substitutes_in, fitting, contained, assemblies_of, by_component, by_substitute, next_parts, is_next}
 use Rattle.bom_core.proofs.Member.{or_cases, or_left, or_right, or_assoc, or_false, and_parts, and_both, same_test, any-found, any-from, among-append, Stands}
 
@@ -55,7 +56,7 @@ among-cond false xs p = refl
 
 among-variants_in : (parts : List Part) (t p : ℕ) → is_among (variants_in parts t) p ≡ is_variant parts p t
 among-variants_in [] t p = refl
-among-variants_in (x ∷ xs) t p = go (is_number x.template t) (x.number == p) (among-variants_in xs t p)
+among-variants_in (x ∷ xs) t p = go (is_number t x.template) (x.number == p) (among-variants_in xs t p)
   where
     go : (a b : Bool) → is_among (variants_in xs t) p ≡ is_variant xs p t → is_among (cond a (x.number ∷ variants_in xs t) (variants_in xs t)) p ≡ ((x.number == p) && a || is_variant xs p t)
     go true b ih = ap (λ c. (x.number == p) || c) ih ∙ ap (λ c. c || is_variant xs p t) (sym (and_true (x.number == p)))
@@ -79,7 +80,7 @@ among-pushed parts read n variants start seen items e f g h p =
     ap (λ l. is_among l p) (e ∙ f ∙ ap (λ l. push_all l (covered read n variants)) g ∙ ap (λ (l : List Part). push_all [] (covered l n variants)) h)
     ∙ among-push_all [] (covered parts n variants) p ∙ among-covered parts n variants p
 
-among-template_list : (o : Option ℕ) (t : ℕ) → is_among (template_list o) t ≡ is_number o t
+among-template_list : (o : Option ℕ) (t : ℕ) → is_among (template_list o) t ≡ is_number t o
 among-template_list None t = refl
 among-template_list (Some u) t = or_false (u == t)
 
@@ -88,7 +89,7 @@ among-templates_in [] p t = refl
 among-templates_in (x ∷ xs) p t =
     among-append (cond (x.number == p) (template_list x.template) []) (templates_in xs p) t
     ∙ ap (λ b. b || is_among (templates_in xs p) t) (among-cond (x.number == p) (template_list x.template) t ∙ ap (λ b. (x.number == p) && b) (among-template_list x.template t))
-    ∙ ap (λ b. (x.number == p) && is_number x.template t || b) (among-templates_in xs p t)
+    ∙ ap (λ b. (x.number == p) && is_number t x.template || b) (among-templates_in xs p t)
 
 covered_by-templates : (parts : List Part) (n : ℕ) (variants : Bool) (p : ℕ) → covered_by (templates_in parts p) n variants p ≡ covers parts n variants p
 covered_by-templates parts n variants p = ap (λ b. (n == p) || (variants && b)) (among-templates_in parts p n)

@@ -4,10 +4,10 @@ use Rattle.std.specs.Prelude.{◌==◌, ◌&&◌}
 use Rattle.std.specs.FinMap as table
 use Rattle.part_core.specs.Sheet.{key_cmp}
 use Rattle.part_core.specs.declared.part.Part.{Part}
-use Rattle.part_core.specs.Catalogue.{Parts, no_parts}
+use Rattle.part_core.specs.Catalogue.{Parts, is_number, no_parts}
 use Rattle.bom_core.specs.declared.line.Line.{Line}
 use Rattle.bom_core.specs.declared.substitute.Substitute.{Substitute}
-use Rattle.bom_core.specs.Bills.{Bills, contains, is_number, is_variant, covers, part_rows, no_bills}
+use Rattle.bom_core.specs.Bills.{Bills, contains, is_variant, covers, part_rows, no_bills}
 use Rattle.bom_core.specs.Walks.{StepsFrom, IsAcyclic}
 use Rattle.bom_core.specs.Sound.{IsSoundBill, IsSoundCatalogue, IsThere, IsNewPart, with_part}
 use Rattle.bom_core.proofs.Member.{or_cases, or_left, or_right, and_parts, and_both, any-found, any-from, not_true}
@@ -16,22 +16,22 @@ use Rattle.bom_core.proofs.Rows.{Stands-get, get-Stands}
 use Rattle.bom_core.proofs.Tables.{same_digit, get-insert_cases, get-insert_old, row_of, there, fresh}
 use Rattle.bom_core.proofs.Edges.{edge_of, contains_by_edge}
 
-is_number-Some : (o : Option ℕ) (t : ℕ) → is_number o t ≡ true → o ≡ Some t
+is_number-Some : (o : Option ℕ) (t : ℕ) → is_number t o ≡ true → o ≡ Some t
 is_number-Some None t e = cc
 is_number-Some (Some u) t e = ap (λ n. Some n) (eqb-true _ _ e)
 
 -- the row that makes a part a variant
-variant_row : (parts : Parts) (p t : ℕ) → is_variant (part_rows parts) p t ≡ true → (k : List ℕ) × (x : Part) × (table.get parts.parts k ≡ Some x) × (x.number ≡ p) × (x.template ≡ Some t)
+pub variant_row : (parts : Parts) (p t : ℕ) → is_variant (part_rows parts) p t ≡ true → (k : List ℕ) × (x : Part) × (table.get parts.parts k ≡ Some x) × (x.number ≡ p) × (x.template ≡ Some t)
 variant_row parts p t e =
-    let f = any-found (λ (x : Part). (x.number == p) && is_number x.template t) (part_rows parts) e in
+    let f = any-found (λ (x : Part). (x.number == p) && is_number t x.template) (part_rows parts) e in
     let g = Stands-get parts.parts f.0 f.1 in
     let h = and_parts (f.0.number == p) _ f.2 in
     (g.0, f.0, g.1, eqb-true _ _ h.0, is_number-Some f.0.template t h.1)
 
-variant_from : (parts : Parts) (k : List ℕ) (x : Part) (t : ℕ) → table.get parts.parts k ≡ Some x → x.template ≡ Some t → is_variant (part_rows parts) x.number t ≡ true
+pub variant_from : (parts : Parts) (k : List ℕ) (x : Part) (t : ℕ) → table.get parts.parts k ≡ Some x → x.template ≡ Some t → is_variant (part_rows parts) x.number t ≡ true
 variant_from parts k x t e f =
-    any-from (λ (y : Part). (y.number == x.number) && is_number y.template t) (part_rows parts) x (get-Stands parts.parts k x e)
-    (and_both _ _ (eq-eqb _ _ refl) (ap (λ o. is_number o t) f ∙ eq-eqb t t refl))
+    any-from (λ (y : Part). (y.number == x.number) && is_number t y.template) (part_rows parts) x (get-Stands parts.parts k x e)
+    (and_both _ _ (eq-eqb _ _ refl) (ap (λ o. is_number t o) f ∙ eq-eqb t t refl))
 
 module _ (parts : Parts) (x : Part) (sound : IsSoundCatalogue parts x.number) (new : IsNewPart parts x) where
   free : table.get parts.parts (x.number ∷ []) ≡ None

@@ -1,9 +1,9 @@
 -- Bills: which lines hold for a part, what fits a line, and which parts a part contains.
-use Rattle.std.specs.Prelude.{ℕ, Bool, false, ◌==◌, ◌&&◌, ◌||◌, List, Option, Some, None, filter}
+use Rattle.std.specs.Prelude.{ℕ, Bool, ◌==◌, ◌&&◌, ◌||◌, List, filter}
 use Rattle.std.specs.List.{list_any}
 use Rattle.std.specs.FinMap as table
 use Rattle.part_core.specs.Sheet.{Table}
-use Rattle.part_core.specs.Catalogue.{Parts}
+use Rattle.part_core.specs.Catalogue.{Parts, is_number}
 use Rattle.part_core.specs.declared.part.Part.{Part}
 use Rattle.bom_core.specs.declared.line.Line.{Line}
 use Rattle.bom_core.specs.declared.substitute.Substitute.{Substitute}
@@ -24,14 +24,9 @@ line_rows bills = table.values bills.lines
 abbrev pub substitute_rows : Bills → List Substitute
 substitute_rows bills = table.values bills.substitutes
 
--- whether there is a number, and it is this one
-abbrev pub is_number : Option ℕ → ℕ → Bool
-is_number None n = false
-is_number (Some m) n = m == n
-
 -- the part is a variant of the template
 abbrev pub is_variant : List Part → ℕ → ℕ → Bool
-is_variant parts p t = list_any (λ x. x.number == p && is_number x.template t) parts
+is_variant parts p t = list_any (λ x. x.number == p && is_number t x.template) parts
 
 -- the part is that of the number, or, where variants count too, a variant of it
 abbrev pub covers : List Part → ℕ → Bool → ℕ → Bool

@@ -1,9 +1,10 @@
 -- What the calls that change the bills do, and why they are refused.
-use Rattle.std.specs.Prelude.{ℕ, Bool, true, false, ◌==◌, ◌&&◌, ◌||◌, not, nat_lt, List, [], ◌∷◌, ◌++◌, Option, Some, None, map, filter}
+use Rattle.std.specs.Prelude.{ℕ, Bool, true, false, ◌==◌, ◌&&◌, ◌||◌, not, List, [], ◌∷◌, ◌++◌, Option, Some, None, map, filter}
 use Rattle.std.specs.List.{list_any}
 use Rattle.std.specs.FinMap as table
 use Rattle.part_core.specs.Sheet.{Table}
-use Rattle.part_core.specs.Catalogue.{Parts}
+use Rattle.part_core.specs.Catalogue.{Parts, part_in, is_retired}
+use Rattle.part_core.specs.Quantity.{is_bad_quantity}
 use Rattle.part_core.specs.Counter.{Numbering, lacks}
 use Rattle.part_core.specs.Checks.{Check}
 use Rattle.part_core.specs.declared.refusal.Refusal.TheVariants.{NoSuch, BadNumber, WrongFlag, Retired, InUse, Cycle, Full}
@@ -34,13 +35,6 @@ is_component parts n = row_is (λ p. p.flags.component) parts.parts n
 abbrev pub is_virtual : Parts → ℕ → Bool
 is_virtual parts n = row_is (λ p. p.flags.is_virtual) parts.parts n
 
-abbrev pub is_retired : Parts → ℕ → Bool
-is_retired parts n = row_is (λ p. p.retired) parts.parts n
-
--- quantities are 1 to 1,000,000,000
-abbrev pub is_bad_quantity : ℕ → Bool
-is_bad_quantity q = nat_lt q 1 || nat_lt 1000000000 q
-
 -- the part, or a variant of it, has an open build
 abbrev pub is_open : Parts → List ℕ → ℕ → Bool
 is_open parts open_parts a = list_any (λ p. covers (part_rows parts) a true p) open_parts
@@ -64,7 +58,7 @@ line_row_checks assembly component quantity flags open_parts parts =
     (not (has_row parts.parts assembly && has_row parts.parts component), NoSuch)
     ∷ (is_bad_quantity quantity, BadNumber)
     ∷ (not (is_assembly parts assembly) || (not (is_component parts component) || (is_virtual parts component && not flags.consumable)), WrongFlag)
-    ∷ (is_retired parts assembly || is_retired parts component, Retired)
+    ∷ (is_retired (part_in assembly parts) || is_retired (part_in component parts), Retired)
     ∷ (is_open parts open_parts assembly, InUse)
     ∷ []
 
@@ -109,7 +103,7 @@ abbrev pub substitute_row_checks : ℕ → ℕ → List ℕ → Parts → Bills 
 substitute_row_checks line part open_parts parts bills =
     (not (has_row bills.lines line && has_row parts.parts part), NoSuch)
     ∷ (not (is_component parts part) || is_virtual parts part, WrongFlag)
-    ∷ (is_retired parts part, Retired)
+    ∷ (is_retired (part_in part parts), Retired)
     ∷ (is_line_open parts bills open_parts line || is_fitting parts bills line part, InUse)
     ∷ []
 

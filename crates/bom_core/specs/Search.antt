@@ -2,7 +2,8 @@
 use Rattle.std.specs.Prelude.{ℕ, Bool, cond, ◌==◌, ◌||◌, ◌&&◌, List, [], ◌∷◌, ◌++◌, Option, Some, None}
 use Rattle.std.specs.List.{list_any}
 use Rattle.part_core.specs.declared.part.Part.{Part}
-use Rattle.bom_core.specs.Bills.{is_number, contains_by}
+use Rattle.part_core.specs.Catalogue.{is_number}
+use Rattle.bom_core.specs.Bills.{contains_by}
 use Rattle.bom_core.specs.declared.line.Line.{Line}
 use Rattle.bom_core.specs.declared.substitute.Substitute.{Substitute}
 use Rattle.bom_core.specs.declared.search.Direction.{Direction}
@@ -22,7 +23,7 @@ push_all seen (p ∷ ps) = push_all (push_new seen p) ps
 -- the variants of a part
 abbrev pub variants_in : List Part → ℕ → List ℕ
 variants_in [] t = []
-variants_in (x ∷ xs) t = cond (is_number x.template t) (x.number ∷ variants_in xs t) (variants_in xs t)
+variants_in (x ∷ xs) t = cond (is_number t x.template) (x.number ∷ variants_in xs t) (variants_in xs t)
 
 -- the part of that number, and, where variants count too, its variants
 abbrev pub covered : List Part → ℕ → Bool → List ℕ

@@ -1,12 +1,13 @@
 //! Why a change of the bills is refused.
 ghost use Rattle.std.specs.Prelude.{◌≡◌, ◌↔◌, ℕ};
+ghost use Rattle.part_core.specs.Catalogue.{is_retired, part_in};
 ghost use Rattle.part_core.specs.Catalogues.{parts_of};
 ghost use Rattle.part_core.specs.Checks.{first};
 ghost use Rattle.bom_core.specs.Bills.{is_variant, part_rows};
-ghost use Rattle.bom_core.specs.Changes.{has_row, is_assembly, is_component, is_virtual, is_retired, is_bad_quantity, is_open, line_row_checks};
+ghost use Rattle.bom_core.specs.Changes.{has_row, is_assembly, is_component, is_virtual, is_open, line_row_checks};
 
 use crate::line::LineFlags;
-use part_core::{Catalogue, Id, Quantity, Refusal};
+use part_core::{Catalogue, Id, Quantity, Refusal, is_bad_quantity};
 
 /// Whether the part is a variant of the template. It looks at every part.
 pub fn is_variant(catalogue: &Catalogue, part: Id, template: Id) -> bool
@@ -55,7 +56,7 @@ pub fn is_virtual(catalogue: &Catalogue, number: Id) -> bool
 }
 
 pub fn is_retired(catalogue: &Catalogue, number: Id) -> bool
-    ensures { result ≡ is_retired (parts_of catalogue.now) number }
+    ensures { result ≡ is_retired (part_in number (parts_of catalogue.now)) }
 {
     match catalogue.part(number) {
         Some(part) => part.retired,
@@ -84,7 +85,7 @@ pub fn line_refusal(
     if !(has_part(catalogue, assembly) && has_part(catalogue, component)) {
         return Some(Refusal::NoSuch);
     }
-    if quantity < 1 || quantity > 1_000_000_000 {
+    if is_bad_quantity(quantity) {
         return Some(Refusal::BadNumber);
     }
     if !is_assembly(catalogue, assembly)

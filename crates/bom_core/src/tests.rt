@@ -113,19 +113,39 @@ fn does_each_call(rt: HostRuntime) {
     assert!(rt; matches!(is_happy(rt.alloc()), Ok(true)));
 }
 
-// Whether a line from the last of some assemblies to the first, each of which contains the next, is refused.
+// How many assemblies a chain has.
+const LENGTH: usize = 200;
+
+// A chain of assemblies, each of which contains the next: the numbers of its first and its last.
+fn chain(
+    catalogue: &mut Catalogue,
+    boms: &mut Boms,
+    counter: &mut Counter,
+    alloc: Global,
+) -> Result<(Id, Id), CoreFault>
+    requires { IsReady catalogue.old boms.old counter.old.next }
+    ensures { IfOk result (λ _. IsReady catalogue.new boms.new counter.new.next) }
+{
+    let first = part(catalogue, boms, counter, alloc, "0")?;
+    let mut last = first;
+    for i in 1..LENGTH {
+        let name = format!(in alloc; "{i}")?;
+        let next = part(catalogue, boms, counter, alloc, name.as_str())?;
+        line(catalogue, boms, counter, last, next)?;
+        last = next;
+    }
+    Ok((first, last))
+}
+
+// Whether all assemblies of a chain but its last contain the last, and a line from the last to the first is refused.
 fn is_chain_closed(alloc: Global) -> Result<bool, CoreFault> {
     no_bills_are_sound();
     let mut catalogue = Catalogue::new(alloc);
     let mut boms = Boms::new(alloc);
     let mut counter = Counter::new(Limits::LARGEST);
-    let first = part(&mut catalogue, &boms, &mut counter, alloc, "0")?;
-    let second = part(&mut catalogue, &boms, &mut counter, alloc, "1")?;
-    let third = part(&mut catalogue, &boms, &mut counter, alloc, "2")?;
-    line(&catalogue, &mut boms, &mut counter, first, second)?;
-    line(&catalogue, &mut boms, &mut counter, second, third)?;
-    let used = boms.where_used(&catalogue, third)?.len() == 2;
-    let closed = line(&catalogue, &mut boms, &mut counter, third, first);
+    let (first, last) = chain(&mut catalogue, &mut boms, &mut counter, alloc)?;
+    let used = boms.where_used(&catalogue, last)?.len() == LENGTH - 1;
+    let closed = line(&catalogue, &mut boms, &mut counter, last, first);
     Ok(used && matches!(closed, Err(CoreFault::Refused(Refusal::Cycle))))
 }
 
