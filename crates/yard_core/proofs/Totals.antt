@@ -16,7 +16,7 @@ use Rattle.yard_core.proofs.Items.{no_trees}
 
 pub bare-content : (n : ℕ) (xs : List Item) → AreBare xs → filter (lies_in n) xs ≡ []
 bare-content n [] bare = refl
-bare-content n (x ∷ xs) bare = go x.place bare.0 (bare-content n xs bare.2)
+bare-content n (x ∷ xs) bare = go x.place bare.0 (bare-content n xs bare.1)
   where
     go : (q : Place) → is_root (record { number = x.number; part = x.part; lot = x.lot; quantity = x.quantity; place = q }) ≡ true → filter (lies_in n) xs ≡ []
         → filter (lies_in n) (record { number = x.number; part = x.part; lot = x.lot; quantity = x.quantity; place = q } ∷ xs) ≡ []
@@ -34,7 +34,7 @@ held-bare_from : (at : Place → Bool) (p : ℕ) (look : ℕ → Trees) (xs : Li
 held-bare_from at p look [] empty bare = refl
 held-bare_from at p look (x ∷ xs) empty bare =
     let root = bare.0 in
-    rw root (go (held-bare_from at p look xs empty bare.2) (sum_by-cons (lying at p) x xs))
+    rw root (go (held-bare_from at p look xs empty bare.1) (sum_by-cons (lying at p) x xs))
   where
     go : held at (amount p) (roots_from look (filter is_root xs)) ≡ sum_by (lying at p) xs → sum_by (lying at p) (x ∷ xs) ≡ lying at p x + sum_by (lying at p) xs
         → (if at x.place then amount p (node_of x) + weigh (amount p) (look x.number) else 0) + held at (amount p) (roots_from look (filter is_root xs)) ≡ sum_by (lying at p) (x ∷ xs)

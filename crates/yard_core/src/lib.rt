@@ -5,7 +5,7 @@ mod location;
 mod sums;
 mod yard;
 
-pub use forest::{Entry, Item, Kind, Lot, Note, Place, Reason};
+pub use forest::{Entry, Item, Kind, Lot, Note, Place, Reason, copy_batch, is_same_batch};
 pub use location::Location;
 pub use sums::Sums;
 pub use yard::Yard;
