@@ -1,0 +1,13 @@
+pub mod Rows
+pub mod Plain
+pub mod Checked
+pub mod Pours
+pub mod Pourable
+pub mod Making
+pub mod Cuts
+pub mod Turns
+pub mod Able
+pub mod Kept
+pub mod Beside
+pub mod Actions
+pub mod Lists

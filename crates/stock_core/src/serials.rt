@@ -1,0 +1,72 @@
+//! Serials that new items are to have.
+ghost use Rattle.std.specs.Prelude.{◌≡◌};
+ghost use Rattle.std.specs.List.{list_any};
+ghost use Rattle.std.specs.Str.{bytes_eq};
+ghost use Rattle.part_core.specs.Catalogues.{parts_of};
+ghost use Rattle.yard_core.specs.Yards.{stock_of};
+ghost use Rattle.stock_core.specs.Serials.{are_many, are_taken, count_of, is_one_held, is_other_count, stands_twice};
+
+use part_core::{Catalogue, Id, Quantity, Serial, Serials};
+use yard_core::Yard;
+
+/// A command names at most so many serials.
+const MOST: usize = 1000;
+
+/// How many new items there are.
+pub fn count_of(serials: &Option<Serials>) -> u64
+    ensures { result ≡ count_of serials.now }
+{
+    match serials {
+        None => 1,
+        Some(serials) => serials.as_slice().len() as u64,
+    }
+}
+
+/// Whether more serials are named than a command may.
+pub fn are_many(serials: &[Serial]) -> bool
+    ensures { result ≡ are_many serials.now }
+{
+    serials.len() > MOST
+}
+
+/// Whether there are more or fewer serials than pieces.
+pub fn is_other_count(quantity: Quantity, serials: &[Serial]) -> bool
+    ensures { result ≡ is_other_count quantity serials.now }
+{
+    serials.len() as u64 != quantity
+}
+
+/// Whether a serial is among others.
+fn is_among(serial: &Serial, others: &[Serial]) -> bool
+    ensures { result ≡ list_any (λ other. bytes_eq other serial.now) others.now }
+{
+    others.iter().any(|other| other.equals(serial))
+}
+
+/// Whether a serial stands twice in the list. It compares each with all that follow.
+fn stands_twice(serials: &[Serial]) -> bool
+    ensures { result ≡ stands_twice serials.now }
+{
+    for i in 0..serials.len() {
+        if is_among(&serials[i], &serials[i + 1..]) {
+            return true;
+        }
+    }
+    false
+}
+
+/// Whether a serial of the list is held in the part's family.
+fn is_one_held(catalogue: &Catalogue, yard: &Yard, part: Id, serials: &[Serial]) -> bool
+    ensures { result ≡ is_one_held part (parts_of catalogue.now) (stock_of yard.now) serials.now }
+{
+    serials
+        .iter()
+        .any(|serial| !yard.serial_free(catalogue, serial, part))
+}
+
+/// Whether a serial stands twice in the list, or is held in the part's family.
+pub fn are_taken(catalogue: &Catalogue, yard: &Yard, part: Id, serials: &[Serial]) -> bool
+    ensures { result ≡ are_taken part (parts_of catalogue.now) (stock_of yard.now) serials.now }
+{
+    stands_twice(serials) || is_one_held(catalogue, yard, part, serials)
+}
