@@ -1,64 +1,41 @@
 -- A sound state steps to a sound state, and runs go on by one step.
-use Rattle.std.proofs.Common.{◌≡◌, ◌≢◌, ℕ, ◌+◌, ◌-◌, ◌≤◌, ◌<◌, Bool, true, false, cond, not, ◌||◌, List, [], ◌∷◌, ◌++◌, map, length, is_some, is_none, Option, Some, None, refl, sym, ap, ◌∙◌, subst, arith, get_or}
-use Rattle.std.specs.Prelude.{Result, Ok, Err, unwrap_or, nat_lt, ◌==◌, if◌then◌else◌, filter}
+use Rattle.std.proofs.Common.{◌≡◌, ℕ, zero, suc, ◌+◌, ◌≤◌, ◌<◌, Bool, true, false, cond, List, [], ◌∷◌, ◌++◌, length, Option, Some, None, refl, sym, ap, ◌∙◌, subst, arith, get_or}
+use Rattle.std.specs.Prelude.{Result, Ok, Err, nat_lt}
 use Rattle.std.specs.FinMap as table
+use Rattle.std.specs.List.{range_with_len}
 use Rattle.std.proofs.lemmas.Grind.{common_steps}
 use Rattle.std.proofs.lemmas.Bool.{ltb-false}
 use Rattle.std.proofs.lemmas.List.{append-nil}
 use Rattle.part_core.specs.Sheet.{Table, key_cmp}
-use Rattle.part_core.specs.Catalogue.{Parts, part_in, retire, retired_part}
-use Rattle.part_core.specs.Checks.{Check, first, NoneHolds}
+use Rattle.part_core.specs.Catalogue.{Parts, NewPart, part_in, add_category, retire}
 use Rattle.part_core.specs.declared.part.Part.{Part}
 use Rattle.part_core.specs.Day.{CivilDay}
 use Rattle.part_core.specs.declared.limits.Limits.{Limits}
 use Rattle.part_core.specs.declared.refusal.Refusal.{Refusal}
-use Rattle.part_core.proofs.Keys.{key_eq, keys_total, key_eq-other}
-use Rattle.part_core.proofs.Totals.{entries-empty}
-use Rattle.forest.specs.declared.item.Item.{Item}
-use Rattle.forest.specs.declared.entry.Kind.TheVariants as kind
-use Rattle.forest.specs.declared.place.Place.{Place}
-use Rattle.forest.specs.declared.place.Place.TheVariants.{At, In, Output, Sent, Used, Off, Gone}
-use Rattle.forest.specs.declared.place.Reason.TheVariants.{Removed}
-use Rattle.forest.specs.Forest.{is_at, insert_row}
-use Rattle.forest.specs.Moves.{largest, place_left}
-use Rattle.forest.specs.Rows.{row_at, set_row, lies_in, parent_in}
-use Rattle.forest.specs.Tables.{is_root}
-use Rattle.yard_core.specs.Stock.{Stock, empty_stock, item_at, no_item, content, make, shrink, with_quantity, AreBare, CanMakeItem, CanShrinkItem, IsSound}
-use Rattle.yard_core.proofs.Rows.{get-row_at, values-changed, values-new}
-use Rattle.yard_core.proofs.Items.{own_number, outside}
-use Rattle.yard_core.proofs.Totals.{bare-content}
-use Rattle.yard_core.proofs.Changing.{shrunk}
-use Rattle.yard_core.proofs.Moving.{IsSound-empty, made, is_root-outside}
+use Rattle.part_core.proofs.Keys.{keys_total, key_eq-other}
+use Rattle.bom_core.specs.Bills.{Bills}
+use Rattle.bom_core.specs.Changes.{new_line, new_substitute, with_line, without_line, with_substitute, without_substitute, is_line_open, is_fitting}
+use Rattle.bom_core.specs.Sound.{IsSoundBill}
+use Rattle.bom_core.proofs.Kept.{none-holds, both_there, or_both, sound-with_line, sound-without_line, sound-with_substitute, sound-without_substitute}
+use Rattle.bom_core.proofs.Tables.{fresh}
+use Rattle.bom_core.proofs.Variants as variants
+use Rattle.bom_core.proofs.Beside as bills
+use Rattle.yard_core.specs.Stock.{add_location, cut, grow, mark}
+use Rattle.stock_core.specs.Actions.{found, add, remove, count, transfer, split, merge, serialise, set_status}
+use Rattle.stock_core.specs.Books.{Books}
+use Rattle.stock_core.specs.Sound.{IsBelow, IsSoundStock}
+use Rattle.stock_core.proofs.Actions.{add-sound, remove-sound, count-sound, transfer-sound, split-sound, set_status-sound}
+use Rattle.stock_core.proofs.Beside.{below-more, sound-more, sound-with_categories, sound-with_locations, sound-with_part, sound-retired, sound-nothing}
+use Rattle.stock_core.proofs.Lists.{found-sound, merge-sound, serialise-sound}
 use Rattle.desk_core.specs.declared.command.Command.{Command}
-use Rattle.desk_core.specs.declared.command.Command.TheVariants.{AddCategory, AddLocation, AddPart, RetirePart, Found, Remove}
+use Rattle.desk_core.specs.declared.command.Command.TheVariants.{AddCategory, AddLocation, AddPart, RetirePart, AddLine, DropLine, AddSubstitute, DropSubstitute, Found, Add, Remove, Count, Transfer, Split, Merge, Serialise, SetStatus}
 use Rattle.desk_core.specs.declared.command.Request.{Request}
-use Rattle.desk_core.specs.declared.command.Answer.{Answer}
+use Rattle.part_core.specs.declared.answer.Answer.{Answer}
 use Rattle.desk_core.specs.declared.command.Fault.{Fault}
 use Rattle.desk_core.specs.declared.command.Fault.TheVariants.{Refused, Memory}
-use Rattle.desk_core.specs.Machine.{State, start, checks, check, effect, by_check, step, run, Outcome, Decides, answered, told, ids_of, AreDrawn, IsBelow, IsSoundState, found_item, is_bad_quantity}
-
--- ---- checks that passed
-
--- where no refusal is given, no condition holds
-none-holds : (cs : List Check) → first cs ≡ None → NoneHolds cs
-none-holds [] e = tt
-none-holds ((true, x) ∷ cs) e = cc
-none-holds ((false, x) ∷ cs) e = (refl, none-holds cs e)
-
-not_false : (b : Bool) → not b ≡ false → b ≡ true
-not_false true e = refl
-not_false false e = cc
-
-is_there : {X : Type 0} (o : Option X) (d : X) → is_none o ≡ false → o ≡ Some (unwrap_or o d)
-is_there None d e = cc
-is_there (Some x) d e = refl
-
-or_false : (a b : Bool) → (a || b) ≡ false → (a ≡ false) × (b ≡ false)
-or_false true b e = cc
-or_false false b e = (refl, e)
-
-pub good_quantity : (q : ℕ) → is_bad_quantity q ≡ false → (1 ≤ q) × (q ≤ largest)
-good_quantity q e = let both = or_false (q == 0) (nat_lt largest q) e in (grind (arith, common_steps), grind (arith, common_steps))
+use Rattle.desk_core.specs.Machine.{State, start, checks, check, effect, by_check, step, run, Outcome, Decides, answered, told, ids_of, AreDrawn, IsSoundState, books_in, drawn, on_books, open_parts}
+use Rattle.desk_core.proofs.Stocks.{IsAfter, after-changed, after-drawn, after-found, after-remove, after-count, after-transfer, after-merge, after-serialise}
+use Rattle.desk_core.proofs.Templates.{part_row, new_part, templates-with_part, templates-retired}
 
 -- ---- rows below the next number
 
@@ -66,9 +43,6 @@ same_number : (a b : ℕ) → ◌≡◌ {A = List ℕ} (a ∷ []) (b ∷ []) →
 same_number a b e = ap (λ (xs : List ℕ). get_or xs 0 0) e
 
 module _ {X : Type 0} (t : Table X) where
-  below-more : (next more : ℕ) → next ≤ more → IsBelow next t → IsBelow more t
-  below-more next more le below n above = below n (omega (arith, le, above))
-
   below-insert : (next more k : ℕ) (x : X) → next ≤ more → k < more → IsBelow next t → IsBelow more (table.insert t (k ∷ []) x)
   below-insert next more k x le lt below n above =
       table.get-insert keys_total t (k ∷ []) x (n ∷ [])
@@ -85,7 +59,7 @@ module _ {X : Type 0} (t : Table X) where
       go true e = grind (arith, common_steps)
       go false e = absurd (let none = below k (ltb-false k next e) in let bad : Some x ≡ None = sym there ∙ none in cc)
 
--- a retired part stands where it stood
+-- where a part is retired, the categories are as before
 module _ (n : ℕ) (p : Parts) where
   retired-categories : (retire n p).categories ≡ p.categories
   retired-categories = go (part_in n p) refl
@@ -94,137 +68,90 @@ module _ (n : ℕ) (p : Parts) where
       go None e = rw e refl
       go (Some row) e = rw e refl
 
-  retired-below : (next : ℕ) → IsBelow next p.parts → IsBelow next (retire n p).parts
-  retired-below next below = go (part_in n p) refl
-    where
-      go : (o : Option Part) → part_in n p ≡ o → IsBelow next (retire n p).parts
-      go None e = rw e below
-      go (Some row) e = rw e (below-insert p.parts next next n (retired_part row) (omega arith) (below-there p.parts next n row e below) below)
-
--- ---- bare items
-
-bare-at : (n : ℕ) (xs : List Item) (x : Item) → AreBare xs → row_at n xs ≡ Some x → (is_root x ≡ true) × (x.lot.serial ≡ None)
-bare-at n [] x bare e = cc
-bare-at n (y ∷ ys) x bare e = go (y.number == n) e (bare-at n ys x bare.2)
-  where
-    go : (b : Bool) → (if b then Some y else row_at n ys) ≡ Some x → (row_at n ys ≡ Some x → (is_root x ≡ true) × (x.lot.serial ≡ None)) → (is_root x ≡ true) × (x.lot.serial ≡ None)
-    go true e ih = let same : y ≡ x = cc in subst (λ (z : Item). (is_root z ≡ true) × (z.lot.serial ≡ None)) same (bare.0, bare.1)
-    go false e ih = ih e
-
-bare-set : (x : Item) (xs : List Item) → is_root x ≡ true → x.lot.serial ≡ None → AreBare xs → AreBare (set_row x xs)
-bare-set x [] root plain bare = tt
-bare-set x (y ∷ ys) root plain bare = go (y.number == x.number) (bare-set x ys root plain bare.2)
-  where
-    go : (b : Bool) → AreBare (set_row x ys) → AreBare (if b then x ∷ ys else y ∷ set_row x ys)
-    go true ih = (root, plain, bare.2)
-    go false ih = (bare.0, bare.1, ih)
-
-bare-insert : (x : Item) (xs : List Item) → is_root x ≡ true → x.lot.serial ≡ None → AreBare xs → AreBare (insert_row x xs)
-bare-insert x [] root plain bare = (root, plain, tt)
-bare-insert x (y ∷ ys) root plain bare = go (nat_lt x.number y.number) (bare-insert x ys root plain bare.2)
-  where
-    go : (b : Bool) → AreBare (insert_row x ys) → AreBare (if b then x ∷ y ∷ ys else y ∷ insert_row x ys)
-    go true ih = (root, plain, bare)
-    go false ih = (bare.0, bare.1, ih)
-
 -- ---- effects keep what is sound
 
 module _ (s : State) (sound : IsSoundState s) where
-  -- an item that is loose and has so much may be made smaller
-  pub can_shrink : (n q : ℕ) → table.get s.stock.items (n ∷ []) ≡ Some (item_at n s.stock) → is_at (item_at n s.stock).place ≡ true → 1 ≤ q → q ≤ (item_at n s.stock).quantity
-      → CanShrinkItem n q s.stock
-  can_shrink n q there loose some enough = record {
-    there = there;
-    loose = loose;
-    empty = bare-content n (table.values s.stock.items) sound.bare;
-    no_serial = (bare-at n (table.values s.stock.items) (item_at n s.stock) sound.bare (sym (get-row_at s.stock.items n sound.stock.items.own) ∙ there)).1;
-    some = some;
-    enough = enough;
-  }
+  -- where the bills change and stay sound, all is sound
+  other_bills : (bills : Bills) (next : ℕ) → s.counter.next ≤ next → IsSoundBill s.parts bills next → IsSoundState (record s { bills = bills; counter = record s.counter { next = next } })
+  other_bills bills next more sound_bills =
+      record {
+        bills = sound_bills;
+        templates = sound.templates;
+        stock = sound-more s.parts (books_in s) (record s.counter { next = next }) more sound.stock;
+        categories_below = below-more s.counter.next next s.parts.categories more sound.categories_below;
+        locations_below = below-more s.counter.next next s.stock.locations more sound.locations_below;
+      }
 
-  -- the same, of the row that was looked up
-  pub may_shrink : (n q : ℕ) (row : Item) → Some row ≡ table.get s.stock.items (n ∷ []) → is_at row.place ≡ true → is_bad_quantity q ≡ false → q ≤ row.quantity → CanShrinkItem n q s.stock
-  may_shrink n q row e loose bad enough =
-      let is : item_at n s.stock ≡ row = ap (λ o. unwrap_or o no_item) (sym e) in
-      can_shrink n q (sym e ∙ ap (λ (x : Item). Some x) (sym is)) (ap (λ (x : Item). is_at x.place) is ∙ loose) (good_quantity q bad).0
-      (subst (λ (x : Item). q ≤ x.quantity) (sym is) enough)
+  -- where the stock changes and stays sound, all is sound
+  other_stock : (after : Books × Answer) → IsSoundStock s.parts after.0 → IsAfter (books_in s) after → IsSoundState (on_books s after).0
+  other_stock after sound_stock told =
+      let more : s.counter.next ≤ after.0.counter.next = omega (arith, told.next) in
+      record {
+        bills = bills.sound-more s.parts s.bills s.counter.next after.0.counter.next more sound.bills;
+        templates = sound.templates;
+        stock = sound_stock;
+        categories_below = below-more s.counter.next after.0.counter.next s.parts.categories more sound.categories_below;
+        locations_below = subst (IsBelow after.0.counter.next) (sym told.locations) (below-more s.counter.next after.0.counter.next s.stock.locations more sound.locations_below);
+      }
 
   effect-IsSound : (day : CivilDay) (c : Command) → check s c ≡ None → IsSoundState (effect s day c).0
   effect-IsSound day (AddCategory name parent) none =
       record {
-        stock = sound.stock;
-        bare = sound.bare;
+        bills = bills.sound-with_categories s.parts (add_category s.counter.next name parent s.parts).categories s.bills (s.counter.next + 1) (bills.sound-more s.parts s.bills s.counter.next (s.counter.next + 1) (omega arith) sound.bills);
+        templates = sound.templates;
+        stock = sound-with_categories s.parts (books_in s) (add_category s.counter.next name parent s.parts).categories (drawn s.counter) (omega arith) sound.stock;
         categories_below = below-insert s.parts.categories s.counter.next (s.counter.next + 1) s.counter.next _ (omega arith) (omega arith) sound.categories_below;
-        parts_below = below-more s.parts.parts s.counter.next (s.counter.next + 1) (omega arith) sound.parts_below;
-        locations_below = below-more s.stock.locations s.counter.next (s.counter.next + 1) (omega arith) sound.locations_below;
-        items_below = below-more s.stock.items s.counter.next (s.counter.next + 1) (omega arith) sound.items_below;
+        locations_below = below-more s.counter.next (s.counter.next + 1) s.stock.locations (omega arith) sound.locations_below;
       }
   effect-IsSound day (AddLocation name parent) none =
       record {
-        stock = record { items = sound.stock.items; history = sound.stock.history; balanced = sound.stock.balanced };
-        bare = sound.bare;
-        categories_below = below-more s.parts.categories s.counter.next (s.counter.next + 1) (omega arith) sound.categories_below;
-        parts_below = below-more s.parts.parts s.counter.next (s.counter.next + 1) (omega arith) sound.parts_below;
+        bills = bills.sound-more s.parts s.bills s.counter.next (s.counter.next + 1) (omega arith) sound.bills;
+        templates = sound.templates;
+        stock = sound-with_locations s.parts (books_in s) (add_location s.counter.next name parent s.stock).locations (drawn s.counter) (omega arith) sound.stock;
+        categories_below = below-more s.counter.next (s.counter.next + 1) s.parts.categories (omega arith) sound.categories_below;
         locations_below = below-insert s.stock.locations s.counter.next (s.counter.next + 1) s.counter.next _ (omega arith) (omega arith) sound.locations_below;
-        items_below = below-more s.stock.items s.counter.next (s.counter.next + 1) (omega arith) sound.items_below;
       }
   effect-IsSound day (AddPart name category template flags) none =
+      let new : NewPart = record { name = name; category = category; template = template; flags = flags } in
+      let passed = none-holds (checks s (AddPart name category template flags)) none in
       record {
-        stock = sound.stock;
-        bare = sound.bare;
-        categories_below = below-more s.parts.categories s.counter.next (s.counter.next + 1) (omega arith) sound.categories_below;
-        parts_below = below-insert s.parts.parts s.counter.next (s.counter.next + 1) s.counter.next _ (omega arith) (omega arith) sound.parts_below;
-        locations_below = below-more s.stock.locations s.counter.next (s.counter.next + 1) (omega arith) sound.locations_below;
-        items_below = below-more s.stock.items s.counter.next (s.counter.next + 1) (omega arith) sound.items_below;
+        bills = variants.sound-with_part s.parts s.bills (part_row s.counter.next new) sound.bills (new_part s sound new passed);
+        templates = templates-with_part s sound new passed;
+        stock = sound-with_part s.parts (books_in s) s.counter.next new (drawn s.counter) (fresh (λ (p : Part). p.number) s.parts.parts s.counter.next sound.bills.catalogue.own sound.bills.catalogue.numbers) (omega arith) sound.stock;
+        categories_below = below-more s.counter.next (s.counter.next + 1) s.parts.categories (omega arith) sound.categories_below;
+        locations_below = below-more s.counter.next (s.counter.next + 1) s.stock.locations (omega arith) sound.locations_below;
       }
   effect-IsSound day (RetirePart part) none =
       record {
-        stock = sound.stock;
-        bare = sound.bare;
+        bills = bills.sound-retired part s.parts s.bills s.counter.next sound.bills;
+        templates = templates-retired part s.parts sound.templates;
+        stock = sound-retired s.parts (books_in s) part sound.stock;
         categories_below = subst (IsBelow s.counter.next) (sym (retired-categories part s.parts)) sound.categories_below;
-        parts_below = retired-below part s.parts s.counter.next sound.parts_below;
         locations_below = sound.locations_below;
-        items_below = sound.items_below;
       }
-  effect-IsSound day (Found part l q) none =
-      let x : Item = found_item s.counter.next part l q in
-      let passed = none-holds (checks s (Found part l q)) none in
-      let bounds = good_quantity q passed.1.0 in
-      let new = sound.items_below s.counter.next (omega arith) in
-      let can : CanMakeItem kind.Found (found_item s.counter.next part l q) s.stock = record { is_new = new; loose = refl; recorded = tt; good = (bounds.0, bounds.1, tt) } in
-      record {
-        stock = (made kind.Found (found_item s.counter.next part l q) day s.stock (make kind.Found (found_item s.counter.next part l q) day s.stock) sound.stock can refl).0;
-        bare = subst AreBare (sym (values-new (found_item s.counter.next part l q) s.stock.items sound.stock.items.own new))
-            (bare-insert (found_item s.counter.next part l q) (table.values s.stock.items) refl refl sound.bare);
-        categories_below = below-more s.parts.categories s.counter.next (s.counter.next + 1) (omega arith) sound.categories_below;
-        parts_below = below-more s.parts.parts s.counter.next (s.counter.next + 1) (omega arith) sound.parts_below;
-        locations_below = below-more s.stock.locations s.counter.next (s.counter.next + 1) (omega arith) sound.locations_below;
-        items_below = below-insert s.stock.items s.counter.next (s.counter.next + 1) s.counter.next (found_item s.counter.next part l q) (omega arith) (omega arith) sound.items_below;
-      }
-  effect-IsSound day (Remove n q) none =
-      let passed = none-holds (checks s (Remove n q)) none in
-      let there : table.get s.stock.items (n ∷ []) ≡ Some (item_at n s.stock) = is_there (table.get s.stock.items (n ∷ [])) no_item passed.0 in
-      let loose : is_at (item_at n s.stock).place ≡ true = not_false _ passed.1.1.0 in
-      let can = can_shrink n q there loose (good_quantity q passed.1.0).0 (ltb-false _ _ passed.1.1.1.0) in
-      let number : (item_at n s.stock).number ≡ n = own_number s.stock.items n (item_at n s.stock) sound.stock.items there in
-      let left = with_quantity ((item_at n s.stock).quantity - q) (item_at n s.stock) in
-      let at_own = ap (λ m. table.get s.stock.items (m ∷ [])) number ∙ there in
-      record {
-        stock = (shrunk Removed n q day s.stock (shrink Removed n q day s.stock) sound.stock can refl).0;
-        bare = subst AreBare (sym (ap (λ m. table.values (table.insert s.stock.items (m ∷ []) left)) (sym number) ∙ values-changed left (item_at n s.stock) s.stock.items sound.stock.items.own at_own))
-            (bare-set left (table.values s.stock.items) (is_root-outside left (left_outside ((item_at n s.stock).quantity - q) (item_at n s.stock).place (outside _ loose))) can.no_serial sound.bare);
-        categories_below = sound.categories_below;
-        parts_below = sound.parts_below;
-        locations_below = sound.locations_below;
-        items_below = below-insert s.stock.items s.counter.next s.counter.next n left (omega arith) (below-there s.stock.items s.counter.next n (item_at n s.stock) there sound.items_below) sound.items_below;
-      }
-    where
-      left_outside : (q : ℕ) (l : Place) → parent_in l ≡ None → parent_in (place_left q l) ≡ None
-      left_outside q l e = go (q == 0)
-        where
-          go : (b : Bool) → parent_in (if b then Gone else l) ≡ None
-          go true = refl
-          go false = e
+  effect-IsSound day (AddLine assembly component quantity flags) none =
+      let line = new_line s.counter.next assembly component quantity flags in
+      let passed = none-holds (checks s (AddLine assembly component quantity flags)) none in
+      let there = both_there s.parts.parts s.parts.parts assembly component passed.0 in
+      other_bills (with_line line s.bills) (s.counter.next + 1) (omega arith) (sound-with_line s.parts s.bills line sound.bills there.0 there.1 passed.1.1.1.1.1.0)
+  effect-IsSound day (DropLine line) none =
+      other_bills (without_line line s.bills) s.counter.next (omega arith) (sound-without_line s.parts s.bills line s.counter.next sound.bills)
+  effect-IsSound day (AddSubstitute line part) none =
+      let passed = none-holds (checks s (AddSubstitute line part)) none in
+      let there = both_there s.bills.lines s.parts.parts line part passed.0 in
+      let unfit = or_both (is_line_open s.parts s.bills open_parts line) (is_fitting s.parts s.bills line part) passed.1.1.1.0 in
+      other_bills (with_substitute (new_substitute s.counter.next line part) s.bills) (s.counter.next + 1) (omega arith) (sound-with_substitute s.parts s.bills (new_substitute s.counter.next line part) sound.bills there.0 there.1 unfit.1 passed.1.1.1.1.0)
+  effect-IsSound day (DropSubstitute substitute) none =
+      other_bills (without_substitute substitute s.bills) s.counter.next (omega arith) (sound-without_substitute s.parts s.bills substitute s.counter.next sound.bills)
+  effect-IsSound day (Found new) none = other_stock (found new day (books_in s)) (found-sound s.parts (books_in s) sound.stock new day none) (after-found new day (books_in s))
+  effect-IsSound day (Add n q) none = other_stock (add n q day (books_in s)) (add-sound s.parts (books_in s) sound.stock n day q none) (after-changed 1 (grow n q day s.stock) (books_in s) refl)
+  effect-IsSound day (Remove n q) none = other_stock (remove n q day (books_in s)) (remove-sound s.parts (books_in s) sound.stock n day q none) (after-remove n q day (books_in s))
+  effect-IsSound day (Count n q) none = other_stock (count n q day (books_in s)) (count-sound s.parts (books_in s) sound.stock n day q none) (after-count n q day (books_in s))
+  effect-IsSound day (Transfer n l q) none = other_stock (transfer n l q day (books_in s)) (transfer-sound s.parts (books_in s) sound.stock n day l q none) (after-transfer n l q day (books_in s))
+  effect-IsSound day (Split n q) none = other_stock (split n q day (books_in s)) (split-sound s.parts (books_in s) sound.stock n day q none) (after-drawn 1 1 (cut n q s.counter.next None day s.stock) (books_in s) refl)
+  effect-IsSound day (Merge into items) none = other_stock (merge into items day (books_in s)) (merge-sound s.parts (books_in s) sound.stock into items day none) (after-merge into items day (books_in s))
+  effect-IsSound day (Serialise n q serials) none = other_stock (serialise n serials day (books_in s)) (serialise-sound s.parts (books_in s) sound.stock n q serials day none) (after-serialise n serials day (books_in s))
+  effect-IsSound day (SetStatus n status) none = other_stock (set_status n status day (books_in s)) (set_status-sound s.parts (books_in s) sound.stock n day status none) (after-changed 1 (mark n status day s.stock) (books_in s) refl)
 
   by_check-IsSound : (o : Option Refusal) (after : State × Answer) → (o ≡ None → IsSoundState after.0) → IsSoundState (by_check o s after).0
   by_check-IsSound (Some x) after h = sound
@@ -274,13 +201,32 @@ run-push s (r1 ∷ rs) (Err (Refused x) ∷ os) t r o u len e d =
 
 -- ---- numbers
 
+drawn-range : (next count : ℕ) → AreDrawn next (range_with_len next count) (next + count)
+drawn-range next zero = omega arith
+drawn-range next (suc count) = (refl, subst (AreDrawn (next + 1) (range_with_len (next + 1) count)) (omega arith) (drawn-range (next + 1) count))
+
+-- what an action on stock tells is what it drew
+stock-drawn : (s : State) (after : Books × Answer) → IsAfter (books_in s) after → AreDrawn s.counter.next (on_books s after).1.ids (on_books s after).0.counter.next
+stock-drawn s after told = rw (told.next, told.ids) (drawn-range s.counter.next told.count)
+
 effect-drawn : (s : State) (day : CivilDay) (c : Command) → AreDrawn s.counter.next (effect s day c).1.ids (effect s day c).0.counter.next
 effect-drawn s day (AddCategory name parent) = (refl, refl)
 effect-drawn s day (AddLocation name parent) = (refl, refl)
 effect-drawn s day (AddPart name category template flags) = (refl, refl)
 effect-drawn s day (RetirePart part) = refl
-effect-drawn s day (Found part l q) = (refl, refl)
-effect-drawn s day (Remove n q) = refl
+effect-drawn s day (AddLine assembly component quantity flags) = (refl, refl)
+effect-drawn s day (DropLine line) = refl
+effect-drawn s day (AddSubstitute line part) = (refl, refl)
+effect-drawn s day (DropSubstitute substitute) = refl
+effect-drawn s day (Found new) = stock-drawn s (found new day (books_in s)) (after-found new day (books_in s))
+effect-drawn s day (Add n q) = refl
+effect-drawn s day (Remove n q) = stock-drawn s (remove n q day (books_in s)) (after-remove n q day (books_in s))
+effect-drawn s day (Count n q) = stock-drawn s (count n q day (books_in s)) (after-count n q day (books_in s))
+effect-drawn s day (Transfer n l q) = stock-drawn s (transfer n l q day (books_in s)) (after-transfer n l q day (books_in s))
+effect-drawn s day (Split n q) = (refl, refl)
+effect-drawn s day (Merge into items) = refl
+effect-drawn s day (Serialise n q serials) = stock-drawn s (serialise n serials day (books_in s)) (after-serialise n serials day (books_in s))
+effect-drawn s day (SetStatus n status) = refl
 
 AreDrawn-append : (a : ℕ) (xs : List ℕ) (b : ℕ) (ys : List ℕ) (c : ℕ) → AreDrawn a xs b → AreDrawn b ys c → AreDrawn a (xs ++ ys) c
 AreDrawn-append a [] b ys c h k = subst (λ m. AreDrawn m ys c) h k
@@ -309,10 +255,9 @@ drawn_in s rs t os e = subst (λ (p : State × List Outcome). AreDrawn s.counter
 
 pub start-IsSound : (limits : Limits) → IsSoundState (start limits)
 start-IsSound limits = record {
-  stock = IsSound-empty;
-  bare = subst AreBare (sym (ap (map (λ (e : List ℕ × Item). e.1)) entries-empty)) tt;
+  bills = variants.sound-nothing;
+  templates = λ k x e. absurd (let none : table.get (table.empty {X = Part} {R = key_cmp}) k ≡ None = table.get-empty key_cmp k in let both : None ≡ Some x = sym none ∙ e in cc);
+  stock = sound-nothing limits;
   categories_below = λ n above. table.get-empty key_cmp (n ∷ []);
-  parts_below = λ n above. table.get-empty key_cmp (n ∷ []);
   locations_below = λ n above. table.get-empty key_cmp (n ∷ []);
-  items_below = λ n above. table.get-empty key_cmp (n ∷ []);
 }

@@ -1,72 +1,47 @@
 -- The stock machine: its state, the checks of each command, its effect, one step and a run.
-use Rattle.std.specs.Prelude.{◌≡◌, ℕ, ◌+◌, ◌≤◌, ◌==◌, ◌||◌, Bool, true, false, not, nat_lt, is_some, is_none, List, [], ◌∷◌, ◌++◌, Option, Some, None, Result, Ok, Err, unwrap_or}
-use Rattle.std.specs.FinMap as table
-use Rattle.part_core.specs.Sheet.{Table}
+use Rattle.std.specs.Prelude.{◌≡◌, ℕ, ◌+◌, true, List, [], ◌∷◌, ◌++◌, Option, Some, None, Result, Ok, Err}
 use Rattle.part_core.specs.Checks.{Check, first, AreInOrder}
 use Rattle.part_core.specs.Counter.{Numbering, lacks}
 use Rattle.part_core.specs.Counter as counter
-use Rattle.part_core.specs.Catalogue.{Parts, no_parts, part_in, category_checks, add_category, part_checks, add_part, retire_checks, retire, is_retired}
+use Rattle.part_core.specs.Catalogue.{Parts, no_parts, category_checks, add_category, part_checks, add_part, retire_checks, retire}
 use Rattle.part_core.specs.Day.{CivilDay}
 use Rattle.part_core.specs.declared.limits.Limits.{Limits}
-use Rattle.part_core.specs.declared.part.Part.{Part}
 use Rattle.part_core.specs.declared.refusal.Refusal.{Refusal}
-use Rattle.part_core.specs.declared.refusal.Refusal.TheVariants.{NoSuch, BadNumber, WrongFlag, Retired, NotLoose, Short, Full}
-use Rattle.part_core.specs.declared.status.Status.TheVariants.{Okay}
-use Rattle.forest.specs.declared.item.Item.{Item}
-use Rattle.forest.specs.declared.entry.Kind.TheVariants as kind
-use Rattle.forest.specs.declared.place.Place.TheVariants.{At}
-use Rattle.forest.specs.declared.place.Reason.TheVariants.{Removed}
-use Rattle.forest.specs.Forest.{is_at}
-use Rattle.forest.specs.Moves.{largest}
-use Rattle.yard_core.specs.Stock.{Stock, empty_stock, has_location, location_checks, add_location, item_at, make, shrink, AreBare, IsSound}
+use Rattle.bom_core.specs.Bills.{Bills, no_bills}
+use Rattle.bom_core.specs.Changes.{line_checks, new_line, with_line, drop_line_checks, without_line, substitute_checks, new_substitute, with_substitute, drop_substitute_checks, without_substitute}
+use Rattle.bom_core.specs.Sound.{EachRow, IsSoundBill}
+use Rattle.yard_core.specs.Stock.{Stock, empty_stock, location_checks, add_location}
+use Rattle.stock_core.specs.Actions.{found, add, remove, count, transfer, split, merge, serialise, set_status}
+use Rattle.stock_core.specs.Books.{Books}
+use Rattle.stock_core.specs.Reasons.{found_checks, add_checks, remove_checks, count_checks, transfer_checks, split_checks, merge_checks, serialise_checks, set_status_checks}
+use Rattle.stock_core.specs.Sound.{IsBelow, IsSoundStock}
 use Rattle.desk_core.specs.declared.command.Command.{Command}
-use Rattle.desk_core.specs.declared.command.Command.TheVariants.{AddCategory, AddLocation, AddPart, RetirePart, Found, Remove}
+use Rattle.desk_core.specs.declared.command.Command.TheVariants.{AddCategory, AddLocation, AddPart, RetirePart, AddLine, DropLine, AddSubstitute, DropSubstitute, Found, Add, Remove, Count, Transfer, Split, Merge, Serialise, SetStatus}
 use Rattle.desk_core.specs.declared.command.Request.{Request}
-use Rattle.desk_core.specs.declared.command.Answer.{Answer}
+use Rattle.part_core.specs.declared.answer.Answer.{Answer}
 use Rattle.desk_core.specs.declared.command.Fault.{Fault}
 use Rattle.desk_core.specs.declared.command.Fault.TheVariants.{Refused, Memory}
 
 pub record State : Type 0 where
   pub parts : Parts
+  pub bills : Bills
   pub stock : Stock
   -- the next row number, and the limits
   pub counter : Numbering
 
 -- the state with nothing in it
 abbrev pub start : Limits → State
-start limits = record { parts = no_parts; stock = empty_stock; counter = counter.start limits }
+start limits = record { parts = no_parts; bills = no_bills; stock = empty_stock; counter = counter.start limits }
 
 -- ---- checks
 
-abbrev pub is_bad_quantity : ℕ → Bool
-is_bad_quantity q = q == 0 || nat_lt largest q
+-- what the actions on stock read and change
+abbrev pub books_in : State → Books
+books_in s = record { stock = s.stock; counter = s.counter }
 
--- a part that is there and has no stock
-abbrev pub is_virtual : Option Part → Bool
-is_virtual None = false
-is_virtual (Some p) = p.flags.is_virtual
-
--- so many entries more would pass the limit
-abbrev pub lacks_entries : ℕ → State → Bool
-lacks_entries n s = nat_lt s.counter.limits.entries (table.len s.stock.history + n)
-
-abbrev pub found_checks : ℕ → ℕ → ℕ → State → List Check
-found_checks part location quantity s =
-    (is_none (part_in part s.parts) || is_none (has_location location s.stock), NoSuch)
-    ∷ (is_bad_quantity quantity, BadNumber)
-    ∷ (is_virtual (part_in part s.parts), WrongFlag)
-    ∷ (is_retired (part_in part s.parts), Retired)
-    ∷ (lacks 1 s.counter || lacks_entries 1 s, Full)
-    ∷ []
-
-abbrev pub remove_checks : ℕ → ℕ → State → List Check
-remove_checks n quantity s =
-    (is_none (table.get s.stock.items (n ∷ [])), NoSuch)
-    ∷ (is_bad_quantity quantity, BadNumber)
-    ∷ (not (is_at (item_at n s.stock).place), NotLoose)
-    ∷ (nat_lt (item_at n s.stock).quantity quantity, Short)
-    ∷ (lacks_entries 1 s, Full)
-    ∷ []
+-- the parts with an open build: no command opens one
+abbrev pub open_parts : List ℕ
+open_parts = []
 
 -- the conditions of a command's refusals, in the order of checks
 abbrev pub checks : State → Command → List Check
@@ -74,8 +49,19 @@ checks s (AddCategory name parent) = category_checks name parent s.parts s.count
 checks s (AddLocation name parent) = location_checks name parent s.stock s.counter
 checks s (AddPart name category template flags) = part_checks (record { name = name; category = category; template = template; flags = flags }) s.parts s.counter
 checks s (RetirePart part) = retire_checks part s.parts
-checks s (Found part location quantity) = found_checks part location quantity s
-checks s (Remove n quantity) = remove_checks n quantity s
+checks s (AddLine assembly component quantity flags) = line_checks assembly component quantity flags open_parts s.parts s.bills s.counter
+checks s (DropLine line) = drop_line_checks line open_parts s.parts s.bills
+checks s (AddSubstitute line part) = substitute_checks line part open_parts s.parts s.bills s.counter
+checks s (DropSubstitute substitute) = drop_substitute_checks substitute open_parts s.parts s.bills
+checks s (Found new) = found_checks new s.parts (books_in s)
+checks s (Add n quantity) = add_checks n quantity (books_in s)
+checks s (Remove n quantity) = remove_checks n quantity (books_in s)
+checks s (Count n quantity) = count_checks n quantity (books_in s)
+checks s (Transfer n location quantity) = transfer_checks n location quantity (books_in s)
+checks s (Split n quantity) = split_checks n quantity (books_in s)
+checks s (Merge into items) = merge_checks into items (books_in s)
+checks s (Serialise n quantity serials) = serialise_checks n quantity serials s.parts (books_in s)
+checks s (SetStatus n status) = set_status_checks n (books_in s)
 
 -- each command's refusals stand in the one order of checks
 abbrev pub ChecksAreInOrder : Type 0
@@ -87,14 +73,13 @@ check s c = first (checks s c)
 
 -- ---- effects
 
--- an item that is found: of a quantity, at a location, without batch and serial
-abbrev pub found_item : ℕ → ℕ → ℕ → ℕ → Item
-found_item n part location quantity =
-    record { number = n; part = part; lot = record { batch = None; serial = None; status = Okay }; quantity = quantity; place = At location }
-
 -- the counter after one number was drawn
 abbrev pub drawn : Numbering → Numbering
 drawn c = record c { next = c.next + 1 }
+
+-- the state with other stock, after an action on it
+abbrev pub on_books : State → Books × Answer → State × Answer
+on_books s after = (record s { stock = after.0.stock; counter = after.0.counter }, after.1)
 
 -- the state after an accepted command, and its answer: the numbers drawn, and how many entries were written
 abbrev pub effect : State → CivilDay → Command → State × Answer
@@ -108,10 +93,29 @@ effect s day (AddPart name category template flags) = (
 )
 effect s day (RetirePart part) =
     (record s { parts = retire part s.parts }, record { ids = []; entries = 0 })
-effect s day (Found part location quantity) =
-    (record s { stock = make kind.Found (found_item s.counter.next part location quantity) day s.stock; counter = drawn s.counter }, record { ids = s.counter.next ∷ []; entries = 1 })
-effect s day (Remove n quantity) =
-    (record s { stock = shrink Removed n quantity day s.stock }, record { ids = []; entries = 1 })
+effect s day (AddLine assembly component quantity flags) = (
+  record s { bills = with_line (new_line s.counter.next assembly component quantity flags) s.bills; counter = drawn s.counter },
+  record { ids = s.counter.next ∷ []; entries = 0 },
+)
+effect s day (DropLine line) =
+    (record s { bills = without_line line s.bills }, record { ids = []; entries = 0 })
+effect s day (AddSubstitute line part) =
+    (record s { bills = with_substitute (new_substitute s.counter.next line part) s.bills; counter = drawn s.counter }, record { ids = s.counter.next ∷ []; entries = 0 })
+effect s day (DropSubstitute substitute) =
+    (record s { bills = without_substitute substitute s.bills }, record { ids = []; entries = 0 })
+effect s day (Found new) = on_books s (found new day (books_in s))
+effect s day (Add n quantity) = on_books s (add n quantity day (books_in s))
+effect s day (Remove n quantity) = on_books s (remove n quantity day (books_in s))
+effect s day (Count n quantity) = on_books s (count n quantity day (books_in s))
+effect s day (Transfer n location quantity) = on_books s (transfer n location quantity day (books_in s))
+effect s day (Split n quantity) = on_books s (split n quantity day (books_in s))
+effect s day (Merge into items) = on_books s (merge into items day (books_in s))
+effect s day (Serialise n quantity serials) = on_books s (serialise n serials day (books_in s))
+effect s day (SetStatus n status) = on_books s (set_status n status day (books_in s))
+
+-- the command passes its checks, and this is its effect
+abbrev pub IsDone : State → CivilDay → Command → Answer → State → Type 0
+IsDone s day c answer after = (check s c ≡ None) × (effect s day c ≡ (after, answer))
 
 -- ---- steps and runs
 
@@ -165,14 +169,10 @@ told (Err (Refused refusal) ∷ os) = Err refusal ∷ told os
 
 -- ---- what holds in every state that a run reaches
 
--- no row stands under a number that is still to be drawn
-abbrev pub IsBelow : {X : Type 0} → ℕ → Table X → Type 0
-IsBelow next t = (n : ℕ) → next ≤ n → table.get t (n ∷ []) ≡ None
-
 pub record IsSoundState (s : State) : Type 0 where
-  pub stock : IsSound s.stock
-  pub bare : AreBare (table.values s.stock.items)
+  pub bills : IsSoundBill s.parts s.bills s.counter.next
+  -- a part flagged template is no variant
+  pub templates : EachRow (λ p. p.flags.template ≡ true → p.template ≡ None) s.parts.parts
+  pub stock : IsSoundStock s.parts (books_in s)
   pub categories_below : IsBelow s.counter.next s.parts.categories
-  pub parts_below : IsBelow s.counter.next s.parts.parts
   pub locations_below : IsBelow s.counter.next s.stock.locations
-  pub items_below : IsBelow s.counter.next s.stock.items

@@ -1,9 +1,8 @@
 //! What a clerk may ask, and what is answered.
-ghost use Rattle.std.specs.Prelude.{◌≡◌, ◌∷◌, [], IfOk};
-
-use part_core::{CoreFault, Day, Flags, Name, Refusal};
-use std::alloc::{AllocError, Global};
-use std::marker::Model;
+use bom_core::LineFlags;
+use part_core::{CoreFault, Day, Flags, Ids, Name, Refusal, Serials, Status};
+use std::alloc::AllocError;
+use stock_core::NewStock;
 use thiserror::Error;
 
 /// What a clerk may ask. Row numbers and quantities are any numbers: whether they name rows and are in
@@ -31,16 +30,69 @@ pub enum Command {
     RetirePart {
         part: u64,
     },
-    /// Stock that was found at a location: a new item.
-    Found {
+    /// A new line of an assembly's bill: so many of a component go into one unit of it.
+    AddLine {
+        assembly: u64,
+        component: u64,
+        quantity: u64,
+        flags: LineFlags,
+    },
+    /// A line goes out of its assembly's bill, and its substitutes with it.
+    DropLine {
+        line: u64,
+    },
+    /// A part that may go in for a line's component.
+    AddSubstitute {
+        line: u64,
         part: u64,
-        location: u64,
+    },
+    /// A substitute goes off its line.
+    DropSubstitute {
+        substitute: u64,
+    },
+    /// Stock that was found: new items.
+    Found(NewStock),
+    /// An amount that was found is added to an item.
+    Add {
+        item: u64,
         quantity: u64,
     },
     /// Stock that is taken out of an item and written off.
     Remove {
         item: u64,
         quantity: u64,
+    },
+    /// What a count of an item found.
+    Count {
+        item: u64,
+        quantity: u64,
+    },
+    /// An amount of an item goes to a location.
+    Transfer {
+        item: u64,
+        location: u64,
+        quantity: u64,
+    },
+    /// An amount of an item becomes an item of its own.
+    Split {
+        item: u64,
+        quantity: u64,
+    },
+    /// Items are poured into another, in the order of the list.
+    Merge {
+        into: u64,
+        items: Ids,
+    },
+    /// Pieces of an item get serials.
+    Serialise {
+        item: u64,
+        quantity: u64,
+        serials: Serials,
+    },
+    /// An item gets another status.
+    SetStatus {
+        item: u64,
+        status: Status,
     },
 }
 
@@ -49,55 +101,6 @@ pub enum Command {
 pub struct Request {
     pub day: Day,
     pub command: Command,
-}
-
-/// Row numbers in order of drawing. A clause sees the list.
-#[derive(Drop)]
-pub struct Ids {
-    items: Vec<u64>,
-}
-
-impl Model for Ids {
-    ghost use Rattle.std.specs.Prelude.{ℕ, List};
-
-    ghost Value = { List ℕ };
-
-    ghost view = { λ a. a.items.items };
-}
-
-impl Ids {
-    /// No numbers.
-    pub fn none(alloc: Global) -> Self
-        ensures { result ≡ [] }
-    {
-        Ids {
-            items: Vec::new(alloc),
-        }
-    }
-
-    /// One number.
-    pub fn one(alloc: Global, number: u64) -> Result<Self, AllocError>
-        ensures { IfOk result (λ ids. ids ≡ number ∷ []) }
-    {
-        let mut items = Vec::new(alloc);
-        items.push(number)?;
-        Ok(Ids { items })
-    }
-
-    pub fn as_slice(&self) -> &[u64]
-        ensures { result.now ≡ self.now }
-    {
-        self.items.as_slice()
-    }
-}
-
-/// What an accepted command drew and wrote.
-#[derive(Drop)]
-pub struct Answer {
-    /// All row numbers that the command drew, in order of drawing.
-    pub ids: Ids,
-    /// How many history entries it wrote.
-    pub entries: u64,
 }
 
 /// Why a request wasn't answered. Nothing has changed.

@@ -2,48 +2,31 @@
 ghost use Rattle.std.specs.Prelude.{◌≡◌, ◌+◌, ℕ, length, Some, None, Err, Ok, IfOk, OnErr};
 ghost use Rattle.part_core.specs.declared.refusal.Refusal.{Refusal};
 ghost use Rattle.part_core.specs.Catalogues.{kept_parts};
+ghost use Rattle.bom_core.specs.Boms.{kept_bills};
+ghost use Rattle.bom_core.specs.Walks.{IsAcyclic};
 ghost use Rattle.forest.specs.Forest.{Balanced};
 ghost use Rattle.yard_core.specs.Stock.{machine_of};
 ghost use Rattle.yard_core.specs.Yards.{kept_of};
-ghost use Rattle.desk_core.specs.Machine.{AreDrawn, Decides, IsSoundState, answered, check, effect, found_item, ids_of, is_bad_quantity, lacks_entries, run, start, step, told};
+ghost use Rattle.stock_core.specs.Sound.{SerialsStandOnce};
+ghost use Rattle.desk_core.specs.Machine.{AreDrawn, Decides, IsDone, IsSoundState, answered, check, ids_of, run, start, step, told};
 ghost use Rattle.desk_core.specs.Shops.{kept_state, state_of};
 
-use crate::command::{Answer, Command, Fault, Ids, Request};
-use part_core::{Catalogue, Counter, Day, Flags, Limits, Name, Refusal, Status};
+use crate::command::{Command, Fault, Request};
+use bom_core::{Boms, LineFlags};
+use part_core::{Answer, Catalogue, Counter, Day, Flags, Ids, Limits, Name};
 use std::alloc::{AllocError, Global};
-use yard_core::{Item, Kind, Lot, Place, Reason, Yard};
+use yard_core::Yard;
 
-/// All that a desk holds: the catalogue, the yard and the counter.
+mod stock;
+
+/// All that a desk holds: the catalogue, the bills, the yard and the counter.
 #[derive(Drop)]
 pub struct Shop {
     catalogue: Catalogue,
+    boms: Boms,
     yard: Yard,
     counter: Counter,
     alloc: Global,
-}
-
-/// Whether a quantity is out of its range, 1 to 1,000,000,000.
-fn is_bad_quantity(quantity: u64) -> bool
-    ensures { result ≡ is_bad_quantity quantity }
-{
-    quantity == 0 || quantity > 1_000_000_000
-}
-
-/// An item that is found.
-fn found_item(number: u64, part: u64, location: u64, quantity: u64) -> Item
-    ensures { result ≡ found_item number part location quantity }
-{
-    Item {
-        number,
-        part,
-        lot: Lot {
-            batch: None,
-            serial: None,
-            status: Status::Okay,
-        },
-        quantity,
-        place: Place::At(location),
-    }
 }
 
 impl Shop {
@@ -54,6 +37,7 @@ impl Shop {
     {
         Shop {
             catalogue: Catalogue::new(alloc),
+            boms: Boms::new(alloc),
             yard: Yard::new(alloc),
             counter: Counter::new(limits),
             alloc,
@@ -67,6 +51,13 @@ impl Shop {
         &self.catalogue
     }
 
+    /// The bills of all assemblies.
+    pub fn boms(&self) -> &Boms
+        ensures { result.now ≡ self.now.boms }
+    {
+        &self.boms
+    }
+
     /// The locations, the items and their history.
     pub fn yard(&self) -> &Yard
         ensures { result.now ≡ self.now.yard }
@@ -74,20 +65,14 @@ impl Shop {
         &self.yard
     }
 
-    /// Whether there is no history entry left.
-    fn lacks_entry(&self) -> bool
-        ensures { result ≡ lacks_entries 1 (state_of self.now) }
-    {
-        self.yard.entries() >= self.counter.limits().entries
-    }
-
     fn add_category(&mut self, day: Day, name: &Name, parent: Option<u64>) -> Result<Answer, Fault>
         requires { kept_state self.old ≡ state_of self.old }
-        ensures ok { IfOk result (λ answer. (check (state_of self.old) (Command.AddCategory name.now parent) ≡ None) × (effect (state_of self.old) day (Command.AddCategory name.now parent) ≡ (state_of self.new, answer))) }
+        ensures ok { IfOk result (λ answer. IsDone (state_of self.old) day (Command.AddCategory name.now parent) answer (state_of self.new)) }
         ensures refused { (refusal : Refusal) → result ≡ Err (Fault.Refused refusal) → check (state_of self.old) (Command.AddCategory name.now parent) ≡ Some refusal }
         ensures rest { OnErr result (self.new.counter ≡ self.old.counter) }
         ensures kept { kept_of self.new.yard ≡ kept_of self.old.yard }
         ensures kept_parts { kept_parts self.new.catalogue ≡ kept_parts self.old.catalogue }
+        ensures kept_bills { kept_bills self.new.boms ≡ kept_bills self.old.boms }
     {
         let ids = Ids::one(self.alloc, self.counter.next())?;
         self.catalogue
@@ -97,11 +82,12 @@ impl Shop {
 
     fn add_location(&mut self, day: Day, name: &Name, parent: Option<u64>) -> Result<Answer, Fault>
         requires { kept_state self.old ≡ state_of self.old }
-        ensures ok { IfOk result (λ answer. (check (state_of self.old) (Command.AddLocation name.now parent) ≡ None) × (effect (state_of self.old) day (Command.AddLocation name.now parent) ≡ (state_of self.new, answer))) }
+        ensures ok { IfOk result (λ answer. IsDone (state_of self.old) day (Command.AddLocation name.now parent) answer (state_of self.new)) }
         ensures refused { (refusal : Refusal) → result ≡ Err (Fault.Refused refusal) → check (state_of self.old) (Command.AddLocation name.now parent) ≡ Some refusal }
         ensures rest { OnErr result (self.new.counter ≡ self.old.counter) }
         ensures kept { kept_of self.new.yard ≡ kept_of self.old.yard }
         ensures kept_parts { kept_parts self.new.catalogue ≡ kept_parts self.old.catalogue }
+        ensures kept_bills { kept_bills self.new.boms ≡ kept_bills self.old.boms }
     {
         let ids = Ids::one(self.alloc, self.counter.next())?;
         self.yard.add_location(&mut self.counter, name, parent)?;
@@ -117,11 +103,12 @@ impl Shop {
         flags: Flags,
     ) -> Result<Answer, Fault>
         requires { kept_state self.old ≡ state_of self.old }
-        ensures ok { IfOk result (λ answer. (check (state_of self.old) (Command.AddPart name.now category template flags) ≡ None) × (effect (state_of self.old) day (Command.AddPart name.now category template flags) ≡ (state_of self.new, answer))) }
+        ensures ok { IfOk result (λ answer. IsDone (state_of self.old) day (Command.AddPart name.now category template flags) answer (state_of self.new)) }
         ensures refused { (refusal : Refusal) → result ≡ Err (Fault.Refused refusal) → check (state_of self.old) (Command.AddPart name.now category template flags) ≡ Some refusal }
         ensures rest { OnErr result (self.new.counter ≡ self.old.counter) }
         ensures kept { kept_of self.new.yard ≡ kept_of self.old.yard }
         ensures kept_parts { kept_parts self.new.catalogue ≡ kept_parts self.old.catalogue }
+        ensures kept_bills { kept_bills self.new.boms ≡ kept_bills self.old.boms }
     {
         let ids = Ids::one(self.alloc, self.counter.next())?;
         self.catalogue
@@ -131,11 +118,12 @@ impl Shop {
 
     fn retire_part(&mut self, day: Day, part: u64) -> Result<Answer, Fault>
         requires { kept_state self.old ≡ state_of self.old }
-        ensures ok { IfOk result (λ answer. (check (state_of self.old) (Command.RetirePart part) ≡ None) × (effect (state_of self.old) day (Command.RetirePart part) ≡ (state_of self.new, answer))) }
+        ensures ok { IfOk result (λ answer. IsDone (state_of self.old) day (Command.RetirePart part) answer (state_of self.new)) }
         ensures refused { (refusal : Refusal) → result ≡ Err (Fault.Refused refusal) → check (state_of self.old) (Command.RetirePart part) ≡ Some refusal }
         ensures rest { OnErr result (self.new.counter ≡ self.old.counter) }
         ensures kept { kept_of self.new.yard ≡ kept_of self.old.yard }
         ensures kept_parts { kept_parts self.new.catalogue ≡ kept_parts self.old.catalogue }
+        ensures kept_bills { kept_bills self.new.boms ≡ kept_bills self.old.boms }
     {
         self.catalogue.retire(part)?;
         Ok(Answer {
@@ -144,71 +132,80 @@ impl Shop {
         })
     }
 
-    fn found(&mut self, day: Day, part: u64, location: u64, quantity: u64) -> Result<Answer, Fault>
-        requires { IsSoundState (state_of self.old) }
-        ensures ok { IfOk result (λ answer. (check (state_of self.old) (Command.Found part location quantity) ≡ None) × (effect (state_of self.old) day (Command.Found part location quantity) ≡ (state_of self.new, answer))) }
-        ensures refused { (refusal : Refusal) → result ≡ Err (Fault.Refused refusal) → check (state_of self.old) (Command.Found part location quantity) ≡ Some refusal }
+    fn add_line(
+        &mut self,
+        day: Day,
+        assembly: u64,
+        component: u64,
+        quantity: u64,
+        flags: LineFlags,
+    ) -> Result<Answer, Fault>
+        requires sound { IsSoundState (state_of self.old) }
+        requires nothing_pending { kept_state self.old ≡ state_of self.old }
+        ensures ok { IfOk result (λ answer. IsDone (state_of self.old) day (Command.AddLine assembly component quantity flags) answer (state_of self.new)) }
+        ensures refused { (refusal : Refusal) → result ≡ Err (Fault.Refused refusal) → check (state_of self.old) (Command.AddLine assembly component quantity flags) ≡ Some refusal }
         ensures rest { OnErr result (self.new.counter ≡ self.old.counter) }
         ensures kept { kept_of self.new.yard ≡ kept_of self.old.yard }
         ensures kept_parts { kept_parts self.new.catalogue ≡ kept_parts self.old.catalogue }
+        ensures kept_bills { kept_bills self.new.boms ≡ kept_bills self.old.boms }
     {
-        let Some(row) = self.catalogue.part(part) else {
-            return Err(Fault::Refused(Refusal::NoSuch));
-        };
-        let is_virtual = row.flags.is_virtual;
-        let is_retired = row.retired;
-        if self.yard.location(location).is_none() {
-            return Err(Fault::Refused(Refusal::NoSuch));
-        }
-        if is_bad_quantity(quantity) {
-            return Err(Fault::Refused(Refusal::BadNumber));
-        }
-        if is_virtual {
-            return Err(Fault::Refused(Refusal::WrongFlag));
-        }
-        if is_retired {
-            return Err(Fault::Refused(Refusal::Retired));
-        }
-        if self.counter.lacks(1) || self.lacks_entry() {
-            return Err(Fault::Refused(Refusal::Full));
-        }
-        let number = self.counter.next();
-        let ids = Ids::one(self.alloc, number)?;
-        let item = found_item(number, part, location, quantity);
-        self.yard.make(Kind::Found, item, day)?;
-        let _ = self.counter.draw();
-        Ok(Answer { ids, entries: 1 })
+        let ids = Ids::one(self.alloc, self.counter.next())?;
+        self.boms.add_line(
+            &self.catalogue,
+            &mut self.counter,
+            &[],
+            assembly,
+            component,
+            quantity,
+            flags,
+        )?;
+        Ok(Answer { ids, entries: 0 })
     }
 
-    fn remove(&mut self, day: Day, item: u64, quantity: u64) -> Result<Answer, Fault>
-        requires { IsSoundState (state_of self.old) }
-        ensures ok { IfOk result (λ answer. (check (state_of self.old) (Command.Remove item quantity) ≡ None) × (effect (state_of self.old) day (Command.Remove item quantity) ≡ (state_of self.new, answer))) }
-        ensures refused { (refusal : Refusal) → result ≡ Err (Fault.Refused refusal) → check (state_of self.old) (Command.Remove item quantity) ≡ Some refusal }
+    fn drop_line(&mut self, day: Day, line: u64) -> Result<Answer, Fault>
+        requires { kept_state self.old ≡ state_of self.old }
+        ensures ok { IfOk result (λ answer. IsDone (state_of self.old) day (Command.DropLine line) answer (state_of self.new)) }
+        ensures refused { (refusal : Refusal) → result ≡ Err (Fault.Refused refusal) → check (state_of self.old) (Command.DropLine line) ≡ Some refusal }
         ensures rest { OnErr result (self.new.counter ≡ self.old.counter) }
         ensures kept { kept_of self.new.yard ≡ kept_of self.old.yard }
         ensures kept_parts { kept_parts self.new.catalogue ≡ kept_parts self.old.catalogue }
+        ensures kept_bills { kept_bills self.new.boms ≡ kept_bills self.old.boms }
     {
-        let Some(row) = self.yard.item(item) else {
-            return Err(Fault::Refused(Refusal::NoSuch));
-        };
-        let held = row.quantity;
-        let place = row.place;
-        if is_bad_quantity(quantity) {
-            return Err(Fault::Refused(Refusal::BadNumber));
-        }
-        let Place::At(_) = place else {
-            return Err(Fault::Refused(Refusal::NotLoose));
-        };
-        if held < quantity {
-            return Err(Fault::Refused(Refusal::Short));
-        }
-        if self.lacks_entry() {
-            return Err(Fault::Refused(Refusal::Full));
-        }
-        self.yard.shrink(Reason::Removed, item, quantity, day)?;
+        self.boms.drop_line(&self.catalogue, &[], line)?;
         Ok(Answer {
             ids: Ids::none(self.alloc),
-            entries: 1,
+            entries: 0,
+        })
+    }
+
+    fn add_substitute(&mut self, day: Day, line: u64, part: u64) -> Result<Answer, Fault>
+        requires sound { IsSoundState (state_of self.old) }
+        requires nothing_pending { kept_state self.old ≡ state_of self.old }
+        ensures ok { IfOk result (λ answer. IsDone (state_of self.old) day (Command.AddSubstitute line part) answer (state_of self.new)) }
+        ensures refused { (refusal : Refusal) → result ≡ Err (Fault.Refused refusal) → check (state_of self.old) (Command.AddSubstitute line part) ≡ Some refusal }
+        ensures rest { OnErr result (self.new.counter ≡ self.old.counter) }
+        ensures kept { kept_of self.new.yard ≡ kept_of self.old.yard }
+        ensures kept_parts { kept_parts self.new.catalogue ≡ kept_parts self.old.catalogue }
+        ensures kept_bills { kept_bills self.new.boms ≡ kept_bills self.old.boms }
+    {
+        let ids = Ids::one(self.alloc, self.counter.next())?;
+        self.boms
+            .add_substitute(&self.catalogue, &mut self.counter, &[], line, part)?;
+        Ok(Answer { ids, entries: 0 })
+    }
+
+    fn drop_substitute(&mut self, day: Day, substitute: u64) -> Result<Answer, Fault>
+        ensures ok { IfOk result (λ answer. IsDone (state_of self.old) day (Command.DropSubstitute substitute) answer (state_of self.new)) }
+        ensures refused { (refusal : Refusal) → result ≡ Err (Fault.Refused refusal) → check (state_of self.old) (Command.DropSubstitute substitute) ≡ Some refusal }
+        ensures rest { OnErr result (self.new.counter ≡ self.old.counter) }
+        ensures kept { kept_of self.new.yard ≡ kept_of self.old.yard }
+        ensures kept_parts { kept_parts self.new.catalogue ≡ kept_parts self.old.catalogue }
+        ensures kept_bills { kept_bills self.new.boms ≡ kept_bills self.old.boms }
+    {
+        self.boms.drop_substitute(&self.catalogue, &[], substitute)?;
+        Ok(Answer {
+            ids: Ids::none(self.alloc),
+            entries: 0,
         })
     }
 
@@ -220,6 +217,7 @@ impl Shop {
         ensures rest { OnErr result (self.new.counter ≡ self.old.counter) }
         ensures kept { kept_of self.new.yard ≡ kept_of self.old.yard }
         ensures kept_parts { kept_parts self.new.catalogue ≡ kept_parts self.old.catalogue }
+        ensures kept_bills { kept_bills self.new.boms ≡ kept_bills self.old.boms }
     {
         match &request.command {
             Command::AddCategory { name, parent } => {
@@ -235,12 +233,36 @@ impl Shop {
                 flags,
             } => self.add_part(request.day, name, *category, *template, *flags),
             Command::RetirePart { part } => self.retire_part(request.day, *part),
-            Command::Found {
-                part,
+            Command::AddLine {
+                assembly,
+                component,
+                quantity,
+                flags,
+            } => self.add_line(request.day, *assembly, *component, *quantity, *flags),
+            Command::DropLine { line } => self.drop_line(request.day, *line),
+            Command::AddSubstitute { line, part } => {
+                self.add_substitute(request.day, *line, *part)
+            }
+            Command::DropSubstitute { substitute } => {
+                self.drop_substitute(request.day, *substitute)
+            }
+            Command::Found(new) => self.found(request.day, new),
+            Command::Add { item, quantity } => self.add(request.day, *item, *quantity),
+            Command::Remove { item, quantity } => self.remove(request.day, *item, *quantity),
+            Command::Count { item, quantity } => self.count(request.day, *item, *quantity),
+            Command::Transfer {
+                item,
                 location,
                 quantity,
-            } => self.found(request.day, *part, *location, *quantity),
-            Command::Remove { item, quantity } => self.remove(request.day, *item, *quantity),
+            } => self.transfer(request.day, *item, *location, *quantity),
+            Command::Split { item, quantity } => self.split(request.day, *item, *quantity),
+            Command::Merge { into, items } => self.merge(request.day, *into, items.as_slice()),
+            Command::Serialise {
+                item,
+                quantity,
+                serials,
+            } => self.serialise(request.day, *item, *quantity, serials.as_slice()),
+            Command::SetStatus { item, status } => self.set_status(request.day, *item, *status),
         }
     }
 
@@ -249,6 +271,7 @@ impl Shop {
         ensures kept { kept_state self.new ≡ state_of self.old }
     {
         self.catalogue.keep();
+        self.boms.keep();
         self.yard.keep();
     }
 
@@ -257,6 +280,7 @@ impl Shop {
         ensures kept { kept_state self.new ≡ kept_state self.old }
     {
         self.catalogue.back();
+        self.boms.back();
         self.yard.back();
     }
 
@@ -298,6 +322,8 @@ impl Shop {
         ensures count { IfOk result (λ outcomes. length outcomes.items ≡ length requests.now) }
         ensures drawn { IfOk result (λ outcomes. AreDrawn (state_of self.old).counter.next (ids_of (told outcomes.items)) (state_of self.new).counter.next) }
         ensures balanced { (part : ℕ) → Balanced part (machine_of (state_of self.new).stock) }
+        ensures serials { SerialsStandOnce (state_of self.new).parts (state_of self.new).stock }
+        ensures acyclic { IsAcyclic (state_of self.new).parts (state_of self.new).bills }
         ensures none_run { OnErr result (state_of self.new ≡ state_of self.old) }
         ensures sound { IsSoundState (state_of self.new) }
     {
