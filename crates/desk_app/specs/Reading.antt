@@ -99,7 +99,7 @@ found_of d = do
   part ← number_in (codes "part") d
   location ← number_in (codes "location") d
   quantity ← number_in (codes "quantity") d
-  Ok (commands.Found part location quantity)
+  Ok (commands.Found (record { part = part; location = location; quantity = quantity; batch = None; serials = None }))
 
 abbrev pub remove_of : Data → Result Command What
 remove_of d = do

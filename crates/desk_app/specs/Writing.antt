@@ -4,7 +4,7 @@ use Rattle.serde_json.specs.Data.{Data, string, array, object, Items, no_items, 
 use Rattle.serde_json.specs.Written.{compact_text}
 use Rattle.part_core.specs.declared.refusal.Refusal.{Refusal}
 use Rattle.part_core.specs.Refusal.{refusal_name}
-use Rattle.desk_core.specs.declared.command.Answer.{Answer}
+use Rattle.part_core.specs.declared.answer.Answer.{Answer}
 use Rattle.desk_app.specs.declared.fault.What.{What}
 use Rattle.desk_app.specs.Faults.{fault_name}
 

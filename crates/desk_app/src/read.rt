@@ -7,7 +7,7 @@ ghost use Rattle.desk_app.specs.Reading.{location_of, part_of, found_of, remove_
 use crate::fault::{ReadError, What};
 use crate::fields::{day, flags, knows_all, name, number, text};
 use crate::verb::{Verb, members, verb_named};
-use desk_core::{Command, Request};
+use desk_core::{Command, NewStock, Request};
 use serde_json::Value;
 use std::alloc::Global;
 
@@ -45,11 +45,13 @@ fn found(object: &Value) -> Result<Command, ReadError>
     let part = number(object, "part")?;
     let location = number(object, "location")?;
     let quantity = number(object, "quantity")?;
-    Ok(Command::Found {
+    Ok(Command::Found(NewStock {
         part,
         location,
         quantity,
-    })
+        batch: None,
+        serials: None,
+    }))
 }
 
 fn remove(object: &Value) -> Result<Command, ReadError>

@@ -24,11 +24,12 @@ fn shown(alloc: Global, ask: &Ask) -> Result<String, AllocError> {
             template: None,
             flags,
         } => { format!(in alloc; "{day:?} add_part {} {flags:?}", name.as_str()) }
-        Command::Found {
-            part,
-            location,
-            quantity,
-        } => format!(in alloc; "{day:?} found {part} at {location}, {quantity}"),
+        Command::Found(new) => {
+            format!(in alloc;
+                "{day:?} found {} at {}, {}",
+                new.part, new.location, new.quantity
+            )
+        }
         Command::Remove { item, quantity } => {
             format!(in alloc; "{day:?} remove of {item}, {quantity}")
         }
