@@ -1,0 +1,249 @@
+//! Worked examples with bills, as typed commands.
+ghost use Rattle.desk_core.specs.Machine.{IsSoundState};
+ghost use Rattle.desk_core.specs.Shops.{state_of};
+
+use crate::examples::{
+    Wanted, are_told, category, component, found, location, name, part, request,
+};
+use bom_core::LineFlags;
+use desk_core::{Command, Request, Shop};
+use part_core::{Flags, Limits, Refusal};
+use std::alloc::Global;
+use std::test::Fail;
+
+/// A part that is built from others.
+fn assembly() -> Flags {
+    let mut flags = Flags::default();
+    flags.assembly = true;
+    flags
+}
+
+/// A part that is built from others and goes into others.
+fn module() -> Flags {
+    let mut flags = component();
+    flags.assembly = true;
+    flags
+}
+
+fn line(assembly: u64, component: u64, quantity: u64, flags: LineFlags) -> Result<Request, Fail> {
+    request(Command::AddLine {
+        assembly,
+        component,
+        quantity,
+        flags,
+    })
+}
+
+fn plain_line(assembly: u64, component: u64, quantity: u64) -> Result<Request, Fail> {
+    line(assembly, component, quantity, LineFlags::default())
+}
+
+/// Whether the shop answers the requests so.
+pub fn answers(
+    alloc: Global,
+    shop: &mut Shop,
+    requests: &[Request],
+    wanted: &[Wanted],
+) -> Result<bool, Fail>
+    requires { IsSoundState (state_of shop.old) }
+    ensures { IsSoundState (state_of shop.new) }
+{
+    let outcomes = shop.run_list(alloc, requests)?;
+    Ok(are_told(outcomes.as_slice(), wanted))
+}
+
+/// Two locations, and a cell of one robot of four screws and two motors.
+pub fn workshop(alloc: Global) -> Result<Vec<Request>, Fail> {
+    let mut screw = component();
+    screw.purchaseable = true;
+    let mut motor = screw;
+    motor.trackable = true;
+    let mut cell = assembly();
+    cell.trackable = true;
+    cell.salable = true;
+    let mut robot = cell;
+    robot.component = true;
+    let mut requests = Vec::new(alloc);
+    requests.push(location(alloc, "A", None)?)?;
+    requests.push(location(alloc, "B", None)?)?;
+    requests.push(part(alloc, "Screw", None, screw)?)?;
+    requests.push(part(alloc, "Motor", None, motor)?)?;
+    requests.push(part(alloc, "Robot", None, robot)?)?;
+    requests.push(part(alloc, "Cell", None, cell)?)?;
+    requests.push(plain_line(5, 3, 4)?)?;
+    requests.push(plain_line(5, 4, 2)?)?;
+    requests.push(plain_line(6, 5, 1)?)?;
+    Ok(requests)
+}
+
+/// What is told of the workshop: each request draws the next number.
+pub const WORKSHOP: [Wanted; 9] = [
+    Wanted::Drawn(1, 0),
+    Wanted::Drawn(2, 0),
+    Wanted::Drawn(3, 0),
+    Wanted::Drawn(4, 0),
+    Wanted::Drawn(5, 0),
+    Wanted::Drawn(6, 0),
+    Wanted::Drawn(7, 0),
+    Wanted::Drawn(8, 0),
+    Wanted::Drawn(9, 0),
+];
+
+fn bolts(alloc: Global) -> Result<Vec<Request>, Fail> {
+    let mut requests = Vec::new(alloc);
+    requests.push(category(alloc, "Metal", None)?)?;
+    requests.push(category(alloc, "Metal", None)?)?;
+    requests.push(category(alloc, "Metal", Some(10))?)?;
+    requests.push(request(Command::AddPart {
+        name: name(alloc, "Bolt")?,
+        category: Some(11),
+        template: None,
+        flags: component(),
+    })?)?;
+    requests.push(part(alloc, "Bolt", None, component())?)?;
+    Ok(requests)
+}
+
+const BOLTS: [Wanted; 5] = [
+    Wanted::Drawn(10, 0),
+    Wanted::Refused(Refusal::NameTaken),
+    Wanted::Drawn(11, 0),
+    Wanted::Drawn(12, 0),
+    Wanted::Refused(Refusal::NameTaken),
+];
+
+fn retired_cell(alloc: Global) -> Result<Vec<Request>, Fail> {
+    let mut requests = Vec::new(alloc);
+    requests.push(request(Command::RetirePart { part: 6 })?)?;
+    requests.push(request(Command::RetirePart { part: 6 })?)?;
+    requests.push(plain_line(6, 3, 1)?)?;
+    requests.push(request(Command::DropLine { line: 9 })?)?;
+    requests.push(request(Command::DropLine { line: 9 })?)?;
+    requests.push(plain_line(3, 4, 1)?)?;
+    Ok(requests)
+}
+
+const RETIRED_CELL: [Wanted; 6] = [
+    Wanted::Done(0),
+    Wanted::Refused(Refusal::Retired),
+    Wanted::Refused(Refusal::Retired),
+    Wanted::Done(0),
+    Wanted::Refused(Refusal::NoSuch),
+    Wanted::Refused(Refusal::WrongFlag),
+];
+
+/// A retired part keeps the lines that it has and takes no new one, and a part that isn't an assembly has none.
+#[test]
+fn categories_and_retired_parts(rt: HostRuntime) -> Result<(), Fail> {
+    let alloc = rt.alloc();
+    let mut shop = Shop::new(alloc, Limits::LARGEST);
+    assert!(rt; answers(alloc, &mut shop, &workshop(alloc)?, &WORKSHOP)?);
+    assert!(rt; answers(alloc, &mut shop, &bolts(alloc)?, &BOLTS)?);
+    assert!(rt; answers(alloc, &mut shop, &retired_cell(alloc)?, &RETIRED_CELL)?);
+    assert!(rt; shop.boms().line(9).is_none());
+    Ok(())
+}
+
+fn bad_stock(alloc: Global) -> Result<Vec<Request>, Fail> {
+    let mut requests = Vec::new(alloc);
+    requests.push(found(3, 1, 0)?)?;
+    requests.push(found(3, 1, 1_000_000_001)?)?;
+    requests.push(found(99, 1, 0)?)?;
+    Ok(requests)
+}
+
+const BAD_STOCK: [Wanted; 3] = [
+    Wanted::Refused(Refusal::BadNumber),
+    Wanted::Refused(Refusal::BadNumber),
+    Wanted::Refused(Refusal::NoSuch),
+];
+
+/// A quantity is looked at once it is known that the part is there.
+#[test]
+fn bad_numbers(rt: HostRuntime) -> Result<(), Fail> {
+    let alloc = rt.alloc();
+    let mut shop = Shop::new(alloc, Limits::LARGEST);
+    assert!(rt; answers(alloc, &mut shop, &workshop(alloc)?, &WORKSHOP)?);
+    assert!(rt; answers(alloc, &mut shop, &bad_stock(alloc)?, &BAD_STOCK)?);
+    Ok(())
+}
+
+/// A frame of a robot, a kit in the robot, and the frame in place of the kit.
+fn frames(alloc: Global) -> Result<Vec<Request>, Fail> {
+    let mut requests = Vec::new(alloc);
+    requests.push(part(alloc, "Frame", None, module())?)?;
+    requests.push(plain_line(10, 5, 1)?)?;
+    requests.push(part(alloc, "Kit", None, component())?)?;
+    requests.push(plain_line(5, 12, 1)?)?;
+    requests.push(request(Command::AddSubstitute { line: 13, part: 10 })?)?;
+    Ok(requests)
+}
+
+const FRAMES: [Wanted; 5] = [
+    Wanted::Drawn(10, 0),
+    Wanted::Drawn(11, 0),
+    Wanted::Drawn(12, 0),
+    Wanted::Drawn(13, 0),
+    Wanted::Refused(Refusal::Cycle),
+];
+
+/// A base of a robot, whose line its model inherits, and the model in the robot.
+fn models(alloc: Global) -> Result<Vec<Request>, Fail> {
+    let mut base = module();
+    base.template = true;
+    let mut inherited = LineFlags::default();
+    inherited.inherited = true;
+    let mut requests = Vec::new(alloc);
+    requests.push(part(alloc, "Base", None, base)?)?;
+    requests.push(part(alloc, "Model", Some(14), module())?)?;
+    requests.push(line(14, 5, 1, inherited)?)?;
+    requests.push(plain_line(5, 15, 1)?)?;
+    Ok(requests)
+}
+
+const MODELS: [Wanted; 4] = [
+    Wanted::Drawn(14, 0),
+    Wanted::Drawn(15, 0),
+    Wanted::Drawn(16, 0),
+    Wanted::Refused(Refusal::Cycle),
+];
+
+/// A plate whose variant contains the robot, in the robot: without its variants and with them.
+fn plates(alloc: Global) -> Result<Vec<Request>, Fail> {
+    let mut plate = component();
+    plate.template = true;
+    let mut variants = LineFlags::default();
+    variants.variants = true;
+    let mut requests = Vec::new(alloc);
+    requests.push(part(alloc, "Plate", None, plate)?)?;
+    requests.push(part(alloc, "Plate-A", Some(17), module())?)?;
+    requests.push(plain_line(18, 5, 1)?)?;
+    requests.push(plain_line(5, 17, 1)?)?;
+    requests.push(line(5, 17, 1, variants)?)?;
+    Ok(requests)
+}
+
+const PLATES: [Wanted; 5] = [
+    Wanted::Drawn(17, 0),
+    Wanted::Drawn(18, 0),
+    Wanted::Drawn(19, 0),
+    Wanted::Drawn(20, 0),
+    Wanted::Refused(Refusal::Cycle),
+];
+
+/// A part would contain itself by way of a substitute, an inherited line or a variant.
+#[test]
+fn bill_cycles(rt: HostRuntime) -> Result<(), Fail> {
+    let alloc = rt.alloc();
+    let mut shop = Shop::new(alloc, Limits::LARGEST);
+    assert!(rt; answers(alloc, &mut shop, &workshop(alloc)?, &WORKSHOP)?);
+    assert!(rt; answers(alloc, &mut shop, &frames(alloc)?, &FRAMES)?);
+    assert!(rt; answers(alloc, &mut shop, &models(alloc)?, &MODELS)?);
+    assert!(rt; answers(alloc, &mut shop, &plates(alloc)?, &PLATES)?);
+    let lines = shop.boms().effective(shop.catalogue(), 15)?;
+    assert_eq!(rt; lines.len(), 1);
+    let number = lines.first().ok_or("a line")?.number;
+    assert_eq!(rt; number, 16);
+    assert!(rt; shop.boms().reaches(shop.catalogue(), 15, 4)?);
+    Ok(())
+}

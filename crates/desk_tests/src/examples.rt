@@ -1,0 +1,365 @@
+//! Worked examples, as typed commands.
+use desk_core::{Answer, Command, Fault, NewStock, Request, Shop};
+use part_core::{Day, Flags, Limits, Name, Refusal, Text};
+use std::alloc::{AllocError, Global};
+use std::test::Fail;
+use yard_core::{Place, Reason};
+
+pub fn name(alloc: Global, text: &str) -> Result<Name, Fail> {
+    Ok(Text::new(String::from_str(alloc, text)?).ok_or("a name")?)
+}
+
+pub fn request(command: Command) -> Result<Request, Fail> {
+    let day = Day::parse("2030-01-02").ok_or("a day")?;
+    Ok(Request { day, command })
+}
+
+pub fn component() -> Flags {
+    let mut flags = Flags::default();
+    flags.component = true;
+    flags
+}
+
+pub fn location(alloc: Global, text: &str, parent: Option<u64>) -> Result<Request, Fail> {
+    let name = name(alloc, text)?;
+    request(Command::AddLocation { name, parent })
+}
+
+pub fn category(alloc: Global, text: &str, parent: Option<u64>) -> Result<Request, Fail> {
+    let name = name(alloc, text)?;
+    request(Command::AddCategory { name, parent })
+}
+
+pub fn part(
+    alloc: Global,
+    text: &str,
+    template: Option<u64>,
+    flags: Flags,
+) -> Result<Request, Fail> {
+    let name = name(alloc, text)?;
+    request(Command::AddPart {
+        name,
+        category: None,
+        template,
+        flags,
+    })
+}
+
+/// What a request is to be answered.
+#[derive(Clone, Copy)]
+pub enum Wanted {
+    /// It draws the number, and writes so many entries.
+    Drawn(u64, u64),
+    /// It draws the numbers from the first to the last, and writes so many entries.
+    Several(u64, u64, u64),
+    /// It draws no number, and writes so many entries.
+    Done(u64),
+    Refused(Refusal),
+}
+
+fn are_drawn(answer: &Answer, first: u64, last: u64) -> bool {
+    let ids = answer.ids.as_slice();
+    match (ids.first(), ids.last()) {
+        (Some(number), Some(other)) => *number == first && *other == last,
+        _ => false,
+    }
+}
+
+fn is_told(outcome: &Result<Answer, Fault>, wanted: &Wanted) -> bool {
+    match (outcome, wanted) {
+        (Ok(answer), Wanted::Drawn(number, entries)) => {
+            are_drawn(answer, *number, *number) && answer.entries == *entries
+        }
+        (Ok(answer), Wanted::Several(first, last, entries)) => {
+            are_drawn(answer, *first, *last) && answer.entries == *entries
+        }
+        (Ok(answer), Wanted::Done(entries)) => {
+            answer.ids.as_slice().is_empty() && answer.entries == *entries
+        }
+        (Err(Fault::Refused(refusal)), Wanted::Refused(other)) => *refusal == *other,
+        _ => false,
+    }
+}
+
+/// Whether the outcomes are those that are wanted, in order.
+pub fn are_told(outcomes: &[Result<Answer, Fault>], wanted: &[Wanted]) -> bool {
+    outcomes.len() == wanted.len()
+        && outcomes
+            .iter()
+            .zip(wanted.iter())
+            .all(|(outcome, wanted)| is_told(outcome, wanted))
+}
+
+pub fn found(part: u64, location: u64, quantity: u64) -> Result<Request, Fail> {
+    request(Command::Found(NewStock {
+        part,
+        location,
+        quantity,
+        batch: None,
+        serials: None,
+    }))
+}
+
+fn retire(part: u64) -> Result<Request, Fail> {
+    request(Command::RetirePart { part })
+}
+
+/// A location 1, a part 2, and 100 pieces of it found: item 3.
+fn first_requests(alloc: Global) -> Result<Vec<Request>, Fail> {
+    let mut requests = Vec::new(alloc);
+    requests.push(location(alloc, "A", None)?)?;
+    requests.push(part(alloc, "Screw", None, component())?)?;
+    requests.push(found(2, 1, 100)?)?;
+    Ok(requests)
+}
+
+fn remove(item: u64, quantity: u64) -> Result<Request, Fail> {
+    request(Command::Remove { item, quantity })
+}
+
+/// All that was found is removed, and then one piece more.
+fn use_up(alloc: Global) -> Result<Vec<Request>, Fail> {
+    let mut requests = first_requests(alloc)?;
+    requests.push(remove(3, 30)?)?;
+    requests.push(remove(3, 70)?)?;
+    requests.push(remove(3, 1)?)?;
+    Ok(requests)
+}
+
+#[test]
+fn first_run_and_used_up(rt: HostRuntime) -> Result<(), Fail> {
+    let alloc = rt.alloc();
+    let mut shop = Shop::new(alloc, Limits::LARGEST);
+    let outcomes = shop.run_list(alloc, use_up(alloc)?.as_slice())?;
+    let wanted = [
+        Wanted::Drawn(1, 0),
+        Wanted::Drawn(2, 0),
+        Wanted::Drawn(3, 1),
+        Wanted::Done(1),
+        Wanted::Done(1),
+        Wanted::Refused(Refusal::NotLoose),
+    ];
+    assert!(rt; are_told(outcomes.as_slice(), &wanted));
+    let item = shop.yard().item(3).ok_or("item 3")?;
+    assert_eq!(rt; item.quantity, 0);
+    assert!(rt; item.place == Place::Gone);
+    let sums = shop.yard().sums(2);
+    assert_eq!(rt; sums.found, 100);
+    assert_eq!(rt; sums.written, 100);
+    assert_eq!(rt; sums.present, 0);
+    Ok(())
+}
+
+/// One number and one entry more than there are.
+fn too_many(alloc: Global) -> Result<Vec<Request>, Fail> {
+    let mut requests = first_requests(alloc)?;
+    requests.push(found(2, 1, 1)?)?;
+    requests.push(remove(3, 1)?)?;
+    requests.push(remove(3, 1)?)?;
+    Ok(requests)
+}
+
+#[test]
+fn small_limits(rt: HostRuntime) -> Result<(), Fail> {
+    let alloc = rt.alloc();
+    let limits = Limits::new(3, 2).ok_or("limits")?;
+    let mut shop = Shop::new(alloc, limits);
+    let outcomes = shop.run_list(alloc, too_many(alloc)?.as_slice())?;
+    let wanted = [
+        Wanted::Drawn(1, 0),
+        Wanted::Drawn(2, 0),
+        Wanted::Drawn(3, 1),
+        Wanted::Refused(Refusal::Full),
+        Wanted::Done(1),
+        Wanted::Refused(Refusal::Full),
+    ];
+    assert!(rt; are_told(outcomes.as_slice(), &wanted));
+    assert!(rt; Limits::new(0, 1).is_none());
+    assert!(rt; Limits::new(1, 10_000_000_001).is_none());
+    Ok(())
+}
+
+fn virtual_flags() -> Flags {
+    let mut flags = Flags::default();
+    flags.is_virtual = true;
+    flags
+}
+
+fn template_flags() -> Flags {
+    let mut flags = component();
+    flags.template = true;
+    flags
+}
+
+/// Location 1, part 2, item 3, the virtual part 4, category 5, template 6 and its variant 7; the template
+/// is retired.
+fn stocked(alloc: Global) -> Result<Vec<Request>, Fail> {
+    let mut requests = first_requests(alloc)?;
+    requests.push(part(alloc, "Fee", None, virtual_flags())?)?;
+    requests.push(category(alloc, "Metal", None)?)?;
+    requests.push(part(alloc, "Bolt", None, template_flags())?)?;
+    requests.push(part(alloc, "Bolt M4", Some(6), component())?)?;
+    requests.push(retire(6)?)?;
+    Ok(requests)
+}
+
+/// Rows that are refused.
+fn refused_rows(alloc: Global) -> Result<Vec<Request>, Fail> {
+    let mut fee = virtual_flags();
+    fee.salable = true;
+    let mut requests = Vec::new(alloc);
+    requests.push(location(alloc, "A", Some(2))?)?;
+    requests.push(location(alloc, "A", None)?)?;
+    requests.push(category(alloc, "Metal", Some(1))?)?;
+    requests.push(category(alloc, "Metal", None)?)?;
+    requests.push(part(alloc, "Screw", Some(5), component())?)?;
+    requests.push(part(alloc, "Screw", Some(2), fee)?)?;
+    requests.push(part(alloc, "Visit", None, fee)?)?;
+    requests.push(part(alloc, "Nut", Some(2), component())?)?;
+    requests.push(part(alloc, "Nut", Some(6), template_flags())?)?;
+    requests.push(part(alloc, "Nut", Some(6), component())?)?;
+    requests.push(retire(1)?)?;
+    requests.push(retire(6)?)?;
+    Ok(requests)
+}
+
+/// Stock that is refused.
+fn refused_stock(alloc: Global) -> Result<Vec<Request>, Fail> {
+    let mut requests = Vec::new(alloc);
+    requests.push(found(1, 1, 0)?)?;
+    requests.push(found(2, 2, 1)?)?;
+    requests.push(found(2, 1, 0)?)?;
+    requests.push(found(4, 1, 1_000_000_001)?)?;
+    requests.push(found(4, 1, 1)?)?;
+    requests.push(found(6, 1, 1)?)?;
+    requests.push(remove(2, 0)?)?;
+    requests.push(remove(3, 0)?)?;
+    requests.push(remove(3, 101)?)?;
+    Ok(requests)
+}
+
+#[test]
+fn refuses_rows(rt: HostRuntime) -> Result<(), Fail> {
+    let alloc = rt.alloc();
+    let mut shop = Shop::new(alloc, Limits::LARGEST);
+    let made = shop.run_list(alloc, stocked(alloc)?.as_slice())?;
+    assert!(rt; made.iter().all(|outcome| outcome.is_ok()));
+    assert_eq!(rt; shop.catalogue().family(7), 6);
+    assert_eq!(rt; shop.catalogue().family(2), 2);
+    assert!(rt; shop.catalogue().descends(7, 6));
+    assert!(rt; !shop.catalogue().descends(2, 6));
+    let outcomes = shop.run_list(alloc, refused_rows(alloc)?.as_slice())?;
+    let wanted = [
+        Wanted::Refused(Refusal::NoSuch),
+        Wanted::Refused(Refusal::NameTaken),
+        Wanted::Refused(Refusal::NoSuch),
+        Wanted::Refused(Refusal::NameTaken),
+        Wanted::Refused(Refusal::NoSuch),
+        Wanted::Refused(Refusal::NameTaken),
+        Wanted::Refused(Refusal::WrongFlag),
+        Wanted::Refused(Refusal::WrongFlag),
+        Wanted::Refused(Refusal::WrongFlag),
+        Wanted::Refused(Refusal::Retired),
+        Wanted::Refused(Refusal::NoSuch),
+        Wanted::Refused(Refusal::Retired),
+    ];
+    assert!(rt; are_told(outcomes.as_slice(), &wanted));
+    Ok(())
+}
+
+#[test]
+fn refuses_stock(rt: HostRuntime) -> Result<(), Fail> {
+    let alloc = rt.alloc();
+    let mut shop = Shop::new(alloc, Limits::LARGEST);
+    let made = shop.run_list(alloc, stocked(alloc)?.as_slice())?;
+    assert!(rt; made.iter().all(|outcome| outcome.is_ok()));
+    let outcomes = shop.run_list(alloc, refused_stock(alloc)?.as_slice())?;
+    let wanted = [
+        Wanted::Refused(Refusal::NoSuch),
+        Wanted::Refused(Refusal::NoSuch),
+        Wanted::Refused(Refusal::BadNumber),
+        Wanted::Refused(Refusal::BadNumber),
+        Wanted::Refused(Refusal::WrongFlag),
+        Wanted::Refused(Refusal::Retired),
+        Wanted::Refused(Refusal::NoSuch),
+        Wanted::Refused(Refusal::BadNumber),
+        Wanted::Refused(Refusal::Short),
+    ];
+    assert!(rt; are_told(outcomes.as_slice(), &wanted));
+    assert_eq!(rt; shop.yard().sums(2).present, 100);
+    Ok(())
+}
+
+/// Names that are taken and names that aren't, and a part that is retired twice.
+fn named_twice(alloc: Global) -> Result<Vec<Request>, Fail> {
+    let mut requests = Vec::new(alloc);
+    requests.push(category(alloc, "Metal", None)?)?;
+    requests.push(category(alloc, "Metal", None)?)?;
+    requests.push(category(alloc, "Metal", Some(1))?)?;
+    requests.push(request(Command::AddPart {
+        name: name(alloc, "Bolt")?,
+        category: Some(2),
+        template: None,
+        flags: component(),
+    })?)?;
+    requests.push(part(alloc, "Bolt", None, component())?)?;
+    requests.push(retire(3)?)?;
+    requests.push(retire(3)?)?;
+    requests.push(location(alloc, "Shelf", None)?)?;
+    requests.push(location(alloc, "Shelf", Some(4))?)?;
+    requests.push(location(alloc, "Shelf", Some(4))?)?;
+    Ok(requests)
+}
+
+/// Names are taken under one parent; a part's name by any part; a part is retired once.
+#[test]
+fn categories(rt: HostRuntime) -> Result<(), Fail> {
+    let alloc = rt.alloc();
+    let mut shop = Shop::new(alloc, Limits::LARGEST);
+    let outcomes = shop.run_list(alloc, named_twice(alloc)?.as_slice())?;
+    let wanted = [
+        Wanted::Drawn(1, 0),
+        Wanted::Refused(Refusal::NameTaken),
+        Wanted::Drawn(2, 0),
+        Wanted::Drawn(3, 0),
+        Wanted::Refused(Refusal::NameTaken),
+        Wanted::Done(0),
+        Wanted::Refused(Refusal::Retired),
+        Wanted::Drawn(4, 0),
+        Wanted::Drawn(5, 0),
+        Wanted::Refused(Refusal::NameTaken),
+    ];
+    assert!(rt; are_told(outcomes.as_slice(), &wanted));
+    let bolt = shop.catalogue().part(3).ok_or("part 3")?;
+    assert_eq!(rt; bolt.category, Some(2));
+    assert!(rt; bolt.retired);
+    let parent = shop.catalogue().category(2).ok_or("category 2")?.parent;
+    assert_eq!(rt; parent, Some(1));
+    Ok(())
+}
+
+/// Days that a text names, and texts that name none.
+#[test]
+fn days_and_texts(rt: HostRuntime) -> Result<(), Fail> {
+    let alloc = rt.alloc();
+    for text in ["2000-01-01", "2024-02-29", "2099-12-31"] {
+        assert!(rt; Day::parse(text).is_some(), "{text}");
+    }
+    for text in [
+        "1999-12-31",
+        "2100-01-01",
+        "2030-02-30",
+        "2023-02-29",
+        "2030-2-03",
+        "2030-01-02T00:00",
+        "",
+    ] {
+        assert!(rt; Day::parse(text).is_none(), "{text}");
+    }
+    for text in ["", "a\tb", "a\u{7f}"] {
+        assert!(rt; Text::new(String::from_str(alloc, text)?).is_none());
+    }
+    assert!(rt; Text::new(String::from_str(alloc, "Schraube \u{e4}")?).is_some());
+    assert!(rt; Place::Off(Reason::Removed) != Place::Gone);
+    Ok(())
+}

@@ -1,0 +1,174 @@
+//! Worked examples, as lines: through slow and failing readers and writers.
+use crate::devices::{Sink, Source};
+use desk_app::{RunEnd, run_lines};
+use desk_core::Shop;
+use part_core::Limits;
+use std::io::ErrorKind;
+use std::test::Fail;
+
+const FIRST: &str = concat!(
+    "{\"day\":\"2030-01-02\",\"do\":\"add_location\",\"name\":\"A\"}\n",
+    "{\"day\":\"2030-01-02\",\"do\":\"add_part\",\"flags\":[\"component\",\"purchaseable\"],\"name\":\"Screw\"}\n",
+    "{\"day\":\"2030-01-02\",\"do\":\"found\",\"location\":1,\"part\":2,\"quantity\":100}\n",
+    "{\"day\":\"2030-01-03\",\"do\":\"remove\",\"item\":3,\"quantity\":30}\n",
+    "{\"of\":2,\"report\":\"ledger\"}\n"
+);
+
+const FIRST_OUT: &str = concat!(
+    "{\"entries\":0,\"ids\":[1]}\n",
+    "{\"entries\":0,\"ids\":[2]}\n",
+    "{\"entries\":1,\"ids\":[3]}\n",
+    "{\"entries\":1,\"ids\":[]}\n",
+    "{\"report\":[[\"ledger\",\"2\",\"Screw\"],[\"received\",\"0\"],[\"found\",\"100\"],[\"built\",\"0\"],[\"returned\",\"0\"],",
+    "[\"consumed\",\"0\"],[\"shipped\",\"0\"],[\"written\",\"30\"],[\"present\",\"70\"],[\"sent\",\"0\"],[\"used\",\"0\"]]}\n"
+);
+
+#[test]
+fn first_run(rt: HostRuntime) -> Result<(), Fail> {
+    let alloc = rt.alloc();
+    for (read, write) in [(4096, 4096), (1, 1), (7, 3)] {
+        let mut shop = Shop::new(alloc, Limits::LARGEST);
+        let mut source = Source::new(FIRST.as_bytes(), read);
+        let mut sink = Sink::new(alloc, write);
+        let end = run_lines(alloc, &mut source, &mut sink, &mut shop);
+        assert!(rt; end == RunEnd::Done(true));
+        assert!(rt; sink.bytes.as_slice() == FIRST_OUT.as_bytes());
+        let left = shop.yard().item(3).map_or(0, |item| item.quantity);
+        assert_eq!(rt; left, 70);
+    }
+    Ok(())
+}
+
+/// The first requests are answered; the run ends at the read that fails.
+#[test]
+fn each_read_fails(rt: HostRuntime) -> Result<(), Fail> {
+    let alloc = rt.alloc();
+    let mut before = 0;
+    for fails in 1..40u64 {
+        let mut shop = Shop::new(alloc, Limits::LARGEST);
+        let mut source = Source::new(FIRST.as_bytes(), 20);
+        source.fails = fails;
+        let mut sink = Sink::new(alloc, 4096);
+        let end = run_lines(alloc, &mut source, &mut sink, &mut shop);
+        assert!(rt; FIRST_OUT.as_bytes().starts_with(sink.bytes.as_slice()));
+        assert!(rt; before <= sink.bytes.len());
+        before = sink.bytes.len();
+        if source.calls < fails {
+            assert!(rt; end == RunEnd::Done(true));
+            assert_eq!(rt; before, FIRST_OUT.len());
+        } else {
+            assert!(rt; end == RunEnd::ReadFailed);
+        }
+    }
+    assert_eq!(rt; before, FIRST_OUT.len());
+    Ok(())
+}
+
+#[test]
+fn each_write_fails(rt: HostRuntime) -> Result<(), Fail> {
+    let alloc = rt.alloc();
+    let mut whole = false;
+    for fails in 1..60u64 {
+        let mut shop = Shop::new(alloc, Limits::LARGEST);
+        let mut source = Source::new(FIRST.as_bytes(), 4096);
+        let mut sink = Sink::new(alloc, 10);
+        sink.fails = fails;
+        let end = run_lines(alloc, &mut source, &mut sink, &mut shop);
+        assert!(rt; FIRST_OUT.as_bytes().starts_with(sink.bytes.as_slice()));
+        if sink.calls < fails {
+            assert!(rt; end == RunEnd::Done(true));
+            assert_eq!(rt; sink.bytes.len(), FIRST_OUT.len());
+            whole = true;
+        } else {
+            assert!(rt; end == RunEnd::WriteFailed);
+        }
+    }
+    assert!(rt; whole);
+    Ok(())
+}
+
+/// A read that is interrupted is tried again; a writer that takes no byte has failed.
+#[test]
+fn interrupted_and_full(rt: HostRuntime) -> Result<(), Fail> {
+    let alloc = rt.alloc();
+    let mut shop = Shop::new(alloc, Limits::LARGEST);
+    let mut source = Source::new(FIRST.as_bytes(), 30);
+    source.fails = 3;
+    source.failure = ErrorKind::Interrupted;
+    let mut sink = Sink::new(alloc, 4096);
+    let end = run_lines(alloc, &mut source, &mut sink, &mut shop);
+    assert!(rt; end == RunEnd::Done(true));
+    assert!(rt; sink.bytes.as_slice() == FIRST_OUT.as_bytes());
+    let mut shop = Shop::new(alloc, Limits::LARGEST);
+    let mut source = Source::new(FIRST.as_bytes(), 4096);
+    let mut sink = Sink::new(alloc, 0);
+    let end = run_lines(alloc, &mut source, &mut sink, &mut shop);
+    assert!(rt; end == RunEnd::WriteFailed);
+    Ok(())
+}
+
+/// Faults with the numbers of their lines; empty lines count, and the last line needs no LF.
+#[test]
+fn faults(rt: HostRuntime) -> Result<(), Fail> {
+    let alloc = rt.alloc();
+    let text = concat!(
+        "{\"day\":\"2030-02-30\",\"do\":\"remove\",\"item\":1,\"quantity\":1}\n",
+        "[]\n",
+        "\n",
+        "{\"do\":\"fly\"}\r\n",
+        "\r\n",
+        "{\"day\":\"2030-01-02\",\"do\":\"remove\",\"item\":1,\"quantity\":1,\"x\":1}\n",
+        "{\"day\":\"2030-01-02\",\"do\":\"remove\",\"item\":-1,\"quantity\":1}\n",
+        "{\"day\":\"2030-01-02\",\"do\":\"remove\",\"item\":0,\"quantity\":1}\n",
+        " \n",
+        "{\"of\":1,\"report\":\"ledger\"}"
+    );
+    let wanted = concat!(
+        "{\"fault\":\"BadDay\",\"line\":1}\n",
+        "{\"fault\":\"NotObject\",\"line\":2}\n",
+        "{\"fault\":\"UnknownCommand\",\"line\":4}\n",
+        "{\"fault\":\"UnknownField\",\"line\":6}\n",
+        "{\"fault\":\"WrongType\",\"line\":7}\n",
+        "{\"refused\":\"NoSuch\"}\n",
+        "{\"fault\":\"NotJson\",\"line\":9}\n",
+        "{\"refused\":\"NoSuch\"}\n"
+    );
+    let mut shop = Shop::new(alloc, Limits::LARGEST);
+    let mut source = Source::new(text.as_bytes(), 11);
+    let mut sink = Sink::new(alloc, 4096);
+    let end = run_lines(alloc, &mut source, &mut sink, &mut shop);
+    assert!(rt; end == RunEnd::Done(false));
+    assert!(rt; sink.bytes.as_slice() == wanted.as_bytes());
+    Ok(())
+}
+
+/// A line of 65,537 bytes is too long; one of 65,536 is read. The line after it is answered.
+#[test]
+fn long_lines(rt: HostRuntime) -> Result<(), Fail> {
+    let alloc = rt.alloc();
+    let next = "\n{\"of\":1,\"report\":\"ledger\"}\n";
+    for (length, wanted) in [
+        (
+            65_536,
+            "{\"fault\":\"NotJson\",\"line\":1}\n{\"refused\":\"NoSuch\"}\n",
+        ),
+        (
+            65_537,
+            "{\"fault\":\"TooLong\",\"line\":1}\n{\"refused\":\"NoSuch\"}\n",
+        ),
+        (
+            200_000,
+            "{\"fault\":\"TooLong\",\"line\":1}\n{\"refused\":\"NoSuch\"}\n",
+        ),
+    ] {
+        let mut text = vec![in alloc; b' '; length]?;
+        text.extend_from_slice(next.as_bytes())?;
+        let mut shop = Shop::new(alloc, Limits::LARGEST);
+        let mut source = Source::new(text.as_slice(), 5000);
+        let mut sink = Sink::new(alloc, 4096);
+        let end = run_lines(alloc, &mut source, &mut sink, &mut shop);
+        assert!(rt; end == RunEnd::Done(false));
+        assert!(rt; sink.bytes.as_slice() == wanted.as_bytes());
+    }
+    Ok(())
+}

@@ -1,0 +1,285 @@
+//! Worked examples with items, batches and serials, as typed commands.
+use crate::bills::{WORKSHOP, answers, workshop};
+use crate::examples::{Wanted, category, component, found, location, part, request};
+use desk_core::{Command, Ids, NewStock, Request, Shop};
+use part_core::{Flags, Limits, Refusal, SerialFault, Serials, Status, Text, read_serials};
+use std::alloc::Global;
+use std::test::Fail;
+
+fn serials(alloc: Global, text: &str) -> Result<Serials, Fail> {
+    let items = read_serials(alloc, text).ok().ok_or("serials")?;
+    Ok(Serials::new(items))
+}
+
+/// Stock with serials, at location 1.
+fn serialised(alloc: Global, part: u64, quantity: u64, text: &str) -> Result<Request, Fail> {
+    let serials = serials(alloc, text)?;
+    request(Command::Found(NewStock {
+        part,
+        location: 1,
+        quantity,
+        batch: None,
+        serials: Some(serials),
+    }))
+}
+
+/// Stock of the batch L, at location 1.
+fn batch(alloc: Global, part: u64, quantity: u64) -> Result<Request, Fail> {
+    let batch = Text::new(String::from_str(alloc, "L")?).ok_or("a batch")?;
+    request(Command::Found(NewStock {
+        part,
+        location: 1,
+        quantity,
+        batch: Some(batch),
+        serials: None,
+    }))
+}
+
+fn merge(alloc: Global, into: u64, items: &[u64]) -> Result<Request, Fail> {
+    let mut list = Vec::new(alloc);
+    for item in items {
+        list.push(*item)?;
+    }
+    request(Command::Merge {
+        into,
+        items: Ids::new(list),
+    })
+}
+
+fn trackable() -> Flags {
+    let mut flags = component();
+    flags.trackable = true;
+    flags
+}
+
+/// A drive and its variant, both with serials of one family.
+fn drives(alloc: Global) -> Result<Vec<Request>, Fail> {
+    let mut template = trackable();
+    template.template = true;
+    let mut requests = Vec::new(alloc);
+    requests.push(location(alloc, "A", None)?)?;
+    requests.push(part(alloc, "Drive", None, template)?)?;
+    requests.push(part(alloc, "Drive-S", Some(2), trackable())?)?;
+    requests.push(serialised(alloc, 2, 1, "A")?)?;
+    requests.push(serialised(alloc, 3, 1, "A")?)?;
+    requests.push(request(Command::Remove {
+        item: 4,
+        quantity: 1,
+    })?)?;
+    requests.push(serialised(alloc, 3, 1, "A")?)?;
+    Ok(requests)
+}
+
+const DRIVES: [Wanted; 7] = [
+    Wanted::Drawn(1, 0),
+    Wanted::Drawn(2, 0),
+    Wanted::Drawn(3, 0),
+    Wanted::Drawn(4, 1),
+    Wanted::Refused(Refusal::SerialTaken),
+    Wanted::Done(1),
+    Wanted::Refused(Refusal::SerialTaken),
+];
+
+/// A serial stands once in a family, and what is written off keeps its own.
+#[test]
+fn family_serials(rt: HostRuntime) -> Result<(), Fail> {
+    let alloc = rt.alloc();
+    let mut shop = Shop::new(alloc, Limits::LARGEST);
+    assert!(rt; answers(alloc, &mut shop, &drives(alloc)?, &DRIVES)?);
+    Ok(())
+}
+
+fn motors(alloc: Global) -> Result<Vec<Request>, Fail> {
+    let mut requests = Vec::new(alloc);
+    requests.push(serialised(alloc, 4, 5, "7-9,A-1,12")?)?;
+    requests.push(serialised(alloc, 4, 4, "20-24")?)?;
+    requests.push(serialised(alloc, 3, 1, "1")?)?;
+    Ok(requests)
+}
+
+const MOTORS: [Wanted; 3] = [
+    Wanted::Several(10, 14, 5),
+    Wanted::Refused(Refusal::SerialCount),
+    Wanted::Refused(Refusal::WrongFlag),
+];
+
+/// A list of serials gives as many items, in its order.
+#[test]
+fn serial_lists(rt: HostRuntime) -> Result<(), Fail> {
+    let alloc = rt.alloc();
+    let mut shop = Shop::new(alloc, Limits::LARGEST);
+    assert!(rt; answers(alloc, &mut shop, &workshop(alloc)?, &WORKSHOP)?);
+    assert!(rt; answers(alloc, &mut shop, &motors(alloc)?, &MOTORS)?);
+    let item = shop.yard().item(13).ok_or("item 13")?;
+    let serial = item.lot.serial.as_ref().ok_or("a serial")?;
+    assert_eq!(rt; serial.as_str(), "A-1");
+    assert!(rt; matches!(read_serials(alloc, "9-7"), Err(SerialFault::Falling)));
+    Ok(())
+}
+
+fn mergers(alloc: Global) -> Result<Vec<Request>, Fail> {
+    let mut requests = Vec::new(alloc);
+    requests.push(batch(alloc, 3, 10)?)?;
+    requests.push(batch(alloc, 3, 5)?)?;
+    requests.push(batch(alloc, 3, 7)?)?;
+    requests.push(batch(alloc, 3, 4)?)?;
+    requests.push(request(Command::SetStatus {
+        item: 13,
+        status: Status::Damaged,
+    })?)?;
+    requests.push(merge(alloc, 10, &[11, 12])?)?;
+    requests.push(merge(alloc, 10, &[13])?)?;
+    requests.push(merge(alloc, 10, &[10])?)?;
+    requests.push(merge(alloc, 10, &[11])?)?;
+    Ok(requests)
+}
+
+const MERGERS: [Wanted; 9] = [
+    Wanted::Drawn(10, 1),
+    Wanted::Drawn(11, 1),
+    Wanted::Drawn(12, 1),
+    Wanted::Drawn(13, 1),
+    Wanted::Done(1),
+    Wanted::Done(2),
+    Wanted::Refused(Refusal::Mismatch),
+    Wanted::Refused(Refusal::Mismatch),
+    Wanted::Refused(Refusal::NotLoose),
+];
+
+/// Items of one part, batch and status become one.
+#[test]
+fn merging(rt: HostRuntime) -> Result<(), Fail> {
+    let alloc = rt.alloc();
+    let mut shop = Shop::new(alloc, Limits::LARGEST);
+    assert!(rt; answers(alloc, &mut shop, &workshop(alloc)?, &WORKSHOP)?);
+    assert!(rt; answers(alloc, &mut shop, &mergers(alloc)?, &MERGERS)?);
+    let quantity = shop.yard().item(10).ok_or("item 10")?.quantity;
+    assert_eq!(rt; quantity, 22);
+    Ok(())
+}
+
+fn tour(alloc: Global) -> Result<Vec<Request>, Fail> {
+    let mut requests = Vec::new(alloc);
+    requests.push(category(alloc, "Metal", None)?)?;
+    requests.push(category(alloc, "Metal", None)?)?;
+    requests.push(found(3, 1, 10)?)?;
+    requests.push(request(Command::Add {
+        item: 11,
+        quantity: 5,
+    })?)?;
+    requests.push(request(Command::Split {
+        item: 11,
+        quantity: 6,
+    })?)?;
+    requests.push(request(Command::Split {
+        item: 11,
+        quantity: 9,
+    })?)?;
+    requests.push(found(4, 1, 3)?)?;
+    Ok(requests)
+}
+
+const TOUR: [Wanted; 7] = [
+    Wanted::Drawn(10, 0),
+    Wanted::Refused(Refusal::NameTaken),
+    Wanted::Drawn(11, 1),
+    Wanted::Done(1),
+    Wanted::Drawn(12, 1),
+    Wanted::Refused(Refusal::Short),
+    Wanted::Drawn(13, 1),
+];
+
+fn tour_on(alloc: Global) -> Result<Vec<Request>, Fail> {
+    let serials = serials(alloc, "5,6")?;
+    let mut requests = Vec::new(alloc);
+    requests.push(request(Command::Serialise {
+        item: 13,
+        quantity: 2,
+        serials,
+    })?)?;
+    requests.push(request(Command::Add {
+        item: 14,
+        quantity: 1,
+    })?)?;
+    requests.push(request(Command::DropLine { line: 9 })?)?;
+    requests.push(request(Command::RetirePart { part: 6 })?)?;
+    Ok(requests)
+}
+
+const TOUR_ON: [Wanted; 4] = [
+    Wanted::Several(14, 15, 2),
+    Wanted::Refused(Refusal::Serialised),
+    Wanted::Done(0),
+    Wanted::Done(0),
+];
+
+/// A clerk's tour: amounts added, an item split, pieces that get serials, a line that goes, a part that retires.
+#[test]
+fn long_tour(rt: HostRuntime) -> Result<(), Fail> {
+    let alloc = rt.alloc();
+    let mut shop = Shop::new(alloc, Limits::LARGEST);
+    assert!(rt; answers(alloc, &mut shop, &workshop(alloc)?, &WORKSHOP)?);
+    assert!(rt; answers(alloc, &mut shop, &tour(alloc)?, &TOUR)?);
+    assert!(rt; answers(alloc, &mut shop, &tour_on(alloc)?, &TOUR_ON)?);
+    assert_eq!(rt; shop.yard().sums(4).present, 3);
+    Ok(())
+}
+
+/// Counts up and down, and of an item with a serial that isn't there.
+fn counts(alloc: Global) -> Result<Vec<Request>, Fail> {
+    let mut requests = Vec::new(alloc);
+    requests.push(found(3, 1, 10)?)?;
+    requests.push(request(Command::Count {
+        item: 10,
+        quantity: 12,
+    })?)?;
+    requests.push(request(Command::Count {
+        item: 10,
+        quantity: 12,
+    })?)?;
+    requests.push(request(Command::Count {
+        item: 10,
+        quantity: 7,
+    })?)?;
+    requests.push(serialised(alloc, 4, 1, "M1")?)?;
+    requests.push(request(Command::Count {
+        item: 11,
+        quantity: 0,
+    })?)?;
+    requests.push(request(Command::Transfer {
+        item: 10,
+        location: 2,
+        quantity: 3,
+    })?)?;
+    requests.push(request(Command::Transfer {
+        item: 12,
+        location: 1,
+        quantity: 3,
+    })?)?;
+    Ok(requests)
+}
+
+const COUNTS: [Wanted; 8] = [
+    Wanted::Drawn(10, 1),
+    Wanted::Done(1),
+    Wanted::Done(0),
+    Wanted::Done(1),
+    Wanted::Drawn(11, 1),
+    Wanted::Done(1),
+    Wanted::Drawn(12, 2),
+    Wanted::Done(1),
+];
+
+/// A count writes the difference, and a transfer of less than the whole cuts it off.
+#[test]
+fn counted_and_carried(rt: HostRuntime) -> Result<(), Fail> {
+    let alloc = rt.alloc();
+    let mut shop = Shop::new(alloc, Limits::LARGEST);
+    assert!(rt; answers(alloc, &mut shop, &workshop(alloc)?, &WORKSHOP)?);
+    assert!(rt; answers(alloc, &mut shop, &counts(alloc)?, &COUNTS)?);
+    let sums = shop.yard().sums(3);
+    assert_eq!(rt; sums.found, 12);
+    assert_eq!(rt; sums.written, 5);
+    assert_eq!(rt; sums.present, 7);
+    Ok(())
+}
