@@ -16,8 +16,9 @@ build:
 install: build
 	install -D $(PROGRAM) $(PREFIX)/bin/invdesk
 
-# Lines per second and peak memory over 10,000 lines.
+# Lines per second and peak memory over 10,000 lines, and how calls grow that no line makes yet.
 bench: build
 	python3 tools/bench.py $(PROGRAM)
+	python3 tools/bench_calls.py
 
 .PHONY: run test build install bench
