@@ -1,27 +1,37 @@
 -- Bills beside a catalogue that changes and names nothing else: more numbers drawn, another table of categories, a part retired.
-use Rattle.std.proofs.Common.{◌≡◌, ◌⊎◌, inl, inr, ◌≤◌, ◌<◌, ℕ, Bool, true, false, cond, List, [], ◌∷◌, Option, Some, None, is_some, refl, sym, ap, ◌∙◌, subst, arith}
+use Rattle.std.proofs.Common.{◌+◌, ◌≡◌, ◌⊎◌, inl, inr, ◌≤◌, ◌<◌, ℕ, Bool, true, false, cond, List, [], ◌∷◌, Option, Some, None, is_some, refl, sym, ap, ◌∙◌, subst, arith}
 use Rattle.std.specs.FinMap as table
 use Rattle.part_core.specs.Sheet.{Table}
 use Rattle.part_core.specs.declared.category.Category.{Category}
 use Rattle.part_core.specs.declared.part.Part.{Part}
-use Rattle.part_core.specs.Catalogue.{Parts, part_in, retire, retired_part}
+use Rattle.part_core.specs.AddCategory.{add_category}
+use Rattle.part_core.specs.AddPart.{part_row}
+use Rattle.part_core.specs.Catalogue.{Parts, Register, part_in}
+use Rattle.part_core.specs.Checks.{first}
+use Rattle.part_core.specs.PartMachine.{checks, effect}
+use Rattle.part_core.specs.RetirePart.{retire_part, retired_part}
+use Rattle.part_core.specs.declared.part_command.PartCommand.{PartCommand}
+use Rattle.part_core.specs.declared.part_command.PartCommand.TheVariants.{AddCategory, AddPart, RetirePart}
 use Rattle.part_core.proofs.Keys.{key_eq, keys_total}
 use Rattle.bom_core.specs.declared.substitute.Substitute.{Substitute}
 use Rattle.bom_core.specs.declared.line.Line.{Line}
 use Rattle.bom_core.specs.Bills.{Bills, contains, covers, is_variant, part_rows}
-use Rattle.bom_core.specs.Sound.{IsSoundBill, IsSoundCatalogue, IsThere}
+use Rattle.part_core.specs.Rows.{IsThere}
+use Rattle.part_core.specs.SoundCatalogue.{IsSoundCatalogue}
+use Rattle.bom_core.specs.Sound.{IsSoundBill}
 use Rattle.bom_core.proofs.Member.{or_cases, or_left, or_right, and_parts, and_both, not_true}
-use Rattle.bom_core.proofs.Tables.{get-insert_cases}
+use Rattle.part_core.proofs.RowLemmas.{get-insert_cases, right-later, there-insert}
 use Rattle.bom_core.proofs.Edges.{edge_of, contains_by_edge, steps-mapped}
-use Rattle.bom_core.proofs.Kept.{catalogue-more}
-use Rattle.bom_core.proofs.Variants.{variant_row, variant_from}
+use Rattle.part_core.proofs.SoundRows.{sound-effect, sound-later, sound-retire_part}
+use Rattle.bom_core.proofs.Variants.{variant_row, variant_from, sound-with_part}
 
 -- more numbers are drawn
 pub sound-more : (parts : Parts) (bills : Bills) (next more : ℕ) → next ≤ more → IsSoundBill parts bills next → IsSoundBill parts bills more
 sound-more parts bills next more le sound = record {
-  catalogue = catalogue-more parts next more le sound.catalogue;
-  own_lines = sound.own_lines;
-  own_substitutes = sound.own_substitutes;
+  catalogue = sound-later next more parts le sound.catalogue;
+  line_rows = right-later (λ (l : Line). l.number) next more bills.lines le sound.line_rows;
+  substitute_rows = right-later (λ (s : Substitute). s.number) next more bills.substitutes le sound.substitute_rows;
+  quantities = sound.quantities;
   assemblies = sound.assemblies;
   components = sound.components;
   lines = sound.lines;
@@ -29,8 +39,6 @@ sound-more parts bills next more le sound = record {
   acyclic = sound.acyclic;
   once = sound.once;
   needed = sound.needed;
-  line_numbers = λ k l e. let below = sound.line_numbers k l e in omega arith;
-  substitute_numbers = λ k s e. let below = sound.substitute_numbers k s e in omega arith;
 }
 
 -- each part of the one catalogue stands in the other, under the same key, with the same number and template
@@ -63,19 +71,12 @@ module _ (old new : Parts) (bills : Bills) (next : ℕ) (back : AreThere new old
   unless-old : (b c : Bool) → (c ≡ true → b ≡ true) → b ≡ false → c ≡ false
   unless-old b c f e = not_true c (λ h. (let t = f h in let both : true ≡ false = sym t ∙ e in cc))
 
-  catalogue-beside : IsSoundCatalogue new next
-  catalogue-beside = record {
-    own = λ k y e. let b = back k y e in sound.catalogue.own k b.0 b.1 ∙ ap (λ n. n ∷ []) b.2;
-    numbers = λ k y e. let b = back k y e in subst (λ n. n < next) b.2 (sound.catalogue.numbers k b.0 b.1);
-    there = λ k y e t h. let b = back k y e in stays t (sound.catalogue.there k b.0 b.1 t (b.3 ∙ h));
-    templates = λ p t u e. unless-old _ _ (variant-back t u) (sound.catalogue.templates p t u (variant-back p t e));
-  }
-
-  pub sound-beside : IsSoundBill new bills next
-  sound-beside = record {
-    catalogue = catalogue-beside;
-    own_lines = sound.own_lines;
-    own_substitutes = sound.own_substitutes;
+  pub sound-beside : IsSoundCatalogue next new → IsSoundBill new bills next
+  sound-beside catalogue = record {
+    catalogue = catalogue;
+    line_rows = sound.line_rows;
+    substitute_rows = sound.substitute_rows;
+    quantities = sound.quantities;
     assemblies = λ k l e. stays l.assembly (sound.assemblies k l e);
     components = λ k l e. stays l.component (sound.components k l e);
     lines = sound.lines;
@@ -83,32 +84,37 @@ module _ (old new : Parts) (bills : Bills) (next : ℕ) (back : AreThere new old
     acyclic = λ p w. sound.acyclic p (w.0, steps-mapped (contains new bills) (contains old bills) contains-back w.0 p p w.1);
     once = sound.once;
     needed = λ k l e q s f same. unless-old _ _ (covers-back l.component l.flags.variants s.part) (sound.needed k l e q s f same);
-    line_numbers = sound.line_numbers;
-    substitute_numbers = sound.substitute_numbers;
   }
 
 -- another table of categories
-pub sound-with_categories : (parts : Parts) (categories : Table Category) (bills : Bills) (next : ℕ) → IsSoundBill parts bills next → IsSoundBill (record parts { categories = categories }) bills next
-sound-with_categories parts categories bills next sound = sound-beside parts (record parts { categories = categories }) bills next (λ k y e. (y, e, refl, refl)) (λ n t. t) sound
-
--- a part that is there stays there when a row is put
-still-there : {X : Type 0} (m : Table X) (q : List ℕ) (v : X) (n : ℕ) → IsThere m n → IsThere (table.insert m q v) n
-still-there m q v n t = ap (λ o. is_some o) (table.get-insert keys_total m q v (n ∷ [])) ∙ either (key_eq (n ∷ []) q)
-  where
-    either : (b : Bool) → is_some (cond b (Some v) (table.get m (n ∷ []))) ≡ true
-    either true = refl
-    either false = t
+pub sound-with_categories : (parts : Parts) (categories : Table Category) (bills : Bills) (next : ℕ) → IsSoundCatalogue next (record parts { categories = categories }) → IsSoundBill parts bills next
+    → IsSoundBill (record parts { categories = categories }) bills next
+sound-with_categories parts categories bills next after sound = sound-beside parts (record parts { categories = categories }) bills next (λ k y e. (y, e, refl, refl)) (λ n t. t) sound after
 
 -- a part is retired
-pub sound-retired : (n : ℕ) (parts : Parts) (bills : Bills) (next : ℕ) → IsSoundBill parts bills next → IsSoundBill (retire n parts) bills next
-sound-retired n parts bills next sound = go (part_in n parts) refl
+pub sound-retired : (n : ℕ) (parts : Parts) (bills : Bills) (next : ℕ) → IsSoundBill parts bills next → IsSoundBill (retire_part n parts) bills next
+sound-retired n parts bills next sound = go (part_in n parts) refl (sound-retire_part n next parts sound.catalogue)
   where
-    go : (o : Option Part) → part_in n parts ≡ o → IsSoundBill (retire n parts) bills next
-    go None e = rw e sound
-    go (Some row) e = rw e (sound-beside parts (record parts { parts = table.insert parts.parts (n ∷ []) (retired_part row) }) bills next back (still-there parts.parts (n ∷ []) (retired_part row)) sound)
+    go : (o : Option Part) → part_in n parts ≡ o → IsSoundCatalogue next (retire_part n parts) → IsSoundBill (retire_part n parts) bills next
+    go None e after = rw e sound
+    go (Some row) e after =
+        let now : Parts = record parts { parts = table.insert parts.parts (n ∷ []) (retired_part row) } in
+        let is : retire_part n parts ≡ now = rw e refl in
+        subst (λ p. IsSoundBill p bills next) (sym is) (sound-beside parts now bills next back (there-insert parts.parts (n ∷ []) (retired_part row)) sound (subst (IsSoundCatalogue next) is after))
       where
         back : AreThere (record parts { parts = table.insert parts.parts (n ∷ []) (retired_part row) }) parts
         back k y f = elim (get-insert_cases parts.parts (n ∷ []) (retired_part row) k y f) [
           | inl i ↦ (row, ap (table.get parts.parts) i.0 ∙ e, ap (λ (x : Part). x.number) i.1, ap (λ (x : Part). x.template) i.1)
           | inr i ↦ (y, i, refl, refl)
         ]
+
+-- ---- the commands of the catalogue
+
+-- what a command of the catalogue does to the parts leaves the bills sound
+pub sound-part_effect : (c : PartCommand) (r : Register) (bills : Bills) → IsSoundBill r.parts bills r.counter.next → first (checks c r) ≡ None
+    → IsSoundBill (effect c r).parts bills (effect c r).counter.next
+sound-part_effect (AddCategory name parent) r bills sound e =
+    sound-with_categories r.parts (add_category name parent r).parts.categories bills (r.counter.next + 1) (sound-effect (AddCategory name parent) r sound.catalogue e).0
+    (sound-more r.parts bills r.counter.next (r.counter.next + 1) (omega arith) sound)
+sound-part_effect (AddPart new) r bills sound e = sound-with_part r.parts bills (part_row r.counter.next new) sound (sound-effect (AddPart new) r sound.catalogue e).0
+sound-part_effect (RetirePart part) r bills sound e = sound-retired part r.parts bills r.counter.next sound

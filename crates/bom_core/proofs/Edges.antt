@@ -10,11 +10,13 @@ use Rattle.bom_core.specs.declared.line.Line.{Line}
 use Rattle.bom_core.specs.declared.substitute.Substitute.{Substitute}
 use Rattle.bom_core.specs.Bills.{Bills, contains, covers, is_effective, is_substitute, fits_line, part_rows, line_rows, substitute_rows}
 use Rattle.bom_core.specs.Walks.{StepsFrom, HasWalk, IsAcyclic, NamesParts, numbers_of, contains_itself}
-use Rattle.bom_core.specs.Changes.{with_line, with_substitute}
-use Rattle.bom_core.specs.Sound.{IsSoundBill, IsThere}
+use Rattle.bom_core.specs.Lines.{with_line}
+use Rattle.bom_core.specs.Substitutes.{with_substitute}
+use Rattle.part_core.specs.Rows.{IsThere}
+use Rattle.bom_core.specs.Sound.{IsSoundBill}
 use Rattle.bom_core.proofs.Member.{or_cases, or_left, or_right, and_parts, and_both, any-found, any-from, Stands, Stands-map}
 use Rattle.bom_core.proofs.Rows.{Stands-Contains, Stands-get, get-Stands}
-use Rattle.bom_core.proofs.Tables.{same_digit, get-insert_cases, row_of}
+use Rattle.part_core.proofs.RowLemmas.{get-insert_cases, row_there, same_digit}
 use Rattle.bom_core.proofs.Cycles.{contains_itself_is}
 
 abbrev pub HasSteps : (ℕ → ℕ → Bool) → ℕ → ℕ → Type 0
@@ -115,8 +117,8 @@ acyclic-fewer parts less bills lines substitutes none p w =
 -- a part that is there has its number among the parts'
 pub number_there : (parts : Parts) (bills : Bills) (next : ℕ) → IsSoundBill parts bills next → (n : ℕ) → IsThere parts.parts n → Contains (numbers_of parts) n
 number_there parts bills next sound n t =
-    let r = row_of parts.parts n t in
-    let own : n ≡ r.0.number = same_digit _ _ (sound.catalogue.own (n ∷ []) r.0 r.1) in
+    let r = row_there parts.parts n t in
+    let own : n ≡ r.0.number = same_digit _ _ (sound.catalogue.parts (n ∷ []) r.0 r.1).own in
     Stands-Contains (numbers_of parts) n (subst (λ m. Stands m (numbers_of parts)) (sym own) (Stands-map (λ (x : Part). x.number) r.0 (part_rows parts) (get-Stands parts.parts (n ∷ []) r.0 r.1)))
 
 module _ (parts : Parts) (bills : Bills) (l : Line) (sound : IsSoundBill parts bills l.number) where
@@ -149,7 +151,7 @@ module _ (parts : Parts) (bills : Bills) (l : Line) (sound : IsSoundBill parts b
 module _ (parts : Parts) (bills : Bills) (s : Substitute) (sound : IsSoundBill parts bills s.number) (l : Line) (at : table.get bills.lines (s.line ∷ []) ≡ Some l) where
   same_line : (k : List ℕ) (x : Line) → table.get bills.lines k ≡ Some x → s.line ≡ x.number → x ≡ l
   same_line k x e n =
-      let key : k ≡ s.line ∷ [] = sound.own_lines k x e ∙ ap (λ m. m ∷ []) (sym n) in
+      let key : k ≡ s.line ∷ [] = (sound.line_rows k x e).own ∙ ap (λ m. m ∷ []) (sym n) in
       let here : table.get bills.lines k ≡ Some l = ap (table.get bills.lines) key ∙ at in
       let both : Some x ≡ Some l = sym e ∙ here in cc
 

@@ -4,27 +4,24 @@ use Rattle.std.specs.Prelude.{◌==◌, ◌&&◌, not, filter}
 use Rattle.std.specs.FinMap as table
 use Rattle.part_core.specs.Sheet.{Table}
 use Rattle.part_core.specs.Catalogue.{Parts}
-use Rattle.part_core.specs.Checks.{Check, first, NoneHolds}
+use Rattle.part_core.specs.Quantity.{largest}
+use Rattle.part_core.proofs.Conditions.{or_none}
+use Rattle.part_core.proofs.SoundRows.{sound-later}
 use Rattle.bom_core.specs.declared.line.Line.{Line}
 use Rattle.bom_core.specs.declared.substitute.Substitute.{Substitute}
 use Rattle.bom_core.specs.Bills.{Bills, covers, is_substitute, fits, part_rows, substitute_rows}
 use Rattle.bom_core.specs.Walks.{contains_itself}
-use Rattle.bom_core.specs.Changes.{with_line, with_substitute, without_line, without_substitute, removed_all, substitutes_of, is_fitting, passes, has_row}
-use Rattle.bom_core.specs.Sound.{IsSoundBill, IsSoundCatalogue, IsThere, EachRow}
+use Rattle.bom_core.specs.Changes.{passes, has_row}
+use Rattle.bom_core.specs.Lines.{with_line, without_line, removed_all, substitutes_of}
+use Rattle.bom_core.specs.Substitutes.{with_substitute, without_substitute, is_fitting}
+use Rattle.part_core.specs.Rows.{IsThere, EachRow}
+use Rattle.bom_core.specs.Sound.{IsSoundBill}
 use Rattle.bom_core.proofs.Member.{any-from, and_both, and_parts, Stands, Stands-map}
 use Rattle.bom_core.proofs.Rows.{get-Stands}
-use Rattle.bom_core.proofs.Tables.{same_digit, get-insert_cases, get-insert_old, get-remove_cases, get-remove_other, get-removed_all, row_of, row_is-found, there, fresh}
+use Rattle.part_core.proofs.RowLemmas.{get-insert_cases, get-remove_cases, right-later, right-new, right-none, row_there, same_digit, there}
+use Rattle.bom_core.proofs.Tables.{get-insert_old, get-remove_other, get-removed_all, row_is-found}
 use Rattle.bom_core.proofs.Cycles.{contains_itself_is}
 use Rattle.bom_core.proofs.Edges.{acyclic-fewer, names-with_line, names-with_substitute}
-
--- no condition holds where there is no refusal
-pub none-holds : (cs : List Check) → first cs ≡ None → NoneHolds cs
-none-holds [] e = tt
-none-holds ((b, r) ∷ cs) e = go b e (none-holds cs)
-  where
-    go : (b : Bool) → first ((b, r) ∷ cs) ≡ None → (first cs ≡ None → NoneHolds cs) → (b ≡ false) × NoneHolds cs
-    go true e ih = absurd (let f : Some r ≡ None = e in cc)
-    go false e ih = (refl, ih e)
 
 -- what is not missing is there
 pub both_there : {X Y : Type 0} (m : Table X) (k : Table Y) (a b : ℕ) → not (has_row m a && has_row k b) ≡ false → IsThere m a × IsThere k b
@@ -46,8 +43,9 @@ sound-fewer : (parts : Parts) (less bills : Bills) (next : ℕ)
     → EachRow (λ s. IsThere less.lines s.line) less.substitutes → IsSoundBill parts bills next → IsSoundBill parts less next
 sound-fewer parts less bills next fl fs lines sound = record {
   catalogue = sound.catalogue;
-  own_lines = λ k l e. sound.own_lines k l (fl k l e);
-  own_substitutes = λ k s e. sound.own_substitutes k s (fs k s e);
+  line_rows = λ k l e. sound.line_rows k l (fl k l e);
+  substitute_rows = λ k s e. sound.substitute_rows k s (fs k s e);
+  quantities = λ k l e. sound.quantities k l (fl k l e);
   assemblies = λ k l e. sound.assemblies k l (fl k l e);
   components = λ k l e. sound.components k l (fl k l e);
   lines = lines;
@@ -55,8 +53,6 @@ sound-fewer parts less bills next fl fs lines sound = record {
   acyclic = acyclic-fewer parts less bills fl fs sound.acyclic;
   once = λ k s e q t f. sound.once k s (fs k s e) q t (fs q t f);
   needed = λ k l e q s f. sound.needed k l (fl k l e) q s (fs q s f);
-  line_numbers = λ k l e. sound.line_numbers k l (fl k l e);
-  substitute_numbers = λ k s e. sound.substitute_numbers k s (fs k s e);
 }
 
 pub sound-without_substitute : (parts : Parts) (bills : Bills) (n next : ℕ) → IsSoundBill parts bills next → IsSoundBill parts (without_substitute n bills) next
@@ -90,60 +86,49 @@ sound-without_line parts bills n next sound =
     kept : EachRow (λ s. IsThere (table.remove bills.lines (n ∷ [])) s.line) (removed_all (substitutes_of n bills) bills.substitutes)
     kept k s e =
         let old = get-removed_all (substitutes_of n bills) bills.substitutes k s e in
-        let r = row_of bills.lines s.line (sound.lines k s old) in
+        let r = row_there bills.lines s.line (sound.lines k s old) in
         there (table.remove bills.lines (n ∷ [])) s.line r.0 (get-remove_other bills.lines (n ∷ []) (s.line ∷ []) r.0 (λ same. gone k s e old (same_digit _ _ same)) r.1)
       where
         gone : (k : List ℕ) (s : Substitute) → table.get (removed_all (substitutes_of n bills) bills.substitutes) k ≡ Some s → table.get bills.substitutes k ≡ Some s → s.line ≡ n → ⊥
         gone k s e old of_line =
             removed-other (substitutes_of n bills) bills.substitutes s.number k s e
             (Stands-map (λ (x : Substitute). x.number) s _ (Stands-filter (λ (x : Substitute). x.line == n) (substitute_rows bills) s (get-Stands bills.substitutes k s old) (eq-eqb _ _ of_line)))
-            (sound.own_substitutes k s old)
-
--- more numbers are drawn
-pub catalogue-more : (parts : Parts) (next more : ℕ) → next ≤ more → IsSoundCatalogue parts next → IsSoundCatalogue parts more
-catalogue-more parts next more le c = record { own = c.own; numbers = λ k x e. let below = c.numbers k x e in omega arith; there = c.there; templates = c.templates }
+            ((sound.substitute_rows k s old).own)
 
 -- a new line
 
-module _ (parts : Parts) (bills : Bills) (l : Line) (sound : IsSoundBill parts bills l.number) (assembly : IsThere parts.parts l.assembly) (component : IsThere parts.parts l.component) where
+module _ (parts : Parts) (bills : Bills) (l : Line) (sound : IsSoundBill parts bills l.number) (assembly : IsThere parts.parts l.assembly) (component : IsThere parts.parts l.component)
+    (quantity : (1 ≤ l.quantity) × (l.quantity ≤ largest)) where
   each_line : (P : Line → Type 0) → P l → EachRow P bills.lines → EachRow P (table.insert bills.lines (l.number ∷ []) l)
   each_line P here old k x e = elim (get-insert_cases bills.lines (l.number ∷ []) l k x e) [ inl s ↦ subst P s.1 here | inr s ↦ old k x s ]
 
   -- no substitute names a line that was not there
   unnamed : EachRow (λ s. s.line ≢ l.number) bills.substitutes
   unnamed k s e same =
-      let r = row_of bills.lines s.line (sound.lines k s e) in
-      let own = same_digit _ _ (sound.own_lines (s.line ∷ []) r.0 r.1) in
-      let below = sound.line_numbers (s.line ∷ []) r.0 r.1 in
+      let r = row_there bills.lines s.line (sound.lines k s e) in
+      let own = same_digit _ _ ((sound.line_rows (s.line ∷ []) r.0 r.1).own) in
+      let below = (sound.line_rows (s.line ∷ []) r.0 r.1).drawn in
       omega arith
 
   pub sound-with_line : contains_itself parts (with_line l bills) ≡ false → IsSoundBill parts (with_line l bills) (l.number + 1)
   sound-with_line none = record {
-    catalogue = catalogue-more parts l.number (l.number + 1) (omega arith) sound.catalogue;
-    own_lines = λ k x e. elim (get-insert_cases bills.lines (l.number ∷ []) l k x e) [
-      | inl s ↦ s.0 ∙ ap (λ (y : Line). y.number ∷ []) s.1
-      | inr s ↦ sound.own_lines k x s
-    ];
-    own_substitutes = sound.own_substitutes;
+    catalogue = sound-later l.number (l.number + 1) parts (omega arith) sound.catalogue;
+    line_rows = right-new (λ (x : Line). x.number) l.number l bills.lines refl sound.catalogue.some sound.line_rows;
+    substitute_rows = right-later (λ (x : Substitute). x.number) l.number (l.number + 1) bills.substitutes (omega arith) sound.substitute_rows;
+    quantities = each_line (λ x. (1 ≤ x.quantity) × (x.quantity ≤ largest)) quantity sound.quantities;
     assemblies = each_line (λ x. IsThere parts.parts x.assembly) assembly sound.assemblies;
     components = each_line (λ x. IsThere parts.parts x.component) component sound.components;
     lines = λ k s e.
-        let r = row_of bills.lines s.line (sound.lines k s e) in
+        let r = row_there bills.lines s.line (sound.lines k s e) in
         there (table.insert bills.lines (l.number ∷ []) l) s.line r.0
-        (get-insert_old bills.lines (l.number ∷ []) l (s.line ∷ []) r.0 (fresh (λ (x : Line). x.number) bills.lines l.number sound.own_lines sound.line_numbers) r.1);
+        (get-insert_old bills.lines (l.number ∷ []) l (s.line ∷ []) r.0 (right-none (λ (x : Line). x.number) l.number l.number bills.lines sound.line_rows (omega arith)) r.1);
     substitutes = sound.substitutes;
     acyclic = λ p w. (let some = (contains_itself_is parts (with_line l bills) (names-with_line parts bills l sound component)).1 (p, w) in cc);
     once = sound.once;
     needed = each_line (λ x. EachRow (λ s. s.line ≡ x.number → covers (part_rows parts) x.component x.flags.variants s.part ≡ false) bills.substitutes) (λ k s e same. absurd (unnamed k s e same)) sound.needed;
-    line_numbers = each_line (λ x. x.number < l.number + 1) (omega arith) (λ k x e. let below = sound.line_numbers k x e in omega arith);
-    substitute_numbers = λ k s e. let below = sound.substitute_numbers k s e in omega arith;
   }
 
 -- a new substitute
-
-pub or_both : (a b : Bool) → (a || b) ≡ false → (a ≡ false) × (b ≡ false)
-or_both true b e = cc
-or_both false b e = (refl, e)
 
 module _ (parts : Parts) (bills : Bills) (s : Substitute) (sound : IsSoundBill parts bills s.number) (line : IsThere bills.lines s.line) (part : IsThere parts.parts s.part)
     (unfit : is_fitting parts bills s.line s.part ≡ false) where
@@ -151,11 +136,11 @@ module _ (parts : Parts) (bills : Bills) (s : Substitute) (sound : IsSoundBill p
   each_substitute P here old k x e = elim (get-insert_cases bills.substitutes (s.number ∷ []) s k x e) [ inl i ↦ subst P i.1 here | inr i ↦ old k x i ]
 
   the_line : (l : Line) × (table.get bills.lines (s.line ∷ []) ≡ Some l)
-  the_line = row_of bills.lines s.line line
+  the_line = row_there bills.lines s.line line
 
   unfit_at : (k : List ℕ) (x : Line) → table.get bills.lines k ≡ Some x → s.line ≡ x.number → fits parts bills x s.part ≡ false
   unfit_at k x e n =
-      let key : k ≡ s.line ∷ [] = sound.own_lines k x e ∙ ap (λ m. m ∷ []) (sym n) in
+      let key : k ≡ s.line ∷ [] = (sound.line_rows k x e).own ∙ ap (λ m. m ∷ []) (sym n) in
       let here : table.get bills.lines (s.line ∷ []) ≡ Some x = ap (table.get bills.lines) (sym key) ∙ e in
       sym (ap (passes (λ l. fits parts bills l s.part)) here) ∙ unfit
 
@@ -163,8 +148,8 @@ module _ (parts : Parts) (bills : Bills) (s : Substitute) (sound : IsSoundBill p
   unlisted : (q : List ℕ) (t : Substitute) → table.get bills.substitutes q ≡ Some t → t.line ≡ s.line → t.part ≡ s.part → ⊥
   unlisted q t e n p =
       let l = the_line.0 in
-      let own : s.line ≡ l.number = same_digit _ _ (sound.own_lines (s.line ∷ []) l the_line.1) in
-      let no_fit : is_substitute (substitute_rows bills) l.number s.part ≡ false = (or_both _ _ (unfit_at (s.line ∷ []) l the_line.1 own)).1 in
+      let own : s.line ≡ l.number = same_digit _ _ ((sound.line_rows (s.line ∷ []) l the_line.1).own) in
+      let no_fit : is_substitute (substitute_rows bills) l.number s.part ≡ false = (or_none _ _ (unfit_at (s.line ∷ []) l the_line.1 own)).1 in
       let fit : is_substitute (substitute_rows bills) l.number s.part ≡ true =
       any-from (λ (x : Substitute). (x.line == l.number) && (x.part == s.part)) (substitute_rows bills) t (get-Stands bills.substitutes q t e) (and_both _ _ (eq-eqb _ _ (n ∙ own)) (eq-eqb _ _ p)) in
       let both : true ≡ false = sym fit ∙ no_fit in
@@ -172,12 +157,10 @@ module _ (parts : Parts) (bills : Bills) (s : Substitute) (sound : IsSoundBill p
 
   pub sound-with_substitute : contains_itself parts (with_substitute s bills) ≡ false → IsSoundBill parts (with_substitute s bills) (s.number + 1)
   sound-with_substitute none = record {
-    catalogue = catalogue-more parts s.number (s.number + 1) (omega arith) sound.catalogue;
-    own_lines = sound.own_lines;
-    own_substitutes = λ k x e. elim (get-insert_cases bills.substitutes (s.number ∷ []) s k x e) [
-      | inl i ↦ i.0 ∙ ap (λ (y : Substitute). y.number ∷ []) i.1
-      | inr i ↦ sound.own_substitutes k x i
-    ];
+    catalogue = sound-later s.number (s.number + 1) parts (omega arith) sound.catalogue;
+    line_rows = right-later (λ (x : Line). x.number) s.number (s.number + 1) bills.lines (omega arith) sound.line_rows;
+    substitute_rows = right-new (λ (x : Substitute). x.number) s.number s bills.substitutes refl sound.catalogue.some sound.substitute_rows;
+    quantities = sound.quantities;
     assemblies = sound.assemblies;
     components = sound.components;
     lines = each_substitute (λ x. IsThere bills.lines x.line) line sound.lines;
@@ -186,7 +169,5 @@ module _ (parts : Parts) (bills : Bills) (s : Substitute) (sound : IsSoundBill p
     once = each_substitute (λ x. EachRow (λ t. x.line ≡ t.line → x.part ≡ t.part → x.number ≡ t.number) (table.insert bills.substitutes (s.number ∷ []) s))
         (each_substitute (λ t. s.line ≡ t.line → s.part ≡ t.part → s.number ≡ t.number) (λ n p. refl) (λ k t e n p. absurd (unlisted k t e (sym n) (sym p))))
         (λ k x e. each_substitute (λ t. x.line ≡ t.line → x.part ≡ t.part → x.number ≡ t.number) (λ n p. absurd (unlisted k x e n p)) (sound.once k x e));
-    needed = λ k x e. each_substitute (λ t. t.line ≡ x.number → covers (part_rows parts) x.component x.flags.variants t.part ≡ false) (λ n. (or_both _ _ (unfit_at k x e n)).0) (sound.needed k x e);
-    line_numbers = λ k x e. let below = sound.line_numbers k x e in omega arith;
-    substitute_numbers = each_substitute (λ x. x.number < s.number + 1) (omega arith) (λ k x e. let below = sound.substitute_numbers k x e in omega arith);
+    needed = λ k x e. each_substitute (λ t. t.line ≡ x.number → covers (part_rows parts) x.component x.flags.variants t.part ≡ false) (λ n. (or_none _ _ (unfit_at k x e n)).0) (sound.needed k x e);
   }

@@ -9,11 +9,15 @@ use Rattle.bom_core.specs.declared.line.Line.{Line}
 use Rattle.bom_core.specs.declared.substitute.Substitute.{Substitute}
 use Rattle.bom_core.specs.Bills.{Bills, contains, is_variant, covers, part_rows, no_bills}
 use Rattle.bom_core.specs.Walks.{StepsFrom, IsAcyclic}
-use Rattle.bom_core.specs.Sound.{IsSoundBill, IsSoundCatalogue, IsThere, IsNewPart, with_part}
+use Rattle.part_core.specs.Rows.{IsThere}
+use Rattle.part_core.specs.SoundCatalogue.{IsSoundCatalogue}
+use Rattle.bom_core.specs.Sound.{IsSoundBill, IsNewPart, with_row}
 use Rattle.bom_core.proofs.Member.{or_cases, or_left, or_right, and_parts, and_both, any-found, any-from, not_true}
 use Rattle.bom_core.proofs.Pushes.{eqb-other}
 use Rattle.bom_core.proofs.Rows.{Stands-get, get-Stands}
-use Rattle.bom_core.proofs.Tables.{same_digit, get-insert_cases, get-insert_old, row_of, there, fresh}
+use Rattle.part_core.proofs.RowLemmas.{get-insert_cases, get-insert_new, right-later, right-none, row_there, same_digit, there}
+use Rattle.part_core.proofs.SoundRows as catalogue
+use Rattle.bom_core.proofs.Tables.{get-insert_old}
 use Rattle.bom_core.proofs.Edges.{edge_of, contains_by_edge}
 
 is_number-Some : (o : Option ℕ) (t : ℕ) → is_number t o ≡ true → o ≡ Some t
@@ -33,24 +37,24 @@ variant_from parts k x t e f =
     any-from (λ (y : Part). (y.number == x.number) && is_number t y.template) (part_rows parts) x (get-Stands parts.parts k x e)
     (and_both _ _ (eq-eqb _ _ refl) (ap (λ o. is_number t o) f ∙ eq-eqb t t refl))
 
-module _ (parts : Parts) (x : Part) (sound : IsSoundCatalogue parts x.number) (new : IsNewPart parts x) where
+module _ (parts : Parts) (x : Part) (sound : IsSoundCatalogue x.number parts) (new : IsNewPart parts x) where
   free : table.get parts.parts (x.number ∷ []) ≡ None
-  free = fresh (λ (p : Part). p.number) parts.parts x.number sound.own sound.numbers
+  free = right-none (λ (p : Part). p.number) x.number x.number parts.parts sound.parts (omega arith)
 
   below : (n : ℕ) → IsThere parts.parts n → n < x.number
   below n t =
-      let r = row_of parts.parts n t in
-      let own = same_digit _ _ (sound.own (n ∷ []) r.0 r.1) in
-      let less = sound.numbers (n ∷ []) r.0 r.1 in
+      let r = row_there parts.parts n t in
+      let own = same_digit _ _ (sound.parts (n ∷ []) r.0 r.1).own in
+      let less = (sound.parts (n ∷ []) r.0 r.1).drawn in
       omega arith
 
   still_there : (n : ℕ) → IsThere parts.parts n → IsThere (table.insert parts.parts (x.number ∷ []) x) n
-  still_there n t = let r = row_of parts.parts n t in there (table.insert parts.parts (x.number ∷ []) x) n r.0 (get-insert_old parts.parts (x.number ∷ []) x (n ∷ []) r.0 free r.1)
+  still_there n t = let r = row_there parts.parts n t in there (table.insert parts.parts (x.number ∷ []) x) n r.0 (get-insert_old parts.parts (x.number ∷ []) x (n ∷ []) r.0 free r.1)
 
   -- a variant was one, or is the new part
-  variant_cases : (p t : ℕ) → is_variant (part_rows (with_part x parts)) p t ≡ true → (is_variant (part_rows parts) p t ≡ true) ⊎ ((p ≡ x.number) × (x.template ≡ Some t))
+  variant_cases : (p t : ℕ) → is_variant (part_rows (with_row x parts)) p t ≡ true → (is_variant (part_rows parts) p t ≡ true) ⊎ ((p ≡ x.number) × (x.template ≡ Some t))
   variant_cases p t e =
-      let r = variant_row (with_part x parts) p t e in
+      let r = variant_row (with_row x parts) p t e in
       elim (get-insert_cases parts.parts (x.number ∷ []) x r.0 r.1 r.2) [
         | inl i ↦ inr (sym (ap (λ (y : Part). y.number) i.1 ∙ r.3), ap (λ (y : Part). y.template) i.1 ∙ r.4)
         | inr i ↦ inl (subst (λ n. is_variant (part_rows parts) n t ≡ true) r.3 (variant_from parts r.0 r.1 t i r.4))
@@ -60,35 +64,12 @@ module _ (parts : Parts) (x : Part) (sound : IsSoundCatalogue parts x.number) (n
   old_variant : (p t : ℕ) → is_variant (part_rows parts) p t ≡ true → p < x.number
   old_variant p t e =
       let r = variant_row parts p t e in
-      let less = sound.numbers r.0 r.1 r.2 in
+      let less = (sound.parts r.0 r.1 r.2).drawn in
       let same : r.1.number ≡ p = r.3 in
       omega arith
 
   old_template : (p t : ℕ) → is_variant (part_rows parts) p t ≡ true → t < x.number
-  old_template p t e = let r = variant_row parts p t e in below t (sound.there r.0 r.1 r.2 t r.4)
-
-  no_variant : (t : ℕ) → t < x.number → ((u : ℕ) → is_variant (part_rows parts) t u ≡ false) → (u : ℕ) → is_variant (part_rows (with_part x parts)) t u ≡ false
-  no_variant t less none u = not_true _ (λ e. elim (variant_cases t u e) [
-    | inl o ↦ (let n = none u in let both : true ≡ false = sym o ∙ n in cc)
-    | inr i ↦ (let same : t ≡ x.number = i.0 in absurd (omega arith))
-  ])
-
-  pub catalogue-with_part : IsSoundCatalogue (with_part x parts) (x.number + 1)
-  catalogue-with_part = record {
-    own = λ k y e. elim (get-insert_cases parts.parts (x.number ∷ []) x k y e) [ inl i ↦ i.0 ∙ ap (λ (p : Part). p.number ∷ []) i.1 | inr i ↦ sound.own k y i ];
-    numbers = λ k y e. elim (get-insert_cases parts.parts (x.number ∷ []) x k y e) [
-      | inl i ↦ (let same : x.number ≡ y.number = ap (λ (p : Part). p.number) i.1 in omega arith)
-      | inr i ↦ (let less = sound.numbers k y i in omega arith)
-    ];
-    there = λ k y e t h. elim (get-insert_cases parts.parts (x.number ∷ []) x k y e) [
-      | inl i ↦ still_there t (new t (ap (λ (p : Part). p.template) i.1 ∙ h)).0
-      | inr i ↦ still_there t (sound.there k y i t h)
-    ];
-    templates = λ p t u e. elim (variant_cases p t e) [
-      | inl o ↦ no_variant t (old_template p t o) (λ v. sound.templates p t v o) u
-      | inr i ↦ (let n = new t i.1 in no_variant t (below t n.0) n.1 u)
-    ];
-  }
+  old_template p t e = let r = variant_row parts p t e in let row = sound.templates r.0 r.1 r.2 t r.4 in below t (there parts.parts t row.0 row.1)
 
   -- a part that stands for the new one: its template, where it has one
   stand_in : Option ℕ → ℕ
@@ -105,7 +86,7 @@ module _ (parts : Parts) (x : Part) (sound : IsSoundCatalogue parts x.number) (n
   unfolding stand_in
   moved-new p t e h = ap (λ b. cond b (stand_in x.template) p) (eq-eqb p x.number e) ∙ ap stand_in h
 
-  covers-moved : (n : ℕ) (variants : Bool) (p : ℕ) → n < x.number → covers (part_rows (with_part x parts)) n variants p ≡ true → covers (part_rows parts) n variants (moved p) ≡ true
+  covers-moved : (n : ℕ) (variants : Bool) (p : ℕ) → n < x.number → covers (part_rows (with_row x parts)) n variants p ≡ true → covers (part_rows parts) n variants (moved p) ≡ true
   covers-moved n variants p less e = go (or_cases (n == p) _ e)
     where
       by_variant : variants ≡ true → (is_variant (part_rows parts) p n ≡ true) ⊎ ((p ≡ x.number) × (x.template ≡ Some n)) → covers (part_rows parts) n variants (moved p) ≡ true
@@ -114,16 +95,16 @@ module _ (parts : Parts) (x : Part) (sound : IsSoundCatalogue parts x.number) (n
           or_right (n == moved p) _ (and_both _ _ v (ap (λ q. is_variant (part_rows parts) q n) (moved-old p (λ same. omega arith)) ∙ o))
       by_variant v (inr i) = or_left _ _ (eq-eqb n (moved p) (sym (moved-new p n i.0 i.1)))
 
-      go : (n == p ≡ true) ⊎ ((variants && is_variant (part_rows (with_part x parts)) p n) ≡ true) → covers (part_rows parts) n variants (moved p) ≡ true
+      go : (n == p ≡ true) ⊎ ((variants && is_variant (part_rows (with_row x parts)) p n) ≡ true) → covers (part_rows parts) n variants (moved p) ≡ true
       go (inl h) =
           let same : n ≡ p = eqb-true _ _ h in
           or_left _ _ (eq-eqb n (moved p) (same ∙ sym (moved-old p (λ i. omega arith))))
       go (inr h) = let t = and_parts variants _ h in by_variant t.0 (variant_cases p n t.1)
 
 module _ (parts : Parts) (bills : Bills) (x : Part) (sound : IsSoundBill parts bills x.number) (new : IsNewPart parts x) where
-  contains-moved : (a c : ℕ) → contains (with_part x parts) bills a c ≡ true → contains parts bills (moved parts x sound.catalogue new a) (moved parts x sound.catalogue new c) ≡ true
+  contains-moved : (a c : ℕ) → contains (with_row x parts) bills a c ≡ true → contains parts bills (moved parts x sound.catalogue new a) (moved parts x sound.catalogue new c) ≡ true
   contains-moved a c h =
-      let e = edge_of (with_part x parts) bills a c h in
+      let e = edge_of (with_row x parts) bills a c h in
       let assembly = below parts x sound.catalogue new e.line.assembly (sound.assemblies e.key e.line e.is) in
       let component = below parts x sound.catalogue new e.line.component (sound.components e.key e.line e.is) in
       contains_by_edge parts bills _ _ (record {
@@ -135,7 +116,7 @@ module _ (parts : Parts) (bills : Bills) (x : Part) (sound : IsSoundBill parts b
       })
     where
       go : (l : Line) → l.component < x.number
-          → (covers (part_rows (with_part x parts)) l.component l.flags.variants c ≡ true) ⊎ ((q : List ℕ) × (s : Substitute) × (table.get bills.substitutes q ≡ Some s) × (s.line ≡ l.number) × (s.part ≡ c))
+          → (covers (part_rows (with_row x parts)) l.component l.flags.variants c ≡ true) ⊎ ((q : List ℕ) × (s : Substitute) × (table.get bills.substitutes q ≡ Some s) × (s.line ≡ l.number) × (s.part ≡ c))
           → (covers (part_rows parts) l.component l.flags.variants (moved parts x sound.catalogue new c) ≡ true)
           ⊎ ((q : List ℕ) × (s : Substitute) × (table.get bills.substitutes q ≡ Some s) × (s.line ≡ l.number) × (s.part ≡ moved parts x sound.catalogue new c))
       go l less (inl f) = inl (covers-moved parts x sound.catalogue new l.component l.flags.variants c less f)
@@ -144,23 +125,24 @@ module _ (parts : Parts) (bills : Bills) (x : Part) (sound : IsSoundBill parts b
           let same : f.1.part ≡ c = f.4 in
           inr (f.0, f.1, f.2, f.3, f.4 ∙ sym (moved-old parts x sound.catalogue new c (λ i. omega arith)))
 
-  steps-moved : (n a b : ℕ) → StepsFrom (contains (with_part x parts) bills) n a b → StepsFrom (contains parts bills) n (moved parts x sound.catalogue new a) (moved parts x sound.catalogue new b)
+  steps-moved : (n a b : ℕ) → StepsFrom (contains (with_row x parts) bills) n a b → StepsFrom (contains parts bills) n (moved parts x sound.catalogue new a) (moved parts x sound.catalogue new b)
   steps-moved zero a b w = contains-moved a b w
   steps-moved (suc n) a b w = (moved parts x sound.catalogue new w.0, steps-moved n a w.0 w.1, contains-moved w.0 b w.2)
 
-  pub acyclic-with_part : IsAcyclic (with_part x parts) bills
-  acyclic-with_part p w = sound.acyclic (moved parts x sound.catalogue new p) (w.0, steps-moved w.0 p p w.1)
+  pub acyclic-with_row : IsAcyclic (with_row x parts) bills
+  acyclic-with_row p w = sound.acyclic (moved parts x sound.catalogue new p) (w.0, steps-moved w.0 p p w.1)
 
-  pub sound-with_part : IsSoundBill (with_part x parts) bills (x.number + 1)
-  sound-with_part = record {
-    catalogue = catalogue-with_part parts x sound.catalogue new;
-    own_lines = sound.own_lines;
-    own_substitutes = sound.own_substitutes;
+  pub sound-with_row : IsSoundCatalogue (x.number + 1) (with_row x parts) → IsSoundBill (with_row x parts) bills (x.number + 1)
+  sound-with_row catalogue = record {
+    catalogue = catalogue;
+    line_rows = right-later (λ (l : Line). l.number) x.number (x.number + 1) bills.lines (omega arith) sound.line_rows;
+    substitute_rows = right-later (λ (s : Substitute). s.number) x.number (x.number + 1) bills.substitutes (omega arith) sound.substitute_rows;
+    quantities = sound.quantities;
     assemblies = λ k l e. still_there parts x sound.catalogue new l.assembly (sound.assemblies k l e);
     components = λ k l e. still_there parts x sound.catalogue new l.component (sound.components k l e);
     lines = sound.lines;
     substitutes = λ k s e. still_there parts x sound.catalogue new s.part (sound.substitutes k s e);
-    acyclic = acyclic-with_part;
+    acyclic = acyclic-with_row;
     once = sound.once;
     needed = λ k l e q s f same. not_true _ (λ h.
         let component = below parts x sound.catalogue new l.component (sound.components k l e) in
@@ -170,9 +152,40 @@ module _ (parts : Parts) (bills : Bills) (x : Part) (sound : IsSoundBill parts b
         ∙ covers-moved parts x sound.catalogue new l.component l.flags.variants s.part component h in
         let both : true ≡ false = sym was ∙ sound.needed k l e q s f same in
         cc);
-    line_numbers = λ k l e. let less = sound.line_numbers k l e in omega arith;
-    substitute_numbers = λ k s e. let less = sound.substitute_numbers k s e in omega arith;
   }
+
+-- the template of a new part is there, and no variant
+module _ (parts : Parts) (x : Part) (sound : IsSoundCatalogue x.number parts) (after : IsSoundCatalogue (x.number + 1) (with_row x parts)) where
+  new_row : table.get (with_row x parts).parts (x.number ∷ []) ≡ Some x
+  new_row = get-insert_new parts.parts (x.number ∷ []) x
+
+  is_row : (a b : Part) → ◌≡◌ {A = Option Part} (Some a) (Some b) → a ≡ b
+  is_row a b e = cc
+
+  -- a part that is flagged template is no variant
+  no_variant : (t : ℕ) (row : Part) → table.get parts.parts (t ∷ []) ≡ Some row → row.flags.template ≡ true → (u : ℕ) → is_variant (part_rows parts) t u ≡ false
+  no_variant t row at flag u = not_true _ (λ e.
+      let r = variant_row parts t u e in
+      let key : r.0 ≡ t ∷ [] = (sound.parts r.0 r.1 r.2).own ∙ ap (λ n. n ∷ []) r.3 in
+      let same : row ≡ r.1 = is_row row r.1 (sym at ∙ ap (table.get parts.parts) (sym key) ∙ r.2) in
+      let none : row.template ≡ None = sound.plain (t ∷ []) row at flag in
+      let clash : ◌≡◌ {A = Option ℕ} None (Some u) = sym none ∙ ap (λ (p : Part). p.template) same ∙ r.4 in
+      cc)
+
+  pub is_new_part : IsNewPart parts x
+  is_new_part t is =
+      let row = after.templates (x.number ∷ []) x new_row t is in
+      elim (get-insert_cases parts.parts (x.number ∷ []) x (t ∷ []) row.0 row.1) [
+        | inl i ↦ (let flag : x.flags.template ≡ true = ap (λ (p : Part). p.flags.template) i.1 ∙ row.2 in
+            let none = after.plain (x.number ∷ []) x new_row flag in
+            let clash : ◌≡◌ {A = Option ℕ} None (Some t) = sym none ∙ is in
+            absurd cc)
+        | inr i ↦ (there parts.parts t row.0 i, no_variant t row.0 i row.2)
+      ]
+
+-- a part under the next number, that leaves the catalogue sound, leaves the bills so
+pub sound-with_part : (parts : Parts) (bills : Bills) (x : Part) → IsSoundBill parts bills x.number → IsSoundCatalogue (x.number + 1) (with_row x parts) → IsSoundBill (with_row x parts) bills (x.number + 1)
+sound-with_part parts bills x sound after = sound-with_row parts bills x sound (is_new_part parts x sound.catalogue after) after
 
 -- nothing
 
@@ -191,14 +204,10 @@ no_walk (suc n) a b w = no_step w.0 b w.2
 
 pub sound-nothing : IsSoundBill no_parts no_bills 1
 sound-nothing = record {
-  catalogue = record {
-    own = λ k x e. no_row _ k x e;
-    numbers = λ k x e. no_row _ k x e;
-    there = λ k x e. no_row _ k x e;
-    templates = λ p t u e. absurd (no_variant_of_nothing p t e);
-  };
-  own_lines = λ k x e. no_row _ k x e;
-  own_substitutes = λ k x e. no_row _ k x e;
+  catalogue = catalogue.sound-nothing 1 (omega arith);
+  line_rows = λ k x e. no_row _ k x e;
+  substitute_rows = λ k x e. no_row _ k x e;
+  quantities = λ k x e. no_row _ k x e;
   assemblies = λ k x e. no_row _ k x e;
   components = λ k x e. no_row _ k x e;
   lines = λ k x e. no_row _ k x e;
@@ -206,6 +215,4 @@ sound-nothing = record {
   acyclic = λ p w. no_walk w.0 p p w.1;
   once = λ k x e. no_row _ k x e;
   needed = λ k x e. no_row _ k x e;
-  line_numbers = λ k x e. no_row _ k x e;
-  substitute_numbers = λ k x e. no_row _ k x e;
 }

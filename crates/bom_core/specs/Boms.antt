@@ -1,9 +1,11 @@
 -- What the bills hold now, and what they held when they were last kept.
-use Rattle.std.specs.Prelude.{◌≡◌, ℕ}
-use Rattle.part_core.specs.Catalogues.{kept_parts, parts_of}
+use Rattle.std.specs.Prelude.{◌≡◌}
+use Rattle.part_core.specs.Catalogues.{kept_register, parts_of, register_of}
+use Rattle.part_core.specs.Counter.{Counting, kept_numbering, numbering_of}
 use Rattle.part_core.specs.Sheet.{now_of}
 use Rattle.part_core.specs.declared.catalogue.Catalogue.{Catalogue}
 use Rattle.bom_core.specs.Bills.{Bills}
+use Rattle.bom_core.specs.Changes.{BillBooks}
 use Rattle.bom_core.specs.Sound.{IsSoundBill}
 use Rattle.bom_core.specs.declared.boms.Boms.{Boms}
 
@@ -13,8 +15,14 @@ bills_of b = record { lines = now_of b.lines; substitutes = now_of b.substitutes
 abbrev pub kept_bills : Boms → Bills
 kept_bills b = record { lines = b.lines.kept; substitutes = b.substitutes.kept }
 
+abbrev pub bill_books : Boms → Counting → BillBooks
+bill_books boms counter = record { bills = bills_of boms; counter = numbering_of counter }
+
+abbrev pub kept_bill_books : Boms → Counting → BillBooks
+kept_bill_books boms counter = record { bills = kept_bills boms; counter = kept_numbering counter }
+
 -- nothing is pending, and the bills are sound beside the parts and the number that is drawn next
-pub record IsReady (catalogue : Catalogue) (boms : Boms) (next : ℕ) : Type 0 where
-  pub parts_kept : kept_parts catalogue ≡ parts_of catalogue
-  pub bills_kept : kept_bills boms ≡ bills_of boms
-  pub sound : IsSoundBill (parts_of catalogue) (bills_of boms) next
+pub record IsReady (catalogue : Catalogue) (boms : Boms) (counter : Counting) : Type 0 where
+  pub parts_kept : kept_register catalogue counter ≡ register_of catalogue counter
+  pub bills_kept : kept_bill_books boms counter ≡ bill_books boms counter
+  pub sound : IsSoundBill (parts_of catalogue) (bills_of boms) counter.next

@@ -1,6 +1,9 @@
 pub mod Bills
+pub mod BomMachine
 pub mod Boms
 pub mod Changes
+pub mod Lines
 pub mod Search
 pub mod Sound
+pub mod Substitutes
 pub mod Walks

@@ -1,25 +1,22 @@
-//! The bills of all assemblies.
-ghost use Rattle.std.specs.Prelude.{◌≡◌, ◌≢◌, ◌+◌, ◌∷◌, [], ℕ, true, false, ◌↔◌, IsTrue, IfOk, OnErr, OnOk, Some, None, Err, map, option_copied};
+//! The bills of all assemblies. The commands on lines and on substitutes have files of their own below this one.
+ghost use Rattle.std.specs.Prelude.{◌≡◌, ◌∷◌, [], ℕ, true, ◌↔◌, IsTrue, IfOk, map, option_copied};
 ghost use Rattle.std.specs.FinMap as table;
 ghost use Rattle.part_core.specs.Catalogues.{parts_of};
-ghost use Rattle.part_core.specs.Checks.{first};
-ghost use Rattle.part_core.specs.Sheet.{now_of};
-ghost use Rattle.part_core.specs.declared.refusal.Refusal.{Refusal};
 ghost use Rattle.bom_core.specs.Bills.{covers, effective, fits, line_rows, no_bills, part_rows, substitute_rows};
 ghost use Rattle.bom_core.specs.Boms.{bills_of, kept_bills};
-ghost use Rattle.bom_core.specs.Changes.{drop_line_checks, drop_substitute_checks, has_row, is_fitting, is_line_open, line_checks, new_line, new_substitute, removed_all, row_is, substitute_checks, substitute_row_checks, substitutes_of, with_line, with_substitute, without_line, without_substitute};
+ghost use Rattle.bom_core.specs.Changes.{has_row, is_line_open};
 ghost use Rattle.bom_core.specs.Search.{is_among, is_next};
-ghost use Rattle.bom_core.specs.Sound.{IsSoundBill, IsThere};
-ghost use Rattle.bom_core.specs.Walks.{HasWalk, IsWhereUsed, StepsFrom, contains_itself};
+ghost use Rattle.bom_core.specs.Walks.{HasWalk, IsWhereUsed, StepsFrom};
 
-use crate::checks::{
-    has_part, is_component, is_open, is_retired, is_variant, is_virtual, line_refusal,
-};
-use crate::line::{Line, LineFlags};
+use crate::checks::{is_open, is_variant};
+use crate::line::Line;
 use crate::search::{Direction, is_seen, push_covered, search};
 use crate::substitute::Substitute;
-use part_core::{Catalogue, CoreFault, Counter, Id, Part, Quantity, Refusal, Sheet};
+use part_core::{Catalogue, Id, Part, Sheet};
 use std::alloc::{AllocError, Global};
+
+mod lines;
+mod substitutes;
 
 /// The lines of all bills, and their substitutes.
 #[derive(Drop)]
@@ -133,7 +130,7 @@ impl Boms {
     }
 
     // Whether the part of that number, or, where variants count too, a variant of it, contains itself.
-    fn is_in_cycle(
+    pub(crate) fn is_in_cycle(
         &self,
         catalogue: &Catalogue,
         number: Id,
@@ -152,75 +149,8 @@ impl Boms {
         Ok(false)
     }
 
-    // Puts the line in. `Cycle` where some part contains itself then.
-    fn put_line(&mut self, catalogue: &Catalogue, line: Line) -> Result<(), CoreFault>
-        requires sound { IsSoundBill (parts_of catalogue.now) (bills_of self.old) line.number }
-        requires component { IsThere (parts_of catalogue.now).parts line.component }
-        ensures put { OnOk result (bills_of self.new ≡ with_line line (bills_of self.old)) }
-        ensures acyclic { OnOk result (contains_itself (parts_of catalogue.now) (with_line line (bills_of self.old)) ≡ false) }
-        ensures refused { (refusal : Refusal) → result ≡ Err (CoreFault.Refused refusal) → (refusal ≡ Refusal.Cycle) × (contains_itself (parts_of catalogue.now) (with_line line (bills_of self.old)) ≡ true) }
-        ensures kept { kept_bills self.new ≡ kept_bills self.old }
-    {
-        let assembly = line.assembly;
-        let inherited = line.flags.inherited;
-        self.lines.put(line)?;
-        if self.is_in_cycle(catalogue, assembly, inherited)? {
-            return Err(CoreFault::Refused(Refusal::Cycle));
-        }
-        Ok(())
-    }
-
-    /// A new line of the assembly's bill, under a number that is drawn for it. `NoSuch` where the assembly or the
-    /// component is no part, `BadNumber` for a quantity out of its range, `WrongFlag` where the one isn't an assembly or
-    /// the other isn't a component, or is virtual on a line that isn't consumable, `Retired` for a retired part, `InUse`
-    /// where the assembly or a variant of it has an open build, `Cycle` where a part would contain itself, and `Full`
-    /// where there is no number left.
-    pub fn add_line(
-        &mut self,
-        catalogue: &Catalogue,
-        counter: &mut Counter,
-        open_parts: &[Id],
-        assembly: Id,
-        component: Id,
-        quantity: Quantity,
-        flags: LineFlags,
-    ) -> Result<Id, CoreFault>
-        requires settled { kept_bills self.old ≡ bills_of self.old }
-        requires sound { IsSoundBill (parts_of catalogue.now) (bills_of self.old) counter.old.next }
-        ensures checked { IfOk result (λ _. first (line_checks assembly component quantity flags open_parts.now (parts_of catalogue.now) (bills_of self.old) counter.old) ≡ None) }
-        ensures number { IfOk result (λ number. number ≡ counter.old.next) }
-        ensures added { IfOk result (λ number. bills_of self.new ≡ with_line (new_line number assembly component quantity flags) (bills_of self.old)) }
-        ensures drawn { IfOk result (λ _. counter.new ≡ record counter.old { next = counter.old.next + 1 }) }
-        ensures refused { (refusal : Refusal) → result ≡ Err (CoreFault.Refused refusal) → first (line_checks assembly component quantity flags open_parts.now (parts_of catalogue.now) (bills_of self.old) counter.old) ≡ Some refusal }
-        ensures same { OnErr result (bills_of self.new ≡ bills_of self.old) }
-        ensures undrawn { OnErr result (counter.new ≡ counter.old) }
-        ensures kept { kept_bills self.new ≡ kept_bills self.old }
-        ensures sound { IsSoundBill (parts_of catalogue.now) (bills_of self.new) counter.new.next }
-    {
-        let refusal = line_refusal(catalogue, open_parts, assembly, component, quantity, flags);
-        if let Some(refusal) = refusal {
-            return Err(CoreFault::Refused(refusal));
-        }
-        let line = Line {
-            number: counter.next(),
-            assembly,
-            component,
-            quantity,
-            flags,
-        };
-        if let Err(fault) = self.put_line(catalogue, line) {
-            self.back();
-            return Err(fault);
-        }
-        if counter.lacks(1) {
-            self.back();
-            return Err(CoreFault::Refused(Refusal::Full));
-        }
-        Ok(counter.draw())
-    }
-
     // Whether the line's assembly, or a variant of it, is among those with an open build.
-    fn is_line_open(&self, catalogue: &Catalogue, open_parts: &[Id], line: Id) -> bool
+    pub(crate) fn is_line_open(&self, catalogue: &Catalogue, open_parts: &[Id], line: Id) -> bool
         ensures { result ≡ is_line_open (parts_of catalogue.now) (bills_of self.now) open_parts.now line }
     {
         match self.lines.get(&line) {
@@ -229,18 +159,8 @@ impl Boms {
         }
     }
 
-    // Whether the line of that number fits the part.
-    fn is_fitting(&self, catalogue: &Catalogue, line: Id, part: Id) -> bool
-        ensures { result ≡ is_fitting (parts_of catalogue.now) (bills_of self.now) line part }
-    {
-        match self.lines.get(&line) {
-            Some(line) => self.fits(catalogue, line, part),
-            None => false,
-        }
-    }
-
     // Whether there is a line of that number.
-    fn has_line(&self, line: Id) -> bool
+    pub(crate) fn has_line(&self, line: Id) -> bool
         ensures { result ≡ has_row (bills_of self.now).lines line }
     {
         match self.lines.get(&line) {
@@ -248,212 +168,4 @@ impl Boms {
             None => false,
         }
     }
-
-    // Whether there is a substitute of that number.
-    fn has_substitute(&self, substitute: Id) -> bool
-        ensures { result ≡ has_row (bills_of self.now).substitutes substitute }
-    {
-        match self.substitutes.get(&substitute) {
-            Some(_) => true,
-            None => false,
-        }
-    }
-
-    // The numbers of the line's substitutes.
-    fn substitutes_of(&self, line: Id) -> Result<Vec<Id>, AllocError>
-        ensures { IfOk result (λ numbers. numbers.items ≡ substitutes_of line (bills_of self.now)) }
-    {
-        let rows = self.substitutes.select(|row| row.line == line)?;
-        numbers_of(self.alloc, &rows)
-    }
-
-    // Takes the line and its substitutes out.
-    fn take_line(&mut self, line: Id) -> Result<(), CoreFault>
-        ensures taken { OnOk result (bills_of self.new ≡ without_line line (bills_of self.old)) }
-        ensures refused { (refusal : Refusal) → result ≢ Err (CoreFault.Refused refusal) }
-        ensures kept { kept_bills self.new ≡ kept_bills self.old }
-    {
-        let numbers = self.substitutes_of(line)?;
-        self.lines.remove(&line)?;
-        remove_all(&mut self.substitutes, &numbers)?;
-        Ok(())
-    }
-
-    /// The line and its substitutes go. `NoSuch` where there is no such line, and `InUse` where its assembly or a variant
-    /// of that has an open build.
-    pub fn drop_line(
-        &mut self,
-        catalogue: &Catalogue,
-        open_parts: &[Id],
-        line: Id,
-    ) -> Result<(), CoreFault>
-        requires settled { kept_bills self.old ≡ bills_of self.old }
-        ensures checked { OnOk result (first (drop_line_checks line open_parts.now (parts_of catalogue.now) (bills_of self.old)) ≡ None) }
-        ensures dropped { OnOk result (bills_of self.new ≡ without_line line (bills_of self.old)) }
-        ensures refused { (refusal : Refusal) → result ≡ Err (CoreFault.Refused refusal) → first (drop_line_checks line open_parts.now (parts_of catalogue.now) (bills_of self.old)) ≡ Some refusal }
-        ensures same { OnErr result (bills_of self.new ≡ bills_of self.old) }
-        ensures kept { kept_bills self.new ≡ kept_bills self.old }
-        ensures sound { (next : ℕ) → IsSoundBill (parts_of catalogue.now) (bills_of self.old) next → IsSoundBill (parts_of catalogue.now) (bills_of self.new) next }
-    {
-        if !self.has_line(line) {
-            return Err(CoreFault::Refused(Refusal::NoSuch));
-        }
-        if self.is_line_open(catalogue, open_parts, line) {
-            return Err(CoreFault::Refused(Refusal::InUse));
-        }
-        if let Err(fault) = self.take_line(line) {
-            self.back();
-            return Err(fault);
-        }
-        Ok(())
-    }
-
-    // Why a new substitute is refused, whatever walks it makes.
-    fn substitute_refusal(
-        &self,
-        catalogue: &Catalogue,
-        open_parts: &[Id],
-        line: Id,
-        part: Id,
-    ) -> Option<Refusal>
-        ensures { result ≡ first (substitute_row_checks line part open_parts.now (parts_of catalogue.now) (bills_of self.now)) }
-    {
-        if !(self.has_line(line) && has_part(catalogue, part)) {
-            return Some(Refusal::NoSuch);
-        }
-        if !is_component(catalogue, part) || is_virtual(catalogue, part) {
-            return Some(Refusal::WrongFlag);
-        }
-        if is_retired(catalogue, part) {
-            return Some(Refusal::Retired);
-        }
-        if self.is_line_open(catalogue, open_parts, line)
-            || self.is_fitting(catalogue, line, part)
-        {
-            return Some(Refusal::InUse);
-        }
-        None
-    }
-
-    // Puts the substitute in. `Cycle` where some part contains itself then.
-    fn put_substitute(
-        &mut self,
-        catalogue: &Catalogue,
-        substitute: Substitute,
-    ) -> Result<(), CoreFault>
-        requires sound { IsSoundBill (parts_of catalogue.now) (bills_of self.old) substitute.number }
-        requires line { IsThere (bills_of self.old).lines substitute.line }
-        requires part { IsThere (parts_of catalogue.now).parts substitute.part }
-        ensures put { OnOk result (bills_of self.new ≡ with_substitute substitute (bills_of self.old)) }
-        ensures acyclic { OnOk result (contains_itself (parts_of catalogue.now) (with_substitute substitute (bills_of self.old)) ≡ false) }
-        ensures refused { (refusal : Refusal) → result ≡ Err (CoreFault.Refused refusal) → (refusal ≡ Refusal.Cycle) × (contains_itself (parts_of catalogue.now) (with_substitute substitute (bills_of self.old)) ≡ true) }
-        ensures kept { kept_bills self.new ≡ kept_bills self.old }
-    {
-        let of_line = substitute.line;
-        self.substitutes.put(substitute)?;
-        let Some(line) = self.lines.get(&of_line) else {
-            return Ok(());
-        };
-        if self.is_in_cycle(catalogue, line.assembly, line.flags.inherited)? {
-            return Err(CoreFault::Refused(Refusal::Cycle));
-        }
-        Ok(())
-    }
-
-    /// A new substitute on the line, under a number that is drawn for it. `NoSuch` where the line or the part isn't there,
-    /// `WrongFlag` for a part that isn't a component or is virtual, `Retired` for a retired part, `InUse` where the line's
-    /// assembly or a variant of it has an open build, or the line fits the part already, `Cycle` where a part would
-    /// contain itself, and `Full` where there is no number left.
-    pub fn add_substitute(
-        &mut self,
-        catalogue: &Catalogue,
-        counter: &mut Counter,
-        open_parts: &[Id],
-        line: Id,
-        part: Id,
-    ) -> Result<Id, CoreFault>
-        requires settled { kept_bills self.old ≡ bills_of self.old }
-        requires sound { IsSoundBill (parts_of catalogue.now) (bills_of self.old) counter.old.next }
-        ensures checked { IfOk result (λ _. first (substitute_checks line part open_parts.now (parts_of catalogue.now) (bills_of self.old) counter.old) ≡ None) }
-        ensures number { IfOk result (λ number. number ≡ counter.old.next) }
-        ensures added { IfOk result (λ number. bills_of self.new ≡ with_substitute (new_substitute number line part) (bills_of self.old)) }
-        ensures drawn { IfOk result (λ _. counter.new ≡ record counter.old { next = counter.old.next + 1 }) }
-        ensures refused { (refusal : Refusal) → result ≡ Err (CoreFault.Refused refusal) → first (substitute_checks line part open_parts.now (parts_of catalogue.now) (bills_of self.old) counter.old) ≡ Some refusal }
-        ensures same { OnErr result (bills_of self.new ≡ bills_of self.old) }
-        ensures undrawn { OnErr result (counter.new ≡ counter.old) }
-        ensures kept { kept_bills self.new ≡ kept_bills self.old }
-        ensures sound { IsSoundBill (parts_of catalogue.now) (bills_of self.new) counter.new.next }
-    {
-        let refusal = self.substitute_refusal(catalogue, open_parts, line, part);
-        if let Some(refusal) = refusal {
-            return Err(CoreFault::Refused(refusal));
-        }
-        let substitute = Substitute {
-            number: counter.next(),
-            line,
-            part,
-        };
-        if let Err(fault) = self.put_substitute(catalogue, substitute) {
-            self.back();
-            return Err(fault);
-        }
-        if counter.lacks(1) {
-            self.back();
-            return Err(CoreFault::Refused(Refusal::Full));
-        }
-        Ok(counter.draw())
-    }
-
-    // Whether the assembly of the substitute's line, or a variant of that, is among those with an open build.
-    fn is_substitute_open(&self, catalogue: &Catalogue, open_parts: &[Id], substitute: Id) -> bool
-        ensures { result ≡ row_is (λ s. is_line_open (parts_of catalogue.now) (bills_of self.now) open_parts.now s.line) (bills_of self.now).substitutes substitute }
-    {
-        match self.substitutes.get(&substitute) {
-            Some(substitute) => self.is_line_open(catalogue, open_parts, substitute.line),
-            None => false,
-        }
-    }
-
-    /// The substitute goes. `NoSuch` where there is no such substitute, and `InUse` where its line's assembly or a variant
-    /// of that has an open build.
-    pub fn drop_substitute(
-        &mut self,
-        catalogue: &Catalogue,
-        open_parts: &[Id],
-        substitute: Id,
-    ) -> Result<(), CoreFault>
-        ensures checked { OnOk result (first (drop_substitute_checks substitute open_parts.now (parts_of catalogue.now) (bills_of self.old)) ≡ None) }
-        ensures dropped { OnOk result (bills_of self.new ≡ without_substitute substitute (bills_of self.old)) }
-        ensures refused { (refusal : Refusal) → result ≡ Err (CoreFault.Refused refusal) → first (drop_substitute_checks substitute open_parts.now (parts_of catalogue.now) (bills_of self.old)) ≡ Some refusal }
-        ensures same { OnErr result (bills_of self.new ≡ bills_of self.old) }
-        ensures kept { kept_bills self.new ≡ kept_bills self.old }
-        ensures sound { (next : ℕ) → IsSoundBill (parts_of catalogue.now) (bills_of self.old) next → IsSoundBill (parts_of catalogue.now) (bills_of self.new) next }
-    {
-        if !self.has_substitute(substitute) {
-            return Err(CoreFault::Refused(Refusal::NoSuch));
-        }
-        if self.is_substitute_open(catalogue, open_parts, substitute) {
-            return Err(CoreFault::Refused(Refusal::InUse));
-        }
-        self.substitutes.remove(&substitute)?;
-        Ok(())
-    }
-}
-
-// The numbers of the substitutes.
-fn numbers_of(alloc: Global, substitutes: &[&Substitute]) -> Result<Vec<Id>, AllocError>
-    ensures { IfOk result (λ numbers. numbers.items ≡ map (λ s. s.now.number) substitutes.now) }
-{
-    substitutes.iter().map(|row| row.number).collect(alloc)
-}
-
-// Removes the rows of these numbers.
-fn remove_all(substitutes: &mut Sheet<Substitute>, numbers: &[Id]) -> Result<(), AllocError>
-    ensures removed { OnOk result (now_of substitutes.new ≡ removed_all numbers.now (now_of substitutes.old)) }
-    ensures kept { substitutes.new.kept ≡ substitutes.old.kept }
-{
-    for number in numbers {
-        substitutes.remove(number)?;
-    }
-    Ok(())
 }

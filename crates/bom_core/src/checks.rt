@@ -1,13 +1,13 @@
 //! Why a change of the bills is refused.
 ghost use Rattle.std.specs.Prelude.{◌≡◌, ◌↔◌, ℕ};
-ghost use Rattle.part_core.specs.Catalogue.{is_retired, part_in};
 ghost use Rattle.part_core.specs.Catalogues.{parts_of};
 ghost use Rattle.part_core.specs.Checks.{first};
 ghost use Rattle.bom_core.specs.Bills.{is_variant, part_rows};
-ghost use Rattle.bom_core.specs.Changes.{has_row, is_assembly, is_component, is_virtual, is_open, line_row_checks};
+ghost use Rattle.bom_core.specs.Lines.{line_row_checks};
+ghost use Rattle.bom_core.specs.Changes.{has_row, is_assembly, is_component, is_open};
 
-use crate::line::LineFlags;
-use part_core::{Catalogue, Id, Quantity, Refusal, is_bad_quantity};
+use crate::line::NewLine;
+use part_core::{Catalogue, Id, Refusal, is_bad_quantity};
 
 /// Whether the part is a variant of the template. It looks at every part.
 pub fn is_variant(catalogue: &Catalogue, part: Id, template: Id) -> bool
@@ -46,24 +46,6 @@ pub fn is_component(catalogue: &Catalogue, number: Id) -> bool
     }
 }
 
-pub fn is_virtual(catalogue: &Catalogue, number: Id) -> bool
-    ensures { result ≡ is_virtual (parts_of catalogue.now) number }
-{
-    match catalogue.part(number) {
-        Some(part) => part.flags.is_virtual,
-        None => false,
-    }
-}
-
-pub fn is_retired(catalogue: &Catalogue, number: Id) -> bool
-    ensures { result ≡ is_retired (part_in number (parts_of catalogue.now)) }
-{
-    match catalogue.part(number) {
-        Some(part) => part.retired,
-        None => false,
-    }
-}
-
 /// Whether the part, or a variant of it, is among those with an open build.
 pub fn is_open(catalogue: &Catalogue, open_parts: &[Id], part: Id) -> bool
     ensures { result ≡ is_open (parts_of catalogue.now) open_parts.now part }
@@ -72,32 +54,25 @@ pub fn is_open(catalogue: &Catalogue, open_parts: &[Id], part: Id) -> bool
 }
 
 /// Why a new line is refused, whatever the other lines are.
-pub fn line_refusal(
-    catalogue: &Catalogue,
-    open_parts: &[Id],
-    assembly: Id,
-    component: Id,
-    quantity: Quantity,
-    flags: LineFlags,
-) -> Option<Refusal>
-    ensures { result ≡ first (line_row_checks assembly component quantity flags open_parts.now (parts_of catalogue.now)) }
+pub fn line_refusal(catalogue: &Catalogue, open_parts: &[Id], new: NewLine) -> Option<Refusal>
+    ensures { result ≡ first (line_row_checks new open_parts.now (parts_of catalogue.now)) }
 {
-    if !(has_part(catalogue, assembly) && has_part(catalogue, component)) {
+    if !(has_part(catalogue, new.assembly) && has_part(catalogue, new.component)) {
         return Some(Refusal::NoSuch);
     }
-    if is_bad_quantity(quantity) {
+    if is_bad_quantity(new.quantity) {
         return Some(Refusal::BadNumber);
     }
-    if !is_assembly(catalogue, assembly)
-        || !is_component(catalogue, component)
-        || (is_virtual(catalogue, component) && !flags.consumable)
+    if !is_assembly(catalogue, new.assembly)
+        || !is_component(catalogue, new.component)
+        || (catalogue.is_virtual(new.component) && !new.flags.consumable)
     {
         return Some(Refusal::WrongFlag);
     }
-    if is_retired(catalogue, assembly) || is_retired(catalogue, component) {
+    if catalogue.is_retired(new.assembly) || catalogue.is_retired(new.component) {
         return Some(Refusal::Retired);
     }
-    if is_open(catalogue, open_parts, assembly) {
+    if is_open(catalogue, open_parts, new.assembly) {
         return Some(Refusal::InUse);
     }
     None

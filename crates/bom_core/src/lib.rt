@@ -1,6 +1,7 @@
 //! Bills of materials: which parts an assembly is built from.
 #![tactic(auto)]
 
+pub mod bom_command;
 mod boms;
 mod checks;
 mod laws;
@@ -10,7 +11,8 @@ mod substitute;
 #[cfg(test)]
 mod tests;
 
+pub use bom_command::BomCommand;
 pub use boms::Boms;
 pub use laws::{a_new_part_makes_no_cycle, no_bills_are_sound, walks_are_short};
-pub use line::{Line, LineFlags};
+pub use line::{Line, LineFlags, NewLine};
 pub use substitute::Substitute;

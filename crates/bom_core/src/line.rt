@@ -48,6 +48,33 @@ pub struct Line {
     pub flags: LineFlags,
 }
 
+/// What is said of a new line.
+#[derive(Clone, Copy, Debug)]
+pub struct NewLine {
+    pub assembly: Id,
+    pub component: Id,
+    /// For one unit of the assembly.
+    pub quantity: Quantity,
+    pub flags: LineFlags,
+}
+
+impl NewLine {
+    ghost use Rattle.bom_core.specs.Lines.{new_line};
+
+    /// The row of the line under that number.
+    pub fn row(self, number: Id) -> Line
+        ensures { result ≡ new_line number self }
+    {
+        Line {
+            number,
+            assembly: self.assembly,
+            component: self.component,
+            quantity: self.quantity,
+            flags: self.flags,
+        }
+    }
+}
+
 impl Row for Line {
     type Key = u64;
 

@@ -3,7 +3,7 @@ ghost use Rattle.std.specs.Prelude.{◌≡◌, IfOk};
 ghost use Rattle.bom_core.specs.Boms.{IsReady, bills_of, kept_bills};
 
 use super::*;
-use part_core::{Catalogue, CoreFault, Counter, Flags, Id, Limits, Name, Refusal};
+use part_core::{Catalogue, CoreFault, Counter, Flags, Id, Limits, Name, NewPart, Refusal};
 use std::alloc::{AllocError, Global};
 use std::test::Fail;
 
@@ -22,8 +22,8 @@ fn part(
     alloc: Global,
     name: &str,
 ) -> Result<Id, CoreFault>
-    requires { IsReady catalogue.old boms.now counter.old.next }
-    ensures { IfOk result (λ _. IsReady catalogue.new boms.now counter.new.next) }
+    requires { IsReady catalogue.old boms.now counter.old }
+    ensures { IfOk result (λ _. IsReady catalogue.new boms.now counter.new) }
 {
     a_new_part_makes_no_cycle();
     let text = String::from_str(alloc, name)?;
@@ -35,8 +35,15 @@ fn part(
         component: true,
         ..Flags::default()
     };
-    let number = catalogue.add_part(counter, &name, None, None, flags)?;
+    let new = NewPart {
+        name,
+        category: None,
+        template: None,
+        flags,
+    };
+    let number = catalogue.add_part(counter, &new)?;
     catalogue.keep();
+    counter.keep();
     Ok(number)
 }
 
@@ -48,11 +55,18 @@ fn line(
     assembly: Id,
     component: Id,
 ) -> Result<Id, CoreFault>
-    requires { IsReady catalogue.now boms.old counter.old.next }
-    ensures { IfOk result (λ _. IsReady catalogue.now boms.new counter.new.next) }
+    requires { IsReady catalogue.now boms.old counter.old }
+    ensures { IfOk result (λ _. IsReady catalogue.now boms.new counter.new) }
 {
-    let number = boms.add_line(catalogue, counter, &[], assembly, component, 1, FLAGS)?;
+    let new = NewLine {
+        assembly,
+        component,
+        quantity: 1,
+        flags: FLAGS,
+    };
+    let number = boms.add_line(catalogue, counter, &[], new)?;
     boms.keep();
+    counter.keep();
     Ok(number)
 }
 
@@ -103,6 +117,7 @@ fn is_happy(alloc: Global) -> Result<bool, CoreFault> {
     let number = line(&catalogue, &mut boms, &mut counter, cart, wheel)?;
     let substitute = boms.add_substitute(&catalogue, &mut counter, &[], number, disc)?;
     boms.keep();
+    counter.keep();
     let read = reads(&catalogue, &boms, number, cart, disc)?;
     let dropped = drops(&catalogue, &mut boms, number, substitute)?;
     Ok(read && dropped)
@@ -123,8 +138,8 @@ fn chain(
     counter: &mut Counter,
     alloc: Global,
 ) -> Result<(Id, Id), CoreFault>
-    requires { IsReady catalogue.old boms.old counter.old.next }
-    ensures { IfOk result (λ _. IsReady catalogue.new boms.new counter.new.next) }
+    requires { IsReady catalogue.old boms.old counter.old }
+    ensures { IfOk result (λ _. IsReady catalogue.new boms.new counter.new) }
 {
     let first = part(catalogue, boms, counter, alloc, "0")?;
     let mut last = first;

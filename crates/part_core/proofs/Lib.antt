@@ -9,3 +9,6 @@ pub mod Selects
 pub mod Numerals
 pub mod Readings
 pub mod Tables
+pub mod Conditions
+pub mod RowLemmas
+pub mod SoundRows

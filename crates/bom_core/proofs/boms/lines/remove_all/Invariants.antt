@@ -1,7 +1,7 @@
 use Rattle.std.proofs.Common.{◌≡◌, drop}
 use Rattle.part_core.specs.Sheet.{now_of}
-use Rattle.bom_core.specs.Changes.{removed_all}
-use Rattle.bom_core.proofs.boms.remove_all.Given as goal
+use Rattle.bom_core.specs.Lines.{removed_all}
+use Rattle.bom_core.proofs.boms.lines.remove_all.Given as goal
 
 abbrev pub invariant-loop-number : goal.invariant-loop-number
 invariant-loop-number l =

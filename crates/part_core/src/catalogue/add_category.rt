@@ -1,0 +1,51 @@
+//! A new category of parts, under a parent or at the top.
+ghost use Rattle.std.specs.Prelude.{◌≡◌};
+ghost use Rattle.part_core.specs.Acts.{Acts};
+ghost use Rattle.part_core.specs.AddCategory.{add_category, add_category_checks, is_category_named};
+ghost use Rattle.part_core.specs.Catalogues.{kept_register, parts_of, register_of};
+
+use crate::catalogue::Catalogue;
+use crate::category::Category;
+use crate::row::is_same_number;
+use crate::{CoreFault, Counter, Id, Name, Refusal};
+
+impl Catalogue {
+    /// Whether a category under this parent has this name. It looks at every category.
+    fn is_category_named(&self, name: &Name, parent: Option<Id>) -> bool
+        ensures { result ≡ is_category_named name.now parent (parts_of self.now) }
+    {
+        self.categories.any(|category| is_same_number(category.parent, parent)
+            && category.name.equals(name))
+    }
+
+    /// A new category, under a number that is drawn for it. `NoSuch` where the parent is no category,
+    /// `NameTaken` where a category under this parent has the name, `Full` where there is no number left.
+    pub fn add_category(
+        &mut self,
+        counter: &mut Counter,
+        name: &Name,
+        parent: Option<Id>,
+    ) -> Result<Id, CoreFault>
+        requires { kept_register self.old counter.old ≡ register_of self.old counter.old }
+        ensures acts { let r = register_of self.old counter.old in
+            Acts (add_category_checks name.now parent r) (add_category name.now parent r, r.counter.next) r result (register_of self.new counter.new) }
+        ensures kept { kept_register self.new counter.new ≡ kept_register self.old counter.old }
+    {
+        if self.is_category_missing(parent) {
+            return Err(CoreFault::Refused(Refusal::NoSuch));
+        }
+        if self.is_category_named(name, parent) {
+            return Err(CoreFault::Refused(Refusal::NameTaken));
+        }
+        if counter.lacks(1) {
+            return Err(CoreFault::Refused(Refusal::Full));
+        }
+        let name = name.copy(self.alloc)?;
+        self.categories.put(Category {
+            number: counter.next(),
+            name,
+            parent,
+        })?;
+        Ok(counter.draw())
+    }
+}
