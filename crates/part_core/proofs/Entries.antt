@@ -1,9 +1,9 @@
--- A write, a removal and a push among entries with distinct keys, as the finite map sees them.
+-- A write and a push among entries with distinct keys, and a removal from a finite map, as a look-up sees them.
 use Rattle.std.proofs.Common.{◌≡◌, ◌≢◌, ℕ, suc, zero, Bool, true, false, cond, List, [], ◌∷◌, ◌++◌, Option, Some, None, set, refl, sym, ap, ◌∙◌}
-use Rattle.std.specs.Prelude.{slice_get, option_map, remove}
+use Rattle.std.specs.Prelude.{slice_get, option_map}
 use Rattle.std.specs.FinMap as table
 use Rattle.std.specs.FinMap.Entries.{find-append}
-use Rattle.part_core.specs.Sheet.{key_cmp, IsDistinct, HasKeyAt, IsRowAt, Table, table_of, undone, all_undone}
+use Rattle.part_core.specs.Sheet.{key_cmp, IsDistinct, HasKeyAt, Table, table_of}
 use Rattle.part_core.proofs.Keys.{key_eq, keys_total, keys_exact, key_eq-true, key_eq-other, key_eq-same, key_eq-false}
 
 same_key : (a b : List ℕ) → Some a ≡ Some b → a ≡ b
@@ -29,7 +29,7 @@ module _ {X : Type 0} where
       ] refl
 
   -- the first key is not among the others
-  apart : (e : List ℕ × X) (es : List (List ℕ × X)) (i : ℕ) (k : List ℕ) → IsDistinct (e ∷ es) → HasKeyAt es i k → e.0 ≢ k
+  pub apart : (e : List ℕ × X) (es : List (List ℕ × X)) (i : ℕ) (k : List ℕ) → IsDistinct (e ∷ es) → HasKeyAt es i k → e.0 ≢ k
   apart e es i k d h same = not_absent (slice_get es i) k h (sym d.0 ∙ ap (λ q. find_in q es) same ∙ find-at es i k d.1 h)
 
   hidden : (b : Bool) (x y z : Option X) → cond b x (cond b y z) ≡ cond b x z
@@ -51,31 +51,11 @@ module _ {X : Type 0} where
   find-set (e ∷ es) (suc i) k v q d h =
       ap (cond (key_eq q e.0) (Some e.1)) (find-set es i k v q d.1 h) ∙ turned e.0 k q (Some e.1) (Some v) (find_in q es) (apart e es i k d h)
 
-  pub find-remove : (es : List (List ℕ × X)) (i : ℕ) (k : List ℕ) (q : List ℕ) → IsDistinct es → HasKeyAt es i k → find_in q (remove es i) ≡ cond (key_eq q k) None (find_in q es)
-  find-remove [] i k q d h = cc
-  find-remove (e ∷ es) zero k q d h =
-      let here = same_key _ _ h in
-      elim (key_eq q k) as (λ c. key_eq q k ≡ c → find_in q es ≡ cond c None (cond (key_eq q e.0) (Some e.1) (find_in q es))) [
-        | true ↦ λ p. ap (λ r. find_in r es) (key_eq-true q k p ∙ sym here) ∙ d.0
-        | false ↦ λ p. sym (ap (λ c. cond c (Some e.1) (find_in q es)) (ap (key_eq q) here ∙ p))
-      ] refl
-  find-remove (e ∷ es) (suc i) k q d h =
-      ap (cond (key_eq q e.0) (Some e.1)) (find-remove es i k q d.1 h) ∙ turned e.0 k q (Some e.1) None (find_in q es) (apart e es i k d h)
-
   pub IsDistinct-set : (es : List (List ℕ × X)) (i : ℕ) (k : List ℕ) (v : X) → IsDistinct es → HasKeyAt es i k → IsDistinct (set es i (k, v))
   IsDistinct-set [] i k v d h = tt
   IsDistinct-set (e ∷ es) zero k v d h = (ap (λ q. find_in q es) (sym (same_key _ _ h)) ∙ d.0, d.1)
   IsDistinct-set (e ∷ es) (suc i) k v d h =
       (find-set es i k v e.0 d.1 h ∙ ap (λ c. cond c (Some v) (find_in e.0 es)) (key_eq-other e.0 k (apart e es i k d h)) ∙ d.0, IsDistinct-set es i k v d.1 h)
-
-  none_either : (b : Bool) (o : Option X) → o ≡ None → cond b None o ≡ None
-  none_either true o e = refl
-  none_either false o e = e
-
-  pub IsDistinct-remove : (es : List (List ℕ × X)) (i : ℕ) (k : List ℕ) → IsDistinct es → HasKeyAt es i k → IsDistinct (remove es i)
-  IsDistinct-remove [] i k d h = cc
-  IsDistinct-remove (e ∷ es) zero k d h = d.1
-  IsDistinct-remove (e ∷ es) (suc i) k d h = (find-remove es i k e.0 d.1 h ∙ none_either (key_eq e.0 k) (find_in e.0 es) d.0, IsDistinct-remove es i k d.1 h)
 
   pub not_first : (e : List ℕ × X) (es : List (List ℕ × X)) (k : List ℕ) → find_in k (e ∷ es) ≡ None → (e.0 ≢ k) × (find_in k es ≡ None)
   not_first e es k none =
@@ -90,57 +70,8 @@ module _ {X : Type 0} where
       let other = not_first e es k none in
       (find-append key_cmp keys_total es k v e.0 other.1 ∙ ap (λ c. cond c (Some v) (find_in e.0 es)) (key_eq-other e.0 k other.0) ∙ d.0, IsDistinct-push es k v d.1 other.1)
 
-  pub table-set : (es : List (List ℕ × X)) (i : ℕ) (k : List ℕ) (v : X) → IsDistinct es → HasKeyAt es i k → table_of (set es i (k, v)) ≡ table.insert (table_of es) k v
-  table-set es i k v d h = table.same_map keys_total keys_exact _ _ (λ q.
-      table.get-from_entries keys_total _ q ∙ find-set es i k v q d h
-      ∙ ap (cond (key_eq q k) (Some v)) (sym (table.get-from_entries keys_total es q)) ∙ sym (table.get-insert keys_total (table_of es) k v q))
-
-  pub table-remove : (es : List (List ℕ × X)) (i : ℕ) (k : List ℕ) → IsDistinct es → HasKeyAt es i k → table_of (remove es i) ≡ table.remove (table_of es) k
-  table-remove es i k d h = table.same_map keys_total keys_exact _ _ (λ q.
-      table.get-from_entries keys_total _ q ∙ find-remove es i k q d h
-      ∙ ap (cond (key_eq q k) None) (sym (table.get-from_entries keys_total es q)) ∙ sym (table.get-remove keys_total (table_of es) k q))
-
-  pub table-push : (es : List (List ℕ × X)) (k : List ℕ) (v : X) → find_in k es ≡ None → table_of (es ++ (k, v) ∷ []) ≡ table.insert (table_of es) k v
-  table-push es k v none = table.from_entries_push keys_total keys_exact es k v none
-
-  pub get-at : (es : List (List ℕ × X)) (i : ℕ) (k : List ℕ) → IsDistinct es → HasKeyAt es i k → table.get (table_of es) k ≡ option_map (λ e. e.1) (slice_get es i)
-  get-at es i k d h = table.get-from_entries keys_total es k ∙ find-at es i k d h
-
   pub get-absent : (es : List (List ℕ × X)) (k : List ℕ) → find_in k es ≡ None → table.get (table_of es) k ≡ None
   get-absent es k none = table.get-from_entries keys_total es k ∙ none
-
-  -- a map is as it was after a change is undone
-  pub undone-insert : (m : Table X) (k : List ℕ) (v : X) → table.get m k ≡ None → table.remove (table.insert m k v) k ≡ m
-  undone-insert m k v none = table.same_map keys_total keys_exact _ _ (λ q.
-      table.get-remove keys_total _ k q ∙ ap (cond (key_eq q k) None) (table.get-insert keys_total m k v q)
-      ∙ elim (key_eq q k) as (λ c. key_eq q k ≡ c → cond c None (cond c (Some v) (table.get m q)) ≡ table.get m q) [
-        | true ↦ λ p. sym (ap (table.get m) (key_eq-true q k p) ∙ none)
-        | false ↦ λ p. refl
-      ] refl)
-
-  pub undone-set : (m : Table X) (k : List ℕ) (v w : X) → table.get m k ≡ Some v → table.insert (table.insert m k w) k v ≡ m
-  undone-set m k v w some = table.same_map keys_total keys_exact _ _ (λ q.
-      table.get-insert keys_total _ k v q ∙ ap (cond (key_eq q k) (Some v)) (table.get-insert keys_total m k w q)
-      ∙ elim (key_eq q k) as (λ c. key_eq q k ≡ c → cond c (Some v) (cond c (Some w) (table.get m q)) ≡ table.get m q) [
-        | true ↦ λ p. sym (ap (table.get m) (key_eq-true q k p) ∙ some)
-        | false ↦ λ p. refl
-      ] refl)
-
-  pub undone-remove : (m : Table X) (k : List ℕ) (v : X) → table.get m k ≡ Some v → table.insert (table.remove m k) k v ≡ m
-  undone-remove m k v some = table.same_map keys_total keys_exact _ _ (λ q.
-      table.get-insert keys_total _ k v q ∙ ap (cond (key_eq q k) (Some v)) (table.get-remove keys_total m k q)
-      ∙ elim (key_eq q k) as (λ c. key_eq q k ≡ c → cond c (Some v) (cond c None (table.get m q)) ≡ table.get m q) [
-        | true ↦ λ p. sym (ap (table.get m) (key_eq-true q k p) ∙ some)
-        | false ↦ λ p. refl
-      ] refl)
-
-  pub all_undone-push : (cs : List (List ℕ × Option X)) (c : List ℕ × Option X) (m : Table X) → all_undone (cs ++ c ∷ []) m ≡ all_undone cs (undone c m)
-  all_undone-push [] c m = refl
-  all_undone-push (d ∷ cs) c m = ap (undone d) (all_undone-push cs c m)
-
-  -- the row of a key that was found
-  pub get-found : (es : List (List ℕ × X)) (i : ℕ) (k : List ℕ) (x : X) → IsDistinct es → HasKeyAt es i k → IsRowAt es i x → table.get (table_of es) k ≡ Some x
-  get-found es i k x d h r = get-at es i k d h ∙ r
 
   -- to remove a key that is not there changes nothing
   pub remove-absent : (m : Table X) (k : List ℕ) → table.get m k ≡ None → table.remove m k ≡ m

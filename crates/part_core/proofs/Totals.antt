@@ -1,5 +1,5 @@
--- Sums and tests over a table's rows, after a row is put, and over a sheet's rows in its own order.
-use Rattle.std.proofs.Common.{◌≡◌, ◌↔◌, ℕ, ◌+◌, Bool, true, false, cond, ◌||◌, suc, zero, length, drop, is_some, List, [], ◌∷◌, map, Option, Some, None, refl, sym, ap, ◌∙◌, subst, arith}
+-- Sums and tests over a table's rows, after a row is put, and over rows with distinct keys in any order.
+use Rattle.std.proofs.Common.{◌≡◌, ℕ, ◌+◌, Bool, true, false, cond, ◌||◌, suc, length, is_some, List, [], ◌∷◌, map, Option, Some, None, refl, sym, ap, ◌∙◌, arith}
 use Rattle.std.specs.Prelude.{sum_by}
 use Rattle.std.specs.List.{list_any}
 use Rattle.std.proofs.lemmas.List.Sums.{sum_by-cons}
@@ -8,9 +8,9 @@ use Rattle.std.specs.declared.cmp.Ordering.TheVariants.{Less, Equal, Greater}
 use Rattle.std.specs.Ordering.{is_eq}
 use Rattle.std.specs.FinMap as table
 use Rattle.std.specs.FinMap.Entries.{put, by_order}
-use Rattle.part_core.specs.Sheet.{key_cmp, IsDistinct, IsRowAt, Table, table_of}
-use Rattle.part_core.proofs.Keys.{key_eq, keys_total, keys_exact, key_eq-self}
-use Rattle.part_core.proofs.Entries.{find_in, get-absent, undone-remove}
+use Rattle.part_core.specs.Sheet.{key_cmp, IsDistinct, Table, table_of}
+use Rattle.part_core.proofs.Keys.{keys_total}
+use Rattle.part_core.proofs.Entries.{find_in, get-absent}
 
 or_turn : (a b c : Bool) → (a || (b || c)) ≡ (b || (a || c))
 or_turn true true c = refl
@@ -57,29 +57,10 @@ module _ {X : Type 0} where
     any-insert_new m k v none =
         ap (λ es. list_any p (of_rows es)) (table.entries-insert keys_total m k v) ∙ any-put k v (table.entries m) (sym (table.get-entries m k) ∙ none)
 
-    -- a test over the rows in the sheet's own order
+    -- a test over the rows in any order
     pub any-of_rows : (es : List (List ℕ × X)) → IsDistinct es → list_any p (table.values (table_of es)) ≡ list_any p (of_rows es)
     any-of_rows [] d = ap (λ (es : List (List ℕ × X)). list_any p (of_rows es)) entries-empty
     any-of_rows (e ∷ es) d = any-insert_new (table_of es) e.0 e.1 (get-absent es e.0 d.0) ∙ ap (λ b. p e.1 || b) (any-of_rows es d.1)
-
-  removed-absent : (m : Table X) (k : List ℕ) → table.get (table.remove m k) k ≡ None
-  removed-absent m k = table.get-remove keys_total m k k ∙ ap (λ b. cond b None (table.get m k)) (key_eq-self k)
-
-  set_after_remove : (m : Table X) (k : List ℕ) (v : X) → table.insert (table.remove m k) k v ≡ table.insert m k v
-  set_after_remove m k v = table.same_map keys_total keys_exact _ _ (λ q.
-      table.get-insert keys_total _ k v q ∙ ap (cond (key_eq q k) (Some v)) (table.get-remove keys_total m k q) ∙ hidden (key_eq q k) (table.get m q) ∙ sym (table.get-insert keys_total m k v q))
-    where
-      hidden : (b : Bool) (o : Option X) → cond b (Some v) (cond b None o) ≡ cond b (Some v) o
-      hidden true o = refl
-      hidden false o = refl
-
-  -- a row in the place of another changes the sum by what they differ in
-  pub sum-insert_same : (f : X → ℕ) (m : Table X) (k : List ℕ) (v w : X) → table.get m k ≡ Some w → sum_by f (table.values (table.insert m k v)) + f w ≡ sum_by f (table.values m) + f v
-  sum-insert_same f m k v w some =
-      let rest = table.remove m k in
-      let new = ap (λ n. sum_by f (table.values n)) (sym (set_after_remove m k v)) ∙ sum-insert_new f rest k v (removed-absent m k) in
-      let old = ap (λ n. sum_by f (table.values n)) (sym (undone-remove m k w some)) ∙ sum-insert_new f rest k w (removed-absent m k) in
-      omega (arith, new, old)
 
   -- how many rows a table has
   pub len-of_rows : (es : List (List ℕ × X)) → IsDistinct es → table.len (table_of es) ≡ length es
@@ -91,20 +72,3 @@ module _ {X : Type 0} where
     where
       plus_one : (n : ℕ) → n + 1 ≡ suc n
       plus_one n = omega arith
-
-  -- a test over the rows from a place on
-  pub any-drop : (p : X → Bool) (es : List (List ℕ × X)) (i j : ℕ) (x : X) → IsRowAt es i x → j ≡ i + 1 → list_any p (of_rows (drop i es)) ≡ (p x || list_any p (of_rows (drop j es)))
-  any-drop p [] i j x at e = cc
-  any-drop p (e ∷ es) zero j x at is =
-      let one : j ≡ 1 = omega arith in
-      subst (λ m. (p e.1 || list_any p (of_rows es)) ≡ (p x || list_any p (of_rows (drop m (e ∷ es))))) (sym one) (ap (λ y. p y || list_any p (of_rows es)) (same_row e.1 x at))
-    where
-      same_row : (a b : X) → Some a ≡ Some b → a ≡ b
-      same_row a b e = cc
-  any-drop p (e ∷ es) (suc i) j x at is =
-      let next : j ≡ suc (i + 1) = omega arith in
-      subst (λ m. list_any p (of_rows (drop i es)) ≡ (p x || list_any p (of_rows (drop m (e ∷ es))))) (sym next) (any-drop p es i (i + 1) x at refl)
-
-  -- a table is empty exactly where it has no rows
-  pub empty-of_rows : (es : List (List ℕ × X)) → IsDistinct es → (es ≡ []) ↔ (table_of es ≡ table.empty)
-  empty-of_rows es d = (λ e. ap table_of e, λ e. nil_from_length es (sym (len-of_rows es d) ∙ ap table.len e ∙ table.len-empty key_cmp X))

@@ -1,24 +1,91 @@
--- The slots and the changes of a sheet, as lists of pairs.
-use Rattle.std.specs.Prelude.{ℕ, ◌+◌, ◌≤◌, List, length, Option}
-use Rattle.std.specs.Borrow.{Bor}
-use Rattle.part_core.specs.Sheet.{IsDistinct}
-use Rattle.part_core.specs.declared.slots.Slot.{Slot}
-use Rattle.part_core.specs.declared.slots.Change.{Change}
+-- The slots of a sheet: each key with the row that it has now, and with the one that it had where it has changed since the rows were last kept.
+use Rattle.std.specs.Prelude.{◌≡◌, ◌≢◌, ◌≤◌, ◌||◌, ℕ, zero, suc, Bool, true, List, [], ◌∷◌, Option, Some, None, is_some, map, sum_by, nat_eq, if◌then◌else◌}
+use Rattle.std.specs.List.{All}
+use Rattle.std.specs.FinMap as table
+use Rattle.part_core.specs.Sheet.{IsDistinct, Table, table_of}
+use Rattle.part_core.specs.declared.slots.Held.{Held}
+use Rattle.part_core.specs.declared.slots.Found.{Found}
 
 module _ {K X : Type 0} (digits : K → List ℕ) where
-  -- what a slot is in the table
-  abbrev pub entry_of : Slot K X → List ℕ × X
-  entry_of s = (digits s.key, s.row)
+  abbrev pub entry_of : K × Held X → List ℕ × Held X
+  entry_of e = (digits e.0, e.1)
 
-  -- the entry of a slot behind a reference
-  abbrev pub lent_of : Bor (Slot K X) → List ℕ × X
-  lent_of s = entry_of s.now
+  -- the slots of a map, by the digits of their keys
+  abbrev pub slots_of : List (K × Held X) → List (List ℕ × Held X)
+  slots_of es = map entry_of es
 
-  -- a key, and what it had before it was changed
-  abbrev pub change_of : Change K X → List ℕ × Option X
-  change_of c = (digits c.key, c.before)
+  -- a row that was found, under its key
+  abbrev pub row_found : Found K X → List ℕ × X
+  row_found f = (digits f.key.now, f.row.now)
 
--- no key stands twice, and all changes can be undone without more memory
-pub record IsSound {X : Type 0} (rows : List (List ℕ × X)) (changes capacity : ℕ) : Type 0 where
-  pub distinct : IsDistinct rows
-  pub room : length rows + changes ≤ capacity
+-- a row or none under a key, before other rows
+abbrev pub with_row : {X : Type 0} → List ℕ → Option X → List (List ℕ × X) → List (List ℕ × X)
+with_row k None es = es
+with_row k (Some x) es = (k, x) ∷ es
+
+-- what stood there before a change, or else what stands there
+abbrev pub first_of : {X : Type 0} → Option (Option X) → Option X → Option X
+first_of None row = row
+first_of (Some before) row = before
+
+-- 1 where a change is noted
+abbrev pub noted : {X : Type 0} → Option (Option X) → ℕ
+noted None = 0
+noted (Some before) = 1
+
+-- how often the number is listed
+abbrev pub times : ℕ → List ℕ → ℕ
+times j is = sum_by (λ i. if nat_eq j i then 1 else 0) is
+
+module _ {X : Type 0} where
+  -- the row now
+  abbrev pub now_row : Held X → Option X
+  now_row h = h.row
+
+  -- the row as last kept
+  abbrev pub kept_row : Held X → Option X
+  kept_row h = first_of h.before h.row
+
+  -- the rows that f tells of the slots
+  abbrev pub rows_by : (Held X → Option X) → List (List ℕ × Held X) → List (List ℕ × X)
+  rows_by f [] = []
+  rows_by f (e ∷ es) = with_row e.0 (f e.1) (rows_by f es)
+
+  -- they, as a finite map
+  abbrev pub table_by : (Held X → Option X) → List (List ℕ × Held X) → Table X
+  table_by f es = table_of (rows_by f es)
+
+  -- 1 where a change of the slot at this place is noted
+  abbrev pub noted_at : List (List ℕ × Held X) → ℕ → ℕ
+  noted_at [] j = 0
+  noted_at (e ∷ es) zero = noted e.1.before
+  noted_at (e ∷ es) (suc j) = noted_at es j
+
+  -- these are the places of the slots with a noted change, each once
+  abbrev pub ArePlaces : List ℕ → List (List ℕ × Held X) → Type 0
+  ArePlaces is es = (j : ℕ) → times j is ≡ noted_at es j
+
+  -- no change is noted from that place on
+  abbrev pub NoneFrom : ℕ → List (List ℕ × Held X) → Type 0
+  NoneFrom i es = (j : ℕ) → i ≤ j → noted_at es j ≡ 0
+
+  -- this change is no longer noted, and each other is as it was
+  pub record IsUnnoted (old new : List (List ℕ × Held X)) (i : ℕ) : Type 0 where
+    pub here : noted_at new i ≡ 0
+    pub others : (j : ℕ) → j ≢ i → noted_at new j ≡ noted_at old j
+
+  -- there is a row, or a change is noted
+  abbrev pub is_used : Held X → Bool
+  is_used h = is_some h.row || is_some h.before
+
+  -- no slot is left over: one without a row has a noted change
+  abbrev pub AreUsed : List (List ℕ × Held X) → Type 0
+  AreUsed es = All (λ e. is_used e.1 ≡ true) es
+
+  -- no key stands twice, no slot is left over, the places of the changes are known, and so are the numbers of rows
+  pub record IsSound (es : List (List ℕ × Held X)) (changed : List ℕ) (rows kept : ℕ) : Type 0 where
+    pub distinct : IsDistinct es
+    pub used : AreUsed es
+    pub places : ArePlaces changed es
+    pub len : rows ≡ table.len (table_by now_row es)
+    pub kept_len : kept ≡ table.len (table_by kept_row es)

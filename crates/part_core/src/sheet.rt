@@ -1,16 +1,29 @@
 //! A table in memory, whose changes can be taken back.
+//!
+//! A sheet is a map from each key to a slot, which has the row now, or none, and, where the key was changed since the
+//! rows were last kept, what it had then: a row, or none. So the map holds both tables, and no key stands twice in it.
+//! `changed` lists the places of the slots with such a note, each once. A change writes a slot, and the first one of
+//! its key notes what was there and lists the place. A removal leaves its slot, so that no slot moves and each listed
+//! place stays good until `keep` or `back`.
+//!
+//! These two go over `changed` from the largest place down: `keep` drops the note, `back` writes it over the row, and a
+//! slot that has no row then is taken out, and the last slot of the map moves into its place. Nothing is noted behind
+//! the place where they are, so the slot that moves is none that is still to come. They write, sort in place and take
+//! out, which needs no memory, and they touch only the slots that are listed. Each slot has a row or a note, so that
+//! outside of changes there are as many slots as rows.
 ghost use Rattle.std.specs.Prelude.{◌≡◌, ◌↔◌, ◌<◌, ℕ, Bool, length, filter, map, option_copied, IsTrue, OnOk, OnErr, IfOk, IsSome, Some, [], sum_by};
 ghost use Rattle.std.specs.List.{All, list_any};
 ghost use Rattle.std.specs.FinMap as table;
 ghost use Rattle.std.specs.Borrow.{sem};
-ghost use Rattle.part_core.specs.Sheet.{now_of, IsRowAt, IsDistinct, IsEachOnce, IsDifference};
+ghost use Rattle.part_core.specs.Sheet.{now_of, IsEachOnce, IsDifference};
 ghost use Rattle.part_core.specs.Select.{IsMeasure, IsTest};
 
 use crate::row::Row;
 use crate::slots::{
-    Change, Slot, is_changed, is_unchanged, log_row, place, push_within, replace_row, rows_of,
-    sort_slots, take_slot, undo,
+    Held, add, any_row, back_all, find_rows, keep_all, list_pending, note, place, rewrite, row_of,
+    rows_of, sort_found, sum_rows,
 };
+use indexmap::IndexMap;
 use std::alloc::{AllocError, Global};
 use std::marker::Model;
 
@@ -19,39 +32,43 @@ mod tests;
 
 /// The rows of a table, each under its key, with what was changed since they were last kept.
 ///
-/// The rows lie in the sheet's own order, which a removal or `back` can change, and a look-up is a linear scan.
-/// A call that changes rows takes all the memory that `keep` and `back` will need, so that those two never fail.
+/// A look-up is by a hash of the key, and takes the same time however many rows there are. So do `put`, `remove` and
+/// `get_mut`; `pending`, `keep` and `back` take time for what was changed. `keep` and `back` never fail.
 #[derive(Drop)]
 pub struct Sheet<R: Row> {
-    slots: Vec<Slot<R::Key, R>>,
-    changes: Vec<Change<R::Key, R>>,
+    // Each key with what it has now, and, once it was changed, what it had.
+    slots: IndexMap<R::Key, Held<R>>,
+    // The places of the slots that were changed, each once.
+    changed: Vec<usize>,
+    // How many rows there are, and how many there were when they were last kept.
+    len: usize,
+    kept_len: usize,
     alloc: Global,
 }
 
 /// A key whose row has changed since the rows were last kept, with its row now, or none.
 #[derive(Drop)]
 pub struct Pending<'a, R: Row> {
-    /// The key, as it was first changed.
+    /// The key, as it was first put.
     pub key: &'a R::Key,
     /// The row that stands under it now.
     pub row: Option<&'a R>,
 }
 
 impl<R: Row> Model for Sheet<R> {
-    ghost use Rattle.std.specs.Prelude.{map, length, vec_capacity};
-    ghost use Rattle.part_core.specs.Sheet.{Rows, rows_code, all_undone, table_of};
-    ghost use Rattle.part_core.specs.Slots.{IsSound, entry_of, change_of};
+    ghost use Rattle.part_core.specs.Sheet.{Rows, rows_code};
+    ghost use Rattle.part_core.specs.Slots.{IsSound, kept_row, now_row, slots_of, table_by};
 
     ghost Value = { Rows R };
 
     ghost coded = { rows_code R.code };
 
     ghost view = { λ s. record {
-      rows = map (entry_of R.digits) s.slots.items;
-      kept = all_undone (map (change_of R.digits) s.changes.items) (table_of (map (entry_of R.digits) s.slots.items));
+      rows = table_by now_row (slots_of R.digits s.slots.entries);
+      kept = table_by kept_row (slots_of R.digits s.slots.entries);
     } };
 
-    ghost invariant = { λ s. IsSound (map (entry_of R.digits) s.slots.items) (length s.changes.items) (vec_capacity s.slots) };
+    ghost invariant = { λ s. IsSound (slots_of R.digits s.slots.entries) s.changed.items s.len s.kept_len };
 }
 
 impl<R: Row> Sheet<R> {
@@ -59,47 +76,44 @@ impl<R: Row> Sheet<R> {
 
     /// A sheet with no rows, which takes no memory.
     pub fn new(alloc: Global) -> Self
-        ensures rows { result.rows ≡ [] }
+        ensures rows { now_of result ≡ table.empty }
         ensures kept { result.kept ≡ table.empty }
     {
         Sheet {
-            slots: Vec::new(alloc),
-            changes: Vec::new(alloc),
+            slots: IndexMap::new(alloc),
+            changed: Vec::new(alloc),
+            len: 0,
+            kept_len: 0,
             alloc,
         }
     }
 
     /// How many rows there are.
     pub fn len(&self) -> usize
-        ensures len { result ≡ length self.now.rows }
         ensures count { result ≡ table.len (now_of self.now) }
-        ensures distinct { IsDistinct self.now.rows }
     {
-        self.slots.len()
+        self.len
+    }
+
+    /// How many rows there were when they were last kept.
+    pub fn kept_len(&self) -> usize
+        ensures { result ≡ table.len self.now.kept }
+    {
+        self.kept_len
     }
 
     /// Whether there are no rows.
     pub fn is_empty(&self) -> bool
-        ensures rows { IsTrue result ↔ (self.now.rows ≡ []) }
         ensures empty { IsTrue result ↔ (now_of self.now ≡ table.empty) }
     {
-        self.slots.is_empty()
+        self.len == 0
     }
 
-    /// The row under the key, found by a linear scan that takes no memory.
+    /// The row under the key, found by its hash. It takes no memory.
     pub fn get(&self, key: &R::Key) -> Option<&R>
         ensures { option_copied result ≡ table.get (now_of self.now) (R.digits key.now) }
     {
-        let i = place::<R>(self.slots.as_slice(), key)?;
-        Some(&self.slots[i].row)
-    }
-
-    /// The row at this place in the sheet's own order.
-    pub fn at(&self, i: usize) -> &R
-        requires { i < length self.now.rows }
-        ensures { IsRowAt self.now.rows i result.now }
-    {
-        &self.slots[i].row
+        row_of::<R>(&self.slots, key)
     }
 
     /// Whether a row passes the test: a scan that ends at the first that does, and takes no memory.
@@ -107,12 +121,7 @@ impl<R: Row> Sheet<R> {
         requires { F.IsAlwaysCallable test }
         ensures { (p : R → Bool) → IsTest F.Fn test p → result ≡ list_any p (table.values (now_of self.now)) }
     {
-        for slot in &self.slots {
-            if test(&slot.row) {
-                return true;
-            }
-        }
-        false
+        any_row::<R, F>(&self.slots, test)
     }
 
     /// The sum of a measure over the rows: a scan that takes no memory. It fits 128 bits whatever the
@@ -121,11 +130,7 @@ impl<R: Row> Sheet<R> {
         requires { F.IsAlwaysCallable measure }
         ensures { (f : R → ℕ) → IsMeasure F.Fn measure f → result ≡ sum_by f (table.values (now_of self.now)) }
     {
-        let mut total = 0;
-        for slot in &self.slots {
-            total += u128::from(measure(&slot.row));
-        }
-        total
+        sum_rows::<R, F>(&self.slots, measure)
     }
 
     /// The rows that pass the test, in order of key: a scan, and a sort of the rows found. An error is one of memory.
@@ -133,27 +138,26 @@ impl<R: Row> Sheet<R> {
         requires { F.IsAlwaysCallable test }
         ensures { IfOk result (λ rows. (p : R → Bool) → IsTest F.Fn test p → map (λ r. r.now) rows.items ≡ filter p (table.values (now_of self.now))) }
     {
-        let mut found = Vec::new(self.alloc);
-        for slot in &self.slots {
-            if test(&slot.row) {
-                found.push(slot)?;
-            }
-        }
-        sort_slots::<R>(&mut found);
+        let mut found = find_rows::<R, F>(self.alloc, &self.slots, test)?;
+        sort_found::<R>(&mut found);
         rows_of::<R>(self.alloc, found.as_slice())
     }
 
     /// The row under the key, for writing.
     ///
-    /// A copy of it is made, for `back`. The row stays under this key, whatever is written. An error is one of memory.
+    /// A copy of it is made, for `back`, where it has not changed yet since the rows were kept. The row stays under this
+    /// key, whatever is written. An error is one of memory.
     pub fn get_mut(&mut self, key: R::Key) -> Result<&mut R, AllocError>
         requires { IsSome (table.get (now_of self.old) (R.digits key)) }
         ensures* writes_back { sem 𝓛 (lends_row R.row R.Key.row R.Row R.Key.Hash self.entry (R.digits key) result) }
         ensures value { IfOk result (λ row. table.get (now_of self.old) (R.digits key) ≡ Some row.now) }
     {
-        let i = log_row::<R>(self.alloc, &mut self.slots, &mut self.changes, key)?;
-        let slot = &mut self.slots[i];
-        Ok(&mut slot.row)
+        let i = note::<R>(self.alloc, &mut self.slots, &mut self.changed, &key)?;
+        let held = &mut self.slots[i];
+        match &mut held.row {
+            Some(row) => Ok(row),
+            None => unreachable!(),
+        }
     }
 
     /// Puts the row under its key, in the place of the one that stands there. An error is one of memory.
@@ -163,30 +167,16 @@ impl<R: Row> Sheet<R> {
         ensures kept { self.new.kept ≡ self.old.kept }
     {
         let key = row.key(self.alloc)?;
-        self.changes.reserve(1)?;
-        match place::<R>(self.slots.as_slice(), &key) {
+        self.changed.reserve(1)?;
+        match place::<R>(&self.slots, &key) {
             Some(i) => {
-                self.slots.reserve(self.changes.len().saturating_add(1))?;
-                let before = replace_row::<R>(&mut self.slots, i, row);
-                push_within(
-                    &mut self.changes,
-                    Change {
-                        key,
-                        before: Some(before),
-                    },
-                );
+                if !rewrite::<R>(&mut self.slots, &mut self.changed, i, Some(row)) {
+                    self.len += 1;
+                }
             }
             None => {
-                let again = row.key(self.alloc)?;
-                self.slots.reserve(self.changes.len().saturating_add(2))?;
-                push_within(
-                    &mut self.changes,
-                    Change {
-                        key: again,
-                        before: None,
-                    },
-                );
-                push_within(&mut self.slots, Slot { key, row });
+                add::<R>(&mut self.slots, &mut self.changed, key, row)?;
+                self.len += 1;
             }
         }
         Ok(())
@@ -198,60 +188,42 @@ impl<R: Row> Sheet<R> {
         ensures err { OnErr result (self.new ≡ self.old) }
         ensures kept { self.new.kept ≡ self.old.kept }
     {
-        self.changes.reserve(1)?;
-        if let Some(i) = place::<R>(self.slots.as_slice(), key) {
-            let Slot { key, row } = take_slot::<R>(&mut self.slots, i);
-            push_within(
-                &mut self.changes,
-                Change {
-                    key,
-                    before: Some(row),
-                },
-            );
+        self.changed.reserve(1)?;
+        if let Some(i) = place::<R>(&self.slots, key) {
+            if rewrite::<R>(&mut self.slots, &mut self.changed, i, None) {
+                self.len -= 1;
+            }
         }
         Ok(())
     }
 
     /// The keys at which the rows differ from those last kept, in the order in which they were first changed.
     ///
-    /// A row that was changed back, or put and removed again, is not listed. For each change since the rows were kept
-    /// this scans the changes before it, and then the rows. An error is one of memory.
+    /// A row that was changed back, or put and removed again, is not listed. This goes over the changes since the rows
+    /// were kept. An error is one of memory.
     pub fn pending(&self) -> Result<Vec<Pending<'_, R>>, AllocError>
         ensures once { IfOk result (λ pending. IsEachOnce (map (λ p. R.digits p.key.now) pending.items)) }
         ensures exact { IfOk result (λ pending. IsDifference (map (λ p. R.digits p.key.now) pending.items) (now_of self.now) self.now.kept) }
         ensures rows { IfOk result (λ pending. All (λ p. option_copied p.row ≡ table.get (now_of self.now) (R.digits p.key.now)) pending.items) }
     {
-        let mut pending = Vec::new(self.alloc);
-        for (i, change) in self.changes.iter().enumerate() {
-            if is_changed::<R>(&self.changes[..i], &change.key) {
-                continue;
-            }
-            let row = self.get(&change.key);
-            if !is_unchanged(&change.before, row) {
-                pending.push(Pending {
-                    key: &change.key,
-                    row,
-                })?;
-            }
-        }
-        Ok(pending)
+        list_pending::<R>(self.alloc, &self.slots, self.changed.as_slice())
     }
 
     /// Makes the changes final. It takes no memory.
     pub fn keep(&mut self)
-        ensures rows { self.new.rows ≡ self.old.rows }
+        ensures rows { now_of self.new ≡ now_of self.old }
         ensures kept { self.new.kept ≡ now_of self.old }
     {
-        self.changes.clear();
+        keep_all::<R>(&mut self.slots, &mut self.changed);
+        self.kept_len = self.len;
     }
 
-    /// Takes back each change since the rows were last kept, the newest first. It takes no memory.
+    /// Takes back each change since the rows were last kept. It takes no memory.
     pub fn back(&mut self)
         ensures rows { now_of self.new ≡ self.old.kept }
         ensures kept { self.new.kept ≡ self.old.kept }
     {
-        while let Some(change) = self.changes.pop() {
-            undo::<R>(&mut self.slots, change);
-        }
+        back_all::<R>(&mut self.slots, &mut self.changed);
+        self.len = self.kept_len;
     }
 }

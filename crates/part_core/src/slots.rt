@@ -1,174 +1,398 @@
-//! The slots of a sheet, and what is written down of its changes.
-ghost use Rattle.std.specs.Prelude.{◌≡◌, ◌↔◌, ◌+◌, ◌<◌, ◌≤◌, IsTrue, length, OnOk, OnErr, IfOk, IfSome, IfNone, IsSome, Some, None, [], map, option_copied, vec_capacity, ◌++◌, ◌∷◌};
+//! The slots of a sheet: what each key has now, and what it had before it was changed.
+ghost use Rattle.std.specs.Prelude.{◌≡◌, ◌↔◌, ◌+◌, ◌^◌, ◌<◌, ◌≤◌, ℕ, List, Bool, IsTrue, length, OnOk, OnErr, IfOk, IfSome, IfNone, IsSome, is_some, Some, None, [], map, filter, sum_by, slice_get, option_copied, vec_capacity, ◌++◌, ◌∷◌};
+ghost use Rattle.std.specs.List.{All, list_any};
 ghost use Rattle.std.specs.List.Sorted.{IsPermutation, IsSortedByKey};
 ghost use Rattle.std.specs.FinMap as table;
-ghost use Rattle.part_core.specs.Sheet.{table_of, key_cmp, HasKeyAt, IsRowAt, IsDistinct, IsWritten, IsLogged, undone, is_listed};
-ghost use Rattle.part_core.specs.Slots.{IsSound, entry_of, change_of};
+ghost use Rattle.part_core.specs.Sheet.{key_cmp, HasKeyAt, IsDifference, IsDistinct, IsEachOnce, given};
+ghost use Rattle.part_core.specs.Select.{IsMeasure, IsTest};
+ghost use Rattle.part_core.specs.Slots.{ArePlaces, AreUsed, IsUnnoted, NoneFrom, kept_row, noted_at, now_row, row_found, rows_by, slots_of, table_by};
 
 use crate::row::Row;
+use crate::sheet::Pending;
+use indexmap::IndexMap;
 use std::alloc::{AllocError, Global};
 use std::mem;
 
-// A row, and the key that it stands under.
+// What stands under a key.
 #[derive(Drop)]
-pub(crate) struct Slot<K, R> {
-    pub(crate) key: K,
-    pub(crate) row: R,
+pub(crate) struct Held<R> {
+    // The row, or none: then only what it had before is kept here.
+    pub(crate) row: Option<R>,
+    // Where it has changed since the rows were last kept: the row that it had then, or none.
+    pub(crate) before: Option<Option<R>>,
 }
 
-// What a key had before a change: a row, or none.
+// A row that was found, and the key that it stands under.
 #[derive(Drop)]
-pub(crate) struct Change<K, R> {
-    pub(crate) key: K,
-    pub(crate) before: Option<R>,
+pub(crate) struct Found<'a, K, R> {
+    pub(crate) key: &'a K,
+    pub(crate) row: &'a R,
 }
 
 // Where the key stands.
-pub(crate) fn place<R: Row>(slots: &[Slot<R::Key, R>], key: &R::Key) -> Option<usize>
-    ensures in_range { IfSome result (λ i. i < length slots.now) }
-    ensures found { IfSome result (λ i. HasKeyAt (map (entry_of R.digits) slots.now) i (R.digits key.now)) }
-    ensures absent { IfNone result (table.find key_cmp (R.digits key.now) (map (entry_of R.digits) slots.now) ≡ None) }
+pub(crate) fn place<R: Row>(slots: &IndexMap<R::Key, Held<R>>, key: &R::Key) -> Option<usize>
+    ensures in_range { IfSome result (λ i. i < length slots.now.entries) }
+    ensures found { IfSome result (λ i. HasKeyAt (slots_of R.digits slots.now.entries) i (R.digits key.now)) }
+    ensures absent { IfNone result (table.find key_cmp (R.digits key.now) (slots_of R.digits slots.now.entries) ≡ None) }
 {
-    for (i, slot) in slots.iter().enumerate() {
-        if slot.key == *key {
-            return Some(i);
-        }
-    }
-    None
+    slots.get_index_of(key)
 }
 
-// Whether one of the changes is of the key.
-pub(crate) fn is_changed<R: Row>(changes: &[Change<R::Key, R>], key: &R::Key) -> bool
-    ensures { result ≡ is_listed (R.digits key.now) (map (λ c. R.digits c.key) changes.now) }
+// The row under the key.
+pub(crate) fn row_of<'a, R: Row>(
+    slots: &'a IndexMap<R::Key, Held<R>>,
+    key: &R::Key,
+) -> Option<&'a R>
+    requires { IsDistinct (slots_of R.digits slots.now.entries) }
+    ensures { option_copied result ≡ table.get (table_by now_row (slots_of R.digits slots.now.entries)) (R.digits key.now) }
 {
-    for change in changes {
-        if change.key == *key {
-            return true;
-        }
-    }
-    false
-}
-
-// Whether the row is what it was before, or there is none and was none.
-pub(crate) fn is_unchanged<R: Row>(before: &Option<R>, row: Option<&R>) -> bool
-    ensures { IsTrue result ↔ (option_copied row.entry ≡ before.now) }
-{
-    match (before, row) {
-        (Some(before), Some(row)) => row.equals(before),
-        (None, None) => true,
-        _ => false,
-    }
-}
-
-// Sorts by key.
-pub(crate) fn sort_slots<'a, R: Row>(slots: &mut Vec<&'a Slot<R::Key, R>>)
-    ensures permutation { IsPermutation slots.old.items slots.new.items }
-    ensures sorted { IsSortedByKey (λ s. R.digits s.now.key) key_cmp slots.new.items }
-{
-    slots.sort_unstable_by(|slot, other| R::compare(&slot.key, &other.key));
-}
-
-// The rows of these slots.
-pub(crate) fn rows_of<'a, R: Row>(
-    alloc: Global,
-    slots: &[&'a Slot<R::Key, R>],
-) -> Result<Vec<&'a R>, AllocError>
-    ensures { IfOk result (λ rows. map (λ r. r.now) rows.items ≡ map (λ s. s.now.row) slots.now) }
-{
-    let mut rows = Vec::with_capacity(alloc, slots.len())?;
-    for slot in slots {
-        rows.push(&slot.row)?;
-    }
-    Ok(rows)
+    let held = slots.get(key)?;
+    held.row.as_ref()
 }
 
 // Puts the value at the end, where there is room.
 pub(crate) fn push_within<T: Drop>(items: &mut Vec<T>, value: T)
     requires { length items.old.items < vec_capacity items.old }
     ensures items { items.new.items ≡ items.old.items ++ value ∷ [] }
-    ensures capacity { vec_capacity items.old ≤ vec_capacity items.new }
 {
     let _ = items.push(value);
 }
 
-// Puts another row under the key that stands there, and hands back the one before.
-pub(crate) fn replace_row<R: Row>(slots: &mut Vec<Slot<R::Key, R>>, i: usize, row: R) -> R
-    requires in_range { i < length slots.old.items }
-    requires distinct { IsDistinct (map (entry_of R.digits) slots.old.items) }
-    ensures capacity { vec_capacity slots.new ≡ vec_capacity slots.old }
-    ensures length { length slots.new.items ≡ length slots.old.items }
-    ensures distinct { IsDistinct (map (entry_of R.digits) slots.new.items) }
-    ensures before { IsRowAt (map (entry_of R.digits) slots.old.items) i result }
-    ensures written { IsWritten (map (entry_of R.digits) slots.old.items) (map (entry_of R.digits) slots.new.items) i row }
+// Gives the slot that stands there a row, or none, and notes what it had. Answers whether it had a row.
+pub(crate) fn rewrite<R: Row>(
+    slots: &mut IndexMap<R::Key, Held<R>>,
+    changed: &mut Vec<usize>,
+    i: usize,
+    row: Option<R>,
+) -> bool
+    requires in_range { i < length slots.old.entries }
+    requires room { length changed.old.items < vec_capacity changed.old }
+    requires distinct { IsDistinct (slots_of R.digits slots.old.entries) }
+    requires used { AreUsed (slots_of R.digits slots.old.entries) }
+    requires places { ArePlaces changed.old.items (slots_of R.digits slots.old.entries) }
+    ensures distinct { IsDistinct (slots_of R.digits slots.new.entries) }
+    ensures used { AreUsed (slots_of R.digits slots.new.entries) }
+    ensures places { ArePlaces changed.new.items (slots_of R.digits slots.new.entries) }
+    ensures rows { (k : List ℕ) → HasKeyAt (slots_of R.digits slots.old.entries) i k
+        → table_by now_row (slots_of R.digits slots.new.entries) ≡ given k row (table_by now_row (slots_of R.digits slots.old.entries)) }
+    ensures kept { table_by kept_row (slots_of R.digits slots.new.entries) ≡ table_by kept_row (slots_of R.digits slots.old.entries) }
+    ensures few { length slots.old.entries < 2 ^ 63 }
+    ensures had { (k : List ℕ) → HasKeyAt (slots_of R.digits slots.old.entries) i k
+        → result ≡ table.contains_key (table_by now_row (slots_of R.digits slots.old.entries)) k }
 {
-    let slot = &mut slots[i];
-    mem::replace(&mut slot.row, row)
+    // `len` is called for its clause that there are fewer than 2^63 slots.
+    let _len = slots.len();
+    let held = &mut slots[i];
+    let had = held.row.is_some();
+    let before = mem::replace(&mut held.row, row);
+    if held.before.is_none() {
+        held.before = Some(before);
+        push_within(changed, i);
+    }
+    had
 }
 
-// Takes out the slot that stands there.
-pub(crate) fn take_slot<R: Row>(slots: &mut Vec<Slot<R::Key, R>>, i: usize) -> Slot<R::Key, R>
-    requires in_range { i < length slots.old.items }
-    requires distinct { IsDistinct (map (entry_of R.digits) slots.old.items) }
-    ensures capacity { vec_capacity slots.new ≡ vec_capacity slots.old }
-    ensures length { length slots.new.items + 1 ≡ length slots.old.items }
-    ensures distinct { IsDistinct (map (entry_of R.digits) slots.new.items) }
-    ensures key { HasKeyAt (map (entry_of R.digits) slots.old.items) i (R.digits result.key) }
-    ensures row { IsRowAt (map (entry_of R.digits) slots.old.items) i result.row }
-    ensures taken { table_of (map (entry_of R.digits) slots.new.items)
-        ≡ table.remove (table_of (map (entry_of R.digits) slots.old.items)) (R.digits result.key) }
+// Puts a row under a new key, and notes that there was none. An error is one of memory.
+pub(crate) fn add<R: Row>(
+    slots: &mut IndexMap<R::Key, Held<R>>,
+    changed: &mut Vec<usize>,
+    key: R::Key,
+    row: R,
+) -> Result<(), AllocError>
+    requires absent { table.find key_cmp (R.digits key) (slots_of R.digits slots.old.entries) ≡ None }
+    requires room { length changed.old.items < vec_capacity changed.old }
+    requires distinct { IsDistinct (slots_of R.digits slots.old.entries) }
+    requires used { AreUsed (slots_of R.digits slots.old.entries) }
+    requires places { ArePlaces changed.old.items (slots_of R.digits slots.old.entries) }
+    ensures distinct { IsDistinct (slots_of R.digits slots.new.entries) }
+    ensures used { AreUsed (slots_of R.digits slots.new.entries) }
+    ensures places { ArePlaces changed.new.items (slots_of R.digits slots.new.entries) }
+    ensures rows { OnOk result (table_by now_row (slots_of R.digits slots.new.entries)
+        ≡ table.insert (table_by now_row (slots_of R.digits slots.old.entries)) (R.digits key) row) }
+    ensures kept { table_by kept_row (slots_of R.digits slots.new.entries) ≡ table_by kept_row (slots_of R.digits slots.old.entries) }
+    ensures few { length slots.old.entries < 2 ^ 63 }
+    ensures err { OnErr result (slots.new.entries ≡ slots.old.entries) }
 {
-    slots.remove(i)
-}
-
-// Undoes a change: the key has again the row that it had, or none.
-pub(crate) fn undo<R: Row>(slots: &mut Vec<Slot<R::Key, R>>, change: Change<R::Key, R>)
-    requires room { length slots.old.items < vec_capacity slots.old }
-    requires distinct { IsDistinct (map (entry_of R.digits) slots.old.items) }
-    ensures capacity { vec_capacity slots.old ≤ vec_capacity slots.new }
-    ensures length { length slots.new.items ≤ length slots.old.items + 1 }
-    ensures distinct { IsDistinct (map (entry_of R.digits) slots.new.items) }
-    ensures undone { table_of (map (entry_of R.digits) slots.new.items)
-        ≡ undone (change_of R.digits change) (table_of (map (entry_of R.digits) slots.old.items)) }
-{
-    let Change { key, before } = change;
-    let found = place::<R>(slots.as_slice(), &key);
-    match before {
-        Some(row) => match found {
-            Some(i) => {
-                let _ = replace_row::<R>(slots, i, row);
-            }
-            None => push_within(slots, Slot { key, row }),
+    let i = slots.len();
+    slots.insert(
+        key,
+        Held {
+            row: Some(row),
+            before: Some(None),
         },
-        None => {
-            if let Some(i) = found {
-                let _ = take_slot::<R>(slots, i);
-            }
-        }
+    )?;
+    push_within(changed, i);
+    Ok(())
+}
+
+// Takes out the slot that stands there, and with it the change that is noted there. No later place has one.
+fn take_out<R: Row>(slots: &mut IndexMap<R::Key, Held<R>>, i: usize)
+    requires in_range { i < length slots.old.entries }
+    requires last { NoneFrom (i + 1) (slots_of R.digits slots.old.entries) }
+    ensures noted { IsUnnoted (slots_of R.digits slots.old.entries) (slots_of R.digits slots.new.entries) i }
+    ensures taken { (k : List ℕ) → (held : Held R) → slice_get (slots_of R.digits slots.old.entries) i ≡ Some (k, held)
+        → IsPermutation (slots_of R.digits slots.old.entries) ((k, held) ∷ slots_of R.digits slots.new.entries) }
+{
+    let _ = slots.swap_remove_index(i);
+}
+
+// Makes the change that is noted there final. No later place has one.
+fn keep_at<R: Row>(slots: &mut IndexMap<R::Key, Held<R>>, i: usize)
+    requires in_range { i < length slots.old.entries }
+    requires distinct { IsDistinct (slots_of R.digits slots.old.entries) }
+    requires used { AreUsed (slots_of R.digits slots.old.entries) }
+    requires last { NoneFrom (i + 1) (slots_of R.digits slots.old.entries) }
+    ensures distinct { IsDistinct (slots_of R.digits slots.new.entries) }
+    ensures used { AreUsed (slots_of R.digits slots.new.entries) }
+    ensures noted { IsUnnoted (slots_of R.digits slots.old.entries) (slots_of R.digits slots.new.entries) i }
+    ensures rows { table_by now_row (slots_of R.digits slots.new.entries) ≡ table_by now_row (slots_of R.digits slots.old.entries) }
+{
+    if slots[i].row.is_some() {
+        let held = &mut slots[i];
+        held.before = None;
+    } else {
+        take_out::<R>(slots, i);
     }
 }
 
-// Writes down that the row under the key may change, and answers where it stands.
-pub(crate) fn log_row<R: Row>(
-    alloc: Global,
-    slots: &mut Vec<Slot<R::Key, R>>,
-    changes: &mut Vec<Change<R::Key, R>>,
-    key: R::Key,
-) -> Result<usize, AllocError>
-    requires sound { IsSound (map (entry_of R.digits) slots.old.items) (length changes.old.items) (vec_capacity slots.old) }
-    requires present { IsSome (table.get (table_of (map (entry_of R.digits) slots.old.items)) (R.digits key)) }
-    ensures slots { slots.new.items ≡ slots.old.items }
-    ensures sound { IsSound (map (entry_of R.digits) slots.new.items) (length changes.new.items) (vec_capacity slots.new) }
-    ensures in_range { IfOk result (λ i. i < length slots.old.items) }
-    ensures found { IfOk result (λ i. HasKeyAt (map (entry_of R.digits) slots.old.items) i (R.digits key)) }
-    ensures logged { OnOk result (IsLogged (map (change_of R.digits) changes.old.items) (map (change_of R.digits) changes.new.items) (table_of (map (entry_of R.digits) slots.old.items)) (R.digits key)) }
-    ensures err { OnErr result (changes.new.items ≡ changes.old.items) }
+// Whether there was a row when the rows were last kept.
+fn had_row<R: Drop>(held: &Held<R>) -> bool
+    ensures { result ≡ is_some (kept_row held.now) }
 {
-    changes.reserve(1)?;
-    slots.reserve(changes.len().saturating_add(1))?;
-    let Some(i) = place::<R>(slots.as_slice(), &key) else {
+    match &held.before {
+        None => held.row.is_some(),
+        Some(before) => before.is_some(),
+    }
+}
+
+// Gives the slot what it had when the rows were last kept.
+fn restore<R: Drop>(held: &mut Held<R>)
+    ensures now { now_row held.new ≡ kept_row held.old }
+    ensures before { held.new.before ≡ None }
+{
+    if let Some(before) = held.before.take() {
+        held.row = before;
+    }
+}
+
+// Takes back the change that is noted there. No later place has one.
+fn back_at<R: Row>(slots: &mut IndexMap<R::Key, Held<R>>, i: usize)
+    requires in_range { i < length slots.old.entries }
+    requires distinct { IsDistinct (slots_of R.digits slots.old.entries) }
+    requires used { AreUsed (slots_of R.digits slots.old.entries) }
+    requires last { NoneFrom (i + 1) (slots_of R.digits slots.old.entries) }
+    ensures distinct { IsDistinct (slots_of R.digits slots.new.entries) }
+    ensures used { AreUsed (slots_of R.digits slots.new.entries) }
+    ensures noted { IsUnnoted (slots_of R.digits slots.old.entries) (slots_of R.digits slots.new.entries) i }
+    ensures kept { table_by kept_row (slots_of R.digits slots.new.entries) ≡ table_by kept_row (slots_of R.digits slots.old.entries) }
+{
+    if had_row(&slots[i]) {
+        restore(&mut slots[i]);
+    } else {
+        take_out::<R>(slots, i);
+    }
+}
+
+// Makes the changes final, from the last place on. It takes no memory.
+pub(crate) fn keep_all<R: Row>(slots: &mut IndexMap<R::Key, Held<R>>, changed: &mut Vec<usize>)
+    requires distinct { IsDistinct (slots_of R.digits slots.old.entries) }
+    requires used { AreUsed (slots_of R.digits slots.old.entries) }
+    requires places { ArePlaces changed.old.items (slots_of R.digits slots.old.entries) }
+    ensures distinct { IsDistinct (slots_of R.digits slots.new.entries) }
+    ensures used { AreUsed (slots_of R.digits slots.new.entries) }
+    ensures places { ArePlaces changed.new.items (slots_of R.digits slots.new.entries) }
+    ensures rows { table_by now_row (slots_of R.digits slots.new.entries) ≡ table_by now_row (slots_of R.digits slots.old.entries) }
+    ensures kept { table_by kept_row (slots_of R.digits slots.new.entries) ≡ table_by now_row (slots_of R.digits slots.old.entries) }
+{
+    changed.sort_unstable();
+    while let Some(i) = changed.pop() {
+        keep_at::<R>(slots, i);
+    }
+}
+
+// Takes the changes back, from the last place on. It takes no memory.
+pub(crate) fn back_all<R: Row>(slots: &mut IndexMap<R::Key, Held<R>>, changed: &mut Vec<usize>)
+    requires distinct { IsDistinct (slots_of R.digits slots.old.entries) }
+    requires used { AreUsed (slots_of R.digits slots.old.entries) }
+    requires places { ArePlaces changed.old.items (slots_of R.digits slots.old.entries) }
+    ensures distinct { IsDistinct (slots_of R.digits slots.new.entries) }
+    ensures used { AreUsed (slots_of R.digits slots.new.entries) }
+    ensures places { ArePlaces changed.new.items (slots_of R.digits slots.new.entries) }
+    ensures rows { table_by now_row (slots_of R.digits slots.new.entries) ≡ table_by kept_row (slots_of R.digits slots.old.entries) }
+    ensures kept { table_by kept_row (slots_of R.digits slots.new.entries) ≡ table_by kept_row (slots_of R.digits slots.old.entries) }
+{
+    changed.sort_unstable();
+    while let Some(i) = changed.pop() {
+        back_at::<R>(slots, i);
+    }
+}
+
+// Whether the rows are the same, or there is none in either place.
+fn is_same_row<R: Row>(row: &Option<R>, other: &Option<R>) -> bool
+    ensures { IsTrue result ↔ (row.now ≡ other.now) }
+{
+    match (row, other) {
+        (Some(row), Some(other)) => row.equals(other),
+        (None, None) => true,
+        _ => false,
+    }
+}
+
+// Whether the slot has what it had when the rows were last kept.
+pub(crate) fn is_as_kept<R: Row>(held: &Held<R>) -> bool
+    ensures { IsTrue result ↔ (now_row held.now ≡ kept_row held.now) }
+{
+    match &held.before {
+        None => true,
+        Some(before) => is_same_row(&held.row, before),
+    }
+}
+
+// Whether a row passes the test.
+pub(crate) fn any_row<R: Row, F: Fn(&R) -> bool>(slots: &IndexMap<R::Key, Held<R>>, test: F) -> bool
+    requires { F.IsAlwaysCallable test }
+    ensures { (p : R → Bool) → IsTest F.Fn test p → result ≡ list_any p (map (λ e. e.1) (rows_by now_row (slots_of R.digits slots.now.entries))) }
+{
+    for i in 0..slots.len() {
+        if let Some(row) = &slots[i].row {
+            if test(row) {
+                return true;
+            }
+        }
+    }
+    false
+}
+
+// The sum of a measure over the rows.
+pub(crate) fn sum_rows<R: Row, F: Fn(&R) -> u64>(
+    slots: &IndexMap<R::Key, Held<R>>,
+    measure: F,
+) -> u128
+    requires { F.IsAlwaysCallable measure }
+    ensures { (f : R → ℕ) → IsMeasure F.Fn measure f → result ≡ sum_by f (map (λ e. e.1) (rows_by now_row (slots_of R.digits slots.now.entries))) }
+{
+    let mut total = 0;
+    for i in 0..slots.len() {
+        if let Some(row) = &slots[i].row {
+            total += u128::from(measure(row));
+        }
+    }
+    total
+}
+
+// The rows that pass the test.
+pub(crate) fn find_rows<'a, R: Row, F: Fn(&R) -> bool>(
+    alloc: Global,
+    slots: &'a IndexMap<R::Key, Held<R>>,
+    test: F,
+) -> Result<Vec<Found<'a, R::Key, R>>, AllocError>
+    requires { F.IsAlwaysCallable test }
+    ensures { IfOk result (λ found. (p : R → Bool) → IsTest F.Fn test p
+        → map (row_found R.digits) found.items ≡ filter (λ e. p e.1) (rows_by now_row (slots_of R.digits slots.now.entries))) }
+{
+    let mut found = Vec::new(alloc);
+    for i in 0..slots.len() {
+        let Some((key, held)) = slots.get_index(i) else {
+            unreachable!()
+        };
+        if let Some(row) = &held.row {
+            if test(row) {
+                found.push(Found { key, row })?;
+            }
+        }
+    }
+    Ok(found)
+}
+
+// Sorts by key.
+pub(crate) fn sort_found<'a, R: Row>(found: &mut Vec<Found<'a, R::Key, R>>)
+    ensures permutation { IsPermutation found.old.items found.new.items }
+    ensures sorted { IsSortedByKey (λ f. R.digits f.key.now) key_cmp found.new.items }
+{
+    found.sort_unstable_by(|one, other| R::compare(one.key, other.key));
+}
+
+// The rows of these.
+pub(crate) fn rows_of<'a, R: Row>(
+    alloc: Global,
+    found: &[Found<'a, R::Key, R>],
+) -> Result<Vec<&'a R>, AllocError>
+    ensures { IfOk result (λ rows. map (λ r. r.now) rows.items ≡ map (λ f. f.row.now) found.now) }
+{
+    let mut rows = Vec::with_capacity(alloc, found.len())?;
+    for one in found {
+        rows.push(one.row)?;
+    }
+    Ok(rows)
+}
+
+// A copy of the row, or none where there is none. An error is one of memory.
+fn copy_row<R: Row>(alloc: Global, row: &Option<R>) -> Result<Option<R>, AllocError>
+    ensures { IfOk result (λ copied. copied ≡ row.now) }
+{
+    match row {
+        Some(row) => Ok(Some(row.copy(alloc)?)),
+        None => Ok(None),
+    }
+}
+
+// The keys at which the rows differ from those last kept, with their rows. An error is one of memory.
+pub(crate) fn list_pending<'a, R: Row>(
+    alloc: Global,
+    slots: &'a IndexMap<R::Key, Held<R>>,
+    changed: &[usize],
+) -> Result<Vec<Pending<'a, R>>, AllocError>
+    requires distinct { IsDistinct (slots_of R.digits slots.now.entries) }
+    requires places { ArePlaces changed.now (slots_of R.digits slots.now.entries) }
+    ensures once { IfOk result (λ pending. IsEachOnce (map (λ p. R.digits p.key.now) pending.items)) }
+    ensures exact { IfOk result (λ pending. IsDifference (map (λ p. R.digits p.key.now) pending.items) (table_by now_row (slots_of R.digits slots.now.entries)) (table_by kept_row (slots_of R.digits slots.now.entries))) }
+    ensures rows { IfOk result (λ pending. All (λ p. option_copied p.row ≡ table.get (table_by now_row (slots_of R.digits slots.now.entries)) (R.digits p.key.now)) pending.items) }
+{
+    let mut pending = Vec::new(alloc);
+    for i in changed {
+        let Some((key, held)) = slots.get_index(*i) else {
+            unreachable!()
+        };
+        if !is_as_kept::<R>(held) {
+            pending.push(Pending {
+                key,
+                row: held.row.as_ref(),
+            })?;
+        }
+    }
+    Ok(pending)
+}
+
+// Notes what the slot has, for a write that follows, and answers where it stands. An error is one of memory.
+pub(crate) fn note<R: Row>(
+    alloc: Global,
+    slots: &mut IndexMap<R::Key, Held<R>>,
+    changed: &mut Vec<usize>,
+    key: &R::Key,
+) -> Result<usize, AllocError>
+    requires distinct { IsDistinct (slots_of R.digits slots.old.entries) }
+    requires used { AreUsed (slots_of R.digits slots.old.entries) }
+    requires places { ArePlaces changed.old.items (slots_of R.digits slots.old.entries) }
+    requires present { IsSome (table.get (table_by now_row (slots_of R.digits slots.old.entries)) (R.digits key.now)) }
+    ensures distinct { IsDistinct (slots_of R.digits slots.new.entries) }
+    ensures used { AreUsed (slots_of R.digits slots.new.entries) }
+    ensures places { ArePlaces changed.new.items (slots_of R.digits slots.new.entries) }
+    ensures rows { table_by now_row (slots_of R.digits slots.new.entries) ≡ table_by now_row (slots_of R.digits slots.old.entries) }
+    ensures kept { table_by kept_row (slots_of R.digits slots.new.entries) ≡ table_by kept_row (slots_of R.digits slots.old.entries) }
+    ensures in_range { IfOk result (λ i. i < length slots.new.entries) }
+    ensures found { IfOk result (λ i. HasKeyAt (slots_of R.digits slots.new.entries) i (R.digits key.now)) }
+    ensures noted { IfOk result (λ i. noted_at (slots_of R.digits slots.new.entries) i ≡ 1) }
+{
+    let Some(i) = place::<R>(slots, key) else {
         unreachable!()
     };
-    let before = Some(slots[i].row.copy(alloc)?);
-    push_within(changes, Change { key, before });
+    let held = &slots[i];
+    if held.before.is_none() {
+        let before = copy_row::<R>(alloc, &held.row)?;
+        changed.reserve(1)?;
+        let held = &mut slots[i];
+        held.before = Some(before);
+        push_within(changed, i);
+    }
     Ok(i)
 }

@@ -126,9 +126,26 @@ fn selects_in_order_of_key(rt: HostRuntime) -> Result<(), Fail> {
 }
 
 #[test]
-fn shows_each_row_by_its_place(rt: HostRuntime) -> Result<(), Fail> {
-    let sheet = kept_sheet(rt.alloc())?;
+fn puts_a_removed_row_again(rt: HostRuntime) -> Result<(), Fail> {
+    let mut sheet = kept_sheet(rt.alloc())?;
+    sheet.remove(&1)?;
+    assert_eq!(rt; sheet.len(), 1);
+    assert_eq!(rt; sheet.kept_len(), 2);
+    put_count(&mut sheet, 1, 7)?;
+    put_count(&mut sheet, 3, 4)?;
+    sheet.remove(&2)?;
     assert_eq!(rt; sheet.len(), 2);
-    assert!(rt; sheet.at(0).number != sheet.at(1).number);
+    sheet.keep();
+    assert_eq!(rt; sheet.len(), 2);
+    assert_eq!(rt; count_of(&sheet, 1), Some(7));
+    assert_eq!(rt; count_of(&sheet, 2), None);
+    assert_eq!(rt; count_of(&sheet, 3), Some(4));
+
+    sheet.remove(&1)?;
+    put_count(&mut sheet, 5, 6)?;
+    sheet.back();
+    assert_eq!(rt; sheet.len(), 2);
+    assert_eq!(rt; count_of(&sheet, 1), Some(7));
+    assert_eq!(rt; count_of(&sheet, 5), None);
     Ok(())
 }

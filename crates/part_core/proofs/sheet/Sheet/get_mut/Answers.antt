@@ -1,44 +1,68 @@
-use Rattle.std.proofs.Common.{◌<◌, length, sym, ap, ◌∙◌, refl, map}
+use Rattle.std.proofs.Common.{◌≡◌, Some, is_some, sym, ap, ◌∙◌, refl}
 use Rattle.std.specs.FinMap as table
-use Rattle.part_core.specs.Sheet.{table_of, now_of, all_undone, HasKeyAt}
-use Rattle.part_core.specs.Slots.{change_of}
-use Rattle.part_core.proofs.SlotLemmas.{entries_of, get-slot, IsDistinct-replaced, IsWritten-replaced, length-replaced}
+use Rattle.part_core.specs.declared.slots.Held.{Held}
+use Rattle.part_core.specs.Sheet.{now_of}
+use Rattle.part_core.specs.Slots.{kept_row, noted, now_row, slots_of, table_by}
+use Rattle.part_core.proofs.Lookups.{slot_of_key}
+use Rattle.part_core.proofs.Noted.{kept-noted, noted_at-slot}
+use Rattle.part_core.proofs.SlotLemmas.{get-slot, len-put_same}
+use Rattle.part_core.proofs.Writes.{distinct-written, places-same, rows-same, rows-written, used-written}
 use Rattle.part_core.proofs.sheet.Sheet.get_mut.Goals as goal
 
-pub invariant_of-self-lent : goal.invariant_of-self-lent
-invariant_of-self-lent g c w =
+pub unreachable-requires : goal.unreachable-requires
+unreachable-requires g c =
     let digits = g.R.Row.digits in
-    let slots = c.log_row.new.slots.items in
-    let within : c.in_ok-i.i < length slots = rw c.log_row.ensures.slots c.in_ok-i.ensures.in_range in
-    record {
-      distinct = IsDistinct-replaced digits slots c.in_ok-i.i c.index_mut-slot.result.now within c.index_mut-slot.ensures.value c.log_row.ensures.sound.distinct w;
-      room = rw (length-replaced digits slots c.in_ok-i.i (record { key = c.index_mut-slot.result.now.key; row = w })) c.log_row.ensures.sound.room;
-    }
+    let es = c.note.new.slots.entries in
+    let k = digits c.args.key in
+    let h = c.index_mut-held.result.now in
+    let at = slot_of_key digits es c.in_ok-i.i k h c.index_mut-held.ensures.value c.in_ok-i.ensures.found in
+    let none = ap (λ m. table.get m k) (sym (c.note.ensures.rows ∙ ap now_of c.self.view_is)) ∙ get-slot now_row (slots_of digits es) c.in_ok-i.i k h c.note.ensures.distinct at ∙ c.in-None.is in
+    let some = rw none at c.requires in cc
+
+pub invariant_of-self-lent : goal.invariant_of-self-lent
+invariant_of-self-lent g c x =
+    let digits = g.R.Row.digits in
+    let es = c.note.new.slots.entries in
+    let i = c.in_ok-i.i in
+    let k = digits c.args.key in
+    let h = c.index_mut-held.result.now in
+    let w : Held g.row.R.Denot = record { row = Some x; before = h.before } in
+    let at = slot_of_key digits es i k h c.index_mut-held.ensures.value c.in_ok-i.ensures.found in
+    let d = c.note.ensures.distinct in
+    let one : noted h.before ≡ 1 = sym (noted_at-slot (slots_of digits es) i (k, h) at) ∙ c.in_ok-i.ensures.noted in
+    let m = table_by now_row (slots_of digits es) in
+    let some = sym (ap is_some (get-slot now_row (slots_of digits es) i k h d at ∙ c.in-Some.is)) in
+    rw c.in-Some.is
+    (record {
+      distinct = distinct-written digits es i k h w at d;
+      used = used-written digits es i k h w at refl c.note.ensures.used;
+      places = places-same digits es i k h w at c.note.new.changed.items c.note.ensures.places refl;
+      len = c.self.invariant.len ∙ ap table.len (sym c.note.ensures.rows) ∙ sym (ap table.len (rows-written digits es i k h w at d now_row) ∙ len-put_same m k x _ some refl);
+      kept_len = c.self.invariant.kept_len ∙ ap table.len (sym c.note.ensures.kept) ∙ sym (ap table.len (rows-same digits es i k h w at d kept_row (kept-noted h.before (Some x) h.row one)));
+    })
 
 pub returns : goal.returns
 returns g c =
     let digits = g.R.Row.digits in
-    let slots = c.log_row.new.slots.items in
-    let old = c.self.inside.slots.items in
-    let k = digits c.args.key in
+    let es = c.note.new.slots.entries in
     let i = c.in_ok-i.i in
-    let slot = c.index_mut-slot.result.now in
-    let within : i < length slots = rw c.log_row.ensures.slots c.in_ok-i.ensures.in_range in
-    let found : HasKeyAt (entries_of digits slots) i k = rw c.log_row.ensures.slots c.in_ok-i.ensures.found in
-    let distinct = c.log_row.ensures.sound.distinct in
-    let same = ap (λ s. table_of (entries_of digits s)) c.log_row.ensures.slots in
-    let before = ap now_of c.self.view_is in
-    let written = λ (w : g.row.R.Denot). IsWritten-replaced digits slots i slot within c.index_mut-slot.ensures.value distinct w k found ∙ ap (λ m. table.insert m k w) same in (
+    let k = digits c.args.key in
+    let h = c.index_mut-held.result.now in
+    let at = slot_of_key digits es i k h c.index_mut-held.ensures.value c.in_ok-i.ensures.found in
+    let d = c.note.ensures.distinct in
+    let one : noted h.before ≡ 1 = sym (noted_at-slot (slots_of digits es) i (k, h) at) ∙ c.in_ok-i.ensures.noted in
+    let before = c.note.ensures.rows ∙ ap now_of c.self.view_is in
+    let put = λ (x : g.row.R.Denot). let w : Held g.row.R.Denot = record { row = Some x; before = h.before } in w in (
       (
         refl,
-        λ w _. record {
-          now = written w ∙ ap (λ m. table.insert m k w) before;
-          kept = ap (all_undone (map (change_of digits) c.log_row.new.changes.items)) (written w) ∙ c.in_ok-i.ensures.logged w ∙ ap (λ s. s.kept) c.self.view_is;
+        λ x _. record {
+          now = rw c.in-Some.is (rows-written digits es i k h (put x) at d now_row ∙ ap (λ m. table.insert m k x) before);
+          kept = rw c.in-Some.is (rows-same digits es i k h (put x) at d kept_row (kept-noted h.before (Some x) h.row one) ∙ c.note.ensures.kept ∙ ap (λ s. s.kept) c.self.view_is);
         },
         tt,
       ),
       record {
         writes_back = tt;
-        value = ap (λ m. table.get m k) (sym (same ∙ before)) ∙ get-slot digits slots i slot k within c.index_mut-slot.ensures.value distinct found;
+        value = rw c.in-Some.is (ap (λ m. table.get m k) (sym before) ∙ get-slot now_row (slots_of digits es) i k h d at ∙ c.in-Some.is);
       },
     )

@@ -1,23 +1,45 @@
-use Rattle.std.proofs.Common.{sym, Some}
+use Rattle.std.proofs.Common.{◌-◌, sym, ap, ◌∙◌, arith}
 use Rattle.std.specs.FinMap as table
-use Rattle.part_core.specs.Sheet.{table_of}
-use Rattle.part_core.proofs.Entries.{get-absent, remove-absent, get-found, undone-remove}
-use Rattle.part_core.proofs.SlotLemmas.{entries_of, kept-pushed}
+use Rattle.part_core.specs.Slots.{now_row, slots_of, table_by}
+use Rattle.part_core.proofs.Entries.{remove-absent}
+use Rattle.part_core.proofs.SlotLemmas.{get-no_slot, len-not_removed, len-removed, len-some}
 use Rattle.part_core.proofs.sheet.Sheet.remove.Goals as goal
 
-pub returns-in-Some-clause-kept : goal.returns-in-Some-clause-kept
-returns-in-Some-clause-kept g c =
-    let digits = g.R.Row.digits in
-    let es = entries_of digits c.self.inside.slots.items in
-    let k = digits c.take_slot-key.result.key in
-    let some = get-found es c.in-Some.i k c.take_slot-key.result.row c.self.invariant.distinct c.take_slot-key.ensures.key c.take_slot-key.ensures.row in
-    rw (c.push_within.ensures.items, c.reserve.ensures.items, c.take_slot-key.ensures.taken, ← c.self.view_is)
-    (kept-pushed digits c.self.inside.changes.items (record { key = c.take_slot-key.result.key; before = Some c.take_slot-key.result.row }) (table_of es) (table.remove (table_of es) k)
-    (undone-remove (table_of es) k c.take_slot-key.result.row some))
+pub overflow_sub-self : goal.overflow_sub-self
+overflow_sub-self g c =
+    let k = g.R.Row.digits c.args.key.now in
+    let m = table_by now_row (slots_of g.R.Row.digits c.self.inside.slots.entries) in
+    let some = len-some m k c.rewrite.result (c.rewrite.ensures.had k c.in-Some.ensures.found) c.if-rewrite.true in
+    omega (arith, c.self.invariant.len, some)
+
+pub invariant_of-self-then-rewrite : goal.invariant_of-self-then-rewrite
+invariant_of-self-then-rewrite g c =
+    let k = g.R.Row.digits c.args.key.now in
+    let m = table_by now_row (slots_of g.R.Row.digits c.self.inside.slots.entries) in
+    record {
+      distinct = c.rewrite.ensures.distinct;
+      used = c.rewrite.ensures.used;
+      places = c.rewrite.ensures.places;
+      len = ap (λ n. n - 1) c.self.invariant.len
+          ∙ sym (ap table.len (c.rewrite.ensures.rows k c.in-Some.ensures.found) ∙ len-removed m k c.rewrite.result (c.rewrite.ensures.had k c.in-Some.ensures.found) c.if-rewrite.true);
+      kept_len = c.self.invariant.kept_len ∙ ap table.len (sym c.rewrite.ensures.kept);
+    }
+
+pub invariant_of-self-else-rewrite : goal.invariant_of-self-else-rewrite
+invariant_of-self-else-rewrite g c =
+    let k = g.R.Row.digits c.args.key.now in
+    let m = table_by now_row (slots_of g.R.Row.digits c.self.inside.slots.entries) in
+    record {
+      distinct = c.rewrite.ensures.distinct;
+      used = c.rewrite.ensures.used;
+      places = c.rewrite.ensures.places;
+      len = c.self.invariant.len
+          ∙ sym (ap table.len (c.rewrite.ensures.rows k c.in-Some.ensures.found) ∙ len-not_removed m k c.rewrite.result (c.rewrite.ensures.had k c.in-Some.ensures.found) c.if-rewrite.false);
+      kept_len = c.self.invariant.kept_len ∙ ap table.len (sym c.rewrite.ensures.kept);
+    }
 
 pub returns-in_default-clause-ok : goal.returns-in_default-clause-ok
 returns-in_default-clause-ok g c =
-    let none = rw c.as_slice.ensures.value at c.in_default.ensures.absent in
     let k = g.R.Row.digits c.args.key.now in
-    let es = entries_of g.R.Row.digits c.self.inside.slots.items in
-    rw (← c.self.view_is) (sym (remove-absent (table_of es) k (get-absent es k none)))
+    let es = slots_of g.R.Row.digits c.self.inside.slots.entries in
+    rw (← c.self.view_is) (sym (remove-absent (table_by now_row es) k (get-no_slot now_row es k c.self.invariant.distinct c.in_default.ensures.absent)))
