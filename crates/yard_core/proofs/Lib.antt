@@ -1,9 +1,9 @@
 pub mod Notes
 pub mod Rows
 pub mod Items
-pub mod Moving
+pub mod Ups
+pub mod Below
 pub mod Changing
-pub mod Lifting
-pub mod Cutting
-pub mod Pouring
+pub mod Keeping
 pub mod Totals
+pub mod Moved

@@ -1,6 +1,6 @@
 -- The rows of a table of items, after one of them was changed and after a new one.
 use Rattle.std.proofs.Common.{◌≡◌, ◌≢◌, ℕ, Bool, true, false, cond, List, [], ◌∷◌, map, refl, sym, ap, ◌∙◌, subst, arith, Option, Some, None, eqb-true, get_or}
-use Rattle.std.specs.Prelude.{◌==◌, nat_lt, if◌then◌else◌, T, IfSome}
+use Rattle.std.specs.Prelude.{◌==◌, nat_lt, if◌then◌else◌, T}
 use Rattle.std.specs.FinMap as table
 use Rattle.std.specs.FinMap.Entries.{put, by_order}
 use Rattle.std.proofs.lemmas.Bool.{eqb-false, ltb-true, ltb-false}
@@ -40,6 +40,9 @@ key_eq-number n m =
 -- another number's row stays
 pub get-other : (n m : ℕ) (x : Item) (t : Table Item) → (n == m) ≡ false → table.get (table.insert t (n ∷ []) x) (m ∷ []) ≡ table.get t (m ∷ [])
 get-other n m x t other = table.get-insert keys_total t (n ∷ []) x (m ∷ []) ∙ ap (λ b. cond b (Some x) (table.get t (m ∷ []))) (key_eq-number m n ∙ other)
+
+pub get-own : (n : ℕ) (x : Item) (t : Table Item) → table.get (table.insert t (n ∷ []) x) (n ∷ []) ≡ Some x
+get-own n x t = table.get-insert keys_total t (n ∷ []) x (n ∷ []) ∙ ap (λ b. cond b (Some x) (table.get t (n ∷ []))) (key_eq-same (n ∷ []) (n ∷ []) refl)
 
 pub find-number : (n : ℕ) (xs : List Item) → find_in (n ∷ []) (by_number xs) ≡ row_at n xs
 find-number n [] = refl
@@ -133,11 +136,3 @@ module _ (x : Item) (t : Table Item) (own : table.entries t ≡ by_number (table
 
   pub own-new : table.entries (table.insert t (x.number ∷ []) x) ≡ by_number (table.values (table.insert t (x.number ∷ []) x))
   own-new = entries-new ∙ ap by_number (sym values-new)
-
--- a row that is changed by way of what stands there, and another number's row after it
-pub changed-other : (t new : Table Item) (n m : ℕ) (x y : Item) (change : Item → Item) → table.get t (n ∷ []) ≡ Some x → table.get t (m ∷ []) ≡ Some y → (n == m) ≡ false
-    → IfSome (table.get t (n ∷ [])) (λ item. new ≡ table.insert t (n ∷ []) (change item))
-    → (new ≡ table.insert t (n ∷ []) (change x)) × (table.get new (m ∷ []) ≡ Some y)
-changed-other t new n m x y change e f other h =
-    let is : new ≡ table.insert t (n ∷ []) (change x) = subst (λ (o : Option Item). IfSome o (λ item. new ≡ table.insert t (n ∷ []) (change item))) e h in
-    (is, ap (λ (u : Table Item). table.get u (m ∷ [])) is ∙ get-other n m (change x) t other ∙ f)

@@ -1,15 +1,22 @@
 -- The sums over one part.
-use Rattle.std.specs.Prelude.{ℕ, Bool, ◌==◌, if◌then◌else◌}
+use Rattle.std.specs.Prelude.{ℕ, Bool, if◌then◌else◌, [], ◌∷◌, unwrap_or}
+use Rattle.std.specs.FinMap as table
+use Rattle.part_core.specs.Sheet.{Table}
 use Rattle.forest.specs.declared.item.Item.{Item}
 use Rattle.forest.specs.declared.place.Place.{Place}
 use Rattle.forest.specs.declared.entry.Kind.TheVariants.{Received, Found, Built, Consumed, Shipped, Returned, Written}
-use Rattle.forest.specs.Forest.{present, sent, used, recorded}
+use Rattle.forest.specs.Forest.{amount, present, sent, used, recorded}
+use Rattle.forest.specs.Tables.{node_of}
 use Rattle.yard_core.specs.declared.sums.Sums.{Sums}
-use Rattle.yard_core.specs.Stock.{Stock, forest, notes}
+use Rattle.yard_core.specs.Stock.{Stock, forest, notes, no_item, root_in}
 
--- what an item adds to a part's quantity at such places
-abbrev pub lying : (Place → Bool) → ℕ → Item → ℕ
-lying at p x = if at x.place then (if x.part == p then x.quantity else 0) else 0
+-- the place of the item that an item stands under
+abbrev pub root_place : Table Item → ℕ → Place
+root_place t n = (unwrap_or (table.get t (root_in t n ∷ [])) no_item).place
+
+-- what an item adds to a part's quantity under roots at such places
+abbrev pub lying : (Place → Bool) → ℕ → Table Item → Item → ℕ
+lying at p t x = if at (root_place t x.number) then amount p (node_of x) else 0
 
 abbrev pub sums_of : ℕ → Stock → Sums
 sums_of p s = record {

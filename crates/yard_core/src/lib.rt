@@ -1,8 +1,10 @@
 //! The yard: locations, items and their history, and the moves on them.
 #![tactic(auto)]
 
+mod change;
 mod location;
 mod sums;
+mod walks;
 mod yard;
 
 pub use forest::{Entry, Item, Kind, Lot, Note, Place, Reason, copy_batch, is_same_batch};

@@ -1,6 +1,7 @@
 //! What the history records of a part, and what lies in stock.
-ghost use Rattle.std.specs.Prelude.{◌≡◌, if◌then◌else◌, ◌==◌};
-ghost use Rattle.forest.specs.Forest.{counted};
+ghost use Rattle.std.specs.Prelude.{◌≡◌};
+ghost use Rattle.forest.specs.Forest.{amount, counted};
+ghost use Rattle.forest.specs.Tables.{node_of};
 
 use forest::{Entry, Item, Kind};
 use part_core::Id;
@@ -23,7 +24,7 @@ pub struct Sums {
 
 /// The item's quantity, where it is of the part.
 pub fn amount_of(part: Id, item: &Item) -> u64
-    ensures { result ≡ (if item.now.part == part then item.now.quantity else 0) }
+    ensures { result ≡ amount part (node_of item.now) }
 {
     if item.part == part { item.quantity } else { 0 }
 }
