@@ -7,3 +7,4 @@ pub mod Changing
 pub mod Keeping
 pub mod Totals
 pub mod Moved
+pub mod SoundRows

@@ -1,41 +1,48 @@
--- What actions on stock read and change: the stock and the counter.
-use Rattle.std.specs.Prelude.{◌≡◌, ℕ, ◌+◌, Bool, nat_lt, List, [], Some, None, Result, Ok, Err}
+-- What the commands of the yard read and change: the stock, and the counter that its rows draw their numbers from.
+use Rattle.std.specs.Prelude.{◌≡◌, ℕ, ◌-◌, ◌||◌, Bool, nat_lt, List, Result}
 use Rattle.std.specs.FinMap as table
-use Rattle.std.specs.List.{range_with_len}
-use Rattle.part_core.specs.Checks.{Check, first}
-use Rattle.part_core.specs.Counter.{Numbering}
+use Rattle.part_core.specs.Acts.{Acts}
+use Rattle.part_core.specs.Checks.{Check}
+use Rattle.part_core.specs.Counter.{Counting, Numbering, drawn, kept_numbering, numbering_of, numbers_between, passes_limit}
 use Rattle.part_core.specs.declared.answer.Answer.{Answer}
 use Rattle.part_core.specs.declared.refusal.CoreFault.{CoreFault}
-use Rattle.part_core.specs.declared.refusal.CoreFault.TheVariants.{Refused, Memory}
 use Rattle.yard_core.specs.Stock.{Stock}
-use Rattle.yard_core.specs.Yards.{stock_of}
+use Rattle.yard_core.specs.Yards.{kept_of, stock_of}
 use Rattle.yard_core.specs.declared.yard.Yard.{Yard}
 
 pub record Books : Type 0 where
   pub stock : Stock
   pub counter : Numbering
 
-abbrev pub books_of : Yard → Numbering → Books
-books_of yard counter = record { stock = stock_of yard; counter = counter }
+-- the books now
+abbrev pub books_of : Yard → Counting → Books
+books_of yard counter = record { stock = stock_of yard; counter = numbering_of counter }
 
--- so many entries more would pass the limit
-abbrev pub lacks_entries : ℕ → Books → Bool
-lacks_entries n b = nat_lt b.counter.limits.entries (table.len b.stock.history + n)
+-- the books as last kept
+abbrev pub kept_books : Yard → Counting → Books
+kept_books yard counter = record { stock = kept_of yard; counter = kept_numbering counter }
 
--- another stock, with so many entries more, and no number drawn
-abbrev pub changed : ℕ → Stock → Books → Books × Answer
-changed entries stock b = (record { stock = stock; counter = b.counter }, record { ids = []; entries = entries })
+-- the books with other stock
+abbrev pub with_stock : Stock → Books → Books
+with_stock stock b = record { stock = stock; counter = b.counter }
 
--- another stock, with so many numbers drawn and so many entries more
-abbrev pub drawn : ℕ → ℕ → Stock → Books → Books × Answer
-drawn count entries stock b = (
-  record { stock = stock; counter = record { next = b.counter.next + count; limits = b.counter.limits } },
-  record { ids = range_with_len b.counter.next count; entries = entries },
-)
+-- the books with other stock, for which a number was drawn
+abbrev pub with_drawn : Stock → Books → Books
+with_drawn stock b = record { stock = stock; counter = drawn 1 b.counter }
 
--- what is answered is what the action does; or it is the first refusal that applies, or there was no memory,
--- and nothing has changed
-abbrev pub Acts : List Check → Books × Answer → Books → Result Answer CoreFault → Books → Type 0
-Acts checks after old (Ok answer) new = (first checks ≡ None) × (after ≡ (new, answer))
-Acts checks after old (Err (Refused refusal)) new = (first checks ≡ Some refusal) × (new ≡ old)
-Acts checks after old (Err Memory) new = new ≡ old
+-- how many entries the history has
+abbrev pub entries_in : Books → ℕ
+entries_in b = table.len b.stock.history
+
+-- more numbers are drawn, or more entries written, than the limits allow
+abbrev pub is_full : Books → Bool
+is_full b = passes_limit b.counter || nat_lt b.counter.limits.entries (entries_in b)
+
+-- what is answered: the numbers drawn, and how many entries were written
+abbrev pub answer_of : Books → Books → Answer
+answer_of old new = record { ids = numbers_between old.counter new.counter; entries = entries_in new - entries_in old }
+
+-- a command does this to the books and answers what that drew and wrote; or it is refused by the first
+-- check that applies, or ends for want of memory, and nothing has changed
+abbrev pub Does : List Check → Books → Books → Result Answer CoreFault → Books → Type 0
+Does checks after old result new = Acts checks (after, answer_of old after) old result new

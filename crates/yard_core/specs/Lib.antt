@@ -1,3 +1,7 @@
+pub mod AddLocation
+pub mod Books
+pub mod SoundLocations
 pub mod Stock
 pub mod Sums
+pub mod YardMachine
 pub mod Yards

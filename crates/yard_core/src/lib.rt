@@ -6,8 +6,10 @@ mod location;
 mod sums;
 mod walks;
 mod yard;
+pub mod yard_command;
 
 pub use forest::{Entry, Item, Kind, Lot, Note, Place, Reason, copy_batch, is_same_batch};
 pub use location::Location;
 pub use sums::Sums;
 pub use yard::Yard;
+pub use yard_command::YardCommand;

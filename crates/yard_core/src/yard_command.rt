@@ -1,0 +1,49 @@
+//! The commands of the yard, as a machine: one call that does any of them, and its laws.
+ghost use Rattle.std.specs.Prelude.{◌≡◌, ◌≤◌};
+ghost use Rattle.yard_core.specs.Books.{Does, books_of, entries_in, kept_books};
+ghost use Rattle.yard_core.specs.YardMachine.{ChecksAreInOrder, EffectsAreSound, checks, effect};
+
+use crate::yard::Yard;
+use part_core::{Answer, CoreFault, Counter, Id, Ids, Name};
+use std::alloc::Global;
+
+/// What a clerk may ask of the yard itself. Row numbers are any numbers: whether they name rows is part of
+/// the command's checks.
+#[derive(Drop)]
+pub enum YardCommand {
+    /// A new location, under a parent or at the top.
+    AddLocation { name: Name, parent: Option<Id> },
+}
+
+/// Does the command, or is refused by the first check that applies. The docstrings of the calls that stand
+/// for the commands say when each refusal comes.
+pub fn act(
+    alloc: Global,
+    yard: &mut Yard,
+    counter: &mut Counter,
+    command: &YardCommand,
+) -> Result<Answer, CoreFault>
+    requires nothing_pending { kept_books yard.old counter.old ≡ books_of yard.old counter.old }
+    requires within { entries_in (books_of yard.old counter.old) ≤ counter.old.limits.entries }
+    ensures does { let b = books_of yard.old counter.old in
+        Does (checks command.now b) (effect command.now b) b result (books_of yard.new counter.new) }
+    ensures kept { kept_books yard.new counter.new ≡ kept_books yard.old counter.old }
+{
+    match command {
+        YardCommand::AddLocation { name, parent } => {
+            let ids = Ids::one(alloc, counter.next())?;
+            yard.add_location(counter, name, *parent)?;
+            Ok(Answer { ids, entries: 0 })
+        }
+    }
+}
+
+/// The law that the refusals of each command are checked in the one order of checks.
+pub fn checks_are_in_order()
+    ensures { ChecksAreInOrder }
+{}
+
+/// The law that what passes its checks leaves sound locations sound.
+pub fn effects_are_sound()
+    ensures { EffectsAreSound }
+{}
