@@ -19,7 +19,8 @@ use Rattle.bom_core.specs.Bills.{Bills, contains, covers, is_variant, part_rows}
 use Rattle.part_core.specs.Rows.{IsThere}
 use Rattle.part_core.specs.SoundCatalogue.{IsSoundCatalogue}
 use Rattle.bom_core.specs.Sound.{IsSoundBill}
-use Rattle.bom_core.proofs.Member.{or_cases, or_left, or_right, and_parts, and_both, not_true}
+use Rattle.part_core.proofs.Conditions.{or_cases, and_parts, and_both, not_true}
+use Rattle.bom_core.proofs.Member.{or_left, or_right}
 use Rattle.part_core.proofs.RowLemmas.{get-insert_cases, right-later, there-insert}
 use Rattle.bom_core.proofs.Edges.{edge_of, contains_by_edge, steps-mapped}
 use Rattle.part_core.proofs.SoundRows.{sound-effect, sound-later, sound-retire_part}

@@ -3,7 +3,8 @@ use Rattle.std.proofs.Common.{◌≡◌, ◌↔◌, ◌+◌, ◌<◌, ◌≤◌,
 use Rattle.std.specs.Prelude.{◌==◌}
 use Rattle.bom_core.specs.Search.{is_among, push_all}
 use Rattle.bom_core.specs.Walks.{StepsFrom}
-use Rattle.bom_core.proofs.Member.{or_cases, or_left, or_right}
+use Rattle.part_core.proofs.Conditions.{or_cases}
+use Rattle.bom_core.proofs.Member.{or_left, or_right}
 use Rattle.bom_core.proofs.Reached.{among-push_all, push_all-grows}
 
 -- where a part stands among those seen

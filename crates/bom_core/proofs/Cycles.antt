@@ -7,9 +7,11 @@ use Rattle.bom_core.specs.declared.line.Line.{Line}
 use Rattle.bom_core.specs.declared.substitute.Substitute.{Substitute}
 use Rattle.bom_core.specs.Bills.{Bills, contains, is_variant, covers, is_effective, is_substitute, fits_line, part_rows, line_rows, substitute_rows}
 use Rattle.bom_core.specs.Walks.{StepsFrom, HasWalk, NamesParts, numbers_of, has_walk, contains_itself}
-use Rattle.bom_core.proofs.Member.{or_cases, and_parts, any-found, any-from, Stands, Stands-map}
+use Rattle.part_core.proofs.Conditions.{or_cases, and_parts}
+use Rattle.part_core.proofs.Standing.{Stands}
+use Rattle.bom_core.proofs.Member.{any-found, any-from, Stands-map}
 use Rattle.bom_core.proofs.Pigeonhole.{leads_is_walk, end_stands}
-use Rattle.bom_core.proofs.Rows.{Contains-Stands, Stands-get}
+use Rattle.part_core.proofs.Standing.{Contains-Stands, Stands-get}
 
 module _ (step : ℕ → ℕ → Bool) where
   -- a step before a walk

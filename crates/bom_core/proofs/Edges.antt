@@ -14,8 +14,10 @@ use Rattle.bom_core.specs.Lines.{with_line}
 use Rattle.bom_core.specs.Substitutes.{with_substitute}
 use Rattle.part_core.specs.Rows.{IsThere}
 use Rattle.bom_core.specs.Sound.{IsSoundBill}
-use Rattle.bom_core.proofs.Member.{or_cases, or_left, or_right, and_parts, and_both, any-found, any-from, Stands, Stands-map}
-use Rattle.bom_core.proofs.Rows.{Stands-Contains, Stands-get, get-Stands}
+use Rattle.part_core.proofs.Conditions.{or_cases, and_parts, and_both}
+use Rattle.part_core.proofs.Standing.{Stands}
+use Rattle.bom_core.proofs.Member.{or_left, or_right, any-found, any-from, Stands-map}
+use Rattle.part_core.proofs.Standing.{Stands-Contains, Stands-get, get-Stands}
 use Rattle.part_core.proofs.RowLemmas.{get-insert_cases, row_there, same_digit}
 use Rattle.bom_core.proofs.Cycles.{contains_itself_is}
 

@@ -16,8 +16,10 @@ use Rattle.bom_core.specs.Lines.{with_line, without_line, removed_all, substitut
 use Rattle.bom_core.specs.Substitutes.{with_substitute, without_substitute, is_fitting}
 use Rattle.part_core.specs.Rows.{IsThere, EachRow}
 use Rattle.bom_core.specs.Sound.{IsSoundBill}
-use Rattle.bom_core.proofs.Member.{any-from, and_both, and_parts, Stands, Stands-map}
-use Rattle.bom_core.proofs.Rows.{get-Stands}
+use Rattle.part_core.proofs.Conditions.{and_both, and_parts}
+use Rattle.part_core.proofs.Standing.{Stands}
+use Rattle.bom_core.proofs.Member.{any-from, Stands-map}
+use Rattle.part_core.proofs.Standing.{get-Stands}
 use Rattle.part_core.proofs.RowLemmas.{get-insert_cases, get-remove_cases, right-later, right-new, right-none, row_there, same_digit, there}
 use Rattle.bom_core.proofs.Tables.{get-insert_old, get-remove_other, get-removed_all, row_is-found}
 use Rattle.bom_core.proofs.Cycles.{contains_itself_is}

@@ -3,7 +3,6 @@ pub mod Member
 pub mod Reached
 pub mod Closed
 pub mod Pigeonhole
-pub mod Rows
 pub mod Cycles
 pub mod Tables
 pub mod Edges

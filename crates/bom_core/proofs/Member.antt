@@ -3,11 +3,9 @@ use Rattle.std.proofs.Common.{◌≡◌, ℕ, Bool, true, false, ◌||◌, ◌�
 use Rattle.std.specs.Prelude.{◌==◌, ◌&&◌}
 use Rattle.std.specs.List.{list_any}
 use Rattle.std.proofs.lemmas.List.Folds.{list_any-append}
+use Rattle.part_core.proofs.Conditions.{or_cases, and_parts, and_both, not_true}
+use Rattle.part_core.proofs.Standing.{Stands}
 use Rattle.bom_core.specs.Search.{is_among}
-
-pub or_cases : (a b : Bool) → (a || b) ≡ true → (a ≡ true) ⊎ (b ≡ true)
-or_cases true b e = inl refl
-or_cases false b e = inr e
 
 pub or_left : (a b : Bool) → a ≡ true → (a || b) ≡ true
 or_left true b e = refl
@@ -25,29 +23,12 @@ pub or_false : (a : Bool) → (a || false) ≡ a
 or_false true = refl
 or_false false = refl
 
-pub and_parts : (a b : Bool) → (a && b) ≡ true → (a ≡ true) × (b ≡ true)
-and_parts true b e = (refl, e)
-and_parts false b e = cc
-
-pub and_both : (a b : Bool) → a ≡ true → b ≡ true → (a && b) ≡ true
-and_both true b e f = f
-and_both false b e f = cc
-
-pub not_true : (b : Bool) → (b ≡ true → ⊥) → b ≡ false
-not_true true f = absurd (f refl)
-not_true false f = refl
-
 -- two tests that hold alike are the same
 pub same_test : (a b : Bool) → (a ≡ true → b ≡ true) → (b ≡ true → a ≡ true) → a ≡ b
 same_test true true f g = refl
 same_test true false f g = sym (f refl)
 same_test false true f g = g refl
 same_test false false f g = refl
-
--- x stands in the list
-abbrev pub Stands : {X : Type 0} → X → List X → Type 0
-Stands x [] = ⊥
-Stands x (y ∷ ys) = (y ≡ x) ⊎ Stands x ys
 
 module _ {X : Type 0} where
   pub any-found : (p : X → Bool) (xs : List X) → list_any p xs ≡ true → (x : X) × Stands x xs × (p x ≡ true)

@@ -4,7 +4,9 @@ use Rattle.std.proofs.Common.{◌≡◌, ◌↔◌, ◌+◌, ◌<◌, ◌≤◌,
 use Rattle.std.specs.Prelude.{◌&&◌}
 use Rattle.std.specs.List.{list_any}
 use Rattle.bom_core.specs.Walks.{StepsFrom, leads}
-use Rattle.bom_core.proofs.Member.{or_cases, or_left, or_right, and_parts, and_both, any-found, any-from, Stands}
+use Rattle.part_core.proofs.Conditions.{or_cases, and_parts, and_both}
+use Rattle.part_core.proofs.Standing.{Stands}
+use Rattle.bom_core.proofs.Member.{or_left, or_right, any-found, any-from}
 
 -- how many pass
 held : (ℕ → Bool) → List ℕ → ℕ

@@ -10,7 +10,9 @@ use Rattle.bom_core.specs.declared.search.Direction.TheVariants.{Down, Up}
 use Rattle.part_core.specs.Catalogue.{is_number}
 use Rattle.bom_core.specs.Bills.{is_variant, covers, is_effective, is_substitute, fits_line, contains_by}
 use Rattle.bom_core.specs.Search.{is_among, push_new, push_all, variants_in, covered, template_list, templates_in, covered_by, substitutes_in, fitting, contained, assemblies_of, by_component, by_substitute, next_parts, is_next}
-use Rattle.bom_core.proofs.Member.{or_cases, or_left, or_right, or_assoc, or_false, and_parts, and_both, same_test, any-found, any-from, among-append, Stands}
+use Rattle.part_core.proofs.Conditions.{or_cases, and_parts, and_both}
+use Rattle.part_core.proofs.Standing.{Stands}
+use Rattle.bom_core.proofs.Member.{or_left, or_right, or_assoc, or_false, same_test, any-found, any-from, among-append}
 
 -- pushing
 

@@ -12,9 +12,10 @@ use Rattle.bom_core.specs.Walks.{StepsFrom, IsAcyclic}
 use Rattle.part_core.specs.Rows.{IsThere}
 use Rattle.part_core.specs.SoundCatalogue.{IsSoundCatalogue}
 use Rattle.bom_core.specs.Sound.{IsSoundBill, IsNewPart, with_row}
-use Rattle.bom_core.proofs.Member.{or_cases, or_left, or_right, and_parts, and_both, any-found, any-from, not_true}
+use Rattle.part_core.proofs.Conditions.{or_cases, and_parts, and_both, not_true}
+use Rattle.bom_core.proofs.Member.{or_left, or_right, any-found, any-from}
 use Rattle.bom_core.proofs.Pushes.{eqb-other}
-use Rattle.bom_core.proofs.Rows.{Stands-get, get-Stands}
+use Rattle.part_core.proofs.Standing.{Stands-get, get-Stands}
 use Rattle.part_core.proofs.RowLemmas.{get-insert_cases, get-insert_new, right-later, right-none, row_there, same_digit, there}
 use Rattle.part_core.proofs.SoundRows as catalogue
 use Rattle.bom_core.proofs.Tables.{get-insert_old}

@@ -3,13 +3,8 @@ use Rattle.std.specs.Prelude.{ℕ, Bool, false, ◌==◌, ◌||◌, not, nat_lt,
 use Rattle.std.specs.List.{list_any}
 use Rattle.std.specs.Str.{bytes_eq}
 use Rattle.part_core.specs.Catalogue.{Parts}
-use Rattle.part_core.specs.declared.part.Part.{Part}
+use Rattle.part_core.specs.Twice.{stands_twice}
 use Rattle.yard_core.specs.Stock.{Stock, is_serial_free}
-
--- how many new items there are: one without serials, else one for each
-abbrev pub count_of : Option (List (List ℕ)) → ℕ
-count_of None = 1
-count_of (Some serials) = length serials
 
 -- whether there are serials, and they are so
 abbrev pub given : (List (List ℕ) → Bool) → Option (List (List ℕ)) → Bool
@@ -20,19 +15,9 @@ given test (Some serials) = test serials
 abbrev pub are_many : List (List ℕ) → Bool
 are_many serials = nat_lt 1000 (length serials)
 
--- a part whose items may have serials
-abbrev pub is_trackable : Option Part → Bool
-is_trackable None = false
-is_trackable (Some p) = p.flags.trackable
-
 -- there are more or fewer serials than pieces
 abbrev pub is_other_count : ℕ → List (List ℕ) → Bool
 is_other_count quantity serials = not (length serials == quantity)
-
--- a serial stands twice in the list
-abbrev pub stands_twice : List (List ℕ) → Bool
-stands_twice [] = false
-stands_twice (x ∷ xs) = list_any (λ y. bytes_eq y x) xs || stands_twice xs
 
 -- a serial of the list is held in the part's family
 abbrev pub is_one_held : ℕ → Parts → Stock → List (List ℕ) → Bool
@@ -40,4 +25,4 @@ is_one_held part parts s serials = list_any (λ x. not (is_serial_free x part pa
 
 -- a serial stands twice in the list, or is held in the part's family
 abbrev pub are_taken : ℕ → Parts → Stock → List (List ℕ) → Bool
-are_taken part parts s serials = stands_twice serials || is_one_held part parts s serials
+are_taken part parts s serials = stands_twice bytes_eq serials || is_one_held part parts s serials

@@ -1,15 +1,15 @@
 -- What holds of the stock, beside the catalogue and the counter, in every state that a run reaches.
-use Rattle.std.specs.Prelude.{◌≡◌, ℕ, ◌≤◌, true, List, [], ◌∷◌, Some, None, IsSome}
+use Rattle.std.specs.Prelude.{◌≡◌, ℕ, ◌≤◌, true, List, [], ◌∷◌, Some}
 use Rattle.std.specs.FinMap as table
-use Rattle.part_core.specs.Catalogue.{Parts, part_in}
-use Rattle.part_core.specs.Sheet.{Table}
+use Rattle.part_core.specs.Catalogue.{Parts}
+use Rattle.part_core.specs.Rows.{EachRow, IsThere, StandRight}
+use Rattle.forest.specs.declared.entry.Entry.{Entry}
 use Rattle.forest.specs.declared.item.Item.{Item}
-use Rattle.yard_core.specs.Stock.{Stock, AreBare, IsSound, holds_serial}
-use Rattle.stock_core.specs.Books.{Books}
-
--- no row stands under a number that is still to be drawn
-abbrev pub IsBelow : {X : Type 0} → ℕ → Table X → Type 0
-IsBelow next t = (n : ℕ) → next ≤ n → table.get t (n ∷ []) ≡ None
+use Rattle.forest.specs.declared.place.Place.{Place}
+use Rattle.forest.specs.declared.place.Place.TheVariants.{At, In, Output, Sent, Used, Off, Gone}
+use Rattle.yard_core.specs.Books.{Books, entries_in}
+use Rattle.yard_core.specs.SoundLocations.{AreSoundLocations}
+use Rattle.yard_core.specs.Stock.{Stock, IsSound, holds_serial}
 
 -- no serial stands twice in a family, on items that aren't gone: what was sent, used or written off keeps its own
 abbrev pub SerialsStandOnce : Parts → Stock → Type 0
@@ -17,23 +17,39 @@ SerialsStandOnce parts s =
     (serial : List ℕ) (family : ℕ) (n m : ℕ) (x y : Item) → table.get s.items (n ∷ []) ≡ Some x → table.get s.items (m ∷ []) ≡ Some y
     → holds_serial serial family parts x ≡ true → holds_serial serial family parts y ≡ true → n ≡ m
 
--- each item is of a part that is there
-abbrev pub AreOfParts : Parts → Stock → Type 0
-AreOfParts parts s = (n : ℕ) (x : Item) → table.get s.items (n ∷ []) ≡ Some x → IsSome (part_in x.part parts)
+-- the row that a place names is there: there are no builds and no orders yet
+abbrev pub IsPlace : Stock → Place → Type 0
+IsPlace s (At l) = IsThere s.locations l
+IsPlace s (In m) = IsThere s.items m
+IsPlace s (Output b) = ⊥
+IsPlace s (Sent o) = ⊥
+IsPlace s (Used b) = ⊥
+IsPlace s (Off reason) = Unit {0}
+IsPlace s Gone = Unit {0}
+
+-- the part and the place of an item are there
+pub record IsSoundItem (parts : Parts) (s : Stock) (x : Item) : Type 0 where
+  pub part : IsThere parts.parts x.part
+  pub place : IsPlace s x.place
+
+-- the item, the part and the place of an entry are there
+pub record IsSoundEntry (parts : Parts) (s : Stock) (e : Entry) : Type 0 where
+  pub item : IsThere s.items e.note.item
+  pub part : IsThere parts.parts e.note.part
+  pub place : IsPlace s e.note.place
 
 -- what holds without a look at the catalogue
 pub record AreSoundItems (b : Books) : Type 0 where
   -- a sound forest, with a history that agrees with it
   pub stock : IsSound b.stock
-  -- no item lies in another yet
-  pub bare : AreBare (table.values b.stock.items)
-  pub below : IsBelow b.counter.next b.stock.items
+  -- each item under its own number, which was drawn
+  pub rows : StandRight (λ i. i.number) b.counter.next b.stock.items
+  pub locations : AreSoundLocations b.counter.next b.stock
+  -- the history is no longer than its limit
+  pub within : entries_in b ≤ b.counter.limits.entries
 
 pub record IsSoundStock (parts : Parts) (b : Books) : Type 0 where
   pub items : AreSoundItems b
   pub once : SerialsStandOnce parts b.stock
-  pub of_parts : AreOfParts parts b.stock
-
--- what is sound beside a catalogue is so afterwards
-abbrev pub StaysSound : Books → Books → Type 0
-StaysSound old new = (parts : Parts) → IsSoundStock parts old → IsSoundStock parts new
+  pub each_item : EachRow (IsSoundItem parts b.stock) b.stock.items
+  pub each_entry : EachRow (IsSoundEntry parts b.stock) b.stock.history

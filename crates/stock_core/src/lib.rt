@@ -1,23 +1,27 @@
-//! Actions on stock. Each is a command: it is refused by the first check that applies, or changes the
-//! yard and the counter as the machine's row of it says, and answers what it drew and wrote.
+//! Commands on stock. Each is refused by the first check that applies, or changes the yard and the counter
+//! as the machine's row of it says, and answers what it drew and wrote.
+//!
+//! A command has a room of its own: `specs/Transfer.antt` says what it does and why it is refused,
+//! `src/commands/transfer.rt` does it, and `proofs/Transfers.antt` shows that what is sound stays so. Its moves are made in
+//! place and taken back where memory ends, by `books::conclude`; `stock_command` puts all commands together.
 #![tactic(auto)]
 
-mod amounts;
 mod arrivals;
-mod checks;
-mod laws;
-mod merging;
-mod places;
-mod serialising;
+mod asked;
+mod books;
+mod commands;
+mod pieces;
 mod serials;
-mod statuses;
-#[cfg(test)]
-mod tests;
+pub mod stock_command;
 
-pub use amounts::{add, count, remove};
-pub use arrivals::{NewStock, found};
-pub use laws::no_stock_is_sound;
-pub use merging::merge;
-pub use places::{split, transfer};
-pub use serialising::serialise;
-pub use statuses::set_status;
+pub use arrivals::{Arrival, NewStock};
+pub use commands::add::add;
+pub use commands::count::count;
+pub use commands::found::found;
+pub use commands::merge::merge;
+pub use commands::remove::remove;
+pub use commands::serialise::serialise;
+pub use commands::set_status::set_status;
+pub use commands::split::split;
+pub use commands::transfer::transfer;
+pub use stock_command::StockCommand;

@@ -3,30 +3,21 @@ ghost use Rattle.std.specs.Prelude.{◌≡◌};
 ghost use Rattle.std.specs.List.{list_any};
 ghost use Rattle.std.specs.Str.{bytes_eq};
 ghost use Rattle.part_core.specs.Catalogues.{parts_of};
+ghost use Rattle.part_core.specs.Twice.{stands_twice};
 ghost use Rattle.yard_core.specs.Yards.{stock_of};
-ghost use Rattle.stock_core.specs.Serials.{are_many, are_taken, count_of, is_one_held, is_other_count, stands_twice};
+ghost use Rattle.stock_core.specs.Serials.{are_many, are_taken, is_one_held, is_other_count};
 
-use part_core::{Catalogue, Id, Quantity, Serial, Serials};
+use part_core::{Catalogue, Id, Quantity, Serial};
 use yard_core::Yard;
 
 /// A command names at most so many serials.
-const MOST: usize = 1000;
-
-/// How many new items there are.
-pub fn count_of(serials: &Option<Serials>) -> u64
-    ensures { result ≡ count_of serials.now }
-{
-    match serials {
-        None => 1,
-        Some(serials) => serials.as_slice().len() as u64,
-    }
-}
+const MOST_SERIALS: usize = 1000;
 
 /// Whether more serials are named than a command may.
 pub fn are_many(serials: &[Serial]) -> bool
     ensures { result ≡ are_many serials.now }
 {
-    serials.len() > MOST
+    serials.len() > MOST_SERIALS
 }
 
 /// Whether there are more or fewer serials than pieces.
@@ -45,7 +36,7 @@ fn is_among(serial: &Serial, others: &[Serial]) -> bool
 
 /// Whether a serial stands twice in the list. It compares each with all that follow.
 fn stands_twice(serials: &[Serial]) -> bool
-    ensures { result ≡ stands_twice serials.now }
+    ensures { result ≡ stands_twice bytes_eq serials.now }
 {
     for i in 0..serials.len() {
         if is_among(&serials[i], &serials[i + 1..]) {

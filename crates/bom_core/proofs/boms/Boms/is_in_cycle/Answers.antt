@@ -9,7 +9,7 @@ use Rattle.bom_core.specs.Search.{is_among}
 use Rattle.bom_core.specs.Walks.{HasWalk}
 use Rattle.bom_core.proofs.Closed.{place, among-at}
 use Rattle.bom_core.proofs.Reached.{among-pushed}
-use Rattle.bom_core.proofs.Rows.{filter_all}
+use Rattle.part_core.proofs.Standing.{filter_all}
 use Rattle.bom_core.proofs.boms.Boms.is_in_cycle.Goals as goal
 
 pub returns-then-branch : goal.returns-then-branch

@@ -2,7 +2,7 @@ use Rattle.std.proofs.Common.{◌≡◌, true}
 use Rattle.part_core.specs.Catalogues.{parts_of}
 use Rattle.bom_core.specs.Boms.{bills_of}
 use Rattle.bom_core.proofs.Edges.{line-cycles}
-use Rattle.bom_core.proofs.Member.{not_true}
+use Rattle.part_core.proofs.Conditions.{not_true}
 use Rattle.bom_core.proofs.boms.Boms.put_line.Goals as goal
 
 pub returns-then-branch-clause-refused : goal.returns-then-branch-clause-refused

@@ -7,7 +7,7 @@ use Rattle.bom_core.specs.declared.line.Line.{Line}
 use Rattle.bom_core.specs.declared.substitute.Substitute.{Substitute}
 use Rattle.bom_core.specs.Bills.{part_rows, line_rows, substitute_rows}
 use Rattle.bom_core.specs.Boms.{bills_of}
-use Rattle.bom_core.proofs.Rows.{filter_all}
+use Rattle.part_core.proofs.Standing.{filter_all}
 use Rattle.bom_core.proofs.boms.Boms.walk.Goals as goal
 
 pub returns : goal.returns

@@ -1,5 +1,0 @@
-use Rattle.stock_core.proofs.Beside.{sound-nothing}
-use Rattle.stock_core.proofs.laws.no_stock_is_sound.Goals as goal
-
-pub returns : goal.returns
-returns c = sound-nothing

@@ -1,6 +1,0 @@
-use Rattle.std.proofs.Common.{◌≡◌, drop}
-use Rattle.stock_core.specs.Reasons.{stands_twice}
-use Rattle.stock_core.proofs.merging.stands_twice.Given as goal
-
-abbrev pub invariant-loop-i : goal.invariant-loop-i
-invariant-loop-i l = stands_twice (drop l.i l.items) ≡ stands_twice l.items

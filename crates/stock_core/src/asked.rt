@@ -1,0 +1,74 @@
+//! What is asked of items. One that isn't there counts as one that is gone.
+ghost use Rattle.std.specs.Prelude.{◌≡◌};
+ghost use Rattle.yard_core.specs.Stock.{item_at};
+ghost use Rattle.yard_core.specs.Yards.{stock_of};
+ghost use Rattle.stock_core.specs.Asked.{has_less, has_more, is_loose, is_no_item, is_no_location, is_serialised, quantity_at};
+
+use part_core::{Id, Quantity};
+use yard_core::Yard;
+
+pub fn is_no_location(yard: &Yard, location: Id) -> bool
+    ensures { result ≡ is_no_location location (stock_of yard.now) }
+{
+    yard.location(location).is_none()
+}
+
+pub fn is_no_item(yard: &Yard, item: Id) -> bool
+    ensures { result ≡ is_no_item item (stock_of yard.now) }
+{
+    yard.item(item).is_none()
+}
+
+/// Whether the item lies at a location by itself.
+pub fn is_loose(yard: &Yard, item: Id) -> bool
+    ensures { result ≡ is_loose item (stock_of yard.now) }
+{
+    match yard.item(item) {
+        Some(row) => row.place.is_at(),
+        None => false,
+    }
+}
+
+/// Whether the item has a serial.
+pub fn is_serialised(yard: &Yard, item: Id) -> bool
+    ensures { result ≡ is_serialised item (stock_of yard.now) }
+{
+    match yard.item(item) {
+        Some(row) => row.lot.serial.is_some(),
+        None => false,
+    }
+}
+
+/// The item's quantity, or 0 where it isn't there.
+pub fn quantity_at(yard: &Yard, item: Id) -> Quantity
+    ensures { result ≡ quantity_at (stock_of yard.now) item }
+{
+    match yard.item(item) {
+        Some(row) => row.quantity,
+        None => 0,
+    }
+}
+
+/// Whether the item has more than the amount.
+pub fn has_more(yard: &Yard, item: Id, quantity: Quantity) -> bool
+    ensures { result ≡ has_more item quantity (stock_of yard.now) }
+{
+    quantity < quantity_at(yard, item)
+}
+
+/// Whether the item has less than the amount.
+pub fn has_less(yard: &Yard, item: Id, quantity: Quantity) -> bool
+    ensures { result ≡ has_less item quantity (stock_of yard.now) }
+{
+    quantity_at(yard, item) < quantity
+}
+
+/// The number of the item's part, or 0 where the item isn't there.
+pub fn part_at(yard: &Yard, item: Id) -> Id
+    ensures { result ≡ (item_at item (stock_of yard.now)).part }
+{
+    match yard.item(item) {
+        Some(row) => row.part,
+        None => 0,
+    }
+}

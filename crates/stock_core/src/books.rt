@@ -1,0 +1,49 @@
+//! The books of a command: whether the limits leave room for it, and its end.
+ghost use Rattle.std.specs.Prelude.{◌≡◌, ◌+◌, ◌||◌, nat_lt, Err, IfOk, IsOk, OnErr};
+ghost use Rattle.part_core.specs.Counter.{lacks, numbering_of};
+ghost use Rattle.part_core.specs.declared.refusal.CoreFault.{CoreFault};
+ghost use Rattle.yard_core.specs.Books.{answer_of, books_of, entries_in, kept_books};
+
+use part_core::{Answer, CoreFault, Counter, Ids};
+use std::alloc::{AllocError, Global};
+use yard_core::Yard;
+
+/// Whether so many numbers, or so many entries, more pass the limits.
+pub fn lacks_room(yard: &Yard, counter: &Counter, numbers: u64, entries: u64) -> bool
+    ensures { let b = books_of yard.now counter.now in
+        result ≡ (lacks numbers b.counter || nat_lt b.counter.limits.entries (entries_in b + entries)) }
+{
+    let most = counter.limits().entries;
+    counter.lacks(numbers) || entries > most || yard.entries() > most - entries
+}
+
+/// Ends a command whose moves were tried: answers what they drew and wrote since the books were kept, or,
+/// where there was no memory for them or for the answer, takes everything back.
+pub fn conclude(
+    alloc: Global,
+    yard: &mut Yard,
+    counter: &mut Counter,
+    moved: Result<(), AllocError>,
+) -> Result<Answer, CoreFault>
+    ensures moved { IfOk result (λ _. IsOk moved) }
+    ensures done { IfOk result (λ _. books_of yard.new counter.new ≡ books_of yard.old counter.old) }
+    ensures told { IfOk result (λ answer. answer ≡ answer_of (kept_books yard.old counter.old) (books_of yard.old counter.old)) }
+    ensures memory { OnErr result (result ≡ Err CoreFault.Memory) }
+    ensures back { OnErr result (books_of yard.new counter.new ≡ kept_books yard.old counter.old) }
+    ensures kept { kept_books yard.new counter.new ≡ kept_books yard.old counter.old }
+{
+    let entries = yard.entries().saturating_sub(yard.kept_entries());
+    let drawn = counter.next() - counter.kept();
+    let ids = match moved {
+        Ok(()) => Ids::range(alloc, counter.kept(), drawn),
+        Err(error) => Err(error),
+    };
+    match ids {
+        Ok(ids) => Ok(Answer { ids, entries }),
+        Err(_) => {
+            yard.back();
+            counter.back();
+            Err(CoreFault::Memory)
+        }
+    }
+}

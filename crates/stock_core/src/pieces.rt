@@ -1,0 +1,72 @@
+//! Pieces that are cut off items.
+ghost use Rattle.std.specs.Prelude.{◌≡◌, ◌+◌, ◌<◌, ◌≤◌, ◌^◌, false, true, IfOk, OnOk, None, Some, length};
+ghost use Rattle.part_core.specs.Counter.{lacks};
+ghost use Rattle.yard_core.specs.Books.{books_of, kept_books};
+ghost use Rattle.stock_core.specs.Arrives.{HasRoom};
+ghost use Rattle.stock_core.specs.Asked.{has_less, has_more};
+ghost use Rattle.stock_core.specs.Pieces.{CanCut, IsWhole};
+ghost use Rattle.stock_core.specs.Steps.{cut_each, cut_off, take};
+
+use crate::asked::has_more;
+use part_core::{Counter, Day, Id, Quantity, Serial};
+use std::alloc::{AllocError, Global};
+use yard_core::Yard;
+
+/// Cuts an amount off a loose item without serial, under the next number, which it gives.
+pub fn cut_off(
+    yard: &mut Yard,
+    counter: &mut Counter,
+    item: Id,
+    quantity: Quantity,
+    serial: Option<Serial>,
+    day: Day,
+) -> Result<Id, AllocError>
+    requires can { CanCut item quantity serial (books_of yard.old counter.old) }
+    ensures ok { IfOk result (λ _. books_of yard.new counter.new ≡ cut_off item quantity serial day (books_of yard.old counter.old)) }
+    ensures number { IfOk result (λ number. number ≡ counter.old.next) }
+    ensures kept { kept_books yard.new counter.new ≡ kept_books yard.old counter.old }
+{
+    yard.cut(item, quantity, counter.next(), serial, day)?;
+    Ok(counter.draw())
+}
+
+/// Cuts a single piece off the item for each serial, in their order.
+pub fn cut_each(
+    alloc: Global,
+    yard: &mut Yard,
+    counter: &mut Counter,
+    item: Id,
+    serials: &[Serial],
+    day: Day,
+) -> Result<(), AllocError>
+    requires room { HasRoom (length serials.now) (books_of yard.old counter.old) }
+    requires whole { IsWhole item (length serials.now) (books_of yard.old counter.old) }
+    ensures ok { OnOk result (books_of yard.new counter.new ≡ cut_each item serials.now day (books_of yard.old counter.old)) }
+    ensures kept { kept_books yard.new counter.new ≡ kept_books yard.old counter.old }
+{
+    for serial in serials {
+        let own = serial.copy(alloc)?;
+        let _ = cut_off(yard, counter, item, 1, Some(own), day)?;
+    }
+    Ok(())
+}
+
+/// Takes an amount of a loose item: less than the whole is cut off it, under the next number. It gives the
+/// number of what was taken.
+pub fn take(
+    yard: &mut Yard,
+    counter: &mut Counter,
+    item: Id,
+    quantity: Quantity,
+    day: Day,
+) -> Result<Id, AllocError>
+    requires can { has_more item quantity (books_of yard.old counter.old).stock ≡ true → CanCut item quantity None (books_of yard.old counter.old) }
+    ensures ok { IfOk result (λ number. take item quantity day (books_of yard.old counter.old) ≡ (books_of yard.new counter.new, number)) }
+    ensures kept { kept_books yard.new counter.new ≡ kept_books yard.old counter.old }
+{
+    if has_more(yard, item, quantity) {
+        cut_off(yard, counter, item, quantity, None, day)
+    } else {
+        Ok(item)
+    }
+}

@@ -1,0 +1,145 @@
+//! The commands on stock, as a machine: one call that does any of them, and its laws.
+ghost use Rattle.std.specs.Prelude.{◌≡◌};
+ghost use Rattle.part_core.specs.Catalogue.{no_parts};
+ghost use Rattle.part_core.specs.Catalogues.{parts_of};
+ghost use Rattle.part_core.specs.Counter.{start};
+ghost use Rattle.part_core.specs.declared.limits.Limits.{Limits};
+ghost use Rattle.yard_core.specs.Books.{Does, books_of, kept_books};
+ghost use Rattle.yard_core.specs.Stock.{empty_stock};
+ghost use Rattle.stock_core.specs.Sound.{IsSoundStock};
+ghost use Rattle.stock_core.specs.StockMachine.{ChecksAreInOrder, EffectsAreSound, checks, effect};
+
+use crate::arrivals::NewStock;
+use crate::{add, count, found, merge, remove, serialise, set_status, split, transfer};
+use part_core::{Answer, Catalogue, CoreFault, Counter, Day, Id, Ids, Quantity, Serials, Status};
+use std::alloc::Global;
+use yard_core::Yard;
+
+/// What a clerk may ask of stock. Row numbers and quantities are any numbers: whether they name rows and
+/// are in their ranges is part of the command's checks.
+#[derive(Drop)]
+pub enum StockCommand {
+    /// Stock that was found: new items at a location.
+    Found {
+        part: Id,
+        location: Id,
+        new: NewStock,
+    },
+    /// An amount that was found is added to an item.
+    Add {
+        item: Id,
+        quantity: Quantity,
+    },
+    /// Stock that is taken out of an item and written off.
+    Remove {
+        item: Id,
+        quantity: Quantity,
+    },
+    /// What a count of an item found.
+    Count {
+        item: Id,
+        quantity: Quantity,
+    },
+    /// An amount of an item goes to a location.
+    Transfer {
+        item: Id,
+        location: Id,
+        quantity: Quantity,
+    },
+    /// An amount of an item becomes an item of its own.
+    Split {
+        item: Id,
+        quantity: Quantity,
+    },
+    /// Items are poured into another, in the order of the list.
+    Merge {
+        into: Id,
+        items: Ids,
+    },
+    /// Pieces of an item get serials.
+    Serialise {
+        item: Id,
+        quantity: Quantity,
+        serials: Serials,
+    },
+    /// An item gets another status.
+    SetStatus {
+        item: Id,
+        status: Status,
+    },
+}
+
+/// Does the command, or is refused by the first check that applies. The docstrings of the calls that stand
+/// for the commands say when each refusal comes.
+pub fn act(
+    alloc: Global,
+    catalogue: &Catalogue,
+    yard: &mut Yard,
+    counter: &mut Counter,
+    day: Day,
+    command: &StockCommand,
+) -> Result<Answer, CoreFault>
+    requires nothing_pending { kept_books yard.old counter.old ≡ books_of yard.old counter.old }
+    requires sound { IsSoundStock (parts_of catalogue.now) (books_of yard.old counter.old) }
+    ensures does { let b = books_of yard.old counter.old in
+        Does (checks command.now day (parts_of catalogue.now) b) (effect command.now day b) b result (books_of yard.new counter.new) }
+    ensures kept { kept_books yard.new counter.new ≡ kept_books yard.old counter.old }
+{
+    match command {
+        StockCommand::Found {
+            part,
+            location,
+            new,
+        } => found(alloc, catalogue, yard, counter, day, *part, *location, new),
+        StockCommand::Add { item, quantity } => add(alloc, yard, counter, day, *item, *quantity),
+        StockCommand::Remove { item, quantity } => {
+            remove(alloc, yard, counter, day, *item, *quantity)
+        }
+        StockCommand::Count { item, quantity } => {
+            count(alloc, yard, counter, day, *item, *quantity)
+        }
+        StockCommand::Transfer {
+            item,
+            location,
+            quantity,
+        } => transfer(alloc, yard, counter, day, *item, *location, *quantity),
+        StockCommand::Split { item, quantity } => {
+            split(alloc, yard, counter, day, *item, *quantity)
+        }
+        StockCommand::Merge { into, items } => {
+            merge(alloc, yard, counter, day, *into, items.as_slice())
+        }
+        StockCommand::Serialise {
+            item,
+            quantity,
+            serials,
+        } => serialise(
+            alloc,
+            catalogue,
+            yard,
+            counter,
+            day,
+            *item,
+            *quantity,
+            serials.as_slice(),
+        ),
+        StockCommand::SetStatus { item, status } => {
+            set_status(alloc, yard, counter, day, *item, *status)
+        }
+    }
+}
+
+/// The law that the refusals of each command are checked in the one order of checks.
+pub fn checks_are_in_order()
+    ensures { ChecksAreInOrder }
+{}
+
+/// The law that what passes its checks leaves sound stock sound, and only adds to numbers and history.
+pub fn effects_are_sound()
+    ensures { EffectsAreSound }
+{}
+
+/// Where there is nothing yet, the stock is sound.
+pub fn no_stock_is_sound()
+    ensures { (limits : Limits) → IsSoundStock no_parts (record { stock = empty_stock; counter = start limits }) }
+{}
