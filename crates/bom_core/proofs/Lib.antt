@@ -10,3 +10,4 @@ pub mod Kept
 pub mod Variants
 pub mod Beside
 pub mod SoundChanges
+pub mod Grown

@@ -1,5 +1,5 @@
 -- When new items can be made, and how many there are.
-use Rattle.std.specs.Prelude.{◌≡◌, ℕ, ◌+◌, ◌<◌, ◌^◌, true, false, List, length, Option, Some, None}
+use Rattle.std.specs.Prelude.{◌≡◌, ℕ, ◌+◌, ◌<◌, ◌≤◌, ◌^◌, true, false, List, length, Option, Some, None}
 use Rattle.part_core.specs.Counter.{lacks}
 use Rattle.part_core.specs.Rows.{StandRight}
 use Rattle.forest.specs.Forest.{is_at}
@@ -21,6 +21,7 @@ pub record IsArrival (a : Arrival) : Type 0 where
 -- the stock is sound, and there is room for so many items
 pub record HasRoom (count : ℕ) (b : Books) : Type 0 where
   pub stock : IsSound b.stock
+  pub some : 1 ≤ b.counter.next
   pub rows : StandRight (λ i. i.number) b.counter.next b.stock.items
   pub numbers : lacks count b.counter ≡ false
   pub entries : next_entry b.stock + count < 2 ^ 64

@@ -1,11 +1,10 @@
 //! Stock that comes, and the new items that it is.
-ghost use Rattle.std.specs.Prelude.{◌≡◌, ◌+◌, ◌<◌, ◌≤◌, ◌^◌, false, IfOk, IfSome, OnOk, length, not};
+ghost use Rattle.std.specs.Prelude.{◌≡◌, ◌≤◌, IfOk, IfSome, OnOk, length, not};
 ghost use Rattle.part_core.specs.Catalogue.{is_trackable, part_in};
 ghost use Rattle.part_core.specs.Catalogues.{parts_of};
-ghost use Rattle.part_core.specs.Counter.{lacks};
 ghost use Rattle.forest.specs.Moves.{largest};
 ghost use Rattle.yard_core.specs.Books.{books_of, kept_books};
-ghost use Rattle.yard_core.specs.Stock.{next_entry};
+ghost use Rattle.yard_core.specs.Stock.{IsSound};
 ghost use Rattle.yard_core.specs.Yards.{stock_of};
 ghost use Rattle.stock_core.specs.Arrives.{HasRoom, IsArrival, count_of};
 ghost use Rattle.stock_core.specs.Serials.{are_many, are_taken, given, is_other_count};
@@ -123,6 +122,7 @@ fn make_one(
     requires arrival { IsArrival arrival }
     requires quantity { (1 ≤ quantity) × (quantity ≤ largest) × IfSome serial (λ _. quantity ≡ 1) }
     ensures ok { OnOk result (books_of yard.new counter.new ≡ make_one arrival quantity batch.now serial day (books_of yard.old counter.old)) }
+    ensures sound { OnOk result (IsSound (stock_of yard.new)) }
     ensures kept { kept_books yard.new counter.new ≡ kept_books yard.old counter.old }
 {
     let item = new_item(alloc, counter.next(), arrival, quantity, batch, serial)?;

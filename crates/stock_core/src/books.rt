@@ -4,7 +4,7 @@ ghost use Rattle.part_core.specs.Counter.{lacks, numbering_of};
 ghost use Rattle.part_core.specs.declared.refusal.CoreFault.{CoreFault};
 ghost use Rattle.yard_core.specs.Books.{answer_of, books_of, entries_in, kept_books};
 
-use part_core::{Answer, CoreFault, Counter, Ids};
+use part_core::{Answer, CoreFault, Counter};
 use std::alloc::{AllocError, Global};
 use yard_core::Yard;
 
@@ -33,9 +33,8 @@ pub fn conclude(
     ensures kept { kept_books yard.new counter.new ≡ kept_books yard.old counter.old }
 {
     let entries = yard.entries().saturating_sub(yard.kept_entries());
-    let drawn = counter.next() - counter.kept();
     let ids = match moved {
-        Ok(()) => Ids::range(alloc, counter.kept(), drawn),
+        Ok(()) => counter.pending(alloc),
         Err(error) => Err(error),
     };
     match ids {

@@ -1,9 +1,10 @@
 //! Pieces that are cut off items.
-ghost use Rattle.std.specs.Prelude.{◌≡◌, ◌+◌, ◌<◌, ◌≤◌, ◌^◌, false, true, IfOk, OnOk, None, Some, length};
-ghost use Rattle.part_core.specs.Counter.{lacks};
+ghost use Rattle.std.specs.Prelude.{◌≡◌, ◌+◌, ◌≤◌, true, IfOk, OnOk, None, length};
 ghost use Rattle.yard_core.specs.Books.{books_of, kept_books};
+ghost use Rattle.yard_core.specs.Stock.{IsSound, next_entry};
+ghost use Rattle.yard_core.specs.Yards.{stock_of};
 ghost use Rattle.stock_core.specs.Arrives.{HasRoom};
-ghost use Rattle.stock_core.specs.Asked.{has_less, has_more};
+ghost use Rattle.stock_core.specs.Asked.{has_more, is_loose};
 ghost use Rattle.stock_core.specs.Pieces.{CanCut, IsWhole};
 ghost use Rattle.stock_core.specs.Steps.{cut_each, cut_off, take};
 
@@ -24,6 +25,7 @@ pub fn cut_off(
     requires can { CanCut item quantity serial (books_of yard.old counter.old) }
     ensures ok { IfOk result (λ _. books_of yard.new counter.new ≡ cut_off item quantity serial day (books_of yard.old counter.old)) }
     ensures number { IfOk result (λ number. number ≡ counter.old.next) }
+    ensures sound { OnOk result (IsSound (stock_of yard.new)) }
     ensures kept { kept_books yard.new counter.new ≡ kept_books yard.old counter.old }
 {
     yard.cut(item, quantity, counter.next(), serial, day)?;
@@ -60,13 +62,18 @@ pub fn take(
     quantity: Quantity,
     day: Day,
 ) -> Result<Id, AllocError>
-    requires can { has_more item quantity (books_of yard.old counter.old).stock ≡ true → CanCut item quantity None (books_of yard.old counter.old) }
+    requires sound { IsSound (stock_of yard.old) }
+    requires loose { is_loose item (stock_of yard.old) ≡ true }
+    requires can { has_more item quantity (stock_of yard.old) ≡ true → CanCut item quantity None (books_of yard.old counter.old) }
     ensures ok { IfOk result (λ number. take item quantity day (books_of yard.old counter.old) ≡ (books_of yard.new counter.new, number)) }
+    ensures sound { OnOk result (IsSound (stock_of yard.new)) }
+    ensures loose { IfOk result (λ number. is_loose number (stock_of yard.new) ≡ true) }
+    ensures entries { OnOk result (next_entry (stock_of yard.new) ≤ next_entry (stock_of yard.old) + 1) }
     ensures kept { kept_books yard.new counter.new ≡ kept_books yard.old counter.old }
 {
-    if has_more(yard, item, quantity) {
-        cut_off(yard, counter, item, quantity, None, day)
-    } else {
-        Ok(item)
+    if !has_more(yard, item, quantity) {
+        return Ok(item);
     }
+    let number = cut_off(yard, counter, item, quantity, None, day)?;
+    Ok(number)
 }

@@ -1,0 +1,11 @@
+use Rattle.std.proofs.Common.{◌∙◌, refl, length}
+use Rattle.yard_core.specs.Books.{books_of}
+use Rattle.std.proofs.Common.{None}
+use Rattle.stock_core.specs.Split.{split}
+use Rattle.stock_core.proofs.Uses.{full-used, uses-cut_off}
+use Rattle.stock_core.proofs.commands.split.is_full.Goals as goal
+
+pub returns : goal.returns
+returns c day =
+    let b = books_of c.args.yard.now c.args.counter.now in
+    c.lacks_room.ensures ∙ full-used 1 1 b (split c.args.item c.args.quantity day b) (uses-cut_off c.args.item c.args.quantity None day b c.requires.stock.history)
