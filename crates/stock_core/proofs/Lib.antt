@@ -1,0 +1,12 @@
+pub mod Upright
+pub mod Kept
+pub mod Plain
+pub mod TreeNotes
+pub mod Steps
+pub mod Checked
+pub mod AddSound
+pub mod RemoveSound
+pub mod TransferSound
+pub mod CountSound
+pub mod SplitSound
+pub mod SetStatusSound
