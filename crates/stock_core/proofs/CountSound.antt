@@ -1,5 +1,5 @@
 -- What a count found leaves sound stock sound.
-use Rattle.std.proofs.Common.{◌≡◌, ◌<◌, ◌≤◌, ◌+◌, ◌-◌, ℕ, Bool, true, false, is_some, None, Some, Option, List, [], ◌∷◌, refl, arith}
+use Rattle.std.proofs.Common.{◌≡◌, ◌<◌, ◌≤◌, ◌-◌, ℕ, Bool, true, false, is_some, None, Some, Option, List, [], ◌∷◌, refl, arith}
 use Rattle.std.specs.Prelude.{◌==◌, ◌&&◌, if◌then◌else◌, nat_lt}
 use Rattle.std.specs.FinMap as table
 use Rattle.std.proofs.lemmas.Bool.{eqb-false, ltb-false, ltb-true}
@@ -18,7 +18,7 @@ use Rattle.stock_core.specs.Count.{count, count_checks}
 use Rattle.stock_core.specs.Sound.{IsSoundStock}
 use Rattle.stock_core.specs.StockMachine.{Grows}
 use Rattle.stock_core.proofs.Checked.{sound-leads}
-use Rattle.stock_core.proofs.Plain.{IsPlain, plain-bounds, there-checked}
+use Rattle.stock_core.proofs.Plain.{IsPlain, there-checked}
 use Rattle.stock_core.proofs.Steps.{leads-grow, leads-off, leads-shrink, serial-one}
 use Rattle.stock_core.proofs.Upright.{Leads, Upright, leads-none, upright-of}
 

@@ -1,5 +1,5 @@
 -- Rows stay under their own numbers, and serials unique, where a row changes and where one comes.
-use Rattle.std.proofs.Common.{◌≡◌, ◌⊎◌, inl, inr, ℕ, ◌+◌, ◌≤◌, ◌<◌, Bool, true, false, not, List, [], ◌∷◌, Option, Some, None, refl, sym, ap, ◌∙◌, subst, arith, eqb-true, rules}
+use Rattle.std.proofs.Common.{◌≡◌, ◌⊎◌, inl, inr, ℕ, ◌+◌, ◌≤◌, Bool, true, false, not, List, [], ◌∷◌, Option, Some, None, refl, sym, ap, ◌∙◌, subst, eqb-true, rules}
 use Rattle.std.specs.Prelude.{◌==◌, ◌&&◌}
 use Rattle.std.specs.FinMap as table
 use Rattle.std.specs.Str.{bytes_eq}
@@ -9,7 +9,7 @@ use Rattle.part_core.specs.Rows.{StandRight}
 use Rattle.part_core.specs.Sheet.{Table}
 use Rattle.part_core.specs.declared.status.Status.{Status}
 use Rattle.part_core.proofs.Conditions.{and_both, and_parts, not_true}
-use Rattle.part_core.proofs.RowLemmas.{get-insert_cases, right-changed, right-new, right-none, same_digit}
+use Rattle.part_core.proofs.RowLemmas.{get-insert_cases, right-changed, right-new, same_digit}
 use Rattle.forest.specs.declared.item.Item.{Item}
 use Rattle.forest.specs.declared.place.Place.{Place}
 use Rattle.forest.specs.declared.place.Place.TheVariants.{At, In, Output, Sent, Used, Off, Gone}

@@ -4,9 +4,14 @@ pub mod Plain
 pub mod TreeNotes
 pub mod Steps
 pub mod Checked
+pub mod FreeSerials
+pub mod FoundSound
 pub mod AddSound
 pub mod RemoveSound
-pub mod TransferSound
 pub mod CountSound
+pub mod TransferSound
 pub mod SplitSound
+pub mod MergeSound
+pub mod SerialiseSound
 pub mod SetStatusSound
+pub mod Effects

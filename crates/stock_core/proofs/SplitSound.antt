@@ -1,5 +1,5 @@
 -- A piece that is split off leaves sound stock sound.
-use Rattle.std.proofs.Common.{◌≡◌, ◌≤◌, ◌+◌, ℕ, None, arith}
+use Rattle.std.proofs.Common.{◌≡◌, ℕ, None, arith}
 use Rattle.std.proofs.lemmas.Bool.{ltb-true}
 use Rattle.part_core.specs.Catalogue.{Parts}
 use Rattle.part_core.specs.Checks.{first}

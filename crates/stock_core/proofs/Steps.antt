@@ -5,20 +5,19 @@ use Rattle.std.specs.FinMap as table
 use Rattle.part_core.specs.Catalogue.{Parts, family}
 use Rattle.part_core.specs.Day.{CivilDay}
 use Rattle.part_core.specs.Rows.{IsThere}
-use Rattle.part_core.specs.Sheet.{Table}
 use Rattle.part_core.specs.declared.status.Status.{Status}
-use Rattle.part_core.proofs.RowLemmas.{get-insert_other, right-none, right-number, same_digit, there, there-insert, there-new}
+use Rattle.part_core.proofs.RowLemmas.{get-insert_other, right-none, right-number, same_digit, there, there-new}
 use Rattle.forest.specs.declared.entry.Kind.TheVariants.{Written}
 use Rattle.forest.specs.declared.entry.Note.{Note}
 use Rattle.forest.specs.declared.item.Item.{Item}
 use Rattle.forest.specs.declared.place.Place.{Place}
 use Rattle.forest.specs.declared.place.Place.TheVariants.{At, In, Output, Sent, Used, Off, Gone}
 use Rattle.forest.specs.declared.place.Reason.{Reason}
-use Rattle.forest.specs.Forest.{Root, is_at}
-use Rattle.forest.specs.Moves.{CanLift, CanMake, cut_change, cut_node, grow_change, largest, leaf, lift_entries, make_change, mark_change, place_left, pour_change, shrink_change}
-use Rattle.forest.specs.Tables.{node_of, trees_below}
+use Rattle.forest.specs.Forest.{is_at}
+use Rattle.forest.specs.Moves.{CanLift, cut_change, grow_change, largest, lift_entries, make_change, mark_change, place_left, pour_change, shrink_change}
+use Rattle.forest.specs.Tables.{node_of}
 use Rattle.yard_core.specs.Books.{Books, with_drawn, with_stock}
-use Rattle.yard_core.specs.Stock.{CanCutItem, CanGrowItem, CanLiftItem, CanMakeItem, CanMarkItem, CanPourItem, CanShrinkItem, IsItem, IsSound, Stock, grow, is_gone, item_at, lift, lift_notes, make, mark, moved, pour, shrink, tree_of}
+use Rattle.yard_core.specs.Stock.{CanCutItem, CanGrowItem, CanMakeItem, CanMarkItem, CanPourItem, CanShrinkItem, IsItem, IsSound, Stock, grow, is_gone, item_at, lift, lift_notes, mark, moved, pour, shrink, tree_of}
 use Rattle.yard_core.proofs.Keeping.{good_at, grown, is_cut_off, lifted, made, marked, poured, shrunk}
 use Rattle.yard_core.proofs.Rows.{get-other, get-own}
 use Rattle.stock_core.specs.Arrives.{IsArrival}
@@ -26,9 +25,9 @@ use Rattle.stock_core.specs.Sound.{IsPlace, IsSoundItem}
 use Rattle.stock_core.specs.Steps.{cut_off, make_one, new_item}
 use Rattle.stock_core.specs.declared.arrivals.Arrival.{Arrival}
 use Rattle.stock_core.proofs.Kept.{IsFree, Tidy, changed_to, free-changed, free-new, stays-loose, tidy-changed, tidy-new}
-use Rattle.stock_core.proofs.Plain.{IsPlain, plain-bounds, refilled}
+use Rattle.stock_core.proofs.Plain.{IsPlain, refilled}
 use Rattle.stock_core.proofs.TreeNotes.{notes-below}
-use Rattle.stock_core.proofs.Upright.{AreSoundNotes, IsSoundNote, Leads, Upright, keeps-moved, leads-moved, notes-kept, place-kept}
+use Rattle.stock_core.proofs.Upright.{AreSoundNotes, IsSoundNote, Keeps, Leads, Upright, keeps-moved, leads-moved, notes-kept, place-kept}
 
 -- what has another quantity is where it was, or gone
 left-place : (s : Stock) (q : ℕ) (l : Place) → IsPlace s l → IsPlace s (place_left q l)
@@ -260,6 +259,9 @@ module _ (parts : Parts) (b : Books) (up : Upright parts b) where
         (record { part = part; place = new_place }, tt)
         (rw arrival.loose (record { item = there-new s.items b.counter.next arrived; part = part; place = new_place }, tt))
 
+    pub keeps-make : (day : CivilDay) → Keeps s (make_one a q batch serial day b).stock
+    keeps-make day = keeps-moved (arrived ∷ []) (make_change a.kind a.place (node_of arrived)).notes day s
+
     pub free-make : (day : CivilDay) (kin : ℕ) (t : List ℕ) → (serial ≡ Some t → ⊥) → IsFree parts kin t s.items → IsFree parts kin t (make_one a q batch serial day b).stock.items
     free-make day kin t other was = free-new parts b.counter.next s.items tidy arrived refl up.locations.some free kin t other was
 
@@ -286,3 +288,18 @@ module _ (parts : Parts) (b : Books) (up : Upright parts b) where
       (poured n m day s up.stock can).0 second.rows second.once
       (record { part = from_known.part; place = tt }, (record { part = into_known.part; place = left-place after (y.quantity + x.quantity) y.place into_place }, tt))
       (notes-kept parts s after keeps notes (record { item = number_there n can.from_there; part = from_known.part; place = into_known.place }, tt))
+
+  -- the rows of the other items are as they were
+  pub pour-other : (n m : ℕ) (day : CivilDay) → CanPourItem n m s → (k : ℕ) → (n == k) ≡ false → (m == k) ≡ false → table.get (pour n m day s).items (k ∷ []) ≡ table.get s.items (k ∷ [])
+  pour-other n m day can k from into =
+      let x = item_at n s in
+      let y = item_at m s in
+      get-other y.number k (refilled (y.quantity + x.quantity) y) (table.insert s.items (x.number ∷ []) (refilled 0 x)) (ap (λ i. i == k) (own m can.into_there) ∙ into)
+      ∙ get-other x.number k (refilled 0 x) s.items (ap (λ i. i == k) (own n can.from_there) ∙ from)
+
+  pub pour-into : (n m : ℕ) (day : CivilDay) (can : CanPourItem n m s) → table.get (pour n m day s).items (m ∷ []) ≡ Some (refilled ((item_at m s).quantity + (item_at n s).quantity) (item_at m s))
+  pour-into n m day can =
+      let x = item_at n s in
+      let y = item_at m s in
+      let fuller = refilled (y.quantity + x.quantity) y in
+      subst (λ k. table.get (pour n m day s).items (k ∷ []) ≡ Some fuller) (own m can.into_there) (get-own y.number fuller (table.insert s.items (x.number ∷ []) (refilled 0 x)))

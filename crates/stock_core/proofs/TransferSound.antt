@@ -1,5 +1,5 @@
 -- What goes to a location leaves sound stock sound.
-use Rattle.std.proofs.Common.{◌≡◌, ◌≤◌, ◌+◌, ℕ, Bool, true, false, None, List, [], ◌∷◌, Option, Some, refl, sym, ap, ◌∙◌, subst, arith}
+use Rattle.std.proofs.Common.{◌≡◌, ℕ, Bool, true, false, None, List, [], ◌∷◌, Some, refl, ap, ◌∙◌, arith}
 use Rattle.std.specs.Prelude.{if◌then◌else◌}
 use Rattle.std.specs.FinMap as table
 use Rattle.std.proofs.lemmas.Bool.{ltb-true}
@@ -8,7 +8,6 @@ use Rattle.part_core.specs.Checks.{NoneHolds, first}
 use Rattle.part_core.specs.Day.{CivilDay}
 use Rattle.part_core.specs.Rows.{IsThere}
 use Rattle.part_core.proofs.Conditions.{none-holds, not_false, or_none}
-use Rattle.forest.specs.declared.item.Item.{Item}
 use Rattle.forest.specs.Forest.{is_at}
 use Rattle.yard_core.specs.Books.{Books}
 use Rattle.yard_core.specs.Stock.{item_at}

@@ -1,5 +1,5 @@
 -- What holds of the stock in the midst of a command, and how a move leaves it so.
-use Rattle.std.proofs.Common.{◌≡◌, ℕ, ◌+◌, ◌≤◌, List, [], ◌∷◌, length, Some, refl, arith}
+use Rattle.std.proofs.Common.{◌≡◌, ℕ, ◌+◌, ◌≤◌, List, [], ◌∷◌, refl, arith}
 use Rattle.std.specs.FinMap as table
 use Rattle.part_core.specs.Catalogue.{Parts}
 use Rattle.part_core.specs.Counter.{Numbering}
@@ -17,7 +17,7 @@ use Rattle.yard_core.specs.SoundLocations.{AreSoundLocations}
 use Rattle.yard_core.specs.Stock.{IsSound, Stock, moved, next_entry, numbered, put_all, put_rows}
 use Rattle.yard_core.proofs.Moved.{moved-len}
 use Rattle.yard_core.proofs.SoundRows.{locations-later}
-use Rattle.stock_core.specs.Sound.{AreSoundItems, IsPlace, IsSoundEntry, IsSoundItem, IsSoundStock, SerialsStandOnce}
+use Rattle.stock_core.specs.Sound.{IsPlace, IsSoundEntry, IsSoundItem, IsSoundStock, SerialsStandOnce}
 use Rattle.stock_core.specs.StockMachine.{Grows}
 
 -- sound stock, whose history may be longer than its limit
