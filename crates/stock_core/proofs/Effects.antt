@@ -1,0 +1,23 @@
+-- What passes its checks leaves sound stock sound.
+use Rattle.stock_core.specs.StockMachine.{EffectsAreSound}
+use Rattle.stock_core.specs.declared.stock_command.StockCommand.TheVariants.{Found, Add, Remove, Count, Transfer, Split, Merge, Serialise, SetStatus}
+use Rattle.stock_core.proofs.AddSound.{sound-add}
+use Rattle.stock_core.proofs.CountSound.{sound-count}
+use Rattle.stock_core.proofs.FoundSound.{sound-found}
+use Rattle.stock_core.proofs.MergeSound.{sound-merge}
+use Rattle.stock_core.proofs.RemoveSound.{sound-remove}
+use Rattle.stock_core.proofs.SerialiseSound.{sound-serialise}
+use Rattle.stock_core.proofs.SetStatusSound.{sound-set_status}
+use Rattle.stock_core.proofs.SplitSound.{sound-split}
+use Rattle.stock_core.proofs.TransferSound.{sound-transfer}
+
+pub sound-effect : EffectsAreSound
+sound-effect (Found part location new) day parts b sound e = sound-found part location new day parts b sound e
+sound-effect (Add n quantity) day parts b sound e = sound-add n quantity day parts b sound e
+sound-effect (Remove n quantity) day parts b sound e = sound-remove n quantity day parts b sound e
+sound-effect (Count n quantity) day parts b sound e = sound-count n quantity day parts b sound e
+sound-effect (Transfer n location quantity) day parts b sound e = sound-transfer n location quantity day parts b sound e
+sound-effect (Split n quantity) day parts b sound e = sound-split n quantity day parts b sound e
+sound-effect (Merge into items) day parts b sound e = sound-merge into items day parts b sound e
+sound-effect (Serialise n quantity serials) day parts b sound e = sound-serialise n quantity serials day parts b sound e
+sound-effect (SetStatus n status) day parts b sound e = sound-set_status n status day parts b sound e
