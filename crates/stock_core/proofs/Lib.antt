@@ -15,3 +15,4 @@ pub mod MergeSound
 pub mod SerialiseSound
 pub mod SetStatusSound
 pub mod Effects
+pub mod Beside
