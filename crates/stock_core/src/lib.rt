@@ -2,7 +2,7 @@
 //! as the machine's row of it says, and answers what it drew and wrote.
 //!
 //! A command has a room of its own: `specs/Transfer.antt` says what it does and why it is refused,
-//! `src/commands/transfer.rt` does it, and `proofs/Transfers.antt` shows that what is sound stays so. Its moves are made in
+//! `src/commands/transfer.rt` does it, and `proofs/TransferSound.antt` shows that what is sound stays so. Its moves are made in
 //! place and taken back where memory ends, by `books::conclude`; `stock_command` puts all commands together.
 #![tactic(auto)]
 
