@@ -1,8 +1,8 @@
 -- Where a command passes its checks, its moves can be made.
-use Rattle.std.proofs.Common.{◌≡◌, ℕ, ◌+◌, ◌-◌, ◌≤◌, ◌<◌, ◌^◌, Bool, true, false, ◌||◌, not, List, [], ◌∷◌, length, Option, Some, None, refl, sym, ap, ◌∙◌, subst, arith, is_none, is_some}
-use Rattle.std.specs.Prelude.{◌==◌, ◌&&◌, nat_lt, unwrap_or}
+use Rattle.std.proofs.Common.{◌≡◌, ℕ, ◌+◌, ◌-◌, ◌≤◌, ◌<◌, ◌^◌, Bool, true, false, List, [], ◌∷◌, Option, Some, None, refl, ap, ◌∙◌, arith, is_some}
+use Rattle.std.specs.Prelude.{◌==◌, ◌&&◌, nat_lt}
 use Rattle.std.specs.FinMap as table
-use Rattle.std.proofs.lemmas.Bool.{eqb-false, ltb-false, ltb-true}
+use Rattle.std.proofs.lemmas.Bool.{eqb-false, ltb-false}
 use Rattle.std.proofs.lemmas.Grind.{common_steps}
 use Rattle.part_core.specs.Checks.{first}
 use Rattle.part_core.specs.Counter.{lacks}
@@ -16,14 +16,12 @@ use Rattle.forest.specs.declared.place.Place.TheVariants.{At, In, Output, Sent, 
 use Rattle.forest.specs.Forest.{is_at}
 use Rattle.forest.specs.Moves.{CanLift}
 use Rattle.yard_core.specs.Books.{Books, entries_in, is_full}
-use Rattle.yard_core.specs.Stock.{Stock, item_at, lift_notes, next_entry, no_item, CanCutItem, CanGrowItem, CanLiftItem, CanMarkItem, CanShrinkItem, HasLiftRoom, IsHistory, IsItem, IsThere}
+use Rattle.yard_core.specs.Stock.{Stock, item_at, next_entry, CanGrowItem, CanLiftItem, CanShrinkItem, HasLiftRoom, IsHistory, IsItem}
 use Rattle.yard_core.proofs.Keeping.{good_at}
-use Rattle.stock_core.specs.Asked.{has_more, is_loose, is_no_item, is_serialised, quantity_at}
+use Rattle.stock_core.specs.Asked.{has_more, is_loose, is_serialised, quantity_at}
 use Rattle.stock_core.specs.Count.{count_checks}
-use Rattle.stock_core.specs.Pieces.{CanCut}
 use Rattle.stock_core.specs.Sound.{AreSoundItems}
 use Rattle.stock_core.specs.Steps.{cut_off, take}
-use Rattle.stock_core.specs.Transfer.{carried, transfer_checks}
 use Rattle.stock_core.proofs.Uses.{Uses, entries-carried, full-used, loose-there, piece-loose, take-part, uses-cut_off}
 
 pub good_quantity : (q : ℕ) → is_bad_quantity q ≡ false → (1 ≤ q) × (q ≤ largest)

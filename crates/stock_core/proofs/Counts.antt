@@ -1,6 +1,6 @@
 -- What a count uses.
-use Rattle.std.proofs.Common.{◌∙◌, refl, sym, length}
-use Rattle.std.proofs.Common.{◌≡◌, ℕ, ◌-◌, ◌+◌, Bool, true, false, None, ap}
+use Rattle.std.proofs.Common.{◌∙◌, sym, length}
+use Rattle.std.proofs.Common.{◌≡◌, ℕ, ◌-◌, Bool, true, false, None, ap}
 use Rattle.std.specs.Prelude.{◌==◌, ◌&&◌, if◌then◌else◌}
 use Rattle.part_core.specs.Checks.{first}
 use Rattle.part_core.proofs.Conditions.{none-holds}

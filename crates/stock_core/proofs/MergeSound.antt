@@ -1,27 +1,15 @@
 -- Items that are poured into another leave sound stock sound.
-use Rattle.std.proofs.Common.{◌≡◌, ℕ, ◌+◌, ◌≤◌, ◌&&◌, Bool, true, false, not, List, [], ◌∷◌, Option, Some, None, refl, sym, ap, ◌∙◌, arith, eqb-true}
-use Rattle.std.specs.Prelude.{◌==◌, sum_by}
-use Rattle.std.specs.FinMap as table
-use Rattle.std.specs.List.{list_any}
-use Rattle.std.proofs.lemmas.Bool.{eqb-false, ltb-false}
-use Rattle.std.proofs.lemmas.List.Sums.{sum_by-cons}
+use Rattle.std.proofs.Common.{◌≡◌, ℕ, List, [], ◌∷◌, None}
 use Rattle.part_core.specs.Catalogue.{Parts}
 use Rattle.part_core.specs.Checks.{first}
 use Rattle.part_core.specs.Day.{CivilDay}
-use Rattle.part_core.specs.Quantity.{largest}
-use Rattle.part_core.specs.Status.{is_same_status}
-use Rattle.part_core.specs.Twice.{stands_twice}
-use Rattle.part_core.proofs.Conditions.{and_parts, none-holds, not_false, or_none}
-use Rattle.forest.specs.declared.item.Item.{Item}
-use Rattle.forest.specs.Rows.{is_same_batch}
+use Rattle.part_core.proofs.Conditions.{none-holds}
 use Rattle.yard_core.specs.Books.{Books, with_stock}
-use Rattle.yard_core.specs.Stock.{CanPourItem, Stock, item_at, pour}
-use Rattle.stock_core.specs.Asked.{is_loose, is_no_item, is_serialised, quantity_at}
-use Rattle.stock_core.specs.Merge.{is_one_unlike, is_unlike, merge, merge_checks, pour_each}
+use Rattle.yard_core.specs.Stock.{pour}
+use Rattle.stock_core.specs.Merge.{merge, merge_checks, pour_each}
 use Rattle.stock_core.specs.Sound.{IsSoundStock}
 use Rattle.stock_core.specs.StockMachine.{Grows}
 use Rattle.stock_core.proofs.Checked.{sound-leads}
-use Rattle.stock_core.proofs.Plain.{IsPlain, item_of, plain-bounds, plain-checked, plain-refilled, plain-same}
 use Rattle.stock_core.proofs.Pours.{ArePourable, can-pour, pour-rest, pourable-checked}
 use Rattle.stock_core.proofs.Steps.{leads-pour}
 use Rattle.stock_core.proofs.Upright.{Leads, Upright, leads-more, leads-none, upright-of}

@@ -18,7 +18,7 @@ use Rattle.yard_core.proofs.Items.{own_number}
 use Rattle.yard_core.proofs.Rows.{get-other, get-own}
 use Rattle.yard_core.specs.Stock.{CanPourItem, IsSound, IsThere, Stock, item_at, pour}
 use Rattle.stock_core.specs.Asked.{is_loose, is_no_item, is_serialised, quantity_at}
-use Rattle.stock_core.specs.Merge.{is_one_unlike, is_unlike, merge, merge_checks, pour_each}
+use Rattle.stock_core.specs.Merge.{is_one_unlike, is_unlike, merge_checks}
 use Rattle.stock_core.proofs.Plain.{IsPlain, item_of, plain-bounds, plain-checked, plain-refilled, plain-same, refilled}
 
 abbrev pub is_same : ℕ → ℕ → Bool

@@ -1,5 +1,5 @@
 -- After one of several new items or pieces there is room for the others.
-use Rattle.std.proofs.Common.{◌≡◌, ℕ, ◌+◌, ◌-◌, ◌≤◌, ◌<◌, ◌^◌, Bool, true, false, List, [], ◌∷◌, length, drop, get_or, Option, Some, None, refl, sym, ap, ◌∙◌, subst, arith, eqb-true}
+use Rattle.std.proofs.Common.{◌≡◌, ℕ, ◌+◌, ◌-◌, ◌≤◌, ◌<◌, Bool, true, false, List, [], ◌∷◌, length, drop, get_or, Option, Some, refl, sym, ap, ◌∙◌, subst, arith, eqb-true}
 use Rattle.std.specs.Prelude.{◌==◌, IfSome, if◌then◌else◌, nat_lt, unwrap_or}
 use Rattle.std.specs.FinMap as table
 use Rattle.std.proofs.lemmas.Bool.{ltb-false, ltb-true}
@@ -15,12 +15,12 @@ use Rattle.forest.specs.Forest.{is_at, row_of}
 use Rattle.forest.specs.Moves.{cut_change, cut_node, leaf, place_left, with_quantity}
 use Rattle.forest.specs.Tables.{node_of}
 use Rattle.yard_core.specs.Books.{Books, entries_in, is_full}
-use Rattle.yard_core.specs.Stock.{Stock, cut, item_at, next_entry, no_item, tree_of, IsSound, IsThere}
+use Rattle.yard_core.specs.Stock.{Stock, item_at, no_item, tree_of, IsSound, IsThere}
 use Rattle.yard_core.proofs.Moved.{moved-first}
 use Rattle.stock_core.specs.declared.arrivals.Arrival.{Arrival}
 use Rattle.stock_core.specs.Arrives.{HasRoom}
 use Rattle.stock_core.specs.Pieces.{CanCut, IsWhole}
-use Rattle.stock_core.specs.Steps.{cut_each, cut_off, make_each, make_one, new_item}
+use Rattle.stock_core.specs.Steps.{cut_off, make_one, new_item}
 use Rattle.stock_core.specs.Sound.{AreSoundItems}
 use Rattle.stock_core.proofs.Able.{numbers-left, room-left}
 use Rattle.stock_core.proofs.Uses.{Uses, uses-cut_off, uses-make_one}

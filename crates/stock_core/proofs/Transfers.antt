@@ -1,18 +1,18 @@
 -- What a transfer uses, and that its cut can be made.
-use Rattle.std.proofs.Common.{◌≡◌, ℕ, ◌+◌, ◌≤◌, ◌<◌, ◌^◌, Bool, true, false, None, ◌||◌, length, refl, sym, ap, ◌∙◌, subst, arith}
+use Rattle.std.proofs.Common.{◌≡◌, ℕ, ◌≤◌, true, false, None, length, refl, sym, ap, ◌∙◌, arith}
 use Rattle.std.proofs.lemmas.Bool.{ltb-true}
 use Rattle.part_core.specs.Checks.{first}
 use Rattle.part_core.specs.Day.{CivilDay}
-use Rattle.part_core.proofs.Conditions.{none-holds, not_false, or_none}
+use Rattle.part_core.proofs.Conditions.{none-holds, not_false}
 use Rattle.forest.specs.declared.place.Place.TheVariants.{At}
 use Rattle.forest.specs.Moves.{lift_change}
 use Rattle.yard_core.specs.Books.{Books, is_full, with_stock}
-use Rattle.yard_core.specs.Stock.{lift, lift_notes, next_entry, tree_of, IsHistory}
-use Rattle.stock_core.specs.Asked.{has_more, is_loose, is_no_item, is_no_location, quantity_at}
+use Rattle.yard_core.specs.Stock.{lift, lift_notes, tree_of, IsHistory}
+use Rattle.stock_core.specs.Asked.{has_more, is_loose, quantity_at}
 use Rattle.stock_core.specs.Pieces.{CanCut}
 use Rattle.stock_core.specs.Sound.{AreSoundItems}
 use Rattle.stock_core.specs.Steps.{cut_off}
-use Rattle.stock_core.specs.Transfer.{carried, transfer, transfer_checks}
+use Rattle.stock_core.specs.Transfer.{carried, transfer_checks}
 use Rattle.stock_core.proofs.Able.{good_quantity, is_new, numbers-left, several}
 use Rattle.stock_core.proofs.Uses.{Uses, entries-carried, loose-there, piece-loose, take-part, uses-as, uses-both, uses-change, uses-cut_off}
 

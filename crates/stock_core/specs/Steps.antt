@@ -3,7 +3,7 @@ use Rattle.std.specs.Prelude.{ℕ, if◌then◌else◌, List, [], ◌∷◌, Opt
 use Rattle.part_core.specs.Day.{CivilDay}
 use Rattle.part_core.specs.declared.status.Status.TheVariants.{Okay}
 use Rattle.forest.specs.declared.item.Item.{Item}
-use Rattle.yard_core.specs.Stock.{Stock, cut, make}
+use Rattle.yard_core.specs.Stock.{cut, make}
 use Rattle.stock_core.specs.declared.arrivals.Arrival.{Arrival}
 use Rattle.stock_core.specs.declared.arrivals.NewStock.{NewStock}
 use Rattle.stock_core.specs.Asked.{has_more}

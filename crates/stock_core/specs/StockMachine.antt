@@ -1,5 +1,5 @@
 -- The commands on stock as a machine: checks, effect, and what stays sound.
-use Rattle.std.specs.Prelude.{◌≡◌, ◌≤◌, ℕ, List, None}
+use Rattle.std.specs.Prelude.{◌≡◌, ◌≤◌, List, None}
 use Rattle.part_core.specs.Catalogue.{Parts}
 use Rattle.part_core.specs.Checks.{AreInOrder, Check, first}
 use Rattle.part_core.specs.Day.{CivilDay}

@@ -1,4 +1,4 @@
-use Rattle.std.proofs.Common.{◌≡◌, ◌+◌, Some, List, ℕ, drop, length, sym, ap, ◌∙◌}
+use Rattle.std.proofs.Common.{◌+◌, Some, List, ℕ, drop, length, sym, ap, ◌∙◌}
 use Rattle.yard_core.specs.Books.{books_of}
 use Rattle.stock_core.specs.Steps.{make_each}
 use Rattle.stock_core.proofs.Rooms.{next-serial, room-made, room-rest}

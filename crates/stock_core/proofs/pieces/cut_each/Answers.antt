@@ -1,4 +1,4 @@
-use Rattle.std.proofs.Common.{◌≡◌, ◌+◌, Some, List, ℕ, drop, length, refl, sym, ap, ◌∙◌}
+use Rattle.std.proofs.Common.{◌+◌, Some, List, ℕ, drop, length, refl, sym, ap, ◌∙◌}
 use Rattle.yard_core.specs.Books.{books_of}
 use Rattle.stock_core.specs.Steps.{cut_each}
 use Rattle.stock_core.proofs.Rooms.{can-cut, next-serial, pieces-cut, pieces-whole, room-cut, room-rest, whole-pieces}
@@ -20,7 +20,10 @@ cut_off-requires c =
     let b = books_of c.loop-serial.yard c.loop-serial.counter in
     let rest : List (List ℕ) = drop (i + 1) serials in
     let here = next-serial serials i c.serial-item.result x c.loop-serial-test.true c.serial-item.is c.in_ok-own.ensures in
-    can-cut c.args.item (Some x) (length rest) b (room-rest x rest (drop i serials) b here c.loop-serial.invariant.room) (whole-pieces c.args.item x rest (drop i serials) b here c.loop-serial.invariant.pieces) refl
+    record {
+      can = can-cut c.args.item (Some x) (length rest) b (room-rest x rest (drop i serials) b here c.loop-serial.invariant.room)
+          (whole-pieces c.args.item x rest (drop i serials) b here c.loop-serial.invariant.pieces) refl;
+    }
 
 pub loop-serial-preserved : goal.loop-serial-preserved
 loop-serial-preserved c =

@@ -1,4 +1,4 @@
-use Rattle.std.proofs.Common.{◌≡◌, ◌-◌, ◌<◌, ◌≤◌, false, sym, ◌∙◌, ap, subst, arith, length}
+use Rattle.std.proofs.Common.{◌-◌, sym, ◌∙◌, subst, arith, length}
 use Rattle.forest.specs.declared.place.Place.TheVariants.{Off}
 use Rattle.forest.specs.declared.place.Reason.TheVariants.{Counted}
 use Rattle.forest.specs.Moves.{lift_change}

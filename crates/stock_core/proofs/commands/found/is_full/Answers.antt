@@ -1,4 +1,4 @@
-use Rattle.std.proofs.Common.{◌∙◌, refl, length}
+use Rattle.std.proofs.Common.{◌∙◌, refl}
 use Rattle.yard_core.specs.Books.{books_of}
 use Rattle.std.proofs.Common.{ap, ◌||◌, ◌+◌}
 use Rattle.std.specs.Prelude.{nat_lt}

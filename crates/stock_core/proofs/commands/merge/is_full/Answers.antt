@@ -1,4 +1,4 @@
-use Rattle.std.proofs.Common.{◌∙◌, refl, length}
+use Rattle.std.proofs.Common.{◌∙◌, length}
 use Rattle.yard_core.specs.Books.{books_of}
 use Rattle.stock_core.specs.Merge.{merge}
 use Rattle.stock_core.proofs.Uses.{full-used, uses-pour_each}

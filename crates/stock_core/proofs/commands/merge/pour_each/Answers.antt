@@ -1,7 +1,7 @@
-use Rattle.std.proofs.Common.{◌≡◌, ℕ, ◌+◌, ◌<◌, ◌^◌, List, ◌∷◌, drop, get_or, length, refl, sym, ap, ◌∙◌, subst, arith}
+use Rattle.std.proofs.Common.{◌≡◌, ℕ, ◌+◌, List, ◌∷◌, drop, get_or, length, refl, sym, ap, ◌∙◌, subst, arith}
 use Rattle.std.proofs.lemmas.List.{at_drop_more}
-use Rattle.yard_core.specs.Books.{Books, books_of, with_stock}
-use Rattle.yard_core.specs.Stock.{Stock, next_entry, pour, tree_of}
+use Rattle.yard_core.specs.Books.{books_of}
+use Rattle.yard_core.specs.Stock.{next_entry, pour, tree_of}
 use Rattle.yard_core.specs.Yards.{stock_of}
 use Rattle.forest.specs.Moves.{pour_change}
 use Rattle.part_core.specs.Counter.{kept_numbering}

@@ -1,5 +1,5 @@
 use Rattle.std.proofs.Common.{◌≡◌, ◌+◌, ◌<◌, ◌^◌, drop, length}
-use Rattle.yard_core.specs.Books.{books_of, kept_books}
+use Rattle.yard_core.specs.Books.{kept_books}
 use Rattle.yard_core.specs.Stock.{IsSound, next_entry}
 use Rattle.yard_core.specs.Yards.{stock_of}
 use Rattle.stock_core.specs.Merge.{pour_each}

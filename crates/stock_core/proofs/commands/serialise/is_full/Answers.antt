@@ -1,4 +1,4 @@
-use Rattle.std.proofs.Common.{◌∙◌, refl, length}
+use Rattle.std.proofs.Common.{◌∙◌, length}
 use Rattle.yard_core.specs.Books.{books_of}
 use Rattle.stock_core.specs.Serialise.{serialise}
 use Rattle.stock_core.proofs.Uses.{full-used, uses-cut_each}

@@ -1,4 +1,4 @@
-use Rattle.std.proofs.Common.{◌∙◌, refl, length}
+use Rattle.std.proofs.Common.{◌∙◌}
 use Rattle.yard_core.specs.Books.{books_of}
 use Rattle.forest.specs.Moves.{mark_change}
 use Rattle.yard_core.specs.Stock.{tree_of}

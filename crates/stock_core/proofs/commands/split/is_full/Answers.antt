@@ -1,4 +1,4 @@
-use Rattle.std.proofs.Common.{◌∙◌, refl, length}
+use Rattle.std.proofs.Common.{◌∙◌}
 use Rattle.yard_core.specs.Books.{books_of}
 use Rattle.std.proofs.Common.{None}
 use Rattle.stock_core.specs.Split.{split}
