@@ -32,3 +32,10 @@ sound-effect (AddSubstitute line part) open_parts parts b sound e =
     let unfit = (or_none (is_line_open parts b.bills open_parts line) (is_fitting parts b.bills line part) holds.1.1.1.0).1 in
     (sound-with_substitute parts b.bills (new_substitute b.counter.next line part) sound known.0 known.1 unfit holds.1.1.1.1.0, omega arith)
 sound-effect (DropSubstitute substitute) open_parts parts b sound e = (sound-without_substitute parts b.bills substitute b.counter.next sound, omega arith)
+
+-- the limits stay
+pub effect-limits : (c : BomCommand) (b : BillBooks) → (effect c b).counter.limits ≡ b.counter.limits
+effect-limits (AddLine new) b = refl
+effect-limits (DropLine line) b = refl
+effect-limits (AddSubstitute line part) b = refl
+effect-limits (DropSubstitute substitute) b = refl

@@ -1,12 +1,10 @@
-//! Commands, and the step of the machine that each of them is.
+//! The machine: its commands, one step, and the shop that it works on.
 #![tactic(auto)]
 
 mod command;
 mod order;
 mod shop;
 
-pub use command::{Command, Fault, Request};
+pub use command::{Command, Request};
 pub use order::checks_are_in_order;
-pub use part_core::{Answer, Ids};
 pub use shop::Shop;
-pub use stock_core::NewStock;

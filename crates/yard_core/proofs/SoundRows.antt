@@ -55,3 +55,7 @@ module _ (name : List ℕ) (parent : Option ℕ) (b : Books) (sound : AreSoundLo
 pub sound-effect : (c : YardCommand) (b : Books) → AreSoundLocations b.counter.next b.stock → first (checks c b) ≡ None
     → AreSoundLocations (effect c b).counter.next (effect c b).stock × (b.counter.next ≤ (effect c b).counter.next)
 sound-effect (AddLocation name parent) b sound e = (sound-add_location name parent b sound e, omega arith)
+
+-- no command of the yard itself writes an entry
+pub effect-history : (c : YardCommand) (b : Books) → (effect c b).stock.history ≡ b.stock.history
+effect-history (AddLocation name parent) b = refl

@@ -3,7 +3,7 @@ use Rattle.std.proofs.lemmas.Grind.{common_steps}
 use Rattle.std.proofs.lemmas.List.{take_more}
 use Rattle.desk_core.specs.Machine.{answered, told}
 use Rattle.desk_core.specs.Shops.{state_of}
-use Rattle.desk_core.proofs.Steps.{run-push, drawn_in}
+use Rattle.desk_core.proofs.Steps.{run-push, told_in}
 use Rattle.desk_core.proofs.shop.Shop.run_list.Goals as goal
 
 pub loop-request-preserved : goal.loop-request-preserved
@@ -25,4 +25,9 @@ loop-request-preserved c =
 pub returns-clause-drawn : goal.returns-clause-drawn
 returns-clause-drawn c =
     let outcomes = c.loop-request.outcomes.items in
-    drawn_in (state_of c.args.self.now) (answered (take c.loop-request.request-index c.args.requests.now) outcomes) (state_of c.loop-request.self) (told outcomes) c.loop-request.invariant.ran
+    (told_in (state_of c.args.self.now) c.requires (answered (take c.loop-request.request-index c.args.requests.now) outcomes) (state_of c.loop-request.self) (told outcomes) c.loop-request.invariant.ran).drawn
+
+pub returns-clause-written : goal.returns-clause-written
+returns-clause-written c =
+    let outcomes = c.loop-request.outcomes.items in
+    (told_in (state_of c.args.self.now) c.requires (answered (take c.loop-request.request-index c.args.requests.now) outcomes) (state_of c.loop-request.self) (told outcomes) c.loop-request.invariant.ran).written
