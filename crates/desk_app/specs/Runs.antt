@@ -1,10 +1,10 @@
 -- A run over the lines of a text.
-use Rattle.std.specs.Prelude.{◌≡◌, ◌≢◌, ◌≤◌, ℕ, length, ◌+◌, ◌==◌, ◌&&◌, Bool, true, false, List, [], ◌∷◌, ◌++◌, if◌then◌else◌, ◌⊎◌, Option, Some, None, Result, Ok, Err}
+use Rattle.std.specs.Prelude.{◌≡◌, ◌≤◌, ℕ, length, ◌+◌, ◌==◌, ◌&&◌, Bool, true, false, List, [], ◌∷◌, ◌++◌, if◌then◌else◌, ◌⊎◌, Option, Some, None, Result, Ok, Err}
 use Rattle.std.specs.Io.KnownBytes.{Appends, Keeps}
 use Rattle.part_core.specs.declared.refusal.Refusal.TheVariants.{NoSuch}
 use Rattle.desk_core.specs.Machine.{State, Outcome, step}
 use Rattle.desk_app.specs.declared.end.Stop.{Stop}
-use Rattle.desk_app.specs.declared.end.Stop.TheVariants.{ReadFailed, WriteFailed}
+use Rattle.desk_app.specs.declared.end.Stop.TheVariants.{ReadFailed, WriteFailed, Memory}
 use Rattle.desk_app.specs.declared.fault.What.{What}
 use Rattle.desk_app.specs.declared.read.Ask.{Ask}
 use Rattle.desk_app.specs.declared.read.Ask.TheVariants.{Request, Ledger}
@@ -89,19 +89,34 @@ abbrev pub Finished : Option (List ℕ) → Option (List ℕ) → Option (List �
 Finished None w w' s s' all = Unit {0}
 Finished (Some xs) w w' s s' all = (s' ≡ lines_after s xs) × Appends w w' (lines_out s xs) × (all ≡ lines_fine s xs)
 
--- whole answers of all these lines, or of all but the last
-abbrev pub AreWhole : State → List (List ℕ) → List ℕ → Type 0
-AreWhole s done part = (told : List (List ℕ)) × (untold : List (List ℕ)) × (done ≡ told ++ untold) × (length untold ≤ 1) × (part ≡ run_out s 1 told)
+-- the first of these lines were run, and their answers written whole; the others were not run
+abbrev pub StoppedReading : List (List ℕ) → Option (List ℕ) → Option (List ℕ) → State → State → Type 0
+StoppedReading lines w w' s s' = (done : List (List ℕ)) × (rest : List (List ℕ)) × (lines ≡ done ++ rest)
+    × (s' ≡ run_after s 1 done) × Appends w w' (run_out s 1 done)
 
--- some of the lines were run, and a front of their answers written. Where it was the reader that failed, that is all of them;
--- unless it was the writer, it is whole answers, of all lines that were run but at most the last
+-- the last of the lines that were run has a front of its answer written, the others have theirs whole
+abbrev pub StoppedWriting : List (List ℕ) → Option (List ℕ) → Option (List ℕ) → State → State → Type 0
+StoppedWriting lines w w' s s' = (told : List (List ℕ)) × (last : List ℕ) × (rest : List (List ℕ)) × (part : List ℕ) × (more : List ℕ)
+    × (lines ≡ told ++ last ∷ rest) × (s' ≡ run_after s 1 (told ++ last ∷ []))
+    × (line_out (run_after s 1 told) (1 + length told) last ≡ part ++ more) × Appends w w' (run_out s 1 told ++ part)
+
+-- the last of the lines that were run may lack its answer, of which nothing is written; the others have theirs whole
+abbrev pub StoppedForMemory : List (List ℕ) → Option (List ℕ) → Option (List ℕ) → State → State → Type 0
+StoppedForMemory lines w w' s s' = (told : List (List ℕ)) × (untold : List (List ℕ)) × (rest : List (List ℕ))
+    × (lines ≡ (told ++ untold) ++ rest) × (length untold ≤ 1)
+    × (s' ≡ run_after s 1 (told ++ untold)) × Appends w w' (run_out s 1 told)
+
+-- some of the lines were run, and their answers written, by what it was that failed
 abbrev pub Stopped : Stop → Option (List ℕ) → Option (List ℕ) → Option (List ℕ) → State → State → Type 0
 Stopped stop None w w' s s' = Unit {0}
-Stopped stop (Some xs) w w' s s' = (done : List (List ℕ)) × (rest : List (List ℕ)) × (part : List ℕ) × (more : List ℕ)
-    × (lines_of xs ≡ done ++ rest) × (s' ≡ run_after s 1 done) × (run_out s 1 done ≡ part ++ more) × Appends w w' part
-    × (stop ≡ ReadFailed → more ≡ []) × (stop ≢ WriteFailed → AreWhole s done part)
+Stopped ReadFailed (Some xs) w w' s s' = StoppedReading (lines_of xs) w w' s s'
+Stopped WriteFailed (Some xs) w w' s s' = StoppedWriting (lines_of xs) w w' s s'
+Stopped Memory (Some xs) w w' s s' = StoppedForMemory (lines_of xs) w w' s s'
 
--- a line that was not answered whole: it was not run, or it was run and a front of its answer is written, which is nothing
--- unless the writer failed
+-- a line that was not answered whole: where the writer failed, it was run and a front of its answer is written; for want of
+-- memory it was run or not, and nothing is written
 abbrev pub CutShort : Stop → Option (List ℕ) → Option (List ℕ) → State → State → ℕ → List ℕ → Type 0
-CutShort stop w w' s s' number line = ((s' ≡ s) × Keeps w w') ⊎ ((part : List ℕ) × (more : List ℕ) × (s' ≡ line_after s number line) × (line_out s number line ≡ part ++ more) × Appends w w' part × (stop ≢ WriteFailed → part ≡ []))
+CutShort ReadFailed w w' s s' number line = ⊥
+CutShort WriteFailed w w' s s' number line = (part : List ℕ) × (more : List ℕ) × (s' ≡ line_after s number line)
+    × (line_out s number line ≡ part ++ more) × Appends w w' part
+CutShort Memory w w' s s' number line = ((s' ≡ s) ⊎ (s' ≡ line_after s number line)) × Keeps w w'

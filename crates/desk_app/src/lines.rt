@@ -1,5 +1,5 @@
 //! The lines of a reader.
-ghost use Rattle.std.specs.Prelude.{◌≡◌, ◌≢◌, ◌⊎◌, ◌≤◌, ◌<◌, ◌+◌, ◌++◌, [], ◌∷◌, length, take, drop, vec_len, IfOk, OnOk, OnErr, IfErr, true, false, IsTrue};
+ghost use Rattle.std.specs.Prelude.{◌≡◌, ◌≢◌, ◌⊎◌, ◌≤◌, ◌<◌, ◌+◌, ◌++◌, [], ◌∷◌, length, take, drop, vec_len, IfOk, OnOk, OnErr, IfErr, Err, true, false, IsTrue};
 
 use crate::end::Stop;
 use crate::pieces::{end_of, hold};
@@ -23,7 +23,8 @@ impl Lines {
     ghost use Rattle.desk_app.specs.Cuts.{unread, left, held, first_of, rest_of, has_end, TakesLine};
 
     pub fn new(alloc: Global) -> Result<Self, AllocError>
-        ensures { IfOk result (λ s. unread s ≡ []) }
+        ensures empty { IfOk result (λ s. unread s ≡ []) }
+        ensures reads { IfOk result (λ s. s.reads ≡ 4000000000) }
     {
         Ok(Lines {
             buffer: vec![in alloc; 0; 4096]?,
@@ -41,6 +42,8 @@ impl Lines {
         ensures reads { self.new.reads ≤ self.old.reads }
         ensures had { self.old.at < self.old.filled → self.new ≡ self.old }
         ensures read { self.old.filled ≤ self.old.at → OnOk result (self.new.reads < self.old.reads) }
+        ensures counts { self.old.filled ≤ self.old.at → 0 < self.old.reads → self.new.reads < self.old.reads }
+        ensures refuses { self.old.filled ≤ self.old.at → self.old.reads ≡ 0 → (result ≡ Err Stop.ReadFailed) × (reader.new ≡ reader.old) }
         ensures failed { IfErr result (λ e. e ≡ Stop.ReadFailed) }
     {
         if self.at < self.filled {
@@ -91,6 +94,8 @@ impl Lines {
     /// Takes the next line: false where there is none. As much is held as shows that it is too long.
     pub fn next_line<R: Read>(&mut self, reader: &mut R, line: &mut Vec<u8>) -> Result<bool, Stop>
         ensures short { OnOk result (length line.new.items ≤ 65537) }
+        ensures reads { self.new.reads ≤ self.old.reads }
+        ensures reading { IfErr result (λ stop. stop ≢ Stop.WriteFailed) }
         ensures takes { IfOk result (λ found. TakesLine (left (R.remaining reader.old) self.old) found line.new.items (left (R.remaining reader.new) self.new)) }
     {
         line.clear();

@@ -113,7 +113,6 @@ fn answer<W: Write>(
     ensures ok { OnOk result (state_of shop.new ≡ line_after (state_of shop.old) number line.now) }
     ensures out { OnOk result (Appends (W.contents writer.old) (W.contents writer.new) (line_out (state_of shop.old) number line.now)) }
     ensures cut { IfErr result (λ stop. CutShort stop (W.contents writer.old) (W.contents writer.new) (state_of shop.old) (state_of shop.new) number line.now) }
-    ensures err { IfErr result (λ stop. stop ≢ Stop.ReadFailed) }
     ensures sound { IsSoundState (state_of shop.new) }
 {
     if is_blank(line) {
