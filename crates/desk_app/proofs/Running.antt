@@ -57,11 +57,19 @@ all_fine-push s n (k ∷ ls) l =
 pub running_stop : (stop : Stop) (o r w w' : Option (List ℕ)) (s s' : State) (n : ℕ) (f : Bool) → (stop ≢ WriteFailed) → Running o r w w' s s' n f → Stopped stop o w w' s s'
 running_stop stop None r w w' s s' n f q p = tt
 running_stop stop (Some xs) None w w' s s' n f q p = absurd p
-running_stop ReadFailed (Some xs) (Some ys) w w' s s' n f q (done, e, a, o, t, c) = (done, lines_of ys, e, a, o)
+running_stop ReadFailed (Some xs) (Some ys) w w' s s' n f q (done, e, a, o, t, c) = record { done = done; rest = lines_of ys; split = e; state = a; written = o }
 running_stop WriteFailed (Some xs) (Some ys) w w' s s' n f q p = absurd (q refl)
 running_stop Memory (Some xs) (Some ys) w w' s s' n f q (done, e, a, o, t, c) =
     let all : done ++ [] ≡ done = append-nil done in
-    (done, [], lines_of ys, e ∙ ap (λ v. v ++ lines_of ys) (sym all), omega arith, a ∙ ap (run_after s 1) (sym all), o)
+    record {
+      told = done;
+      untold = [];
+      rest = lines_of ys;
+      split = e ∙ ap (λ v. v ++ lines_of ys) (sym all);
+      one = omega arith;
+      state = a ∙ ap (run_after s 1) (sym all);
+      written = o;
+    }
 
 pub no_writing : ReadFailed ≢ WriteFailed
 no_writing h = absurd (cc)
@@ -110,32 +118,36 @@ running_cut Memory (Some xs) (Some ys) (Some zs) w w' w'' s s' s'' n f line (don
     running_stop Memory (Some xs) (Some ys) w w'' s s'' n f (λ h. absurd (cc)) (done, e, same ∙ a, appends_kept _ _ _ _ o kept, g, c)
 running_cut Memory (Some xs) (Some ys) (Some zs) w w' w'' s s' s'' n f line (done, e, a, o, g, c) t (inr a', kept) =
     let l = first_of ys in
-    let there = step_there s s' n done line l a c t.1 in (
-      done,
-      l ∷ [],
-      lines_of zs,
-      taken xs ys zs done e t.0 t.2,
-      omega arith,
-      a' ∙ ap (λ v. v.0) there ∙ sym (run_after-push s 1 done l),
-      appends_kept _ _ _ _ o kept,
-    )
-running_cut WriteFailed (Some xs) (Some ys) (Some zs) w w' w'' s s' s'' n f line (done, e, a, o, g, c) t (part, more, a', split, o') =
+    let there = step_there s s' n done line l a c t.1 in
+    record {
+      told = done;
+      untold = l ∷ [];
+      rest = lines_of zs;
+      split = taken xs ys zs done e t.0 t.2;
+      one = omega arith;
+      state = a' ∙ ap (λ v. v.0) there ∙ sym (run_after-push s 1 done l);
+      written = appends_kept _ _ _ _ o kept;
+    }
+running_cut WriteFailed (Some xs) (Some ys) (Some zs) w w' w'' s s' s'' n f line (done, e, a, o, g, c) t x =
     let l = first_of ys in
-    let there = step_there s s' n done line l a c t.1 in (
-      done,
-      l,
-      lines_of zs,
-      part,
-      more,
-      taken xs ys zs done e t.0 t.2 ∙ append_assoc done (l ∷ []) (lines_of zs),
-      a' ∙ ap (λ v. v.0) there ∙ sym (run_after-push s 1 done l),
-      sym (ap (λ v. v.1) there) ∙ split,
-      Appends-trans w w' w'' _ _ o o',
-    )
+    let there = step_there s s' n done line l a c t.1 in
+    record {
+      told = done;
+      last = l;
+      rest = lines_of zs;
+      front = x.front;
+      more = x.more;
+      split = taken xs ys zs done e t.0 t.2 ∙ append_assoc done (l ∷ []) (lines_of zs);
+      state = x.state ∙ ap (λ v. v.0) there ∙ sym (run_after-push s 1 done l);
+      answer = sym (ap (λ v. v.1) there) ∙ x.answer;
+      written = Appends-trans w w' w'' _ _ o x.written;
+    }
 
 pub cut_writing : (stop : Stop) (w w' : Option (List ℕ)) (s s' : State) (n k : ℕ) (line text : List ℕ) (f : Bool) → stop ≡ WriteFailed → line_step s n line ≡ (s', text, f)
     → Appends w w' (take k text) → CutShort stop w w' s s' n line
-cut_writing stop w w' s s' n k line text f h e o = subst (λ v. CutShort v w w' s s' n line) (sym h) (take k text, drop k text, sym (ap (λ p. p.0) e), ap (λ p. p.1) e ∙ sym (take-append-drop k text), o)
+cut_writing stop w w' s s' n k line text f h e o =
+    subst (λ v. CutShort v w w' s s' n line) (sym h)
+    (record { front = take k text; more = drop k text; state = sym (ap (λ p. p.0) e); answer = ap (λ p. p.1) e ∙ sym (take-append-drop k text); written = o })
 
 Keeps-refl : (w : Option (List ℕ)) → Keeps w w
 Keeps-refl None = tt
@@ -146,7 +158,9 @@ cut_for_memory stop w s s' n line h e = subst (λ v. CutShort v w w s s' n line)
 
 pub stopped_start : (stop : Stop) (o w : Option (List ℕ)) (s : State) → stop ≡ Memory → Stopped stop o w w s s
 stopped_start stop None w s h = tt
-stopped_start stop (Some xs) w s h = subst (λ v. Stopped v (Some xs) w w s s) (sym h) ([], [], lines_of xs, refl, omega arith, refl, Appends-nil w)
+stopped_start stop (Some xs) w s h =
+    subst (λ v. Stopped v (Some xs) w w s s) (sym h)
+    (record { told = []; untold = []; rest = lines_of xs; split = refl; one = omega arith; state = refl; written = Appends-nil w })
 
 pub if_err : {T E : Type 0} (P Q : E → Type 0) (r : Result T E) → ((e : E) → P e → Q e) → IsErrAnd r P → IfErr r Q
 if_err P Q (Ok x) f p = tt

@@ -12,7 +12,8 @@ use Rattle.desk_app.specs.Reading.{ask}
 use Rattle.desk_app.specs.Ledger.{ledger_lines}
 use Rattle.desk_app.specs.Writing.{answer_line, refused_line, fault_line, report_line}
 
--- ---- one line: the state after it, the text with LF that is answered, and whether nothing was refused or faulty
+-- ---- one line: the state after it, the text with LF that is answered, and whether nothing was
+-- refused or faulty
 
 abbrev pub Told : Type 0
 Told = State × List ℕ × Bool
@@ -85,38 +86,65 @@ lines_fine s bytes = all_fine s 1 (lines_of bytes)
 -- ---- how a run ends, of known bytes and with a writer of known contents
 
 -- all lines were run, and all their answers written
-abbrev pub Finished : Option (List ℕ) → Option (List ℕ) → Option (List ℕ) → State → State → Bool → Type 0
+pub record RunWhole (text : List ℕ) (w w' : Option (List ℕ)) (s s' : State) (all : Bool) : Type 0 where
+  pub state : s' ≡ lines_after s text
+  pub written : Appends w w' (lines_out s text)
+  pub fine : all ≡ lines_fine s text
+
+abbrev pub Finished : Option (List ℕ) → Option (List ℕ) → Option (List ℕ) → State → State → Bool
+    → Type 0
 Finished None w w' s s' all = Unit {0}
-Finished (Some xs) w w' s s' all = (s' ≡ lines_after s xs) × Appends w w' (lines_out s xs) × (all ≡ lines_fine s xs)
+Finished (Some text) w w' s s' all = RunWhole text w w' s s' all
 
 -- the first of these lines were run, and their answers written whole; the others were not run
-abbrev pub StoppedReading : List (List ℕ) → Option (List ℕ) → Option (List ℕ) → State → State → Type 0
-StoppedReading lines w w' s s' = (done : List (List ℕ)) × (rest : List (List ℕ)) × (lines ≡ done ++ rest)
-    × (s' ≡ run_after s 1 done) × Appends w w' (run_out s 1 done)
+pub record StoppedReading (lines : List (List ℕ)) (w w' : Option (List ℕ)) (s s' : State) : Type 0 where
+  pub done : List (List ℕ)
+  pub rest : List (List ℕ)
+  pub split : lines ≡ done ++ rest
+  pub state : s' ≡ run_after s 1 done
+  pub written : Appends w w' (run_out s 1 done)
 
--- the last of the lines that were run has a front of its answer written, the others have theirs whole
-abbrev pub StoppedWriting : List (List ℕ) → Option (List ℕ) → Option (List ℕ) → State → State → Type 0
-StoppedWriting lines w w' s s' = (told : List (List ℕ)) × (last : List ℕ) × (rest : List (List ℕ)) × (part : List ℕ) × (more : List ℕ)
-    × (lines ≡ told ++ last ∷ rest) × (s' ≡ run_after s 1 (told ++ last ∷ []))
-    × (line_out (run_after s 1 told) (1 + length told) last ≡ part ++ more) × Appends w w' (run_out s 1 told ++ part)
+-- of the lines that were run the last has a front of its answer written, the others have theirs whole
+pub record StoppedWriting (lines : List (List ℕ)) (w w' : Option (List ℕ)) (s s' : State) : Type 0 where
+  pub told : List (List ℕ)
+  pub last : List ℕ
+  pub rest : List (List ℕ)
+  pub front : List ℕ
+  pub more : List ℕ
+  pub split : lines ≡ told ++ last ∷ rest
+  pub state : s' ≡ run_after s 1 (told ++ last ∷ [])
+  pub answer : line_out (run_after s 1 told) (1 + length told) last ≡ front ++ more
+  pub written : Appends w w' (run_out s 1 told ++ front)
 
--- the last of the lines that were run may lack its answer, of which nothing is written; the others have theirs whole
-abbrev pub StoppedForMemory : List (List ℕ) → Option (List ℕ) → Option (List ℕ) → State → State → Type 0
-StoppedForMemory lines w w' s s' = (told : List (List ℕ)) × (untold : List (List ℕ)) × (rest : List (List ℕ))
-    × (lines ≡ (told ++ untold) ++ rest) × (length untold ≤ 1)
-    × (s' ≡ run_after s 1 (told ++ untold)) × Appends w w' (run_out s 1 told)
+-- of the lines that were run the last may have nothing of its answer written, the others have theirs
+-- whole
+pub record StoppedForMemory (lines : List (List ℕ)) (w w' : Option (List ℕ)) (s s' : State) : Type 0 where
+  pub told : List (List ℕ)
+  pub untold : List (List ℕ)
+  pub rest : List (List ℕ)
+  pub split : lines ≡ (told ++ untold) ++ rest
+  pub one : length untold ≤ 1
+  pub state : s' ≡ run_after s 1 (told ++ untold)
+  pub written : Appends w w' (run_out s 1 told)
 
 -- some of the lines were run, and their answers written, by what it was that failed
-abbrev pub Stopped : Stop → Option (List ℕ) → Option (List ℕ) → Option (List ℕ) → State → State → Type 0
+abbrev pub Stopped : Stop → Option (List ℕ) → Option (List ℕ) → Option (List ℕ) → State → State
+    → Type 0
 Stopped stop None w w' s s' = Unit {0}
-Stopped ReadFailed (Some xs) w w' s s' = StoppedReading (lines_of xs) w w' s s'
-Stopped WriteFailed (Some xs) w w' s s' = StoppedWriting (lines_of xs) w w' s s'
-Stopped Memory (Some xs) w w' s s' = StoppedForMemory (lines_of xs) w w' s s'
+Stopped ReadFailed (Some text) w w' s s' = StoppedReading (lines_of text) w w' s s'
+Stopped WriteFailed (Some text) w w' s s' = StoppedWriting (lines_of text) w w' s s'
+Stopped Memory (Some text) w w' s s' = StoppedForMemory (lines_of text) w w' s s'
 
--- a line that was not answered whole: where the writer failed, it was run and a front of its answer is written; for want of
--- memory it was run or not, and nothing is written
+-- the line was run, and a front of its answer is written
+pub record CutWriting (w w' : Option (List ℕ)) (s s' : State) (number : ℕ) (line : List ℕ) : Type 0 where
+  pub front : List ℕ
+  pub more : List ℕ
+  pub state : s' ≡ line_after s number line
+  pub answer : line_out s number line ≡ front ++ more
+  pub written : Appends w w' front
+
+-- a line that was not answered whole; for want of memory it was run or not, and nothing is written
 abbrev pub CutShort : Stop → Option (List ℕ) → Option (List ℕ) → State → State → ℕ → List ℕ → Type 0
 CutShort ReadFailed w w' s s' number line = ⊥
-CutShort WriteFailed w w' s s' number line = (part : List ℕ) × (more : List ℕ) × (s' ≡ line_after s number line)
-    × (line_out s number line ≡ part ++ more) × Appends w w' part
+CutShort WriteFailed w w' s s' number line = CutWriting w w' s s' number line
 CutShort Memory w w' s s' number line = ((s' ≡ s) ⊎ (s' ≡ line_after s number line)) × Keeps w w'

@@ -27,7 +27,7 @@ returns-in_err-told-clause-cut g c =
 
 pub returns-in_err-send-clause-cut : goal.returns-in_err-send-clause-cut
 returns-in_err-send-clause-cut g c =
-    let sent = rw c.as_bytes.ensures.value at c.in_err-send.ensures in
+    let sent = rw c.as_bytes.ensures.value at c.in_err-send.ensures.front in
     if_err_as (λ stop. CutShort stop (g.W.Write.contents c.args.writer.now) (g.W.Write.contents c.send.new.writer) (state_of c.args.shop.now) (state_of c.tell.new.shop) c.args.number c.args.line.now)
     c.from_residual-in_err-send.result c.in_err-send.field-0.0 c.from_residual-in_err-send.ensures.1
     (cut_writing c.in_err-send.field-0.0 (g.W.Write.contents c.args.writer.now) (g.W.Write.contents c.send.new.writer) (state_of c.args.shop.now) (state_of c.tell.new.shop) c.args.number sent.1
