@@ -27,10 +27,6 @@ first_open (b ∷ u) k h =
       | false ↦ λ e. let r = first_open u k e in (ap (λ l. b ∷ l) r.0, r.1, ap (λ l. b ∷ l) r.2, r.3)
     ] h
 
-pub partway_start : (o : Option (List ℕ)) → Partway o false [] o
-partway_start None = tt
-partway_start (Some xs) = (refl, refl, (λ _. (refl, refl)), λ e. absurd (cc))
-
 pub partway_kept : (o a b : Option (List ℕ)) (f : Bool) (l : List ℕ) → Partway o f l a → Keeps a b → Partway o f l b
 partway_kept None a b f l p k = tt
 partway_kept (Some xs) None b f l p k = absurd p

@@ -1,15 +1,14 @@
 -- A run, line by line.
 use Rattle.std.proofs.Common.{◌≡◌, ◌+◌, ◌<◌, ◌==◌, ℕ, Bool, true, false, ◌&&◌, cond, List, [], ◌∷◌, ◌++◌, take, drop, length, arith, ap, sym, refl, ◌∙◌, subst, append_assoc, append-nil, inl, inr, length-append, take-append-drop}
-use Rattle.std.specs.Prelude.{Option, Some, None, ◌⊎◌, Result, Ok, Err, IfErr, OnErr}
+use Rattle.std.specs.Prelude.{◌≢◌, Option, Some, None, ◌⊎◌, Result, Ok, Err, IfErr}
 use Rattle.std.specs.Result.{IsErrAnd}
 use Rattle.std.specs.Io.KnownBytes.{Keeps, Appends}
 use Rattle.std.proofs.KnownBytes.{Appends-nil, Appends-trans}
-use Rattle.desk_app.specs.declared.lines.Lines.{Lines}
-use Rattle.desk_app.specs.Cuts.{unread, left, held, first_of, rest_of, TakesLine}
+use Rattle.desk_app.specs.Cuts.{held, first_of, rest_of, TakesLine}
 use Rattle.desk_core.specs.Machine.{State}
 use Rattle.desk_app.specs.declared.end.Stop.{Stop}
-use Rattle.desk_app.specs.declared.end.Stop.TheVariants.{ReadFailed, WriteFailed}
-use Rattle.desk_app.specs.Runs.{onto_first, lines_of, line_step, line_after, line_out, is_fine, run_after, run_out, all_fine, Stopped, Finished, CutShort}
+use Rattle.desk_app.specs.declared.end.Stop.TheVariants.{ReadFailed, WriteFailed, Memory}
+use Rattle.desk_app.specs.Runs.{onto_first, lines_of, line_step, line_after, line_out, is_fine, run_after, run_out, all_fine, Stopped, CutShort}
 use Rattle.desk_app.proofs.Stepping.{step-held}
 
 -- the lines so far and those to come are all lines; the state, the text and the tests are theirs
@@ -55,22 +54,25 @@ all_fine-push s n (k ∷ ls) l =
     ap (λ v. is_fine s n k && v) (all_fine-push (line_after s n k) (n + 1) ls l ∙ ap (λ m. all_fine (line_after s n k) (n + 1) ls && is_fine (run_after s n (k ∷ ls)) m l) e)
     ∙ sym (and_assoc (is_fine s n k) _ _)
 
-pub running_start : (o w : Option (List ℕ)) (t : Lines) (s : State) → unread t ≡ [] → Running o (left o t) w w s s 1 true
-running_start None w t s h = tt
-running_start (Some xs) w t s h = ([], ap (λ u. lines_of (u ++ xs)) (sym h), refl, Appends-nil w, refl, refl)
+pub running_stop : (stop : Stop) (o r w w' : Option (List ℕ)) (s s' : State) (n : ℕ) (f : Bool) → (stop ≢ WriteFailed) → Running o r w w' s s' n f → Stopped stop o w w' s s'
+running_stop stop None r w w' s s' n f q p = tt
+running_stop stop (Some xs) None w w' s s' n f q p = absurd p
+running_stop ReadFailed (Some xs) (Some ys) w w' s s' n f q (done, e, a, o, t, c) = record { done = done; rest = lines_of ys; split = e; state = a; written = o }
+running_stop WriteFailed (Some xs) (Some ys) w w' s s' n f q p = absurd (q refl)
+running_stop Memory (Some xs) (Some ys) w w' s s' n f q (done, e, a, o, t, c) =
+    let all : done ++ [] ≡ done = append-nil done in
+    record {
+      told = done;
+      untold = [];
+      rest = lines_of ys;
+      split = e ∙ ap (λ v. v ++ lines_of ys) (sym all);
+      one = omega arith;
+      state = a ∙ ap (run_after s 1) (sym all);
+      written = o;
+    }
 
-pub running_stop : (stop : Stop) (o r w w' : Option (List ℕ)) (s s' : State) (n : ℕ) (f : Bool) → Running o r w w' s s' n f → Stopped stop o w w' s s'
-running_stop stop None r w w' s s' n f p = tt
-running_stop stop (Some xs) None w w' s s' n f p = absurd p
-running_stop stop (Some xs) (Some ys) w w' s s' n f (done, e, a, o, t, c) = (done, lines_of ys, run_out s 1 done, [], e, a, sym (append-nil _), o, (λ h. refl), λ h. (done, [], sym (append-nil _), omega arith, refl))
-
-pub running_done : (o r r' w w' : Option (List ℕ)) (s s' : State) (n : ℕ) (f : Bool) (line : List ℕ) → Running o r w w' s s' n f → TakesLine r false line r' → Finished o w w' s s' f
-running_done None r r' w w' s s' n f line p t = tt
-running_done (Some xs) None r' w w' s s' n f line p t = absurd p
-running_done (Some xs) (Some ys) None w w' s s' n f line p t = absurd t
-running_done (Some xs) (Some ys) (Some zs) w w' s s' n f line (done, e, a, o, g, c) t =
-    let all : done ≡ lines_of xs = sym (append-nil done) ∙ ap (λ v. done ++ lines_of v) (sym t.0) ∙ sym e in
-    (a ∙ ap (run_after s 1) all, subst (λ v. Appends w w' (run_out s 1 v)) all o, g ∙ ap (all_fine s 1) all)
+pub no_writing : ReadFailed ≢ WriteFailed
+no_writing h = absurd (cc)
 
 -- the line that was taken
 abbrev Taken : List ℕ → List (List ℕ) → List ℕ → List ℕ → Type 0
@@ -106,52 +108,63 @@ appends_kept (Some x) None c bs p k = absurd p
 appends_kept (Some x) (Some y) None bs p k = absurd k
 appends_kept (Some x) (Some y) (Some z) bs p k = k ∙ p
 
-pub running_cut : (stop : Stop) (o r r' w w' w'' : Option (List ℕ)) (s s' s'' : State) (n : ℕ) (f : Bool) (line : List ℕ) → (stop ≡ ReadFailed → ⊥) → Running o r w w' s s' n f → TakesLine r true line r'
+pub running_cut : (stop : Stop) (o r r' w w' w'' : Option (List ℕ)) (s s' s'' : State) (n : ℕ) (f : Bool) (line : List ℕ) → Running o r w w' s s' n f → TakesLine r true line r'
     → CutShort stop w' w'' s' s'' n line → Stopped stop o w w'' s s''
-running_cut stop None r r' w w' w'' s s' s'' n f line q p t x = tt
-running_cut stop (Some xs) None r' w w' w'' s s' s'' n f line q p t x = absurd p
-running_cut stop (Some xs) (Some ys) None w w' w'' s s' s'' n f line q p t x = absurd t
-running_cut stop (Some xs) (Some ys) (Some zs) w w' w'' s s' s'' n f line q (done, e, a, o, g, c) t (inl (same, kept)) =
-    (done, lines_of ys, run_out s 1 done, [], e, same ∙ a, sym (append-nil _), appends_kept _ _ _ _ o kept, (λ h. refl), λ h. (done, [], sym (append-nil _), omega arith, refl))
-running_cut stop (Some xs) (Some ys) (Some zs) w w' w'' s s' s'' n f line q (done, e, a, o, g, c) t (inr (part, more, a', split, o', whole)) =
+running_cut stop None r r' w w' w'' s s' s'' n f line p t x = tt
+running_cut stop (Some xs) None r' w w' w'' s s' s'' n f line p t x = absurd p
+running_cut stop (Some xs) (Some ys) None w w' w'' s s' s'' n f line p t x = absurd t
+running_cut ReadFailed (Some xs) (Some ys) (Some zs) w w' w'' s s' s'' n f line p t x = absurd x
+running_cut Memory (Some xs) (Some ys) (Some zs) w w' w'' s s' s'' n f line (done, e, a, o, g, c) t (inl same, kept) =
+    running_stop Memory (Some xs) (Some ys) w w'' s s'' n f (λ h. absurd (cc)) (done, e, same ∙ a, appends_kept _ _ _ _ o kept, g, c)
+running_cut Memory (Some xs) (Some ys) (Some zs) w w' w'' s s' s'' n f line (done, e, a, o, g, c) t (inr a', kept) =
     let l = first_of ys in
     let there = step_there s s' n done line l a c t.1 in
-    let out : line_out (run_after s 1 done) (1 + length done) l ≡ part ++ more = sym (ap (λ v. v.1) there) ∙ split in (
-      done ++ l ∷ [],
-      lines_of zs,
-      run_out s 1 done ++ part,
-      more,
-      taken xs ys zs done e t.0 t.2,
-      a' ∙ ap (λ v. v.0) there ∙ sym (run_after-push s 1 done l),
-      run_out-push s 1 done l ∙ ap (λ v. run_out s 1 done ++ v) out ∙ sym (append_assoc (run_out s 1 done) part more),
-      Appends-trans w w' w'' _ _ o o',
-      (λ h. absurd (q h)),
-      λ h. (done, l ∷ [], refl, omega arith, ap (λ v. run_out s 1 done ++ v) (whole h) ∙ append-nil _),
-    )
+    record {
+      told = done;
+      untold = l ∷ [];
+      rest = lines_of zs;
+      split = taken xs ys zs done e t.0 t.2;
+      one = omega arith;
+      state = a' ∙ ap (λ v. v.0) there ∙ sym (run_after-push s 1 done l);
+      written = appends_kept _ _ _ _ o kept;
+    }
+running_cut WriteFailed (Some xs) (Some ys) (Some zs) w w' w'' s s' s'' n f line (done, e, a, o, g, c) t x =
+    let l = first_of ys in
+    let there = step_there s s' n done line l a c t.1 in
+    record {
+      told = done;
+      last = l;
+      rest = lines_of zs;
+      front = x.front;
+      more = x.more;
+      split = taken xs ys zs done e t.0 t.2 ∙ append_assoc done (l ∷ []) (lines_of zs);
+      state = x.state ∙ ap (λ v. v.0) there ∙ sym (run_after-push s 1 done l);
+      answer = sym (ap (λ v. v.1) there) ∙ x.answer;
+      written = Appends-trans w w' w'' _ _ o x.written;
+    }
 
-pub cut_short : (stop : Stop) (w w' : Option (List ℕ)) (s s' : State) (n k : ℕ) (line text : List ℕ) (f : Bool) → stop ≡ WriteFailed → line_step s n line ≡ (s', text, f)
+pub cut_writing : (stop : Stop) (w w' : Option (List ℕ)) (s s' : State) (n k : ℕ) (line text : List ℕ) (f : Bool) → stop ≡ WriteFailed → line_step s n line ≡ (s', text, f)
     → Appends w w' (take k text) → CutShort stop w w' s s' n line
-cut_short stop w w' s s' n k line text f h e o = inr (take k text, drop k text, sym (ap (λ p. p.0) e), ap (λ p. p.1) e ∙ sym (take-append-drop k text), o, λ q. absurd (q h))
+cut_writing stop w w' s s' n k line text f h e o =
+    subst (λ v. CutShort v w w' s s' n line) (sym h)
+    (record { front = take k text; more = drop k text; state = sym (ap (λ p. p.0) e); answer = ap (λ p. p.1) e ∙ sym (take-append-drop k text); written = o })
 
 Keeps-refl : (w : Option (List ℕ)) → Keeps w w
 Keeps-refl None = tt
 Keeps-refl (Some x) = refl
 
-pub cut_none : (stop : Stop) (w : Option (List ℕ)) (s s' : State) (n : ℕ) (line : List ℕ) → (s' ≡ s) ⊎ (s' ≡ line_after s n line) → CutShort stop w w s s' n line
-cut_none stop w s s' n line (inl e) = inl (e, Keeps-refl w)
-cut_none stop w s s' n line (inr e) = inr ([], line_out s n line, e, refl, Appends-nil w, λ q. refl)
+pub cut_for_memory : (stop : Stop) (w : Option (List ℕ)) (s s' : State) (n : ℕ) (line : List ℕ) → stop ≡ Memory → (s' ≡ s) ⊎ (s' ≡ line_after s n line) → CutShort stop w w s s' n line
+cut_for_memory stop w s s' n line h e = subst (λ v. CutShort v w w s s' n line) (sym h) (e, Keeps-refl w)
 
-pub on_err : {T E Q : Type 0} (r : Result T E) → Q → OnErr r Q
-on_err (Ok x) q = tt
-on_err (Err e) q = q
+pub stopped_start : (stop : Stop) (o w : Option (List ℕ)) (s : State) → stop ≡ Memory → Stopped stop o w w s s
+stopped_start stop None w s h = tt
+stopped_start stop (Some xs) w s h =
+    subst (λ v. Stopped v (Some xs) w w s s) (sym h)
+    (record { told = []; untold = []; rest = lines_of xs; split = refl; one = omega arith; state = refl; written = Appends-nil w })
 
-pub if_err : {T E : Type 0} {Q : E → Type 0} (r : Result T E) → ((e : E) → Q e) → IfErr r Q
-if_err (Ok x) q = tt
-if_err (Err e) q = q e
-
-pub stopped_start : (stop : Stop) (o w : Option (List ℕ)) (s : State) → Stopped stop o w w s s
-stopped_start stop None w s = tt
-stopped_start stop (Some xs) w s = ([], lines_of xs, [], [], refl, refl, refl, Appends-nil w, (λ h. refl), λ h. ([], [], refl, omega arith, refl))
+pub if_err : {T E : Type 0} (P Q : E → Type 0) (r : Result T E) → ((e : E) → P e → Q e) → IsErrAnd r P → IfErr r Q
+if_err P Q (Ok x) f p = tt
+if_err P Q (Err e) f p = f e p
 
 pub if_err_as : {T E : Type 0} (Q : E → Type 0) (r : Result T E) (e : E) → IsErrAnd r (λ d. d ≡ e) → Q e → IfErr r Q
 if_err_as Q (Ok x) e h q = tt

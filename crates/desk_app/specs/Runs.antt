@@ -1,10 +1,10 @@
 -- A run over the lines of a text.
-use Rattle.std.specs.Prelude.{◌≡◌, ◌≢◌, ◌≤◌, ℕ, length, ◌+◌, ◌==◌, ◌&&◌, Bool, true, false, List, [], ◌∷◌, ◌++◌, if◌then◌else◌, ◌⊎◌, Option, Some, None, Result, Ok, Err}
+use Rattle.std.specs.Prelude.{◌≡◌, ◌≤◌, ℕ, length, ◌+◌, ◌==◌, ◌&&◌, Bool, true, false, List, [], ◌∷◌, ◌++◌, if◌then◌else◌, ◌⊎◌, Option, Some, None, Result, Ok, Err}
 use Rattle.std.specs.Io.KnownBytes.{Appends, Keeps}
 use Rattle.part_core.specs.declared.refusal.Refusal.TheVariants.{NoSuch}
 use Rattle.desk_core.specs.Machine.{State, Outcome, step}
 use Rattle.desk_app.specs.declared.end.Stop.{Stop}
-use Rattle.desk_app.specs.declared.end.Stop.TheVariants.{ReadFailed, WriteFailed}
+use Rattle.desk_app.specs.declared.end.Stop.TheVariants.{ReadFailed, WriteFailed, Memory}
 use Rattle.desk_app.specs.declared.fault.What.{What}
 use Rattle.desk_app.specs.declared.read.Ask.{Ask}
 use Rattle.desk_app.specs.declared.read.Ask.TheVariants.{Request, Ledger}
@@ -12,7 +12,8 @@ use Rattle.desk_app.specs.Reading.{ask}
 use Rattle.desk_app.specs.Ledger.{ledger_lines}
 use Rattle.desk_app.specs.Writing.{answer_line, refused_line, fault_line, report_line}
 
--- ---- one line: the state after it, the text with LF that is answered, and whether nothing was refused or faulty
+-- ---- one line: the state after it, the text with LF that is answered, and whether nothing was
+-- refused or faulty
 
 abbrev pub Told : Type 0
 Told = State × List ℕ × Bool
@@ -85,23 +86,65 @@ lines_fine s bytes = all_fine s 1 (lines_of bytes)
 -- ---- how a run ends, of known bytes and with a writer of known contents
 
 -- all lines were run, and all their answers written
-abbrev pub Finished : Option (List ℕ) → Option (List ℕ) → Option (List ℕ) → State → State → Bool → Type 0
+pub record RunWhole (text : List ℕ) (w w' : Option (List ℕ)) (s s' : State) (all : Bool) : Type 0 where
+  pub state : s' ≡ lines_after s text
+  pub written : Appends w w' (lines_out s text)
+  pub fine : all ≡ lines_fine s text
+
+abbrev pub Finished : Option (List ℕ) → Option (List ℕ) → Option (List ℕ) → State → State → Bool
+    → Type 0
 Finished None w w' s s' all = Unit {0}
-Finished (Some xs) w w' s s' all = (s' ≡ lines_after s xs) × Appends w w' (lines_out s xs) × (all ≡ lines_fine s xs)
+Finished (Some text) w w' s s' all = RunWhole text w w' s s' all
 
--- whole answers of all these lines, or of all but the last
-abbrev pub AreWhole : State → List (List ℕ) → List ℕ → Type 0
-AreWhole s done part = (told : List (List ℕ)) × (untold : List (List ℕ)) × (done ≡ told ++ untold) × (length untold ≤ 1) × (part ≡ run_out s 1 told)
+-- the first of these lines were run, and their answers written whole; the others were not run
+pub record StoppedReading (lines : List (List ℕ)) (w w' : Option (List ℕ)) (s s' : State) : Type 0 where
+  pub done : List (List ℕ)
+  pub rest : List (List ℕ)
+  pub split : lines ≡ done ++ rest
+  pub state : s' ≡ run_after s 1 done
+  pub written : Appends w w' (run_out s 1 done)
 
--- some of the lines were run, and a front of their answers written. Where it was the reader that failed, that is all of them;
--- unless it was the writer, it is whole answers, of all lines that were run but at most the last
-abbrev pub Stopped : Stop → Option (List ℕ) → Option (List ℕ) → Option (List ℕ) → State → State → Type 0
+-- of the lines that were run the last has a front of its answer written, the others have theirs whole
+pub record StoppedWriting (lines : List (List ℕ)) (w w' : Option (List ℕ)) (s s' : State) : Type 0 where
+  pub told : List (List ℕ)
+  pub last : List ℕ
+  pub rest : List (List ℕ)
+  pub front : List ℕ
+  pub more : List ℕ
+  pub split : lines ≡ told ++ last ∷ rest
+  pub state : s' ≡ run_after s 1 (told ++ last ∷ [])
+  pub answer : line_out (run_after s 1 told) (1 + length told) last ≡ front ++ more
+  pub written : Appends w w' (run_out s 1 told ++ front)
+
+-- of the lines that were run the last may have nothing of its answer written, the others have theirs
+-- whole
+pub record StoppedForMemory (lines : List (List ℕ)) (w w' : Option (List ℕ)) (s s' : State) : Type 0 where
+  pub told : List (List ℕ)
+  pub untold : List (List ℕ)
+  pub rest : List (List ℕ)
+  pub split : lines ≡ (told ++ untold) ++ rest
+  pub one : length untold ≤ 1
+  pub state : s' ≡ run_after s 1 (told ++ untold)
+  pub written : Appends w w' (run_out s 1 told)
+
+-- some of the lines were run, and their answers written, by what it was that failed
+abbrev pub Stopped : Stop → Option (List ℕ) → Option (List ℕ) → Option (List ℕ) → State → State
+    → Type 0
 Stopped stop None w w' s s' = Unit {0}
-Stopped stop (Some xs) w w' s s' = (done : List (List ℕ)) × (rest : List (List ℕ)) × (part : List ℕ) × (more : List ℕ)
-    × (lines_of xs ≡ done ++ rest) × (s' ≡ run_after s 1 done) × (run_out s 1 done ≡ part ++ more) × Appends w w' part
-    × (stop ≡ ReadFailed → more ≡ []) × (stop ≢ WriteFailed → AreWhole s done part)
+Stopped ReadFailed (Some text) w w' s s' = StoppedReading (lines_of text) w w' s s'
+Stopped WriteFailed (Some text) w w' s s' = StoppedWriting (lines_of text) w w' s s'
+Stopped Memory (Some text) w w' s s' = StoppedForMemory (lines_of text) w w' s s'
 
--- a line that was not answered whole: it was not run, or it was run and a front of its answer is written, which is nothing
--- unless the writer failed
+-- the line was run, and a front of its answer is written
+pub record CutWriting (w w' : Option (List ℕ)) (s s' : State) (number : ℕ) (line : List ℕ) : Type 0 where
+  pub front : List ℕ
+  pub more : List ℕ
+  pub state : s' ≡ line_after s number line
+  pub answer : line_out s number line ≡ front ++ more
+  pub written : Appends w w' front
+
+-- a line that was not answered whole; for want of memory it was run or not, and nothing is written
 abbrev pub CutShort : Stop → Option (List ℕ) → Option (List ℕ) → State → State → ℕ → List ℕ → Type 0
-CutShort stop w w' s s' number line = ((s' ≡ s) × Keeps w w') ⊎ ((part : List ℕ) × (more : List ℕ) × (s' ≡ line_after s number line) × (line_out s number line ≡ part ++ more) × Appends w w' part × (stop ≢ WriteFailed → part ≡ []))
+CutShort ReadFailed w w' s s' number line = ⊥
+CutShort WriteFailed w w' s s' number line = CutWriting w w' s s' number line
+CutShort Memory w w' s s' number line = ((s' ≡ s) ⊎ (s' ≡ line_after s number line)) × Keeps w w'

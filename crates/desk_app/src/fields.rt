@@ -21,7 +21,8 @@ pub fn number(object: &Value, name: &str) -> Result<u64, What>
 
 /// Any text.
 pub fn text<'a>(object: &'a Value, name: &str) -> Result<&'a str, What>
-    ensures { MatchResult result (λ text. text_in name.now (view object.now) ≡ Ok text.now) (λ what. text_in name.now (view object.now) ≡ Err what) }
+    ensures { MatchResult result (λ text. text_in name.now (view object.now) ≡ Ok text.now)
+        (λ what. text_in name.now (view object.now) ≡ Err what) }
 {
     let value = object.get(name).ok_or(What::NoField)?;
     value.as_str().ok_or(What::WrongType)

@@ -18,14 +18,16 @@ fn amount(alloc: Global, name: &str, amount: u128) -> Result<Value, AllocError>
 }
 
 fn head(alloc: Global, number: u64, name: &str) -> Result<Value, AllocError>
-    ensures { IfOk result (λ value. view value ≡ array (texts_data (codes "ledger" ∷ decimal number ∷ name.now ∷ []))) }
+    ensures { IfOk result (λ value. view value
+        ≡ array (texts_data (codes "ledger" ∷ decimal number ∷ name.now ∷ []))) }
 {
     let number = format!(in alloc; "{number}")?;
     json!(in alloc; ["ledger", number, name])
 }
 
 fn lines(alloc: Global, number: u64, name: &str, sums: &Sums) -> Result<Value, AllocError>
-    ensures { IfOk result (λ value. view value ≡ array (lines_data (ledger_of number name.now sums.now))) }
+    ensures { IfOk result (λ value. view value
+        ≡ array (lines_data (ledger_of number name.now sums.now))) }
 {
     let lines = vec![in alloc;
         head(alloc, number, name)?,
@@ -57,7 +59,8 @@ pub fn ledger_line(
     name: &str,
     sums: &Sums,
 ) -> Result<String, AllocError>
-    ensures { IfOk result (λ text. string_bytes text ≡ report_line (ledger_of number name.now sums.now)) }
+    ensures { IfOk result (λ text. string_bytes text
+        ≡ report_line (ledger_of number name.now sums.now)) }
 {
     let mut text = report(alloc, number, name, sums)?.to_string(alloc)?;
     text.push_str("\n")?;

@@ -1,5 +1,8 @@
-//! The lines of a reader.
-ghost use Rattle.std.specs.Prelude.{◌≡◌, ◌≢◌, ◌⊎◌, ◌≤◌, ◌<◌, ◌+◌, ◌++◌, [], ◌∷◌, length, take, drop, vec_len, IfOk, OnOk, OnErr, IfErr, true, false, IsTrue};
+//! The lines of a reader, taken one by one. What has been read and not taken, followed by what the
+//! reader still has, is the text that is left; each line that is taken is the next of that text. Of a
+//! long line no more is held than shows that it is too long. There is a bound on the reads, and each
+//! counts, an interrupted one too; past it every read is refused.
+ghost use Rattle.std.specs.Prelude.{◌≡◌, ◌≢◌, ◌⊎◌, ◌≤◌, ◌<◌, ◌+◌, ◌++◌, [], ◌∷◌, length, take, drop, vec_len, IfOk, OnOk, OnErr, IfErr, Err, true, false, IsTrue};
 
 use crate::end::Stop;
 use crate::pieces::{end_of, hold};
@@ -23,7 +26,8 @@ impl Lines {
     ghost use Rattle.desk_app.specs.Cuts.{unread, left, held, first_of, rest_of, has_end, TakesLine};
 
     pub fn new(alloc: Global) -> Result<Self, AllocError>
-        ensures { IfOk result (λ s. unread s ≡ []) }
+        ensures empty { IfOk result (λ s. unread s ≡ []) }
+        ensures reads { IfOk result (λ s. s.reads ≡ 4000000000) }
     {
         Ok(Lines {
             buffer: vec![in alloc; 0; 4096]?,
@@ -35,12 +39,17 @@ impl Lines {
 
     /// Reads once more, where nothing is left: false is the end.
     fn fill<R: Read>(&mut self, reader: &mut R) -> Result<bool, Stop>
-        ensures bytes { Keeps (left (R.remaining reader.old) self.old) (left (R.remaining reader.new) self.new) }
+        ensures bytes { Keeps (left (R.remaining reader.old) self.old)
+            (left (R.remaining reader.new) self.new) }
         ensures some { IfOk result (λ more. more ≡ true → self.new.at < self.new.filled) }
-        ensures end { IfOk result (λ more. more ≡ false → IsAtEnd (left (R.remaining reader.new) self.new)) }
+        ensures end { IfOk result (λ more. more ≡ false
+            → IsAtEnd (left (R.remaining reader.new) self.new)) }
         ensures reads { self.new.reads ≤ self.old.reads }
         ensures had { self.old.at < self.old.filled → self.new ≡ self.old }
-        ensures read { self.old.filled ≤ self.old.at → OnOk result (self.new.reads < self.old.reads) }
+        ensures counts { self.old.filled ≤ self.old.at → 0 < self.old.reads
+            → self.new.reads < self.old.reads }
+        ensures refuses { self.old.filled ≤ self.old.at → self.old.reads ≡ 0
+            → (result ≡ Err Stop.ReadFailed) × (reader.new ≡ reader.old) }
         ensures failed { IfErr result (λ e. e ≡ Stop.ReadFailed) }
     {
         if self.at < self.filled {
@@ -64,11 +73,13 @@ impl Lines {
         Err(Stop::ReadFailed)
     }
 
-    /// Takes bytes up to the next LF, or all there are: true where an LF came. No more than 65,537 are held.
+    /// Takes bytes up to the next LF, or all there are: true where an LF came. No more than 65,537
+    /// are held.
     fn take_piece(&mut self, line: &mut Vec<u8>) -> Result<bool, AllocError>
         requires { length line.old.items ≤ 65537 }
         ensures ended { IfOk result (λ ended. has_end (unread self.old) ≡ ended) }
-        ensures line { OnOk result (line.new.items ≡ held (line.old.items ++ first_of (unread self.old))) }
+        ensures line { OnOk result (line.new.items
+            ≡ held (line.old.items ++ first_of (unread self.old))) }
         ensures left { OnOk result (unread self.new ≡ rest_of (unread self.old)) }
         ensures reads { self.new.reads ≡ self.old.reads }
         ensures spent { IfOk result (λ ended. ended ≡ false → self.new.at ≡ self.new.filled) }
@@ -88,10 +99,13 @@ impl Lines {
         }
     }
 
-    /// Takes the next line: false where there is none. As much is held as shows that it is too long.
+    /// Takes the next line: false where there is none. As much is held as shows it too long.
     pub fn next_line<R: Read>(&mut self, reader: &mut R, line: &mut Vec<u8>) -> Result<bool, Stop>
         ensures short { OnOk result (length line.new.items ≤ 65537) }
-        ensures takes { IfOk result (λ found. TakesLine (left (R.remaining reader.old) self.old) found line.new.items (left (R.remaining reader.new) self.new)) }
+        ensures reads { self.new.reads ≤ self.old.reads }
+        ensures reading { IfErr result (λ stop. stop ≢ Stop.WriteFailed) }
+        ensures takes { IfOk result (λ found. TakesLine (left (R.remaining reader.old) self.old)
+            found line.new.items (left (R.remaining reader.new) self.new)) }
     {
         line.clear();
         let mut found = false;

@@ -6,8 +6,10 @@ use std::alloc::AllocError;
 
 /// Where the first LF stands.
 pub fn end_of(piece: &[u8]) -> Option<usize>
-    ensures { MatchOption result ((has_end piece.now ≡ false) × (first_of piece.now ≡ piece.now) × (rest_of piece.now ≡ []))
-        (λ n. (n < length piece.now) × (has_end piece.now ≡ true) × (first_of piece.now ≡ take n piece.now) × (rest_of piece.now ≡ drop (n + 1) piece.now)) }
+    ensures { MatchOption result
+        ((has_end piece.now ≡ false) × (first_of piece.now ≡ piece.now) × (rest_of piece.now ≡ []))
+        (λ n. (n < length piece.now) × (has_end piece.now ≡ true)
+        × (first_of piece.now ≡ take n piece.now) × (rest_of piece.now ≡ drop (n + 1) piece.now)) }
 {
     for (i, b) in piece.iter().enumerate() {
         if *b == 10 {

@@ -109,7 +109,8 @@ fn ledger(object: &Value) -> Result<Ask, ReadError>
 
 #[tactic(auto, using(crate::proofs::Members::parsed_ok, crate::proofs::Members::parsed_none))]
 fn parsed(alloc: Global, line: &[u8]) -> Result<Value, ReadError>
-    ensures { MatchResult result (λ v. parsed line.now ≡ Some (view v)) (λ e. Fails e (or_fault What.NotJson (parsed line.now))) }
+    ensures { MatchResult result (λ v. parsed line.now ≡ Some (view v))
+        (λ e. Fails e (or_fault What.NotJson (parsed line.now))) }
 {
     match Value::from_slice(alloc, line) {
         Ok(value) => Ok(value),

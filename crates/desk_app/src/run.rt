@@ -1,4 +1,6 @@
-//! A run over the lines of a reader.
+//! A run over the lines of a reader. After each line the shop holds the state after all lines so far,
+//! and their answers are written whole. A line is run before its answer is written: where the writer
+//! fails that line is run, and a front of its answer is written. No line is run after a failure.
 ghost use Rattle.std.specs.Prelude.{◌≡◌, ◌≢◌, ◌⊎◌, ◌≤◌, ℕ, List, Bool, false, length, true, IfOk, OnOk, IfErr, OnErr};
 ghost use Rattle.std.specs.String.{string_bytes};
 ghost use Rattle.std.specs.Io.KnownBytes.{Appends};
@@ -41,9 +43,11 @@ fn is_blank(line: &[u8]) -> bool
 /// Runs a request, and tells its outcome.
 fn tell_outcome(alloc: Global, shop: &mut Shop, request: &Request) -> Result<Told, Stop>
     requires { IsSoundState (state_of shop.old) }
-    ensures ok { IfOk result (λ told. by_outcome (step (state_of shop.old) request.now) ≡ (state_of shop.new, string_bytes told.text, told.fine)) }
+    ensures ok { IfOk result (λ told. by_outcome (step (state_of shop.old) request.now)
+        ≡ (state_of shop.new, string_bytes told.text, told.fine)) }
     ensures memory { IfErr result (λ stop. stop ≡ Stop.Memory) }
-    ensures err { OnErr result ((state_of shop.new ≡ state_of shop.old) ⊎ (state_of shop.new ≡ (by_outcome (step (state_of shop.old) request.now)).0)) }
+    ensures err { OnErr result ((state_of shop.new ≡ state_of shop.old)
+        ⊎ (state_of shop.new ≡ (by_outcome (step (state_of shop.old) request.now)).0)) }
     ensures sound { IsSoundState (state_of shop.new) }
 {
     match shop.decide(request) {
@@ -62,7 +66,9 @@ fn tell_outcome(alloc: Global, shop: &mut Shop, request: &Request) -> Result<Tol
 /// Tells the ledger of a part.
 fn tell_ledger(alloc: Global, shop: &Shop, part: u64) -> Result<Told, AllocError>
     requires { IsSoundState (state_of shop.now) }
-    ensures { IfOk result (λ told. by_ledger (state_of shop.now) (ledger_lines part (state_of shop.now)) ≡ (state_of shop.now, string_bytes told.text, told.fine)) }
+    ensures { IfOk result (λ told.
+        by_ledger (state_of shop.now) (ledger_lines part (state_of shop.now))
+        ≡ (state_of shop.now, string_bytes told.text, told.fine)) }
 {
     let Some(row) = shop.catalogue().part(part) else {
         return Ok(Told {
@@ -82,9 +88,11 @@ fn tell_ledger(alloc: Global, shop: &Shop, part: u64) -> Result<Told, AllocError
 fn tell(alloc: Global, shop: &mut Shop, number: u64, line: &[u8]) -> Result<Told, Stop>
     requires filled { is_blank line.now ≡ false }
     requires sound { IsSoundState (state_of shop.old) }
-    ensures ok { IfOk result (λ told. line_step (state_of shop.old) number line.now ≡ (state_of shop.new, string_bytes told.text, told.fine)) }
+    ensures ok { IfOk result (λ told. line_step (state_of shop.old) number line.now
+        ≡ (state_of shop.new, string_bytes told.text, told.fine)) }
     ensures memory { IfErr result (λ stop. stop ≡ Stop.Memory) }
-    ensures err { OnErr result ((state_of shop.new ≡ state_of shop.old) ⊎ (state_of shop.new ≡ line_after (state_of shop.old) number line.now)) }
+    ensures err { OnErr result ((state_of shop.new ≡ state_of shop.old)
+        ⊎ (state_of shop.new ≡ line_after (state_of shop.old) number line.now)) }
     ensures sound { IsSoundState (state_of shop.new) }
 {
     match read_line(alloc, line) {
@@ -98,8 +106,8 @@ fn tell(alloc: Global, shop: &mut Shop, number: u64, line: &[u8]) -> Result<Told
     }
 }
 
-/// Runs one line, of which as much is here as is held, and writes its answer. True where nothing was
-/// refused or faulty.
+/// Runs one line, of which as much is here as is held, and writes its answer. True where nothing
+/// was refused or faulty.
 fn answer<W: Write>(
     alloc: Global,
     writer: &mut W,
@@ -111,9 +119,11 @@ fn answer<W: Write>(
     requires sound { IsSoundState (state_of shop.old) }
     ensures fine { IfOk result (λ fine. fine ≡ is_fine (state_of shop.old) number line.now) }
     ensures ok { OnOk result (state_of shop.new ≡ line_after (state_of shop.old) number line.now) }
-    ensures out { OnOk result (Appends (W.contents writer.old) (W.contents writer.new) (line_out (state_of shop.old) number line.now)) }
-    ensures cut { IfErr result (λ stop. CutShort stop (W.contents writer.old) (W.contents writer.new) (state_of shop.old) (state_of shop.new) number line.now) }
-    ensures err { IfErr result (λ stop. stop ≢ Stop.ReadFailed) }
+    ensures out { OnOk result (Appends (W.contents writer.old) (W.contents writer.new)
+        (line_out (state_of shop.old) number line.now)) }
+    ensures cut { IfErr result (λ stop.
+        CutShort stop (W.contents writer.old) (W.contents writer.new)
+        (state_of shop.old) (state_of shop.new) number line.now) }
     ensures sound { IsSoundState (state_of shop.new) }
 {
     if is_blank(line) {
@@ -132,8 +142,11 @@ fn answer_all<R: Read, W: Write>(
     shop: &mut Shop,
 ) -> Result<bool, Stop>
     requires { IsSoundState (state_of shop.old) }
-    ensures done { IfOk result (λ all. Finished (R.remaining reader.old) (W.contents writer.old) (W.contents writer.new) (state_of shop.old) (state_of shop.new) all) }
-    ensures stopped { IfErr result (λ stop. Stopped stop (R.remaining reader.old) (W.contents writer.old) (W.contents writer.new) (state_of shop.old) (state_of shop.new)) }
+    ensures done { IfOk result (λ all. Finished (R.remaining reader.old) (W.contents writer.old)
+        (W.contents writer.new) (state_of shop.old) (state_of shop.new) all) }
+    ensures stopped { IfErr result (λ stop.
+        Stopped stop (R.remaining reader.old) (W.contents writer.old)
+        (W.contents writer.new) (state_of shop.old) (state_of shop.new)) }
     ensures sound { IsSoundState (state_of shop.new) }
 {
     let mut lines = Lines::new(alloc)?;
@@ -157,8 +170,12 @@ pub fn run_lines<R: Read, W: Write>(
     shop: &mut Shop,
 ) -> RunEnd
     requires { IsSoundState (state_of shop.old) }
-    ensures done { (all : Bool) → result ≡ RunEnd.Done all → Finished (R.remaining reader.old) (W.contents writer.old) (W.contents writer.new) (state_of shop.old) (state_of shop.new) all }
-    ensures stopped { (stop : Stop) → result ≡ end_of stop → Stopped stop (R.remaining reader.old) (W.contents writer.old) (W.contents writer.new) (state_of shop.old) (state_of shop.new) }
+    ensures done { (all : Bool) → result ≡ RunEnd.Done all
+        → Finished (R.remaining reader.old) (W.contents writer.old)
+        (W.contents writer.new) (state_of shop.old) (state_of shop.new) all }
+    ensures stopped { (stop : Stop) → result ≡ end_of stop
+        → Stopped stop (R.remaining reader.old) (W.contents writer.old)
+        (W.contents writer.new) (state_of shop.old) (state_of shop.new) }
     ensures sound { IsSoundState (state_of shop.new) }
 {
     match answer_all(alloc, reader, writer, shop) {

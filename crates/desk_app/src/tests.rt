@@ -2,9 +2,11 @@ use crate::fault::{ReadError, What};
 use crate::ledger::ledger_line;
 use crate::read::{Ask, read_line};
 use crate::write::{answer_line, fault_line, refused_line};
-use desk_core::{Answer, Command, Ids};
-use part_core::Refusal;
+use crate::{RunEnd, run_lines};
+use desk_core::{Answer, Command, Ids, Shop};
+use part_core::{Limits, Refusal};
 use std::alloc::{AllocError, Global};
+use std::io::{self, Write};
 use std::test::Fail;
 use yard_core::Sums;
 
@@ -216,5 +218,46 @@ fn writes_lines(rt: HostRuntime) -> Result<(), Fail> {
         ledger.as_str(),
         "{\"report\":[[\"ledger\",\"2\",\"5\\\" \\\\ Screw\"],[\"received\",\"0\"],[\"found\",\"100\"],[\"built\",\"1\"],[\"returned\",\"2\"],[\"consumed\",\"3\"],[\"shipped\",\"4\"],[\"written\",\"30\"],[\"present\",\"70\"],[\"sent\",\"5\"],[\"used\",\"6\"]]}\n"
     );
+    Ok(())
+}
+
+/// Shows what is written once it is flushed.
+#[derive(Drop)]
+struct Held {
+    held: Vec<u8>,
+    shown: Vec<u8>,
+    flushes: usize,
+}
+
+impl Write for Held {
+    fn write(&mut self, buf: &[u8]) -> io::Result<usize> {
+        self.held.extend_from_slice(buf)?;
+        Ok(buf.len())
+    }
+
+    fn flush(&mut self) -> io::Result<()> {
+        self.shown.extend_from_slice(self.held.as_slice())?;
+        self.held.clear();
+        self.flushes = self.flushes.wrapping_add(1);
+        Ok(())
+    }
+}
+
+#[test]
+fn flushes_each_answer(rt: HostRuntime) -> Result<(), Fail> {
+    let alloc = rt.alloc();
+    let mut shop = Shop::new(alloc, Limits::LARGEST);
+    let mut reader = b"[]\n\n{}".as_slice();
+    let mut writer = Held {
+        held: Vec::new(alloc),
+        shown: Vec::new(alloc),
+        flushes: 0,
+    };
+    let end = run_lines(alloc, &mut reader, &mut writer, &mut shop);
+    assert_eq!(rt; end, RunEnd::Done(false));
+    assert_eq!(rt; writer.flushes, 2);
+    let wanted =
+        b"{\"fault\":\"NotObject\",\"line\":1}\n{\"fault\":\"NoField\",\"line\":3}\n".as_slice();
+    assert!(rt; writer.shown.as_slice() == wanted);
     Ok(())
 }

@@ -9,7 +9,8 @@ use part_core::Refusal;
 use std::alloc::{AllocError, Global};
 
 fn push_numbers(text: &mut String, numbers: &[u64]) -> Result<(), AllocError>
-    ensures { OnOk result (string_bytes text.new ≡ string_bytes text.old ++ numbers_text false numbers.now) }
+    ensures { OnOk result (string_bytes text.new
+        ≡ string_bytes text.old ++ numbers_text false numbers.now) }
 {
     let mut later = false;
     for number in numbers {

@@ -2,65 +2,46 @@
 //! of answer for each to the standard output.
 #![tactic(auto)]
 
-ghost use Rattle.std.specs.Prelude.{◌≡◌};
-ghost use Rattle.invdesk.specs.Statuses.{status_of};
-
+mod status;
 mod words;
 
-use clap::error::ErrorKind;
 use desk_app::{RunEnd, run_lines};
 use desk_core::Shop;
 use part_core::Limits;
+use status::{DEVICE, MEMORY, early_status, status_of};
 use std::env::{self, Env};
 use std::io::{self, Input};
 use std::process::ExitCode;
-use words::read_words;
+use words::{Asked, read_words};
 
-/// Something was refused or faulty.
-const NOT_ALL: u8 = 1;
-/// The words are wrong.
-const WRONG_WORDS: u8 = 2;
-/// The reader or the writer failed.
-const DEVICE: u8 = 3;
-/// There was no memory.
-const MEMORY: u8 = 4;
-
-/// The status of a run that ended so.
-fn status_of(end: RunEnd) -> u8
-    ensures { result ≡ status_of end }
-{
-    match end {
-        RunEnd::Done(true) => 0,
-        RunEnd::Done(false) => NOT_ALL,
-        RunEnd::ReadFailed | RunEnd::WriteFailed => DEVICE,
-        RunEnd::Memory => MEMORY,
-    }
-}
-
-/// The status to end with at once, unless the words ask for a run.
-fn at_once<R: Env + AllocGlobal + Print + Eprint>(rt: &R) -> Option<u8> {
+/// What the words ask for that the program is called with.
+fn asked<R: Env + AllocGlobal>(rt: &R) -> Asked {
     let words = match env::args(rt) {
         Ok(words) => words,
         Err(e) => {
-            return Some(if e.kind() == io::ErrorKind::OutOfMemory {
-                MEMORY
+            return if e.kind() == io::ErrorKind::OutOfMemory {
+                Asked::Memory
             } else {
-                WRONG_WORDS
-            });
+                Asked::Unreadable
+            };
         }
     };
     let words: Vec<String> = match words.collect(rt.alloc()) {
         Ok(words) => words,
-        Err(_) => return Some(MEMORY),
+        Err(_) => return Asked::Memory,
     };
-    let Err(error) = read_words(rt.alloc(), words.as_slice()) else {
-        return None;
+    read_words(rt.alloc(), words.as_slice())
+}
+
+/// Prints what the words ask for, and gives the status to end with at once, unless they ask for a run.
+fn at_once<R: Print + Eprint>(rt: &R, asked: &Asked) -> Option<u8> {
+    let printed = match asked {
+        Asked::Run | Asked::Memory => Ok(()),
+        Asked::Help(text) | Asked::Wrong(text) => text.print(rt),
+        Asked::Unreadable => eprintln!(rt; "invdesk: a word isn't UTF-8"),
     };
-    if error.kind() == ErrorKind::OutOfMemory {
-        return Some(MEMORY);
-    }
-    match error.print(rt) {
-        Ok(()) => Some(error.exit_code() as u8),
+    match printed {
+        Ok(()) => early_status(asked),
         Err(_) => Some(DEVICE),
     }
 }
@@ -85,10 +66,13 @@ fn tell<R: Eprint>(rt: &R, status: u8) {
 }
 
 fn main(rt: HostRuntime) -> ExitCode {
-    let status = match at_once(&rt) {
+    let status = match at_once(&rt, &asked(&rt)) {
         Some(status) => status,
         None => status_of(run(&rt)),
     };
     tell(&rt, status);
     ExitCode::from(status)
 }
+
+#[cfg(test)]
+mod tests;

@@ -2,15 +2,23 @@ use Rattle.std.proofs.Common.{◌≡◌, ◌&&◌, ◌∙◌}
 use Rattle.desk_core.specs.Shops.{state_of}
 use Rattle.desk_app.specs.Cuts.{left}
 use Rattle.desk_app.specs.Runs.{is_fine, Stopped}
-use Rattle.desk_app.proofs.Running.{running_stop, running_line, running_cut, stopped_start, if_err, if_err_as}
+use Rattle.desk_app.proofs.Running.{running_stop, running_line, running_cut, stopped_start, no_writing, if_err, if_err_as}
+use Rattle.desk_app.specs.declared.end.Stop.TheVariants.{Memory}
 use Rattle.desk_app.proofs.run.answer_all.Goals as goal
 use Rattle.desk_app.proofs.run.answer_all.Goals.{then-all, else-all}
 
 pub returns-in_err-lines-clause-stopped : goal.returns-in_err-lines-clause-stopped
-returns-in_err-lines-clause-stopped g c = if_err c.from_residual.result (λ stop. stopped_start stop (g.R.Read.remaining c.args.reader.now) (g.W.Write.contents c.args.writer.now) (state_of c.args.shop.now))
+returns-in_err-lines-clause-stopped g c =
+    if_err (λ stop. stop ≡ Memory)
+    (λ stop. Stopped stop (g.R.Read.remaining c.args.reader.now) (g.W.Write.contents c.args.writer.now) (g.W.Write.contents c.args.writer.now) (state_of c.args.shop.now) (state_of c.args.shop.now))
+    c.from_residual.result (λ stop. stopped_start stop (g.R.Read.remaining c.args.reader.now) (g.W.Write.contents c.args.writer.now) (state_of c.args.shop.now)) c.from_residual.ensures.1
 
 pub returns-in_err-next_line-clause-stopped : goal.returns-in_err-next_line-clause-stopped
-returns-in_err-next_line-clause-stopped g c = if_err c.from_residual-in_err-next_line.result (λ stop. running_stop stop _ _ _ _ _ _ _ _ c.loop-number.invariant.running)
+returns-in_err-next_line-clause-stopped g c =
+    if_err_as
+    (λ stop. Stopped stop (g.R.Read.remaining c.args.reader.now) (g.W.Write.contents c.args.writer.now) (g.W.Write.contents c.loop-number.writer) (state_of c.args.shop.now) (state_of c.loop-number.shop))
+    c.from_residual-in_err-next_line.result c.in_err-next_line.field-0.0 c.from_residual-in_err-next_line.ensures.1
+    (running_stop c.in_err-next_line.field-0.0 _ _ _ _ _ _ _ _ c.in_err-next_line.ensures.reading c.loop-number.invariant.running)
 
 pub returns-in_err-fine-clause-stopped : goal.returns-in_err-fine-clause-stopped
 returns-in_err-fine-clause-stopped g c =
@@ -21,7 +29,7 @@ returns-in_err-fine-clause-stopped g c =
     c.from_residual-in_err-fine.result c.in_err-fine.field-0.0 c.from_residual-in_err-fine.ensures.1
     (running_cut c.in_err-fine.field-0.0 (g.R.Read.remaining c.args.reader.now) (left (g.R.Read.remaining c.loop-number.reader) c.loop-number.lines) (left (g.R.Read.remaining c.next_line.new.reader) c.next_line.new.self)
     (g.W.Write.contents c.args.writer.now) (g.W.Write.contents c.loop-number.writer) (g.W.Write.contents c.answer.new.writer)
-    (state_of c.args.shop.now) (state_of c.loop-number.shop) (state_of c.answer.new.shop) c.loop-number.number c.loop-number.all c.next_line.new.line.items c.in_err-fine.ensures.err c.loop-number.invariant.running takes cut)
+    (state_of c.args.shop.now) (state_of c.loop-number.shop) (state_of c.answer.new.shop) c.loop-number.number c.loop-number.all c.next_line.new.line.items c.loop-number.invariant.running takes cut)
 
 pub loop-number-preserved : goal.loop-number-preserved
 loop-number-preserved g c =
@@ -42,4 +50,4 @@ loop-number-preserved g c =
     }
 
 pub returns-clause-stopped : goal.returns-clause-stopped
-returns-clause-stopped g c = running_stop _ _ _ _ _ _ _ _ _ c.loop-number.invariant.running
+returns-clause-stopped g c = running_stop _ _ _ _ _ _ _ _ _ no_writing c.loop-number.invariant.running

@@ -8,6 +8,7 @@ invariant-loop-self g l = record {
   at : l.self.at ≡ l.initial.self.at;
   filled : l.self.filled ≡ l.initial.self.filled;
   reads : l.self.reads ≤ l.initial.self.reads;
+  unused : l.self.reads ≡ l.initial.self.reads → l.reader ≡ l.initial.reader;
   empty : l.self.filled ≤ l.self.at;
 }
 

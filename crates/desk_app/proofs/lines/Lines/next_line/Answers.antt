@@ -1,4 +1,4 @@
-use Rattle.std.proofs.Common.{◌≤◌, ◌∙◌, length, sym, subst}
+use Rattle.std.proofs.Common.{arith, ◌≤◌, ◌∙◌, length, sym, subst}
 use Rattle.desk_app.specs.Cuts.{unread}
 use Rattle.desk_app.proofs.Cutting.{length-held}
 use Rattle.desk_app.proofs.Partway.{partway_kept, partway_end, partway_ended, partway_more, unread_some}
@@ -18,6 +18,7 @@ loop-found-preserved g c =
     let t = c.in_ok-take_piece.ensures in
     record {
       short = subst (λ v. length v ≤ 65537) (sym t.line) (length-held _);
+      reads = omega (arith, t.reads, c.fill.ensures.reads);
       partway = partway_more _ (g.R.Read.remaining c.fill.new.reader) c.loop-found.found c.loop-found.line.items _ (unread c.fill.new.self) (unread c.take_piece.new.self)
           (partway_kept _ _ _ _ _ i.partway c.in_ok-fill.ensures.bytes) (t.ended ∙ c.if-branch-2.false)
           (unread_some c.fill.new.self (c.in_ok-fill.ensures.some c.if-branch.true)) t.line t.left;
