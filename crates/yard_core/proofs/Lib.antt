@@ -5,5 +5,8 @@ pub mod Ups
 pub mod Below
 pub mod Changing
 pub mod Keeping
+pub mod Listed
 pub mod Totals
+pub mod Standing
 pub mod Moved
+pub mod Grafting

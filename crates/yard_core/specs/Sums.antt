@@ -8,11 +8,7 @@ use Rattle.forest.specs.declared.entry.Kind.TheVariants.{Received, Found, Built,
 use Rattle.forest.specs.Forest.{amount, present, sent, used, recorded}
 use Rattle.forest.specs.Tables.{node_of}
 use Rattle.yard_core.specs.declared.sums.Sums.{Sums}
-use Rattle.yard_core.specs.Stock.{Stock, forest, notes, no_item, root_in}
-
--- the place of the item that an item stands under
-abbrev pub root_place : Table Item → ℕ → Place
-root_place t n = (unwrap_or (table.get t (root_in t n ∷ [])) no_item).place
+use Rattle.yard_core.specs.Stock.{Stock, forest, notes, root_place}
 
 -- what an item adds to a part's quantity under roots at such places
 abbrev pub lying : (Place → Bool) → ℕ → Table Item → Item → ℕ
