@@ -10,3 +10,5 @@ pub mod Totals
 pub mod Standing
 pub mod Moved
 pub mod Grafting
+pub mod Heights
+pub mod Showing

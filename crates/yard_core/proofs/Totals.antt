@@ -1,8 +1,7 @@
 -- The sums over one part, added up over the rows.
-use Rattle.std.proofs.Common.{◌≡◌, ℕ, ◌+◌, ◌-◌, ◌≤◌, Bool, true, false, List, [], ◌∷◌, ◌++◌, map, refl, sym, ap, ◌∙◌, subst, arith, Option, Some, eqb-true}
-use Rattle.std.specs.Prelude.{◌==◌, nat_lt, if◌then◌else◌, sum_by, unwrap_or}
+use Rattle.std.proofs.Common.{◌≡◌, ℕ, ◌+◌, ◌-◌, ◌≤◌, Bool, true, false, List, [], ◌∷◌, ◌++◌, map, refl, sym, ap, ◌∙◌, arith, Option, Some}
+use Rattle.std.specs.Prelude.{nat_lt, if◌then◌else◌, sum_by, unwrap_or}
 use Rattle.std.specs.FinMap as table
-use Rattle.std.proofs.lemmas.Bool.{eq-eqb}
 use Rattle.std.proofs.lemmas.List.Sums.{sum_by-cons}
 use Rattle.part_core.specs.Sheet.{Table}
 use Rattle.forest.specs.declared.item.Item.{Item}
@@ -11,14 +10,11 @@ use Rattle.forest.specs.declared.entry.Kind.{Kind}
 use Rattle.forest.specs.declared.place.Place.{Place}
 use Rattle.forest.specs.declared.place.Place.TheVariants.{In}
 use Rattle.forest.specs.Forest.{Trees, none, tree, Forest, held, amount, counted, recorded, weigh, height, row_of, rows_in, rows_of, insert_row, sort_rows}
-use Rattle.forest.specs.Rows.{parent_of, root_up, row_at}
+use Rattle.forest.specs.Rows.{parent_of, root_up}
 use Rattle.forest.specs.Sound.{RootsSound}
 use Rattle.forest.specs.Tables.{forest_of, node_of}
-use Rattle.forest.proofs.Sorts.{count, count-sort}
-use Rattle.forest.proofs.Flat.{count-rows_of}
 use Rattle.yard_core.specs.Stock.{no_item, IsItemTable}
 use Rattle.yard_core.specs.Sums.{lying}
-use Rattle.yard_core.proofs.Rows.{get-row_at}
 use Rattle.yard_core.proofs.Listed.{AllAt, AllAt-append, all-listed}
 use Rattle.yard_core.proofs.Ups.{root_up-none, root_up-some}
 

@@ -1,3 +1,4 @@
+pub mod Contents
 pub mod Stock
 pub mod Sums
 pub mod Yards

@@ -10,4 +10,5 @@ mod yard;
 pub use forest::{Entry, Item, Kind, Lot, Note, Place, Reason, copy_batch, is_same_batch};
 pub use location::Location;
 pub use sums::Sums;
+pub use walks::{Inside, Tree};
 pub use yard::Yard;
