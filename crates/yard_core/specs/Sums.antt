@@ -1,5 +1,6 @@
 -- The sums over one part.
-use Rattle.std.specs.Prelude.{ℕ, Bool, if◌then◌else◌}
+use Rattle.std.specs.Prelude.{ℕ, Bool, if◌then◌else◌, sum_by}
+use Rattle.std.specs.FinMap as table
 use Rattle.part_core.specs.Sheet.{Table}
 use Rattle.forest.specs.declared.item.Item.{Item}
 use Rattle.forest.specs.declared.place.Place.{Place}
@@ -12,6 +13,9 @@ use Rattle.yard_core.specs.Stock.{Stock, forest, notes, root_place}
 -- what an item adds to a part's quantity under roots at such places
 abbrev pub lying : (Place → Bool) → ℕ → Table Item → Item → ℕ
 lying at p t x = if at (root_place t x.number) then amount p (node_of x) else 0
+
+abbrev pub lying_sum : (Place → Bool) → ℕ → Stock → ℕ
+lying_sum at p s = sum_by (lying at p s.items) (table.values s.items)
 
 abbrev pub sums_of : ℕ → Stock → Sums
 sums_of p s = record {
