@@ -5,3 +5,8 @@ pub mod Flat
 pub mod Tell
 pub mod Changes
 pub mod Loops
+pub mod Grafts
+pub mod Depths
+pub mod Grafted
+pub mod Prunes
+pub mod Pruned

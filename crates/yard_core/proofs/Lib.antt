@@ -5,6 +5,11 @@ pub mod Ups
 pub mod Below
 pub mod Changing
 pub mod Keeping
+pub mod Listed
 pub mod Totals
+pub mod Standing
 pub mod Moved
 pub mod SoundRows
+pub mod Grafting
+pub mod Heights
+pub mod Showing

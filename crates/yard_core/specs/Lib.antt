@@ -1,5 +1,6 @@
 pub mod AddLocation
 pub mod Books
+pub mod Contents
 pub mod SoundLocations
 pub mod Stock
 pub mod Sums

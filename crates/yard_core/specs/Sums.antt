@@ -1,5 +1,5 @@
 -- The sums over one part.
-use Rattle.std.specs.Prelude.{ℕ, Bool, if◌then◌else◌, [], ◌∷◌, unwrap_or}
+use Rattle.std.specs.Prelude.{ℕ, Bool, if◌then◌else◌, sum_by}
 use Rattle.std.specs.FinMap as table
 use Rattle.part_core.specs.Sheet.{Table}
 use Rattle.forest.specs.declared.item.Item.{Item}
@@ -8,15 +8,14 @@ use Rattle.forest.specs.declared.entry.Kind.TheVariants.{Received, Found, Built,
 use Rattle.forest.specs.Forest.{amount, present, sent, used, recorded}
 use Rattle.forest.specs.Tables.{node_of}
 use Rattle.yard_core.specs.declared.sums.Sums.{Sums}
-use Rattle.yard_core.specs.Stock.{Stock, forest, notes, no_item, root_in}
-
--- the place of the item that an item stands under
-abbrev pub root_place : Table Item → ℕ → Place
-root_place t n = (unwrap_or (table.get t (root_in t n ∷ [])) no_item).place
+use Rattle.yard_core.specs.Stock.{Stock, forest, notes, root_place}
 
 -- what an item adds to a part's quantity under roots at such places
 abbrev pub lying : (Place → Bool) → ℕ → Table Item → Item → ℕ
 lying at p t x = if at (root_place t x.number) then amount p (node_of x) else 0
+
+abbrev pub lying_sum : (Place → Bool) → ℕ → Stock → ℕ
+lying_sum at p s = sum_by (lying at p s.items) (table.values s.items)
 
 abbrev pub sums_of : ℕ → Stock → Sums
 sums_of p s = record {
