@@ -10,6 +10,9 @@ use Rattle.part_core.specs.Day as days
 use Rattle.part_core.specs.declared.flags.Flags.{Flags}
 use Rattle.desk_core.specs.declared.command.Command.{Command}
 use Rattle.desk_core.specs.declared.command.Command.TheVariants as commands
+use Rattle.part_core.specs.declared.part_command.PartCommand.TheVariants as of_parts
+use Rattle.yard_core.specs.declared.yard_command.YardCommand.TheVariants as of_yard
+use Rattle.stock_core.specs.declared.stock_command.StockCommand.TheVariants as of_stock
 use Rattle.desk_app.specs.declared.fault.What.{What}
 use Rattle.desk_app.specs.declared.fault.What.TheVariants.{TooLong, NotJson, NotObject, NoField, WrongType, UnknownCommand, UnknownField, BadDay, BadText, BadWord}
 use Rattle.desk_app.specs.declared.read.Ask.{Ask}
@@ -86,26 +89,26 @@ knows_all names d = in_members (as_object d)
 abbrev pub location_of : Data → Result Command What
 location_of d = do
   name ← name_in d
-  Ok (commands.AddLocation name None)
+  Ok (commands.Yard (of_yard.AddLocation name None))
 
 abbrev pub part_of : Data → Result Command What
 part_of d = do
   name ← name_in d
   flags ← flags_in d
-  Ok (commands.AddPart name None None flags)
+  Ok (commands.Part (of_parts.AddPart (record { name = name; category = None; template = None; flags = flags })))
 
 abbrev pub found_of : Data → Result Command What
 found_of d = do
   part ← number_in (codes "part") d
   location ← number_in (codes "location") d
   quantity ← number_in (codes "quantity") d
-  Ok (commands.Found (record { part = part; location = location; quantity = quantity; batch = None; serials = None }))
+  Ok (commands.Stock (of_stock.Found part location (record { quantity = quantity; batch = None; serials = None })))
 
 abbrev pub remove_of : Data → Result Command What
 remove_of d = do
   number ← number_in (codes "item") d
   quantity ← number_in (codes "quantity") d
-  Ok (commands.Remove number quantity)
+  Ok (commands.Stock (of_stock.Remove number quantity))
 
 abbrev pub command_of : Verb → Data → Result Command What
 command_of AddLocation d = location_of d

@@ -7,9 +7,12 @@ ghost use Rattle.desk_app.specs.Reading.{location_of, part_of, found_of, remove_
 use crate::fault::{ReadError, What};
 use crate::fields::{day, flags, knows_all, name, number, text};
 use crate::verb::{Verb, members, verb_named};
-use desk_core::{Command, NewStock, Request};
+use desk_core::{Command, Request};
+use part_core::{NewPart, PartCommand};
 use serde_json::Value;
 use std::alloc::Global;
+use stock_core::{NewStock, StockCommand};
+use yard_core::YardCommand;
 
 /// What a line asks.
 #[derive(Drop)]
@@ -23,7 +26,7 @@ fn add_location(alloc: Global, object: &Value) -> Result<Command, ReadError>
     ensures { Gives result (location_of (view object.now)) }
 {
     let name = name(alloc, object)?;
-    Ok(Command::AddLocation { name, parent: None })
+    Ok(Command::Yard(YardCommand::AddLocation { name, parent: None }))
 }
 
 fn add_part(alloc: Global, object: &Value) -> Result<Command, ReadError>
@@ -31,12 +34,12 @@ fn add_part(alloc: Global, object: &Value) -> Result<Command, ReadError>
 {
     let name = name(alloc, object)?;
     let flags = flags(object)?;
-    Ok(Command::AddPart {
+    Ok(Command::Part(PartCommand::AddPart(NewPart {
         name,
         category: None,
         template: None,
         flags,
-    })
+    })))
 }
 
 fn found(object: &Value) -> Result<Command, ReadError>
@@ -45,12 +48,15 @@ fn found(object: &Value) -> Result<Command, ReadError>
     let part = number(object, "part")?;
     let location = number(object, "location")?;
     let quantity = number(object, "quantity")?;
-    Ok(Command::Found(NewStock {
-        part,
-        location,
+    let new = NewStock {
         quantity,
         batch: None,
         serials: None,
+    };
+    Ok(Command::Stock(StockCommand::Found {
+        part,
+        location,
+        new,
     }))
 }
 
@@ -59,7 +65,7 @@ fn remove(object: &Value) -> Result<Command, ReadError>
 {
     let item = number(object, "item")?;
     let quantity = number(object, "quantity")?;
-    Ok(Command::Remove { item, quantity })
+    Ok(Command::Stock(StockCommand::Remove { item, quantity }))
 }
 
 fn command(alloc: Global, verb: Verb, object: &Value) -> Result<Command, ReadError>

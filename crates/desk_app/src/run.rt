@@ -18,8 +18,8 @@ use crate::lines::Lines;
 use crate::read::{Ask, read_line};
 use crate::send::send;
 use crate::write::{answer_line, fault_line, refused_line};
-use desk_core::{Fault, Request, Shop};
-use part_core::Refusal;
+use desk_core::{Request, Shop};
+use part_core::{CoreFault, Refusal};
 use std::alloc::{AllocError, Global};
 use std::io::{Read, Write};
 
@@ -55,11 +55,11 @@ fn tell_outcome(alloc: Global, shop: &mut Shop, request: &Request) -> Result<Tol
             text: answer_line(alloc, &answer)?,
             fine: true,
         }),
-        Err(Fault::Refused(refusal)) => Ok(Told {
+        Err(CoreFault::Refused(refusal)) => Ok(Told {
             text: refused_line(alloc, refusal)?,
             fine: false,
         }),
-        Err(Fault::Memory) => Err(Stop::Memory),
+        Err(CoreFault::Memory) => Err(Stop::Memory),
     }
 }
 

@@ -3,12 +3,13 @@ use crate::ledger::ledger_line;
 use crate::read::{Ask, read_line};
 use crate::write::{answer_line, fault_line, refused_line};
 use crate::{RunEnd, run_lines};
-use desk_core::{Answer, Command, Ids, Shop};
-use part_core::{Limits, Refusal};
+use desk_core::{Command, Shop};
+use part_core::{Answer, Ids, Limits, NewPart, PartCommand, Refusal};
 use std::alloc::{AllocError, Global};
 use std::io::{self, Write};
 use std::test::Fail;
-use yard_core::Sums;
+use stock_core::StockCommand;
+use yard_core::{Sums, YardCommand};
 
 fn shown(alloc: Global, ask: &Ask) -> Result<String, AllocError> {
     let request = match ask {
@@ -17,22 +18,23 @@ fn shown(alloc: Global, ask: &Ask) -> Result<String, AllocError> {
     };
     let day = request.day;
     match &request.command {
-        Command::AddLocation { name, parent: None } => {
+        Command::Yard(YardCommand::AddLocation { name, parent: None }) => {
             format!(in alloc; "{day:?} add_location {}", name.as_str())
         }
-        Command::AddPart {
+        Command::Part(PartCommand::AddPart(NewPart {
             name,
             category: None,
             template: None,
             flags,
-        } => { format!(in alloc; "{day:?} add_part {} {flags:?}", name.as_str()) }
-        Command::Found(new) => {
-            format!(in alloc;
-                "{day:?} found {} at {}, {}",
-                new.part, new.location, new.quantity
-            )
+        })) => { format!(in alloc; "{day:?} add_part {} {flags:?}", name.as_str()) }
+        Command::Stock(StockCommand::Found {
+            part,
+            location,
+            new,
+        }) => {
+            format!(in alloc; "{day:?} found {part} at {location}, {}", new.quantity)
         }
-        Command::Remove { item, quantity } => {
+        Command::Stock(StockCommand::Remove { item, quantity }) => {
             format!(in alloc; "{day:?} remove of {item}, {quantity}")
         }
         _ => format!(in alloc; "another command"),

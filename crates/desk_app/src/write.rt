@@ -4,8 +4,7 @@ ghost use Rattle.std.specs.String.{string_bytes};
 ghost use Rattle.desk_app.specs.Writing.{numbers_text, answer_line, refused_line, fault_line};
 
 use crate::fault::What;
-use desk_core::Answer;
-use part_core::Refusal;
+use part_core::{Answer, Refusal};
 use std::alloc::{AllocError, Global};
 
 fn push_numbers(text: &mut String, numbers: &[u64]) -> Result<(), AllocError>

@@ -2,11 +2,13 @@
 ghost use Rattle.desk_core.specs.Machine.{IsSoundState};
 ghost use Rattle.desk_core.specs.Shops.{state_of};
 
-use crate::examples::{
-    Wanted, are_told, category, component, found, location, name, part, request,
+use crate::outcomes::{Wanted, answers};
+use crate::requests::{
+    category, component, drop_line, drop_substitute, found, line, location, part, plain_line,
+    retire, sorted_part, substitute,
 };
 use bom_core::LineFlags;
-use desk_core::{Command, Request, Shop};
+use desk_core::{Request, Shop};
 use part_core::{Flags, Limits, Refusal};
 use std::alloc::Global;
 use std::test::Fail;
@@ -23,33 +25,6 @@ fn module() -> Flags {
     let mut flags = component();
     flags.assembly = true;
     flags
-}
-
-fn line(assembly: u64, component: u64, quantity: u64, flags: LineFlags) -> Result<Request, Fail> {
-    request(Command::AddLine {
-        assembly,
-        component,
-        quantity,
-        flags,
-    })
-}
-
-fn plain_line(assembly: u64, component: u64, quantity: u64) -> Result<Request, Fail> {
-    line(assembly, component, quantity, LineFlags::default())
-}
-
-/// Whether the shop answers the requests so.
-pub fn answers(
-    alloc: Global,
-    shop: &mut Shop,
-    requests: &[Request],
-    wanted: &[Wanted],
-) -> Result<bool, Fail>
-    requires { IsSoundState (state_of shop.old) }
-    ensures { IsSoundState (state_of shop.new) }
-{
-    let outcomes = shop.run_list(alloc, requests)?;
-    Ok(are_told(outcomes.as_slice(), wanted))
 }
 
 /// Two locations, and a cell of one robot of four screws and two motors.
@@ -94,12 +69,7 @@ fn bolts(alloc: Global) -> Result<Vec<Request>, Fail> {
     requests.push(category(alloc, "Metal", None)?)?;
     requests.push(category(alloc, "Metal", None)?)?;
     requests.push(category(alloc, "Metal", Some(10))?)?;
-    requests.push(request(Command::AddPart {
-        name: name(alloc, "Bolt")?,
-        category: Some(11),
-        template: None,
-        flags: component(),
-    })?)?;
+    requests.push(sorted_part(alloc, "Bolt", 11)?)?;
     requests.push(part(alloc, "Bolt", None, component())?)?;
     Ok(requests)
 }
@@ -114,11 +84,11 @@ const BOLTS: [Wanted; 5] = [
 
 fn retired_cell(alloc: Global) -> Result<Vec<Request>, Fail> {
     let mut requests = Vec::new(alloc);
-    requests.push(request(Command::RetirePart { part: 6 })?)?;
-    requests.push(request(Command::RetirePart { part: 6 })?)?;
+    requests.push(retire(6)?)?;
+    requests.push(retire(6)?)?;
     requests.push(plain_line(6, 3, 1)?)?;
-    requests.push(request(Command::DropLine { line: 9 })?)?;
-    requests.push(request(Command::DropLine { line: 9 })?)?;
+    requests.push(drop_line(9)?)?;
+    requests.push(drop_line(9)?)?;
     requests.push(plain_line(3, 4, 1)?)?;
     Ok(requests)
 }
@@ -175,7 +145,7 @@ fn frames(alloc: Global) -> Result<Vec<Request>, Fail> {
     requests.push(plain_line(10, 5, 1)?)?;
     requests.push(part(alloc, "Kit", None, component())?)?;
     requests.push(plain_line(5, 12, 1)?)?;
-    requests.push(request(Command::AddSubstitute { line: 13, part: 10 })?)?;
+    requests.push(substitute(13, 10)?)?;
     Ok(requests)
 }
 
@@ -231,6 +201,20 @@ const PLATES: [Wanted; 5] = [
     Wanted::Refused(Refusal::Cycle),
 ];
 
+/// Whether the parts in which this one is used are these, in order.
+fn are_users(shop: &Shop, part: u64, numbers: &[u64]) -> Result<bool, Fail>
+    requires { IsSoundState (state_of shop.now) }
+{
+    let users = shop.boms().where_used(shop.catalogue(), part)?;
+    Ok(
+        users.len() == numbers.len()
+            && users
+                .iter()
+                .zip(numbers.iter())
+                .all(|(user, number)| user.number == *number),
+    )
+}
+
 /// A part would contain itself by way of a substitute, an inherited line or a variant.
 #[test]
 fn bill_cycles(rt: HostRuntime) -> Result<(), Fail> {
@@ -245,5 +229,38 @@ fn bill_cycles(rt: HostRuntime) -> Result<(), Fail> {
     let number = lines.first().ok_or("a line")?.number;
     assert_eq!(rt; number, 16);
     assert!(rt; shop.boms().reaches(shop.catalogue(), 15, 4)?);
+    assert!(rt; are_users(&shop, 4, &[5, 6, 10, 14, 15, 18])?);
+    Ok(())
+}
+
+/// A nut in place of the screw, taken back, and taken back again.
+fn nuts(alloc: Global) -> Result<Vec<Request>, Fail> {
+    let mut requests = Vec::new(alloc);
+    requests.push(part(alloc, "Nut", None, component())?)?;
+    requests.push(substitute(7, 10)?)?;
+    requests.push(drop_substitute(11)?)?;
+    requests.push(drop_substitute(11)?)?;
+    requests.push(substitute(11, 10)?)?;
+    requests.push(substitute(7, 10)?)?;
+    Ok(requests)
+}
+
+const NUTS: [Wanted; 6] = [
+    Wanted::Drawn(10, 0),
+    Wanted::Drawn(11, 0),
+    Wanted::Done(0),
+    Wanted::Refused(Refusal::NoSuch),
+    Wanted::Refused(Refusal::NoSuch),
+    Wanted::Drawn(12, 0),
+];
+
+/// A substitute goes by its own number, and its part may come back under another.
+#[test]
+fn substitutes(rt: HostRuntime) -> Result<(), Fail> {
+    let alloc = rt.alloc();
+    let mut shop = Shop::new(alloc, Limits::LARGEST);
+    assert!(rt; answers(alloc, &mut shop, &workshop(alloc)?, &WORKSHOP)?);
+    assert!(rt; answers(alloc, &mut shop, &nuts(alloc)?, &NUTS)?);
+    assert!(rt; are_users(&shop, 10, &[5, 6])?);
     Ok(())
 }

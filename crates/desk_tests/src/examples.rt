@@ -1,108 +1,11 @@
 //! Worked examples, as typed commands.
-use desk_core::{Answer, Command, Fault, NewStock, Request, Shop};
-use part_core::{Day, Flags, Limits, Name, Refusal, Text};
-use std::alloc::{AllocError, Global};
+use crate::outcomes::{Wanted, answers};
+use crate::requests::{category, component, found, location, part, remove, retire, sorted_part};
+use desk_core::{Request, Shop};
+use part_core::{Day, Flags, Limits, Refusal, Text};
+use std::alloc::Global;
 use std::test::Fail;
 use yard_core::{Place, Reason};
-
-pub fn name(alloc: Global, text: &str) -> Result<Name, Fail> {
-    Ok(Text::new(String::from_str(alloc, text)?).ok_or("a name")?)
-}
-
-pub fn request(command: Command) -> Result<Request, Fail> {
-    let day = Day::parse("2030-01-02").ok_or("a day")?;
-    Ok(Request { day, command })
-}
-
-pub fn component() -> Flags {
-    let mut flags = Flags::default();
-    flags.component = true;
-    flags
-}
-
-pub fn location(alloc: Global, text: &str, parent: Option<u64>) -> Result<Request, Fail> {
-    let name = name(alloc, text)?;
-    request(Command::AddLocation { name, parent })
-}
-
-pub fn category(alloc: Global, text: &str, parent: Option<u64>) -> Result<Request, Fail> {
-    let name = name(alloc, text)?;
-    request(Command::AddCategory { name, parent })
-}
-
-pub fn part(
-    alloc: Global,
-    text: &str,
-    template: Option<u64>,
-    flags: Flags,
-) -> Result<Request, Fail> {
-    let name = name(alloc, text)?;
-    request(Command::AddPart {
-        name,
-        category: None,
-        template,
-        flags,
-    })
-}
-
-/// What a request is to be answered.
-#[derive(Clone, Copy)]
-pub enum Wanted {
-    /// It draws the number, and writes so many entries.
-    Drawn(u64, u64),
-    /// It draws the numbers from the first to the last, and writes so many entries.
-    Several(u64, u64, u64),
-    /// It draws no number, and writes so many entries.
-    Done(u64),
-    Refused(Refusal),
-}
-
-fn are_drawn(answer: &Answer, first: u64, last: u64) -> bool {
-    let ids = answer.ids.as_slice();
-    match (ids.first(), ids.last()) {
-        (Some(number), Some(other)) => *number == first && *other == last,
-        _ => false,
-    }
-}
-
-fn is_told(outcome: &Result<Answer, Fault>, wanted: &Wanted) -> bool {
-    match (outcome, wanted) {
-        (Ok(answer), Wanted::Drawn(number, entries)) => {
-            are_drawn(answer, *number, *number) && answer.entries == *entries
-        }
-        (Ok(answer), Wanted::Several(first, last, entries)) => {
-            are_drawn(answer, *first, *last) && answer.entries == *entries
-        }
-        (Ok(answer), Wanted::Done(entries)) => {
-            answer.ids.as_slice().is_empty() && answer.entries == *entries
-        }
-        (Err(Fault::Refused(refusal)), Wanted::Refused(other)) => *refusal == *other,
-        _ => false,
-    }
-}
-
-/// Whether the outcomes are those that are wanted, in order.
-pub fn are_told(outcomes: &[Result<Answer, Fault>], wanted: &[Wanted]) -> bool {
-    outcomes.len() == wanted.len()
-        && outcomes
-            .iter()
-            .zip(wanted.iter())
-            .all(|(outcome, wanted)| is_told(outcome, wanted))
-}
-
-pub fn found(part: u64, location: u64, quantity: u64) -> Result<Request, Fail> {
-    request(Command::Found(NewStock {
-        part,
-        location,
-        quantity,
-        batch: None,
-        serials: None,
-    }))
-}
-
-fn retire(part: u64) -> Result<Request, Fail> {
-    request(Command::RetirePart { part })
-}
 
 /// A location 1, a part 2, and 100 pieces of it found: item 3.
 fn first_requests(alloc: Global) -> Result<Vec<Request>, Fail> {
@@ -111,10 +14,6 @@ fn first_requests(alloc: Global) -> Result<Vec<Request>, Fail> {
     requests.push(part(alloc, "Screw", None, component())?)?;
     requests.push(found(2, 1, 100)?)?;
     Ok(requests)
-}
-
-fn remove(item: u64, quantity: u64) -> Result<Request, Fail> {
-    request(Command::Remove { item, quantity })
 }
 
 /// All that was found is removed, and then one piece more.
@@ -130,7 +29,6 @@ fn use_up(alloc: Global) -> Result<Vec<Request>, Fail> {
 fn first_run_and_used_up(rt: HostRuntime) -> Result<(), Fail> {
     let alloc = rt.alloc();
     let mut shop = Shop::new(alloc, Limits::LARGEST);
-    let outcomes = shop.run_list(alloc, use_up(alloc)?.as_slice())?;
     let wanted = [
         Wanted::Drawn(1, 0),
         Wanted::Drawn(2, 0),
@@ -139,7 +37,7 @@ fn first_run_and_used_up(rt: HostRuntime) -> Result<(), Fail> {
         Wanted::Done(1),
         Wanted::Refused(Refusal::NotLoose),
     ];
-    assert!(rt; are_told(outcomes.as_slice(), &wanted));
+    assert!(rt; answers(alloc, &mut shop, &use_up(alloc)?, &wanted)?);
     let item = shop.yard().item(3).ok_or("item 3")?;
     assert_eq!(rt; item.quantity, 0);
     assert!(rt; item.place == Place::Gone);
@@ -164,7 +62,6 @@ fn small_limits(rt: HostRuntime) -> Result<(), Fail> {
     let alloc = rt.alloc();
     let limits = Limits::new(3, 2).ok_or("limits")?;
     let mut shop = Shop::new(alloc, limits);
-    let outcomes = shop.run_list(alloc, too_many(alloc)?.as_slice())?;
     let wanted = [
         Wanted::Drawn(1, 0),
         Wanted::Drawn(2, 0),
@@ -173,7 +70,7 @@ fn small_limits(rt: HostRuntime) -> Result<(), Fail> {
         Wanted::Done(1),
         Wanted::Refused(Refusal::Full),
     ];
-    assert!(rt; are_told(outcomes.as_slice(), &wanted));
+    assert!(rt; answers(alloc, &mut shop, &too_many(alloc)?, &wanted)?);
     assert!(rt; Limits::new(0, 1).is_none());
     assert!(rt; Limits::new(1, 10_000_000_001).is_none());
     Ok(())
@@ -248,7 +145,6 @@ fn refuses_rows(rt: HostRuntime) -> Result<(), Fail> {
     assert_eq!(rt; shop.catalogue().family(2), 2);
     assert!(rt; shop.catalogue().descends(7, 6));
     assert!(rt; !shop.catalogue().descends(2, 6));
-    let outcomes = shop.run_list(alloc, refused_rows(alloc)?.as_slice())?;
     let wanted = [
         Wanted::Refused(Refusal::NoSuch),
         Wanted::Refused(Refusal::NameTaken),
@@ -263,7 +159,7 @@ fn refuses_rows(rt: HostRuntime) -> Result<(), Fail> {
         Wanted::Refused(Refusal::NoSuch),
         Wanted::Refused(Refusal::Retired),
     ];
-    assert!(rt; are_told(outcomes.as_slice(), &wanted));
+    assert!(rt; answers(alloc, &mut shop, &refused_rows(alloc)?, &wanted)?);
     Ok(())
 }
 
@@ -273,7 +169,6 @@ fn refuses_stock(rt: HostRuntime) -> Result<(), Fail> {
     let mut shop = Shop::new(alloc, Limits::LARGEST);
     let made = shop.run_list(alloc, stocked(alloc)?.as_slice())?;
     assert!(rt; made.iter().all(|outcome| outcome.is_ok()));
-    let outcomes = shop.run_list(alloc, refused_stock(alloc)?.as_slice())?;
     let wanted = [
         Wanted::Refused(Refusal::NoSuch),
         Wanted::Refused(Refusal::NoSuch),
@@ -285,7 +180,7 @@ fn refuses_stock(rt: HostRuntime) -> Result<(), Fail> {
         Wanted::Refused(Refusal::BadNumber),
         Wanted::Refused(Refusal::Short),
     ];
-    assert!(rt; are_told(outcomes.as_slice(), &wanted));
+    assert!(rt; answers(alloc, &mut shop, &refused_stock(alloc)?, &wanted)?);
     assert_eq!(rt; shop.yard().sums(2).present, 100);
     Ok(())
 }
@@ -296,12 +191,7 @@ fn named_twice(alloc: Global) -> Result<Vec<Request>, Fail> {
     requests.push(category(alloc, "Metal", None)?)?;
     requests.push(category(alloc, "Metal", None)?)?;
     requests.push(category(alloc, "Metal", Some(1))?)?;
-    requests.push(request(Command::AddPart {
-        name: name(alloc, "Bolt")?,
-        category: Some(2),
-        template: None,
-        flags: component(),
-    })?)?;
+    requests.push(sorted_part(alloc, "Bolt", 2)?)?;
     requests.push(part(alloc, "Bolt", None, component())?)?;
     requests.push(retire(3)?)?;
     requests.push(retire(3)?)?;
@@ -316,7 +206,6 @@ fn named_twice(alloc: Global) -> Result<Vec<Request>, Fail> {
 fn categories(rt: HostRuntime) -> Result<(), Fail> {
     let alloc = rt.alloc();
     let mut shop = Shop::new(alloc, Limits::LARGEST);
-    let outcomes = shop.run_list(alloc, named_twice(alloc)?.as_slice())?;
     let wanted = [
         Wanted::Drawn(1, 0),
         Wanted::Refused(Refusal::NameTaken),
@@ -329,7 +218,7 @@ fn categories(rt: HostRuntime) -> Result<(), Fail> {
         Wanted::Drawn(5, 0),
         Wanted::Refused(Refusal::NameTaken),
     ];
-    assert!(rt; are_told(outcomes.as_slice(), &wanted));
+    assert!(rt; answers(alloc, &mut shop, &named_twice(alloc)?, &wanted)?);
     let bolt = shop.catalogue().part(3).ok_or("part 3")?;
     assert_eq!(rt; bolt.category, Some(2));
     assert!(rt; bolt.retired);

@@ -10,6 +10,10 @@ mod examples;
 #[cfg(test)]
 mod lines;
 #[cfg(test)]
+mod outcomes;
+#[cfg(test)]
+mod requests;
+#[cfg(test)]
 mod sheets;
 #[cfg(test)]
 mod stocks;

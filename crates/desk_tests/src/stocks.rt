@@ -1,50 +1,14 @@
 //! Worked examples with items, batches and serials, as typed commands.
-use crate::bills::{WORKSHOP, answers, workshop};
-use crate::examples::{Wanted, category, component, found, location, part, request};
-use desk_core::{Command, Ids, NewStock, Request, Shop};
-use part_core::{Flags, Limits, Refusal, SerialFault, Serials, Status, Text, read_serials};
+use crate::bills::{WORKSHOP, workshop};
+use crate::outcomes::{Wanted, answers};
+use crate::requests::{
+    add, batch, category, component, count, drop_line, found, location, merge, part, remove,
+    retire, serialise, serialised, set_status, split, transfer,
+};
+use desk_core::{Request, Shop};
+use part_core::{Flags, Limits, Refusal, SerialFault, Status, read_serials};
 use std::alloc::Global;
 use std::test::Fail;
-
-fn serials(alloc: Global, text: &str) -> Result<Serials, Fail> {
-    let items = read_serials(alloc, text).ok().ok_or("serials")?;
-    Ok(Serials::new(items))
-}
-
-/// Stock with serials, at location 1.
-fn serialised(alloc: Global, part: u64, quantity: u64, text: &str) -> Result<Request, Fail> {
-    let serials = serials(alloc, text)?;
-    request(Command::Found(NewStock {
-        part,
-        location: 1,
-        quantity,
-        batch: None,
-        serials: Some(serials),
-    }))
-}
-
-/// Stock of the batch L, at location 1.
-fn batch(alloc: Global, part: u64, quantity: u64) -> Result<Request, Fail> {
-    let batch = Text::new(String::from_str(alloc, "L")?).ok_or("a batch")?;
-    request(Command::Found(NewStock {
-        part,
-        location: 1,
-        quantity,
-        batch: Some(batch),
-        serials: None,
-    }))
-}
-
-fn merge(alloc: Global, into: u64, items: &[u64]) -> Result<Request, Fail> {
-    let mut list = Vec::new(alloc);
-    for item in items {
-        list.push(*item)?;
-    }
-    request(Command::Merge {
-        into,
-        items: Ids::new(list),
-    })
-}
 
 fn trackable() -> Flags {
     let mut flags = component();
@@ -62,10 +26,7 @@ fn drives(alloc: Global) -> Result<Vec<Request>, Fail> {
     requests.push(part(alloc, "Drive-S", Some(2), trackable())?)?;
     requests.push(serialised(alloc, 2, 1, "A")?)?;
     requests.push(serialised(alloc, 3, 1, "A")?)?;
-    requests.push(request(Command::Remove {
-        item: 4,
-        quantity: 1,
-    })?)?;
+    requests.push(remove(4, 1)?)?;
     requests.push(serialised(alloc, 3, 1, "A")?)?;
     Ok(requests)
 }
@@ -119,14 +80,11 @@ fn serial_lists(rt: HostRuntime) -> Result<(), Fail> {
 
 fn mergers(alloc: Global) -> Result<Vec<Request>, Fail> {
     let mut requests = Vec::new(alloc);
-    requests.push(batch(alloc, 3, 10)?)?;
-    requests.push(batch(alloc, 3, 5)?)?;
-    requests.push(batch(alloc, 3, 7)?)?;
-    requests.push(batch(alloc, 3, 4)?)?;
-    requests.push(request(Command::SetStatus {
-        item: 13,
-        status: Status::Damaged,
-    })?)?;
+    requests.push(batch(alloc, 3, 10, "L")?)?;
+    requests.push(batch(alloc, 3, 5, "L")?)?;
+    requests.push(batch(alloc, 3, 7, "L")?)?;
+    requests.push(batch(alloc, 3, 4, "L")?)?;
+    requests.push(set_status(13, Status::Damaged)?)?;
     requests.push(merge(alloc, 10, &[11, 12])?)?;
     requests.push(merge(alloc, 10, &[13])?)?;
     requests.push(merge(alloc, 10, &[10])?)?;
@@ -146,6 +104,32 @@ const MERGERS: [Wanted; 9] = [
     Wanted::Refused(Refusal::NotLoose),
 ];
 
+fn more_mergers(alloc: Global) -> Result<Vec<Request>, Fail> {
+    let mut requests = Vec::new(alloc);
+    requests.push(batch(alloc, 3, 1, "M")?)?;
+    requests.push(batch(alloc, 3, 2, "M")?)?;
+    requests.push(merge(alloc, 14, &[15])?)?;
+    requests.push(batch(alloc, 3, 3, "M")?)?;
+    requests.push(batch(alloc, 3, 4, "M")?)?;
+    requests.push(batch(alloc, 3, 5, "M")?)?;
+    requests.push(merge(alloc, 18, &[17, 14, 16])?)?;
+    requests.push(merge(alloc, 18, &[10])?)?;
+    requests.push(merge(alloc, 18, &[])?)?;
+    Ok(requests)
+}
+
+const MORE_MERGERS: [Wanted; 9] = [
+    Wanted::Drawn(14, 1),
+    Wanted::Drawn(15, 1),
+    Wanted::Done(1),
+    Wanted::Drawn(16, 1),
+    Wanted::Drawn(17, 1),
+    Wanted::Drawn(18, 1),
+    Wanted::Done(3),
+    Wanted::Refused(Refusal::Mismatch),
+    Wanted::Refused(Refusal::BadNumber),
+];
+
 /// Items of one part, batch and status become one.
 #[test]
 fn merging(rt: HostRuntime) -> Result<(), Fail> {
@@ -155,6 +139,9 @@ fn merging(rt: HostRuntime) -> Result<(), Fail> {
     assert!(rt; answers(alloc, &mut shop, &mergers(alloc)?, &MERGERS)?);
     let quantity = shop.yard().item(10).ok_or("item 10")?.quantity;
     assert_eq!(rt; quantity, 22);
+    assert!(rt; answers(alloc, &mut shop, &more_mergers(alloc)?, &MORE_MERGERS)?);
+    let quantity = shop.yard().item(18).ok_or("item 18")?.quantity;
+    assert_eq!(rt; quantity, 15);
     Ok(())
 }
 
@@ -163,18 +150,9 @@ fn tour(alloc: Global) -> Result<Vec<Request>, Fail> {
     requests.push(category(alloc, "Metal", None)?)?;
     requests.push(category(alloc, "Metal", None)?)?;
     requests.push(found(3, 1, 10)?)?;
-    requests.push(request(Command::Add {
-        item: 11,
-        quantity: 5,
-    })?)?;
-    requests.push(request(Command::Split {
-        item: 11,
-        quantity: 6,
-    })?)?;
-    requests.push(request(Command::Split {
-        item: 11,
-        quantity: 9,
-    })?)?;
+    requests.push(add(11, 5)?)?;
+    requests.push(split(11, 6)?)?;
+    requests.push(split(11, 9)?)?;
     requests.push(found(4, 1, 3)?)?;
     Ok(requests)
 }
@@ -190,19 +168,11 @@ const TOUR: [Wanted; 7] = [
 ];
 
 fn tour_on(alloc: Global) -> Result<Vec<Request>, Fail> {
-    let serials = serials(alloc, "5,6")?;
     let mut requests = Vec::new(alloc);
-    requests.push(request(Command::Serialise {
-        item: 13,
-        quantity: 2,
-        serials,
-    })?)?;
-    requests.push(request(Command::Add {
-        item: 14,
-        quantity: 1,
-    })?)?;
-    requests.push(request(Command::DropLine { line: 9 })?)?;
-    requests.push(request(Command::RetirePart { part: 6 })?)?;
+    requests.push(serialise(alloc, 13, 2, "5,6")?)?;
+    requests.push(add(14, 1)?)?;
+    requests.push(drop_line(9)?)?;
+    requests.push(retire(6)?)?;
     Ok(requests)
 }
 
@@ -229,33 +199,13 @@ fn long_tour(rt: HostRuntime) -> Result<(), Fail> {
 fn counts(alloc: Global) -> Result<Vec<Request>, Fail> {
     let mut requests = Vec::new(alloc);
     requests.push(found(3, 1, 10)?)?;
-    requests.push(request(Command::Count {
-        item: 10,
-        quantity: 12,
-    })?)?;
-    requests.push(request(Command::Count {
-        item: 10,
-        quantity: 12,
-    })?)?;
-    requests.push(request(Command::Count {
-        item: 10,
-        quantity: 7,
-    })?)?;
+    requests.push(count(10, 12)?)?;
+    requests.push(count(10, 12)?)?;
+    requests.push(count(10, 7)?)?;
     requests.push(serialised(alloc, 4, 1, "M1")?)?;
-    requests.push(request(Command::Count {
-        item: 11,
-        quantity: 0,
-    })?)?;
-    requests.push(request(Command::Transfer {
-        item: 10,
-        location: 2,
-        quantity: 3,
-    })?)?;
-    requests.push(request(Command::Transfer {
-        item: 12,
-        location: 1,
-        quantity: 3,
-    })?)?;
+    requests.push(count(11, 0)?)?;
+    requests.push(transfer(10, 2, 3)?)?;
+    requests.push(transfer(12, 1, 3)?)?;
     Ok(requests)
 }
 

@@ -1,0 +1,77 @@
+//! What requests are to be answered.
+ghost use Rattle.desk_core.specs.Machine.{IsSoundState};
+ghost use Rattle.desk_core.specs.Shops.{state_of};
+
+use desk_core::{Request, Shop};
+use part_core::{Answer, CoreFault, Refusal};
+use std::alloc::Global;
+use std::test::Fail;
+
+/// What a request is to be answered.
+#[derive(Clone, Copy)]
+pub enum Wanted {
+    /// It draws the number, and writes so many entries.
+    Drawn(u64, u64),
+    /// It draws the numbers from the first to the last, and writes so many entries.
+    Several(u64, u64, u64),
+    /// It draws no number, and writes so many entries.
+    Done(u64),
+    Refused(Refusal),
+}
+
+/// Whether these are the numbers from the first to the last, each once and in order.
+fn are_drawn(ids: &[u64], first: u64, last: u64) -> bool {
+    let mut next = first;
+    for number in ids {
+        if *number != next {
+            return false;
+        }
+        next = next.wrapping_add(1);
+    }
+    next == last.wrapping_add(1)
+}
+
+fn is_answer(answer: &Answer, wanted: &Wanted) -> bool {
+    let ids = answer.ids.as_slice();
+    match wanted {
+        Wanted::Drawn(number, entries) => {
+            are_drawn(ids, *number, *number) && answer.entries == *entries
+        }
+        Wanted::Several(first, last, entries) => {
+            are_drawn(ids, *first, *last) && answer.entries == *entries
+        }
+        Wanted::Done(entries) => ids.is_empty() && answer.entries == *entries,
+        Wanted::Refused(_) => false,
+    }
+}
+
+fn is_told(outcome: &Result<Answer, CoreFault>, wanted: &Wanted) -> bool {
+    match (outcome, wanted) {
+        (Ok(answer), wanted) => is_answer(answer, wanted),
+        (Err(CoreFault::Refused(refusal)), Wanted::Refused(other)) => *refusal == *other,
+        _ => false,
+    }
+}
+
+/// Whether the outcomes are those that are wanted, in order.
+fn are_told(outcomes: &[Result<Answer, CoreFault>], wanted: &[Wanted]) -> bool {
+    outcomes.len() == wanted.len()
+        && outcomes
+            .iter()
+            .zip(wanted.iter())
+            .all(|(outcome, wanted)| is_told(outcome, wanted))
+}
+
+/// Whether the shop answers the requests so.
+pub fn answers(
+    alloc: Global,
+    shop: &mut Shop,
+    requests: &[Request],
+    wanted: &[Wanted],
+) -> Result<bool, Fail>
+    requires { IsSoundState (state_of shop.old) }
+    ensures { IsSoundState (state_of shop.new) }
+{
+    let outcomes = shop.run_list(alloc, requests)?;
+    Ok(are_told(outcomes.as_slice(), wanted))
+}
