@@ -2,7 +2,7 @@
 ghost use Rattle.desk_core.specs.Machine.{IsSoundState};
 ghost use Rattle.desk_core.specs.Shops.{state_of};
 
-use crate::outcomes::{Wanted, answers};
+use crate::outcomes::{Wanted, holds, plays};
 use crate::requests::{
     category, component, drop_line, drop_substitute, found, line, location, part, plain_line,
     retire, sorted_part, substitute,
@@ -102,16 +102,21 @@ const RETIRED_CELL: [Wanted; 6] = [
     Wanted::Refused(Refusal::WrongFlag),
 ];
 
+fn play_retired(alloc: Global, shop: &mut Shop) -> Result<(), Fail>
+    requires { IsSoundState (state_of shop.old) }
+{
+    plays(alloc, shop, workshop(alloc)?, &WORKSHOP)?;
+    plays(alloc, shop, bolts(alloc)?, &BOLTS)?;
+    plays(alloc, shop, retired_cell(alloc)?, &RETIRED_CELL)?;
+    holds(shop.boms().line(9).is_none(), "line 9 goes")
+}
+
 /// A retired part keeps the lines that it has and takes no new one, and a part that isn't an assembly has none.
 #[test]
 fn categories_and_retired_parts(rt: HostRuntime) -> Result<(), Fail> {
     let alloc = rt.alloc();
     let mut shop = Shop::new(alloc, Limits::LARGEST);
-    assert!(rt; answers(alloc, &mut shop, &workshop(alloc)?, &WORKSHOP)?);
-    assert!(rt; answers(alloc, &mut shop, &bolts(alloc)?, &BOLTS)?);
-    assert!(rt; answers(alloc, &mut shop, &retired_cell(alloc)?, &RETIRED_CELL)?);
-    assert!(rt; shop.boms().line(9).is_none());
-    Ok(())
+    play_retired(alloc, &mut shop)
 }
 
 fn bad_stock(alloc: Global) -> Result<Vec<Request>, Fail> {
@@ -128,14 +133,19 @@ const BAD_STOCK: [Wanted; 3] = [
     Wanted::Refused(Refusal::NoSuch),
 ];
 
+fn play_bad_numbers(alloc: Global, shop: &mut Shop) -> Result<(), Fail>
+    requires { IsSoundState (state_of shop.old) }
+{
+    plays(alloc, shop, workshop(alloc)?, &WORKSHOP)?;
+    plays(alloc, shop, bad_stock(alloc)?, &BAD_STOCK)
+}
+
 /// A quantity is looked at once it is known that the part is there.
 #[test]
 fn bad_numbers(rt: HostRuntime) -> Result<(), Fail> {
     let alloc = rt.alloc();
     let mut shop = Shop::new(alloc, Limits::LARGEST);
-    assert!(rt; answers(alloc, &mut shop, &workshop(alloc)?, &WORKSHOP)?);
-    assert!(rt; answers(alloc, &mut shop, &bad_stock(alloc)?, &BAD_STOCK)?);
-    Ok(())
+    play_bad_numbers(alloc, &mut shop)
 }
 
 /// A frame of a robot, a kit in the robot, and the frame in place of the kit.
@@ -215,22 +225,33 @@ fn are_users(shop: &Shop, part: u64, numbers: &[u64]) -> Result<bool, Fail>
     )
 }
 
+fn play_cycles(alloc: Global, shop: &mut Shop) -> Result<(), Fail>
+    requires { IsSoundState (state_of shop.old) }
+{
+    plays(alloc, shop, workshop(alloc)?, &WORKSHOP)?;
+    plays(alloc, shop, frames(alloc)?, &FRAMES)?;
+    plays(alloc, shop, models(alloc)?, &MODELS)?;
+    plays(alloc, shop, plates(alloc)?, &PLATES)?;
+    let lines = shop.boms().effective(shop.catalogue(), 15)?;
+    holds(lines.len() == 1, "one line holds")?;
+    let number = lines.first().ok_or("a line")?.number;
+    holds(number == 16, "line 16 holds")?;
+    holds(
+        shop.boms().reaches(shop.catalogue(), 15, 4)?,
+        "the model contains motors",
+    )?;
+    holds(
+        are_users(shop, 4, &[5, 6, 10, 14, 15, 18])?,
+        "what contains motors",
+    )
+}
+
 /// A part would contain itself by way of a substitute, an inherited line or a variant.
 #[test]
 fn bill_cycles(rt: HostRuntime) -> Result<(), Fail> {
     let alloc = rt.alloc();
     let mut shop = Shop::new(alloc, Limits::LARGEST);
-    assert!(rt; answers(alloc, &mut shop, &workshop(alloc)?, &WORKSHOP)?);
-    assert!(rt; answers(alloc, &mut shop, &frames(alloc)?, &FRAMES)?);
-    assert!(rt; answers(alloc, &mut shop, &models(alloc)?, &MODELS)?);
-    assert!(rt; answers(alloc, &mut shop, &plates(alloc)?, &PLATES)?);
-    let lines = shop.boms().effective(shop.catalogue(), 15)?;
-    assert_eq!(rt; lines.len(), 1);
-    let number = lines.first().ok_or("a line")?.number;
-    assert_eq!(rt; number, 16);
-    assert!(rt; shop.boms().reaches(shop.catalogue(), 15, 4)?);
-    assert!(rt; are_users(&shop, 4, &[5, 6, 10, 14, 15, 18])?);
-    Ok(())
+    play_cycles(alloc, &mut shop)
 }
 
 /// A nut in place of the screw, taken back, and taken back again.
@@ -254,13 +275,18 @@ const NUTS: [Wanted; 6] = [
     Wanted::Drawn(12, 0),
 ];
 
+fn play_substitutes(alloc: Global, shop: &mut Shop) -> Result<(), Fail>
+    requires { IsSoundState (state_of shop.old) }
+{
+    plays(alloc, shop, workshop(alloc)?, &WORKSHOP)?;
+    plays(alloc, shop, nuts(alloc)?, &NUTS)?;
+    holds(are_users(shop, 10, &[5, 6])?, "what contains nuts")
+}
+
 /// A substitute goes by its own number, and its part may come back under another.
 #[test]
 fn substitutes(rt: HostRuntime) -> Result<(), Fail> {
     let alloc = rt.alloc();
     let mut shop = Shop::new(alloc, Limits::LARGEST);
-    assert!(rt; answers(alloc, &mut shop, &workshop(alloc)?, &WORKSHOP)?);
-    assert!(rt; answers(alloc, &mut shop, &nuts(alloc)?, &NUTS)?);
-    assert!(rt; are_users(&shop, 10, &[5, 6])?);
-    Ok(())
+    play_substitutes(alloc, &mut shop)
 }

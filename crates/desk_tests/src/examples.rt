@@ -1,5 +1,8 @@
 //! Worked examples, as typed commands.
-use crate::outcomes::{Wanted, answers};
+ghost use Rattle.desk_core.specs.Machine.{IsSoundState};
+ghost use Rattle.desk_core.specs.Shops.{state_of};
+
+use crate::outcomes::{Wanted, holds, plays};
 use crate::requests::{category, component, found, location, part, remove, retire, sorted_part};
 use desk_core::{Request, Shop};
 use part_core::{Day, Flags, Limits, Refusal, Text};
@@ -25,10 +28,9 @@ fn use_up(alloc: Global) -> Result<Vec<Request>, Fail> {
     Ok(requests)
 }
 
-#[test]
-fn first_run_and_used_up(rt: HostRuntime) -> Result<(), Fail> {
-    let alloc = rt.alloc();
-    let mut shop = Shop::new(alloc, Limits::LARGEST);
+fn play_first(alloc: Global, shop: &mut Shop) -> Result<(), Fail>
+    requires { IsSoundState (state_of shop.old) }
+{
     let wanted = [
         Wanted::Drawn(1, 0),
         Wanted::Drawn(2, 0),
@@ -37,15 +39,21 @@ fn first_run_and_used_up(rt: HostRuntime) -> Result<(), Fail> {
         Wanted::Done(1),
         Wanted::Refused(Refusal::NotLoose),
     ];
-    assert!(rt; answers(alloc, &mut shop, &use_up(alloc)?, &wanted)?);
+    plays(alloc, shop, use_up(alloc)?, &wanted)?;
     let item = shop.yard().item(3).ok_or("item 3")?;
-    assert_eq!(rt; item.quantity, 0);
-    assert!(rt; item.place == Place::Gone);
+    holds(item.quantity == 0, "item 3 has nothing")?;
+    holds(item.place == Place::Gone, "item 3 is gone")?;
     let sums = shop.yard().sums(2);
-    assert_eq!(rt; sums.found, 100);
-    assert_eq!(rt; sums.written, 100);
-    assert_eq!(rt; sums.present, 0);
-    Ok(())
+    holds(sums.found == 100, "100 were found")?;
+    holds(sums.written == 100, "100 were written off")?;
+    holds(sums.present == 0, "none is present")
+}
+
+#[test]
+fn first_run_and_used_up(rt: HostRuntime) -> Result<(), Fail> {
+    let alloc = rt.alloc();
+    let mut shop = Shop::new(alloc, Limits::LARGEST);
+    play_first(alloc, &mut shop)
 }
 
 /// One number and one entry more than there are.
@@ -57,11 +65,9 @@ fn too_many(alloc: Global) -> Result<Vec<Request>, Fail> {
     Ok(requests)
 }
 
-#[test]
-fn small_limits(rt: HostRuntime) -> Result<(), Fail> {
-    let alloc = rt.alloc();
-    let limits = Limits::new(3, 2).ok_or("limits")?;
-    let mut shop = Shop::new(alloc, limits);
+fn play_small(alloc: Global, shop: &mut Shop) -> Result<(), Fail>
+    requires { IsSoundState (state_of shop.old) }
+{
     let wanted = [
         Wanted::Drawn(1, 0),
         Wanted::Drawn(2, 0),
@@ -70,10 +76,20 @@ fn small_limits(rt: HostRuntime) -> Result<(), Fail> {
         Wanted::Done(1),
         Wanted::Refused(Refusal::Full),
     ];
-    assert!(rt; answers(alloc, &mut shop, &too_many(alloc)?, &wanted)?);
-    assert!(rt; Limits::new(0, 1).is_none());
-    assert!(rt; Limits::new(1, 10_000_000_001).is_none());
-    Ok(())
+    plays(alloc, shop, too_many(alloc)?, &wanted)?;
+    holds(Limits::new(0, 1).is_none(), "a limit is 1 or more")?;
+    holds(
+        Limits::new(1, 10_000_000_001).is_none(),
+        "a limit has a bound",
+    )
+}
+
+#[test]
+fn small_limits(rt: HostRuntime) -> Result<(), Fail> {
+    let alloc = rt.alloc();
+    let limits = Limits::new(3, 2).ok_or("limits")?;
+    let mut shop = Shop::new(alloc, limits);
+    play_small(alloc, &mut shop)
 }
 
 fn virtual_flags() -> Flags {
@@ -98,6 +114,17 @@ fn stocked(alloc: Global) -> Result<Vec<Request>, Fail> {
     requests.push(part(alloc, "Bolt M4", Some(6), component())?)?;
     requests.push(retire(6)?)?;
     Ok(requests)
+}
+
+fn play_stocked(alloc: Global, shop: &mut Shop) -> Result<(), Fail>
+    requires { IsSoundState (state_of shop.old) }
+    ensures { IsSoundState (state_of shop.new) }
+{
+    let made = shop.run_list(alloc, stocked(alloc)?.as_slice())?;
+    holds(
+        made.iter().all(|outcome| outcome.is_ok()),
+        "a request is refused",
+    )
 }
 
 /// Rows that are refused.
@@ -135,16 +162,14 @@ fn refused_stock(alloc: Global) -> Result<Vec<Request>, Fail> {
     Ok(requests)
 }
 
-#[test]
-fn refuses_rows(rt: HostRuntime) -> Result<(), Fail> {
-    let alloc = rt.alloc();
-    let mut shop = Shop::new(alloc, Limits::LARGEST);
-    let made = shop.run_list(alloc, stocked(alloc)?.as_slice())?;
-    assert!(rt; made.iter().all(|outcome| outcome.is_ok()));
-    assert_eq!(rt; shop.catalogue().family(7), 6);
-    assert_eq!(rt; shop.catalogue().family(2), 2);
-    assert!(rt; shop.catalogue().descends(7, 6));
-    assert!(rt; !shop.catalogue().descends(2, 6));
+fn play_rows(alloc: Global, shop: &mut Shop) -> Result<(), Fail>
+    requires { IsSoundState (state_of shop.old) }
+{
+    play_stocked(alloc, shop)?;
+    holds(shop.catalogue().family(7) == 6, "a variant's family")?;
+    holds(shop.catalogue().family(2) == 2, "a part's own family")?;
+    holds(shop.catalogue().descends(7, 6), "7 is a variant")?;
+    holds(!shop.catalogue().descends(2, 6), "2 is no variant")?;
     let wanted = [
         Wanted::Refused(Refusal::NoSuch),
         Wanted::Refused(Refusal::NameTaken),
@@ -159,16 +184,20 @@ fn refuses_rows(rt: HostRuntime) -> Result<(), Fail> {
         Wanted::Refused(Refusal::NoSuch),
         Wanted::Refused(Refusal::Retired),
     ];
-    assert!(rt; answers(alloc, &mut shop, &refused_rows(alloc)?, &wanted)?);
-    Ok(())
+    plays(alloc, shop, refused_rows(alloc)?, &wanted)
 }
 
 #[test]
-fn refuses_stock(rt: HostRuntime) -> Result<(), Fail> {
+fn refuses_rows(rt: HostRuntime) -> Result<(), Fail> {
     let alloc = rt.alloc();
     let mut shop = Shop::new(alloc, Limits::LARGEST);
-    let made = shop.run_list(alloc, stocked(alloc)?.as_slice())?;
-    assert!(rt; made.iter().all(|outcome| outcome.is_ok()));
+    play_rows(alloc, &mut shop)
+}
+
+fn play_stock(alloc: Global, shop: &mut Shop) -> Result<(), Fail>
+    requires { IsSoundState (state_of shop.old) }
+{
+    play_stocked(alloc, shop)?;
     let wanted = [
         Wanted::Refused(Refusal::NoSuch),
         Wanted::Refused(Refusal::NoSuch),
@@ -180,9 +209,15 @@ fn refuses_stock(rt: HostRuntime) -> Result<(), Fail> {
         Wanted::Refused(Refusal::BadNumber),
         Wanted::Refused(Refusal::Short),
     ];
-    assert!(rt; answers(alloc, &mut shop, &refused_stock(alloc)?, &wanted)?);
-    assert_eq!(rt; shop.yard().sums(2).present, 100);
-    Ok(())
+    plays(alloc, shop, refused_stock(alloc)?, &wanted)?;
+    holds(shop.yard().sums(2).present == 100, "100 are present")
+}
+
+#[test]
+fn refuses_stock(rt: HostRuntime) -> Result<(), Fail> {
+    let alloc = rt.alloc();
+    let mut shop = Shop::new(alloc, Limits::LARGEST);
+    play_stock(alloc, &mut shop)
 }
 
 /// Names that are taken and names that aren't, and a part that is retired twice.
@@ -201,11 +236,9 @@ fn named_twice(alloc: Global) -> Result<Vec<Request>, Fail> {
     Ok(requests)
 }
 
-/// Names are taken under one parent; a part's name by any part; a part is retired once.
-#[test]
-fn categories(rt: HostRuntime) -> Result<(), Fail> {
-    let alloc = rt.alloc();
-    let mut shop = Shop::new(alloc, Limits::LARGEST);
+fn play_categories(alloc: Global, shop: &mut Shop) -> Result<(), Fail>
+    requires { IsSoundState (state_of shop.old) }
+{
     let wanted = [
         Wanted::Drawn(1, 0),
         Wanted::Refused(Refusal::NameTaken),
@@ -218,13 +251,20 @@ fn categories(rt: HostRuntime) -> Result<(), Fail> {
         Wanted::Drawn(5, 0),
         Wanted::Refused(Refusal::NameTaken),
     ];
-    assert!(rt; answers(alloc, &mut shop, &named_twice(alloc)?, &wanted)?);
+    plays(alloc, shop, named_twice(alloc)?, &wanted)?;
     let bolt = shop.catalogue().part(3).ok_or("part 3")?;
-    assert_eq!(rt; bolt.category, Some(2));
-    assert!(rt; bolt.retired);
+    holds(bolt.category == Some(2), "the bolt's category")?;
+    holds(bolt.retired, "the bolt is retired")?;
     let parent = shop.catalogue().category(2).ok_or("category 2")?.parent;
-    assert_eq!(rt; parent, Some(1));
-    Ok(())
+    holds(parent == Some(1), "the category's parent")
+}
+
+/// Names are taken under one parent; a part's name by any part; a part is retired once.
+#[test]
+fn categories(rt: HostRuntime) -> Result<(), Fail> {
+    let alloc = rt.alloc();
+    let mut shop = Shop::new(alloc, Limits::LARGEST);
+    play_categories(alloc, &mut shop)
 }
 
 /// Days that a text names, and texts that name none.

@@ -62,16 +62,25 @@ fn are_told(outcomes: &[Result<Answer, CoreFault>], wanted: &[Wanted]) -> bool {
             .all(|(outcome, wanted)| is_told(outcome, wanted))
 }
 
-/// Whether the shop answers the requests so.
-pub fn answers(
+/// Runs the requests, and fails where they are answered otherwise.
+pub fn plays(
     alloc: Global,
     shop: &mut Shop,
-    requests: &[Request],
+    requests: Vec<Request>,
     wanted: &[Wanted],
-) -> Result<bool, Fail>
+) -> Result<(), Fail>
     requires { IsSoundState (state_of shop.old) }
     ensures { IsSoundState (state_of shop.new) }
 {
-    let outcomes = shop.run_list(alloc, requests)?;
-    Ok(are_told(outcomes.as_slice(), wanted))
+    let outcomes = shop.run_list(alloc, requests.as_slice())?;
+    holds(are_told(outcomes.as_slice(), wanted), "other outcomes")
+}
+
+/// Fails with the text where that doesn't hold.
+pub fn holds(condition: bool, text: &'static str) -> Result<(), Fail> {
+    if condition {
+        Ok(())
+    } else {
+        Err(Fail::from(text))
+    }
 }

@@ -1,6 +1,9 @@
 //! Worked examples with items, batches and serials, as typed commands.
+ghost use Rattle.desk_core.specs.Machine.{IsSoundState};
+ghost use Rattle.desk_core.specs.Shops.{state_of};
+
 use crate::bills::{WORKSHOP, workshop};
-use crate::outcomes::{Wanted, answers};
+use crate::outcomes::{Wanted, holds, plays};
 use crate::requests::{
     add, batch, category, component, count, drop_line, found, location, merge, part, remove,
     retire, serialise, serialised, set_status, split, transfer,
@@ -41,13 +44,18 @@ const DRIVES: [Wanted; 7] = [
     Wanted::Refused(Refusal::SerialTaken),
 ];
 
+fn play_drives(alloc: Global, shop: &mut Shop) -> Result<(), Fail>
+    requires { IsSoundState (state_of shop.old) }
+{
+    plays(alloc, shop, drives(alloc)?, &DRIVES)
+}
+
 /// A serial stands once in a family, and what is written off keeps its own.
 #[test]
 fn family_serials(rt: HostRuntime) -> Result<(), Fail> {
     let alloc = rt.alloc();
     let mut shop = Shop::new(alloc, Limits::LARGEST);
-    assert!(rt; answers(alloc, &mut shop, &drives(alloc)?, &DRIVES)?);
-    Ok(())
+    play_drives(alloc, &mut shop)
 }
 
 fn motors(alloc: Global) -> Result<Vec<Request>, Fail> {
@@ -64,18 +72,26 @@ const MOTORS: [Wanted; 3] = [
     Wanted::Refused(Refusal::WrongFlag),
 ];
 
+fn play_motors(alloc: Global, shop: &mut Shop) -> Result<(), Fail>
+    requires { IsSoundState (state_of shop.old) }
+{
+    plays(alloc, shop, workshop(alloc)?, &WORKSHOP)?;
+    plays(alloc, shop, motors(alloc)?, &MOTORS)?;
+    let item = shop.yard().item(13).ok_or("item 13")?;
+    let serial = item.lot.serial.as_ref().ok_or("a serial")?;
+    holds(serial.as_str() == "A-1", "the fourth serial")?;
+    holds(
+        matches!(read_serials(alloc, "9-7"), Err(SerialFault::Falling)),
+        "a falling range",
+    )
+}
+
 /// A list of serials gives as many items, in its order.
 #[test]
 fn serial_lists(rt: HostRuntime) -> Result<(), Fail> {
     let alloc = rt.alloc();
     let mut shop = Shop::new(alloc, Limits::LARGEST);
-    assert!(rt; answers(alloc, &mut shop, &workshop(alloc)?, &WORKSHOP)?);
-    assert!(rt; answers(alloc, &mut shop, &motors(alloc)?, &MOTORS)?);
-    let item = shop.yard().item(13).ok_or("item 13")?;
-    let serial = item.lot.serial.as_ref().ok_or("a serial")?;
-    assert_eq!(rt; serial.as_str(), "A-1");
-    assert!(rt; matches!(read_serials(alloc, "9-7"), Err(SerialFault::Falling)));
-    Ok(())
+    play_motors(alloc, &mut shop)
 }
 
 fn mergers(alloc: Global) -> Result<Vec<Request>, Fail> {
@@ -130,19 +146,24 @@ const MORE_MERGERS: [Wanted; 9] = [
     Wanted::Refused(Refusal::BadNumber),
 ];
 
+fn play_mergers(alloc: Global, shop: &mut Shop) -> Result<(), Fail>
+    requires { IsSoundState (state_of shop.old) }
+{
+    plays(alloc, shop, workshop(alloc)?, &WORKSHOP)?;
+    plays(alloc, shop, mergers(alloc)?, &MERGERS)?;
+    let quantity = shop.yard().item(10).ok_or("item 10")?.quantity;
+    holds(quantity == 22, "item 10 has all")?;
+    plays(alloc, shop, more_mergers(alloc)?, &MORE_MERGERS)?;
+    let quantity = shop.yard().item(18).ok_or("item 18")?.quantity;
+    holds(quantity == 15, "item 18 has all")
+}
+
 /// Items of one part, batch and status become one.
 #[test]
 fn merging(rt: HostRuntime) -> Result<(), Fail> {
     let alloc = rt.alloc();
     let mut shop = Shop::new(alloc, Limits::LARGEST);
-    assert!(rt; answers(alloc, &mut shop, &workshop(alloc)?, &WORKSHOP)?);
-    assert!(rt; answers(alloc, &mut shop, &mergers(alloc)?, &MERGERS)?);
-    let quantity = shop.yard().item(10).ok_or("item 10")?.quantity;
-    assert_eq!(rt; quantity, 22);
-    assert!(rt; answers(alloc, &mut shop, &more_mergers(alloc)?, &MORE_MERGERS)?);
-    let quantity = shop.yard().item(18).ok_or("item 18")?.quantity;
-    assert_eq!(rt; quantity, 15);
-    Ok(())
+    play_mergers(alloc, &mut shop)
 }
 
 fn tour(alloc: Global) -> Result<Vec<Request>, Fail> {
@@ -183,16 +204,21 @@ const TOUR_ON: [Wanted; 4] = [
     Wanted::Done(0),
 ];
 
+fn play_tour(alloc: Global, shop: &mut Shop) -> Result<(), Fail>
+    requires { IsSoundState (state_of shop.old) }
+{
+    plays(alloc, shop, workshop(alloc)?, &WORKSHOP)?;
+    plays(alloc, shop, tour(alloc)?, &TOUR)?;
+    plays(alloc, shop, tour_on(alloc)?, &TOUR_ON)?;
+    holds(shop.yard().sums(4).present == 3, "three motors are present")
+}
+
 /// A clerk's tour: amounts added, an item split, pieces that get serials, a line that goes, a part that retires.
 #[test]
 fn long_tour(rt: HostRuntime) -> Result<(), Fail> {
     let alloc = rt.alloc();
     let mut shop = Shop::new(alloc, Limits::LARGEST);
-    assert!(rt; answers(alloc, &mut shop, &workshop(alloc)?, &WORKSHOP)?);
-    assert!(rt; answers(alloc, &mut shop, &tour(alloc)?, &TOUR)?);
-    assert!(rt; answers(alloc, &mut shop, &tour_on(alloc)?, &TOUR_ON)?);
-    assert_eq!(rt; shop.yard().sums(4).present, 3);
-    Ok(())
+    play_tour(alloc, &mut shop)
 }
 
 /// Counts up and down, and of an item with a serial that isn't there.
@@ -220,16 +246,21 @@ const COUNTS: [Wanted; 8] = [
     Wanted::Done(1),
 ];
 
+fn play_counts(alloc: Global, shop: &mut Shop) -> Result<(), Fail>
+    requires { IsSoundState (state_of shop.old) }
+{
+    plays(alloc, shop, workshop(alloc)?, &WORKSHOP)?;
+    plays(alloc, shop, counts(alloc)?, &COUNTS)?;
+    let sums = shop.yard().sums(3);
+    holds(sums.found == 12, "12 were found")?;
+    holds(sums.written == 5, "5 were written off")?;
+    holds(sums.present == 7, "7 are present")
+}
+
 /// A count writes the difference, and a transfer of less than the whole cuts it off.
 #[test]
 fn counted_and_carried(rt: HostRuntime) -> Result<(), Fail> {
     let alloc = rt.alloc();
     let mut shop = Shop::new(alloc, Limits::LARGEST);
-    assert!(rt; answers(alloc, &mut shop, &workshop(alloc)?, &WORKSHOP)?);
-    assert!(rt; answers(alloc, &mut shop, &counts(alloc)?, &COUNTS)?);
-    let sums = shop.yard().sums(3);
-    assert_eq!(rt; sums.found, 12);
-    assert_eq!(rt; sums.written, 5);
-    assert_eq!(rt; sums.present, 7);
-    Ok(())
+    play_counts(alloc, &mut shop)
 }
