@@ -21,19 +21,23 @@ fn shown(alloc: Global, ask: &Ask) -> Result<String, AllocError> {
         Command::Yard(YardCommand::AddLocation { name, parent: None }) => {
             format!(in alloc; "{day:?} add_location {}", name.as_str())
         }
-        Command::Part(PartCommand::AddPart(NewPart {
-            name,
-            category: None,
-            template: None,
-            flags,
-        })) => { format!(in alloc; "{day:?} add_part {} {flags:?}", name.as_str()) }
-        Command::Stock(StockCommand::Found {
-            part,
-            location,
-            new,
-        }) => {
-            format!(in alloc; "{day:?} found {part} at {location}, {}", new.quantity)
-        }
+        Command::Part(
+            PartCommand::AddPart(
+                NewPart {
+                    name,
+                    category: None,
+                    template: None,
+                    flags,
+                },
+            ),
+        ) => { format!(in alloc; "{day:?} add_part {} {flags:?}", name.as_str()) }
+        Command::Stock(
+            StockCommand::Found {
+                part,
+                location,
+                new,
+            },
+        ) => { format!(in alloc; "{day:?} found {part} at {location}, {}", new.quantity) }
         Command::Stock(StockCommand::Remove { item, quantity }) => {
             format!(in alloc; "{day:?} remove of {item}, {quantity}")
         }

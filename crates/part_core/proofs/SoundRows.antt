@@ -151,11 +151,11 @@ sound-retire_part n next s sound = go (part_in n s) refl
     go : (o : Option Part) → part_in n s ≡ o → IsSoundCatalogue next (retire_part n s)
     go None e = rw e sound
     go (Some p) e = rw e (
-      sound-with_row next next n s (retired_part p) sound (omega arith)
-          (right-changed (λ (q : Part). q.number) next n (retired_part p) p s.parts e refl sound.parts)
-          (λ q is flag. ap (λ (x : Part). x.flags.template) (is_some_row p q (sym e ∙ is)) ∙ flag)
-          (sound.in_categories (n ∷ []) p e) (sound.templates (n ∷ []) p e) (sound.plain (n ∷ []) p e)
-    )
+        sound-with_row next next n s (retired_part p) sound (omega arith)
+        (right-changed (λ (q : Part). q.number) next n (retired_part p) p s.parts e refl sound.parts)
+        (λ q is flag. ap (λ (x : Part). x.flags.template) (is_some_row p q (sym e ∙ is)) ∙ flag)
+        (sound.in_categories (n ∷ []) p e) (sound.templates (n ∷ []) p e) (sound.plain (n ∷ []) p e)
+        )
 
 -- ---- any of them
 
