@@ -1,13 +1,12 @@
 -- Sound stock stays so beside what changes elsewhere: a part comes or is retired, a category or a location comes, numbers are drawn.
 use Rattle.std.proofs.Common.{◌≡◌, inl, inr, ℕ, ◌≤◌, true, not, [], ◌∷◌, List, length, Option, Some, None, refl, sym, ap, ◌∙◌, subst, arith}
-use Rattle.std.specs.Prelude.{◌==◌, ◌&&◌, nat_lt}
+use Rattle.std.specs.Prelude.{◌==◌, ◌&&◌}
 use Rattle.std.specs.FinMap as table
-use Rattle.std.proofs.lemmas.Bool.{ltb-false}
 use Rattle.std.proofs.lemmas.Bool.Decides.{eqb_tells}
 use Rattle.part_core.specs.AddPart.{part_row}
 use Rattle.part_core.specs.Catalogue.{Parts, Register, family, no_parts, part_in}
 use Rattle.part_core.specs.Checks.{first}
-use Rattle.part_core.specs.Counter.{Numbering, passes_limit, start}
+use Rattle.part_core.specs.Counter.{Numbering, start}
 use Rattle.part_core.specs.PartMachine as part
 use Rattle.part_core.specs.RetirePart.{retire_part, retired_part}
 use Rattle.part_core.specs.Rows.{IsThere}
@@ -17,12 +16,11 @@ use Rattle.part_core.specs.declared.limits.Limits.{Limits}
 use Rattle.part_core.specs.declared.part.Part.{Part}
 use Rattle.part_core.specs.declared.part_command.PartCommand.{PartCommand}
 use Rattle.part_core.specs.declared.part_command.PartCommand.TheVariants.{AddCategory, AddPart, RetirePart}
-use Rattle.part_core.proofs.Conditions.{none-holds, or_none}
 use Rattle.part_core.proofs.Totals.{entries-empty}
 use Rattle.part_core.proofs.RowLemmas.{each-empty, get-insert_new, get-insert_other, right-empty, right-later, right-none, row_there, same_digit, there-insert}
 use Rattle.forest.specs.declared.entry.Entry.{Entry}
 use Rattle.forest.specs.declared.item.Item.{Item}
-use Rattle.yard_core.specs.AddLocation.{add_location, add_location_checks}
+use Rattle.yard_core.specs.AddLocation.{add_location}
 use Rattle.yard_core.specs.Books.{Books, entries_in}
 use Rattle.yard_core.specs.SoundLocations.{AreSoundLocations}
 use Rattle.yard_core.specs.Stock.{Stock, empty_stock, has_serial, holds_serial, is_gone}
@@ -136,9 +134,7 @@ sound-part_effect (RetirePart n) r b same catalogue sound e =
 pub sound-yard_effect : (c : YardCommand) (parts : Parts) (b : Books) → IsSoundStock parts b → first (yard.checks c b) ≡ None → IsSoundStock parts (yard.effect c b)
 sound-yard_effect (AddLocation name parent) parts b sound e =
     let after = add_location name parent b in
-    let full = (none-holds (add_location_checks name parent b) e).1.1.0 in
-    let within = ltb-false after.counter.limits.entries (entries_in after) (or_none (passes_limit after.counter) (nat_lt after.counter.limits.entries (entries_in after)) full).1 in
-    sound-beside parts parts b after.stock.locations after.counter (same_parts parts) sound (omega arith) within
+    sound-beside parts parts b after.stock.locations after.counter (same_parts parts) sound (omega arith) sound.items.within
     (yard_sound.sound-effect (AddLocation name parent) b sound.items.locations e).0
     (there-insert b.stock.locations (b.counter.next ∷ []) (record { number = b.counter.next; name = name; parent = parent }))
 

@@ -5,9 +5,10 @@ use Rattle.std.specs.List.{list_any}
 use Rattle.std.specs.Str.{bytes_eq}
 use Rattle.part_core.specs.Catalogue.{is_missing}
 use Rattle.part_core.specs.Checks.{Check}
+use Rattle.part_core.specs.Counter.{passes_limit}
 use Rattle.part_core.specs.Numbered.{is_same_number}
 use Rattle.part_core.specs.declared.refusal.Refusal.TheVariants.{NoSuch, NameTaken, Full}
-use Rattle.yard_core.specs.Books.{Books, is_full, with_drawn}
+use Rattle.yard_core.specs.Books.{Books, with_drawn}
 use Rattle.yard_core.specs.Stock.{Stock, has_location}
 
 -- whether a location under this parent has this name
@@ -27,5 +28,5 @@ abbrev pub add_location_checks : List ℕ → Option ℕ → Books → List Chec
 add_location_checks name parent b =
     (is_missing parent (λ n. has_location n b.stock), NoSuch)
     ∷ (is_location_named name parent b.stock, NameTaken)
-    ∷ (is_full (add_location name parent b), Full)
+    ∷ (passes_limit (add_location name parent b).counter, Full)
     ∷ []

@@ -1,6 +1,6 @@
 //! The commands of the yard, as a machine: one call that does any of them, and its laws.
-ghost use Rattle.std.specs.Prelude.{◌≡◌, ◌≤◌};
-ghost use Rattle.yard_core.specs.Books.{Does, books_of, entries_in, kept_books};
+ghost use Rattle.std.specs.Prelude.{◌≡◌};
+ghost use Rattle.yard_core.specs.Books.{Does, books_of, kept_books};
 ghost use Rattle.yard_core.specs.YardMachine.{ChecksAreInOrder, EffectsAreSound, checks, effect};
 
 use crate::yard::Yard;
@@ -24,7 +24,6 @@ pub fn act(
     command: &YardCommand,
 ) -> Result<Answer, CoreFault>
     requires nothing_pending { kept_books yard.old counter.old ≡ books_of yard.old counter.old }
-    requires within { entries_in (books_of yard.old counter.old) ≤ counter.old.limits.entries }
     ensures does { let b = books_of yard.old counter.old in
         Does (checks command.now b) (effect command.now b) b result (books_of yard.new counter.new) }
     ensures kept { kept_books yard.new counter.new ≡ kept_books yard.old counter.old }
