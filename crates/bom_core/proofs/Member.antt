@@ -47,10 +47,6 @@ module _ {X : Type 0} where
         | inr h ↦ or_right (p y) (list_any p ys) (any-from p ys x h e)
       ]
 
-  -- a test that fails on a list fails at each of its elements
-  pub any-none : (p : X → Bool) (xs : List X) (x : X) → list_any p xs ≡ false → Stands x xs → p x ≡ false
-  any-none p xs x e s = elim (p x) as (λ b. p x ≡ b → b ≡ false) [ true ↦ λ h. (let t = any-from p xs x s h in cc) | false ↦ λ h. refl ] refl
-
   pub Stands-append_left : (x : X) (xs ys : List X) → Stands x xs → Stands x (xs ++ ys)
   Stands-append_left x [] ys s = absurd s
   Stands-append_left x (z ∷ xs) ys s =
@@ -87,9 +83,6 @@ among-Stands (x ∷ xs) p e =
       | inl h ↦ inl (eqb-true _ _ h)
       | inr h ↦ inr (among-Stands xs p h)
     ]
-
-pub among-from : (xs : List ℕ) (p : ℕ) → Stands p xs → is_among xs p ≡ true
-among-from xs p s = any-from (λ q. q == p) xs p s (eq-eqb p p refl)
 
 pub among-append : (xs ys : List ℕ) (p : ℕ) → is_among (xs ++ ys) p ≡ (is_among xs p || is_among ys p)
 among-append xs ys p = list_any-append (λ q. q == p) xs ys

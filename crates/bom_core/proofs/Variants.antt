@@ -69,9 +69,6 @@ module _ (parts : Parts) (x : Part) (sound : IsSoundCatalogue x.number parts) (n
       let same : r.1.number ≡ p = r.3 in
       omega arith
 
-  old_template : (p t : ℕ) → is_variant (part_rows parts) p t ≡ true → t < x.number
-  old_template p t e = let r = variant_row parts p t e in let row = sound.templates r.0 r.1 r.2 t r.4 in below t (there parts.parts t row.0 row.1)
-
   -- a part that stands for the new one: its template, where it has one
   stand_in : Option ℕ → ℕ
   stand_in None = x.number
@@ -192,9 +189,6 @@ sound-with_part parts bills x sound after = sound-with_row parts bills x sound (
 
 no_row : {X : Type 0} (P : Type 0) (k : List ℕ) (x : X) → table.get (table.empty {X = X} {R = key_cmp}) k ≡ Some x → P
 no_row {X} P k x e = absurd (let none : table.get (table.empty {X = X} {R = key_cmp}) k ≡ None = table.get-empty key_cmp k in let both : None ≡ Some x = sym none ∙ e in cc)
-
-no_variant_of_nothing : (p t : ℕ) → is_variant (part_rows no_parts) p t ≡ true → ⊥
-no_variant_of_nothing p t e = let r = variant_row no_parts p t e in no_row ⊥ r.0 r.1 r.2
 
 no_step : (a b : ℕ) → contains no_parts no_bills a b ≡ true → ⊥
 no_step a b e = let d = edge_of no_parts no_bills a b e in no_row ⊥ d.key d.line d.is

@@ -63,9 +63,6 @@ module _ {X : Type 0} where
   pub each-insert : (P : X → Type 0) (t : Table X) (q : List ℕ) (v : X) → P v → EachRow P t → EachRow P (table.insert t q v)
   each-insert P t q v new each k x e = elim (get-insert_cases t q v k x e) [ inl i ↦ subst P i.1 new | inr i ↦ each k x i ]
 
-  pub each-remove : (P : X → Type 0) (t : Table X) (q : List ℕ) → EachRow P t → EachRow P (table.remove t q)
-  each-remove P t q each k x e = each k x (get-remove_cases t q k x e).1
-
   -- what holds of each row, and follows from another fact
   pub each-so : (P Q : X → Type 0) (t : Table X) → ((k : List ℕ) (x : X) → table.get t k ≡ Some x → P x → Q x) → EachRow P t → EachRow Q t
   each-so P Q t f each k x e = f k x e (each k x e)

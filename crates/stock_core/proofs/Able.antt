@@ -127,9 +127,6 @@ numbers-left k e b new u left = (or_none (lacks k b.counter) (nat_lt b.counter.l
 
 -- ---- what is taken
 
-pub taken-part : (n quantity number : ℕ) (day : CivilDay) (b new : Books) → has_more n quantity b.stock ≡ true → new ≡ cut_off n quantity None day b → number ≡ b.counter.next → take n quantity day b ≡ (new, number)
-taken-part n quantity number day b new more is named = take-part n quantity day b more ∙ cc
-
 pub piece-after : (n quantity number : ℕ) (day : CivilDay) (b new : Books) → new ≡ cut_off n quantity None day b → number ≡ b.counter.next → is_loose n b.stock ≡ true → is_loose number new.stock ≡ true
 piece-after n quantity number day b new is named loose =
     ap (λ (s : Books). is_loose number s.stock) is ∙ ap (λ m. is_loose m (cut_off n quantity None day b).stock) named ∙ piece-loose n quantity None day b loose

@@ -62,13 +62,6 @@ full-used n e old new u =
     ap (λ k. lacks n old.counter || nat_lt old.counter.limits.entries k) (sym u.len)
     ∙ ap (λ c. passes_limit c || nat_lt c.limits.entries (entries_in new)) (sym u.counter)
 
-pub grows-used : (n e : ℕ) (old new : Books) → Uses n e old new → Grows old new
-grows-used n e old new u = record {
-  numbers = (let more : new.counter.next ≡ old.counter.next + n = ap (λ c. c.next) u.counter in omega (arith, more));
-  limits = ap (λ c. c.limits) u.counter;
-  entries = omega (arith, u.len);
-}
-
 -- ---- the moves
 
 -- numbers that are counted otherwise
