@@ -39,6 +39,20 @@ impl Boms {
         }
     }
 
+    /// The lines of all bills, as a sheet.
+    pub fn lines(&self) -> &Sheet<Line>
+        ensures { result.now ≡ self.now.lines }
+    {
+        &self.lines
+    }
+
+    /// The substitutes, as a sheet.
+    pub fn substitutes(&self) -> &Sheet<Substitute>
+        ensures { result.now ≡ self.now.substitutes }
+    {
+        &self.substitutes
+    }
+
     /// The line of that number.
     pub fn line(&self, number: Id) -> Option<&Line>
         ensures { option_copied result ≡ table.get (bills_of self.now).lines (number ∷ []) }

@@ -1,5 +1,13 @@
-//! Sheets of items, and what is pending in them.
-use part_core::{Serial, Sheet, Status};
+//! Sheets of items and of a shop, and what is pending in them.
+ghost use Rattle.desk_core.specs.Machine.{IsSoundState};
+ghost use Rattle.desk_core.specs.Shops.{state_of};
+
+use crate::outcomes::{Wanted, holds, plays};
+use crate::requests::{
+    category, component, drop_line, found, location, part, plain_line, substitute, transfer,
+};
+use desk_core::{Request, Shop};
+use part_core::{Limits, Serial, Sheet, Status};
 use std::alloc::{AllocError, Global};
 use std::test::Fail;
 use yard_core::{Item, Lot, Place};
@@ -39,4 +47,125 @@ fn kept_and_taken_back(rt: HostRuntime) -> Result<(), Fail> {
     assert_eq!(rt; sheet.get(&1).map_or(0, |row| row.quantity), 1);
     assert_eq!(rt; sheet.get(&2).map_or(0, |row| row.quantity), 1);
     Ok(())
+}
+
+/// How many rows of each sheet are pending.
+fn pending(alloc: Global, shop: &Shop) -> Result<Vec<usize>, AllocError> {
+    let mut counts = Vec::new(alloc);
+    counts.push(shop.catalogue().categories().pending()?.len())?;
+    counts.push(shop.catalogue().parts().pending()?.len())?;
+    counts.push(shop.boms().lines().pending()?.len())?;
+    counts.push(shop.boms().substitutes().pending()?.len())?;
+    counts.push(shop.yard().locations().pending()?.len())?;
+    counts.push(shop.yard().items().pending()?.len())?;
+    counts.push(shop.yard().journal().pending()?.len())?;
+    Ok(counts)
+}
+
+/// Runs the request, and fails where other rows are pending after it: categories, parts, lines,
+/// substitutes, locations, items and entries.
+fn changes(
+    alloc: Global,
+    shop: &mut Shop,
+    request: Request,
+    wanted: Wanted,
+    rows: [usize; 7],
+) -> Result<(), Fail>
+    requires { IsSoundState (state_of shop.old) }
+    ensures { IsSoundState (state_of shop.new) }
+{
+    let mut requests = Vec::new(alloc);
+    requests.push(request)?;
+    plays(alloc, shop, requests, &[wanted])?;
+    holds(
+        pending(alloc, shop)?.as_slice() == rows.as_slice(),
+        "other rows pending",
+    )
+}
+
+fn change_each_sheet(alloc: Global, shop: &mut Shop) -> Result<(), Fail>
+    requires { IsSoundState (state_of shop.old) }
+{
+    let mut assembly = component();
+    assembly.assembly = true;
+    let screw = part(alloc, "Screw", None, component())?;
+    let robot = part(alloc, "Robot", None, assembly)?;
+    changes(
+        alloc,
+        shop,
+        category(alloc, "All", None)?,
+        Wanted::Drawn(1, 0),
+        [1, 0, 0, 0, 0, 0, 0],
+    )?;
+    changes(
+        alloc,
+        shop,
+        screw,
+        Wanted::Drawn(2, 0),
+        [0, 1, 0, 0, 0, 0, 0],
+    )?;
+    changes(
+        alloc,
+        shop,
+        robot,
+        Wanted::Drawn(3, 0),
+        [0, 1, 0, 0, 0, 0, 0],
+    )?;
+    changes(
+        alloc,
+        shop,
+        part(alloc, "Bolt", None, component())?,
+        Wanted::Drawn(4, 0),
+        [0, 1, 0, 0, 0, 0, 0],
+    )?;
+    changes(
+        alloc,
+        shop,
+        plain_line(3, 2, 8)?,
+        Wanted::Drawn(5, 0),
+        [0, 0, 1, 0, 0, 0, 0],
+    )?;
+    changes(
+        alloc,
+        shop,
+        substitute(5, 4)?,
+        Wanted::Drawn(6, 0),
+        [0, 0, 0, 1, 0, 0, 0],
+    )?;
+    changes(
+        alloc,
+        shop,
+        location(alloc, "A", None)?,
+        Wanted::Drawn(7, 0),
+        [0, 0, 0, 0, 1, 0, 0],
+    )?;
+    changes(
+        alloc,
+        shop,
+        found(2, 7, 9)?,
+        Wanted::Drawn(8, 1),
+        [0, 0, 0, 0, 0, 1, 1],
+    )?;
+    changes(
+        alloc,
+        shop,
+        transfer(8, 7, 4)?,
+        Wanted::Drawn(9, 2),
+        [0, 0, 0, 0, 0, 2, 2],
+    )?;
+    changes(
+        alloc,
+        shop,
+        drop_line(5)?,
+        Wanted::Done(0),
+        [0, 0, 1, 1, 0, 0, 0],
+    )
+}
+
+/// After a request each sheet of the shop has pending what that request changed, and nothing else.
+#[test]
+fn what_a_request_changed(rt: HostRuntime) -> Result<(), Fail> {
+    let alloc = rt.alloc();
+    let mut shop = Shop::new(alloc, Limits::LARGEST);
+    change_each_sheet(alloc, &mut shop)
 }
