@@ -1,4 +1,5 @@
 //! What a clerk may ask.
+use crate::key::Key;
 use bom_core::BomCommand;
 use part_core::{Day, PartCommand};
 use stock_core::StockCommand;
@@ -17,9 +18,10 @@ pub enum Command {
     Stock(StockCommand),
 }
 
-/// A command, and the day that it carries. Days needn't rise.
+/// A command, the day that it carries, and the key that it is called by, if any. Days needn't rise.
 #[derive(Drop)]
 pub struct Request {
+    pub key: Option<Key>,
     pub day: Day,
     pub command: Command,
 }

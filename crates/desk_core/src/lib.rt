@@ -1,10 +1,14 @@
 //! The machine: its commands, one step, and the shop that it works on.
 #![tactic(auto)]
 
+mod answers;
 mod command;
+mod key;
 mod order;
 mod shop;
 
+pub use answers::answer_line;
 pub use command::{Command, Request};
+pub use key::{Key, is_key};
 pub use order::checks_are_in_order;
 pub use shop::Shop;

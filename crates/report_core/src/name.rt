@@ -1,0 +1,25 @@
+//! The reports' names.
+ghost use Rattle.std.specs.Prelude.{◌≡◌};
+ghost use Rattle.report_core.specs.Names.{report_named};
+
+/// Which report is asked for. The number beside it is a part's, for a history an item's.
+#[derive(Clone, Copy, Debug, PartialEq, Eq)]
+pub enum ReportName {
+    Ledger,
+    Stock,
+    WhereUsed,
+    History,
+}
+
+/// The report of that name.
+pub fn report_named(name: &str) -> Option<ReportName>
+    ensures { result ≡ report_named name.now }
+{
+    match name {
+        "ledger" => Some(ReportName::Ledger),
+        "stock" => Some(ReportName::Stock),
+        "where_used" => Some(ReportName::WhereUsed),
+        "history" => Some(ReportName::History),
+        _ => None,
+    }
+}
