@@ -6,9 +6,11 @@ mod command;
 mod key;
 mod order;
 mod shop;
+mod texts;
 
 pub use answers::answer_line;
 pub use command::{Command, Request};
 pub use key::{Key, is_key};
 pub use order::checks_are_in_order;
 pub use shop::Shop;
+pub use texts::{command_text, texts_tell_commands};
