@@ -59,6 +59,20 @@ impl Key {
         self.text.as_str()
     }
 
+    /// The key as a text of its own, by which a kept answer is looked up.
+    pub fn text(&self) -> &String
+        ensures { string_bytes result.now ≡ self.now }
+    {
+        &self.text
+    }
+
+    /// Whether the keys are equal.
+    pub fn equals(&self, other: &Key) -> bool
+        ensures { IsTrue result ↔ (self.now ≡ other.now) }
+    {
+        self.text.as_str() == other.text.as_str()
+    }
+
     /// An equal key.
     pub fn copy(&self, alloc: Global) -> Result<Self, AllocError>
         ensures { IfOk result (λ key. key ≡ self.now) }

@@ -3,6 +3,7 @@
 
 mod answers;
 mod command;
+mod kept;
 mod key;
 mod order;
 mod shop;
@@ -10,6 +11,7 @@ mod texts;
 
 pub use answers::answer_line;
 pub use command::{Command, Request};
+pub use kept::{CommandText, Kept};
 pub use key::{Key, is_key};
 pub use order::checks_are_in_order;
 pub use shop::Shop;

@@ -1,0 +1,104 @@
+//! Answers that are kept under their keys.
+ghost use Rattle.std.specs.Prelude.{◌≡◌, ◌↔◌, IsTrue, IfOk};
+ghost use Rattle.std.specs.Str.{bytes_eq};
+ghost use Rattle.std.specs.String.{string_bytes};
+ghost use Rattle.desk_core.specs.Key.{text_digits, text_exact};
+
+use crate::key::Key;
+use part_core::{Answer, Row};
+use std::alloc::{AllocError, Global};
+use std::cmp::Ordering;
+use std::marker::Model;
+
+/// A command's text, as `command_text` gives it. A clause sees its bytes.
+#[derive(Drop)]
+pub struct CommandText {
+    text: String,
+}
+
+impl Model for CommandText {
+    ghost use Rattle.std.specs.Prelude.{ℕ, List};
+    ghost use Rattle.std.specs.String.{string_bytes};
+
+    ghost Value = { List ℕ };
+
+    ghost view = { λ t. string_bytes t.text };
+}
+
+impl CommandText {
+    pub fn new(text: String) -> Self
+        ensures { result ≡ string_bytes text }
+    {
+        CommandText { text }
+    }
+
+    pub fn as_str(&self) -> &str
+        ensures { result.now ≡ self.now }
+    {
+        self.text.as_str()
+    }
+
+    /// An equal text.
+    pub fn copy(&self, alloc: Global) -> Result<Self, AllocError>
+        ensures { IfOk result (λ text. text ≡ self.now) }
+    {
+        let text = String::from_str(alloc, self.text.as_str())?;
+        Ok(CommandText { text })
+    }
+
+    /// Whether the texts are equal.
+    pub fn equals(&self, other: &CommandText) -> bool
+        ensures value { result ≡ bytes_eq self.now other.now }
+        ensures same { IsTrue result ↔ (self.now ≡ other.now) }
+    {
+        self.text.as_str() == other.text.as_str()
+    }
+}
+
+/// What an accepted request with a key leaves: its command and its answer, for good.
+#[derive(Drop)]
+pub struct Kept {
+    /// The request's key.
+    pub word: Key,
+    pub command: CommandText,
+    pub answer: Answer,
+}
+
+impl Row for Kept {
+    type Key = String;
+
+    ghost digits = { text_digits };
+
+    ghost key_of = { λ row. row.word };
+
+    ghost exact = { text_exact };
+
+    fn key(&self, alloc: Global) -> Result<String, AllocError> {
+        String::from_str(alloc, self.word.as_str())
+    }
+
+    fn compare(key: &String, other: &String) -> Ordering {
+        key.as_bytes().cmp(other.as_bytes())
+    }
+
+    fn equals(&self, other: &Self) -> bool {
+        if !self.word.equals(&other.word) {
+            return false;
+        }
+        if !self.command.equals(&other.command) {
+            return false;
+        }
+        self.answer.equals(&other.answer)
+    }
+
+    fn copy(&self, alloc: Global) -> Result<Self, AllocError> {
+        let word = self.word.copy(alloc)?;
+        let command = self.command.copy(alloc)?;
+        let answer = self.answer.copy(alloc)?;
+        Ok(Kept {
+            word,
+            command,
+            answer,
+        })
+    }
+}
