@@ -1,42 +1,57 @@
 -- A sound state steps to a sound state, and runs go on by one step.
-use Rattle.std.proofs.Common.{◌≡◌, ℕ, zero, suc, ◌+◌, ◌-◌, ◌≤◌, List, [], ◌∷◌, ◌++◌, length, Option, Some, None, refl, sym, ap, ◌∙◌, subst, arith}
-use Rattle.std.specs.Prelude.{Result, Ok, Err}
+use Rattle.std.proofs.Common.{◌≡◌, inl, inr, Bool, true, false, ℕ, zero, suc, ◌+◌, ◌-◌, ◌≤◌, List, [], ◌∷◌, ◌++◌, length, Option, Some, None, refl, sym, ap, ◌∙◌, subst, arith}
+use Rattle.std.specs.Prelude.{Result, Ok, Err, IfSome, option_and_then}
 use Rattle.std.specs.FinMap as table
 use Rattle.std.specs.List.{range_with_len}
+use Rattle.std.specs.Str.{bytes_eq}
 use Rattle.std.proofs.lemmas.List.{append-nil}
 use Rattle.part_core.specs.Acts.{Acts}
+use Rattle.part_core.specs.Checks.{Check, first}
 use Rattle.part_core.specs.Day.{CivilDay}
+use Rattle.part_core.specs.Sheet.{Table, key_cmp}
 use Rattle.part_core.specs.declared.answer.Answer.{Answer}
 use Rattle.part_core.specs.declared.limits.Limits.{Limits}
 use Rattle.part_core.specs.declared.refusal.CoreFault.{CoreFault}
 use Rattle.part_core.specs.declared.refusal.CoreFault.TheVariants.{Refused, Memory}
 use Rattle.part_core.specs.declared.refusal.Refusal.{Refusal}
+use Rattle.part_core.specs.declared.refusal.Refusal.TheVariants.{KeyTaken}
+use Rattle.part_core.proofs.RowLemmas.{get-insert_cases}
 use Rattle.part_core.proofs.SoundRows as catalogue
 use Rattle.bom_core.specs.BomMachine as bom
+use Rattle.bom_core.specs.Sound.{IsSoundBill}
 use Rattle.bom_core.proofs.Beside as bills
 use Rattle.bom_core.proofs.SoundChanges as changes
 use Rattle.bom_core.proofs.Variants as variants
 use Rattle.yard_core.specs.YardMachine as yard
 use Rattle.yard_core.proofs.SoundRows as locations
+use Rattle.stock_core.specs.Sound.{IsSoundStock}
 use Rattle.stock_core.specs.StockMachine as stock
 use Rattle.stock_core.proofs.Beside as beside
 use Rattle.stock_core.proofs.Effects as effects
 use Rattle.desk_core.specs.declared.command.Command.{Command}
 use Rattle.desk_core.specs.declared.command.Command.TheVariants as command
 use Rattle.desk_core.specs.declared.command.Request.{Request}
-use Rattle.desk_core.specs.Machine.{State, start, checks, check, effect, by_check, step, run, Outcome, Decides, answer_of, answered, told, ids_of, entries_in, entries_of, AreDrawn, IsSoundState, books_in, bill_books_in, register_in, open_parts}
+use Rattle.desk_core.specs.declared.kept.Kept.{Kept}
+use Rattle.desk_core.specs.CommandText.{command_text}
+use Rattle.desk_core.specs.Key.{is_key}
+use Rattle.desk_core.specs.Machine.{State, start, checks, check, effect, by_check, by_repeat, step_anew, step, run, Outcome, Decides, answer_of, answer_anew, answers_of, answered, told, onto, ids_of, entries_in, entries_of, AreDrawn, IsSoundState, StandsKept, books_in, bill_books_in, register_in, open_parts, kept_for, repeated, is_key_taken, with_answer}
 
 -- ---- effects keep what is sound, and only add to numbers and history
 
+-- what holds of the stores in a sound state
+pub record AreSoundStores (s : State) : Type 0 where
+  pub bills : IsSoundBill s.parts s.bills s.counter.next
+  pub stock : IsSoundStock s.parts (books_in s)
+
 pub record Follows (old new : State) : Type 0 where
-  pub sound : IsSoundState new
+  pub stores : AreSoundStores new
   pub numbers : old.counter.next ≤ new.counter.next
   pub entries : entries_in old ≤ entries_in new
 
-pub effect-follows : (s : State) → IsSoundState s → (day : CivilDay) (c : Command) → check s day c ≡ None → Follows s (effect s day c)
+effect-follows : (s : State) → AreSoundStores s → (day : CivilDay) (c : Command) → first (checks s day c) ≡ None → Follows s (effect s day c)
 effect-follows s sound day (command.Part c) none =
     let more = (catalogue.sound-effect c (register_in s) sound.bills.catalogue none).1 in record {
-      sound = record {
+      stores = record {
         bills = bills.sound-part_effect c (register_in s) s.bills sound.bills none;
         stock = beside.sound-part_effect c (register_in s) (books_in s) refl sound.bills.catalogue sound.stock none;
       };
@@ -45,7 +60,7 @@ effect-follows s sound day (command.Part c) none =
     }
 effect-follows s sound day (command.Bom c) none =
     let kept = changes.sound-effect c (open_parts s) s.parts (bill_books_in s) sound.bills none in record {
-      sound = record {
+      stores = record {
         bills = kept.0;
         stock = beside.sound-later s.parts (books_in s) (bom.effect c (bill_books_in s)).counter kept.1 (changes.effect-limits c (bill_books_in s)) sound.stock;
       };
@@ -54,7 +69,7 @@ effect-follows s sound day (command.Bom c) none =
     }
 effect-follows s sound day (command.Yard c) none =
     let kept = locations.sound-effect c (books_in s) sound.stock.items.locations none in record {
-      sound = record {
+      stores = record {
         bills = bills.sound-more s.parts s.bills s.counter.next (yard.effect c (books_in s)).counter.next kept.1 sound.bills;
         stock = beside.sound-yard_effect c s.parts (books_in s) sound.stock none;
       };
@@ -63,7 +78,7 @@ effect-follows s sound day (command.Yard c) none =
     }
 effect-follows s sound day (command.Stock c) none =
     let kept = effects.sound-effect c day s.parts (books_in s) sound.stock none in record {
-      sound = record {
+      stores = record {
         bills = bills.sound-more s.parts s.bills s.counter.next (stock.effect c day (books_in s)).counter.next kept.1.numbers sound.bills;
         stock = kept.0;
       };
@@ -71,31 +86,139 @@ effect-follows s sound day (command.Stock c) none =
       entries = kept.1.entries;
     }
 
-pub step-sound : (s : State) → IsSoundState s → (r : Request) → Follows s (step s r).0
-step-sound s sound r = go (check s r.day r.command) refl
-  where
-    go : (o : Option Refusal) → check s r.day r.command ≡ o → Follows s (by_check o s (effect s r.day r.command)).0
-    go (Some x) e = record { sound = sound; numbers = omega arith; entries = omega arith }
-    go None e = effect-follows s sound r.day r.command e
+-- where neither the key nor the command is refused, the command isn't
+passes : (taken : Bool) (x : Refusal) (cs : List Check) → first ((taken, x) ∷ cs) ≡ None → first cs ≡ None
+passes true x cs e = cc
+passes false x cs e = e
 
-pub Decides-sound : (s : State) → IsSoundState s → (r : Request) (o : Result Answer CoreFault) (t : State) → Decides s r o t → IsSoundState t
-Decides-sound s sound r (Ok a) t e = subst IsSoundState (ap (λ p. p.0) e) (step-sound s sound r).sound
-Decides-sound s sound r (Err (Refused x)) t e = subst IsSoundState (ap (λ p. p.0) e) (step-sound s sound r).sound
-Decides-sound s sound r (Err Memory) t e = subst IsSoundState (sym e) sound
+-- an answer that is kept beside changes nothing else
+beside_answer : (key : Option (List ℕ)) (text : List ℕ) (a : Answer) (old new : State) → Follows old new → Follows old (with_answer key text a new)
+beside_answer None text a old new f = f
+beside_answer (Some k) text a old new f = record { stores = record { bills = f.stores.bills; stock = f.stores.stock }; numbers = f.numbers; entries = f.entries }
+
+follows_itself : (s : State) → AreSoundStores s → Follows s s
+follows_itself s sound = record { stores = sound; numbers = omega arith; entries = omega arith }
+
+pub step-follows : (s : State) → AreSoundStores s → (r : Request) → Follows s (step s r).0
+step-follows s sound r = again (repeated r s)
+  where
+    after : State
+    after = effect s r.day r.command
+
+    anew : (o : Option Refusal) → check s r ≡ o → Follows s (by_check o s r after).0
+    anew (Some x) e = follows_itself s sound
+    anew None e =
+        beside_answer r.key (command_text r.command) (answer_of s after) s after
+        (effect-follows s sound r.day r.command (passes (is_key_taken r s) KeyTaken (checks s r.day r.command) e))
+
+    again : (o : Option Answer) → Follows s (by_repeat o s (step_anew s r)).0
+    again (Some a) = follows_itself s sound
+    again None = anew (check s r) refl
+
+-- ---- the answers that are kept
+
+abbrev AreKept : Table Kept → Type 0
+AreKept t = (k : List ℕ) (row : Kept) → table.get t k ≡ Some row → StandsKept k row
+
+effect-answers : (s : State) (day : CivilDay) (c : Command) → (effect s day c).answers ≡ s.answers
+effect-answers s day (command.Part c) = refl
+effect-answers s day (command.Bom c) = refl
+effect-answers s day (command.Yard c) = refl
+effect-answers s day (command.Stock c) = refl
+
+with-kept : (key : Option (List ℕ)) → IfSome key (λ k. is_key k ≡ true) → (text : List ℕ) (a : Answer) (s : State) → AreKept s.answers → AreKept (with_answer key text a s).answers
+with-kept None fits text a s kept = kept
+with-kept (Some key) fits text a s kept = λ k row e.
+    let new : Kept = record { word = key; command = text; answer = a } in
+    elim (get-insert_cases s.answers key new k row e) [
+      | inl same ↦ subst (StandsKept k) same.1 (record { own = same.0; key = fits })
+      | inr before ↦ kept k row before
+    ]
+
+step-kept : (s : State) (r : Request) → IfSome r.key (λ k. is_key k ≡ true) → AreKept s.answers → AreKept (step s r).0.answers
+step-kept s r fits kept = again (repeated r s)
+  where
+    after : State
+    after = effect s r.day r.command
+
+    anew : (o : Option Refusal) → AreKept (by_check o s r after).0.answers
+    anew (Some x) = kept
+    anew None = with-kept r.key fits (command_text r.command) (answer_of s after) after (subst AreKept (sym (effect-answers s r.day r.command)) kept)
+
+    again : (o : Option Answer) → AreKept (by_repeat o s (step_anew s r)).0.answers
+    again (Some a) = kept
+    again None = anew (check s r)
+
+pub sound_stores : (s : State) → IsSoundState s → AreSoundStores s
+sound_stores s sound = record { bills = sound.bills; stock = sound.stock }
+
+pub step-sound : (s : State) → IsSoundState s → (r : Request) → IfSome r.key (λ k. is_key k ≡ true) → IsSoundState (step s r).0
+step-sound s sound r fits =
+    let follows = step-follows s (sound_stores s sound) r in record {
+      bills = follows.stores.bills;
+      stock = follows.stores.stock;
+      answers = step-kept s r fits sound.answers;
+    }
+
+pub Decides-sound : (s : State) → IsSoundState s → (r : Request) → IfSome r.key (λ k. is_key k ≡ true) → (o : Result Answer CoreFault) (t : State) → Decides s r o t → IsSoundState t
+Decides-sound s sound r fits (Ok a) t e = subst IsSoundState (ap (λ p. p.0) e) (step-sound s sound r fits)
+Decides-sound s sound r fits (Err (Refused x)) t e = subst IsSoundState (ap (λ p. p.0) e) (step-sound s sound r fits)
+Decides-sound s sound r fits (Err Memory) t e = subst IsSoundState (sym e) sound
 
 -- ---- a step is what the machine of a crate did
 
-abbrev accepted : State × Answer → State × Outcome
-accepted p = (p.0, Ok p.1)
+abbrev accepted : Option (List ℕ) → List ℕ → State × Answer → State × Outcome
+accepted key text p = (with_answer key text p.1 p.0, Ok p.1)
 
 abbrev refused : Refusal → State → State × Outcome
 refused x s = (s, Err x)
 
--- what acts as checks and effect say decides the step
-pub decided : (s t : State) (r : Request) (o : Result Answer CoreFault) → Acts (checks s r.day r.command) (effect s r.day r.command, answer_of s (effect s r.day r.command)) s o t → Decides s r o t
-decided s t r (Ok a) acts = ap (λ o. by_check o s (effect s r.day r.command)) acts.0 ∙ ap accepted acts.1
-decided s t r (Err (Refused x)) acts = ap (λ o. by_check o s (effect s r.day r.command)) acts.0 ∙ ap (refused x) (sym acts.1)
-decided s t r (Err Memory) acts = acts
+-- the step of a request under whose key nothing is kept
+step-new : (s : State) (r : Request) → kept_for r s ≡ None → step s r ≡ by_check (first (checks s r.day r.command)) s r (effect s r.day r.command)
+step-new s r e = rw e refl
+
+pub step-repeated : (s : State) (r : Request) (row : Kept) → kept_for r s ≡ Some row → bytes_eq row.command (command_text r.command) ≡ true → step s r ≡ (s, Ok row.answer)
+step-repeated s r row e same = rw (e, same) refl
+
+pub step-taken : (s : State) (r : Request) (row : Kept) → kept_for r s ≡ Some row → bytes_eq row.command (command_text r.command) ≡ false → step s r ≡ (s, Err KeyTaken)
+step-taken s r row e other = rw (e, other) refl
+
+-- what acts as checks and effect say, and keeps its answer, decides the step
+pub decided-ok : (s t : State) (r : Request) (a : Answer) → kept_for r s ≡ None
+    → Acts (checks s r.day r.command) (effect s r.day r.command, answer_of s (effect s r.day r.command)) s (Ok a) t → Decides s r (Ok a) (with_answer r.key (command_text r.command) a t)
+decided-ok s t r a none acts =
+    step-new s r none
+    ∙ ap (λ o. by_check o s r (effect s r.day r.command)) acts.0
+    ∙ ap (accepted r.key (command_text r.command)) acts.1
+
+pub decided-err : (s t : State) (r : Request) (x : CoreFault) → kept_for r s ≡ None
+    → Acts (checks s r.day r.command) (effect s r.day r.command, answer_of s (effect s r.day r.command)) s (Err x) t → Decides s r (Err x) t
+decided-err s t r (Refused x) none acts = step-new s r none ∙ ap (λ o. by_check o s r (effect s r.day r.command)) acts.0 ∙ ap (refused x) (sym acts.1)
+decided-err s t r Memory none acts = acts
+
+pub decided-plain : (s t : State) (r : Request) (o : Result Answer CoreFault) → r.key ≡ None
+    → Acts (checks s r.day r.command) (effect s r.day r.command, answer_of s (effect s r.day r.command)) s o t → Decides s r o t
+decided-plain s t r (Ok a) none acts =
+    let none_kept : kept_for r s ≡ None = ap (λ k. option_and_then (λ key. table.get s.answers key) k) none in
+    subst (λ u. Decides s r (Ok a) u) (ap (λ k. with_answer k (command_text r.command) a t) none) (decided-ok s t r a none_kept acts)
+decided-plain s t r (Err x) none acts =
+    let none_kept : kept_for r s ≡ None = ap (λ k. option_and_then (λ key. table.get s.answers key) k) none in
+    decided-err s t r x none_kept acts
+
+-- such a step keeps what is sound
+pub plain-sound : (s : State) → IsSoundState s → (r : Request) → r.key ≡ None → (o : Result Answer CoreFault) (t : State)
+    → Acts (checks s r.day r.command) (effect s r.day r.command, answer_of s (effect s r.day r.command)) s o t → IsSoundState t
+plain-sound s sound r none o t acts = Decides-sound s sound r (subst (λ k. IfSome k (λ w. is_key w ≡ true)) (sym none) tt) o t (decided-plain s t r o none acts)
+
+-- an answer that is kept under a key keeps what is sound
+pub kept-sound : (s t u : State) → IsSoundState s → (day : CivilDay) (c : Command) (a : Answer)
+    → Acts (checks s day c) (effect s day c, answer_of s (effect s day c)) s (Ok a) t → (key : List ℕ) → is_key key ≡ true → (text : List ℕ) → u ≡ with_answer (Some key) text a t → IsSoundState u
+kept-sound s t u sound day c a acts key fits text e =
+    let follows = effect-follows s (sound_stores s sound) day c acts.0 in
+    let after = ap (λ p. p.0) acts.1 in
+    let kept : AreKept t.answers = subst (λ (v : State). AreKept v.answers) after (subst AreKept (sym (effect-answers s day c)) sound.answers) in
+    let stores = subst AreSoundStores after follows.stores in
+    subst IsSoundState (sym e) (record { bills = stores.bills; stock = stores.stock; answers = with-kept (Some key) fits text a t kept })
 
 -- ---- runs
 
@@ -145,50 +268,67 @@ AreDrawn-append : (a : ℕ) (xs : List ℕ) (b : ℕ) (ys : List ℕ) (c : ℕ) 
 AreDrawn-append a [] b ys c h k = subst (λ m. AreDrawn m ys c) h k
 AreDrawn-append a (x ∷ xs) b ys c h k = (h.0, AreDrawn-append (a + 1) xs b ys c h.1 k)
 
--- a step tells the numbers that it draws, and the entries that it writes
-pub record Tells (old new : State) (o : Outcome) : Type 0 where
-  pub drawn : AreDrawn old.counter.next (ids_of (o ∷ [])) new.counter.next
-  pub written : entries_in new ≡ entries_in old + entries_of (o ∷ [])
+-- a step tells the numbers that it draws, and the entries that it writes; a repeat draws and writes none
+pub record Tells (old new : State) (told : Option Answer) : Type 0 where
+  pub drawn : AreDrawn old.counter.next (ids_of (onto told [])) new.counter.next
+  pub written : entries_in new ≡ entries_in old + entries_of (onto told [])
 
-step-tells : (s : State) → IsSoundState s → (r : Request) → Tells s (step s r).0 (step s r).1
-step-tells s sound r = go (check s r.day r.command) refl
+with-tells : (key : Option (List ℕ)) (text : List ℕ) (a : Answer) (old new : State) (told : Option Answer) → Tells old new told → Tells old (with_answer key text a new) told
+with-tells None text a old new told h = h
+with-tells (Some k) text a old new told h = record { drawn = h.drawn; written = h.written }
+
+tells_nothing : (s : State) → Tells s s None
+tells_nothing s = record { drawn = refl; written = omega arith }
+
+step-tells : (s : State) → AreSoundStores s → (r : Request) → Tells s (step s r).0 (answer_anew (repeated r s) (step s r).1)
+step-tells s sound r = again (repeated r s)
   where
-    go : (o : Option Refusal) → check s r.day r.command ≡ o → Tells s (by_check o s (effect s r.day r.command)).0 (by_check o s (effect s r.day r.command)).1
-    go (Some x) e = record { drawn = refl; written = omega arith }
-    go None e =
-        let after = effect s r.day r.command in
-        let follows = effect-follows s sound r.day r.command e in record {
+    after : State
+    after = effect s r.day r.command
+
+    anew : (o : Option Refusal) → check s r ≡ o → Tells s (by_check o s r after).0 (answer_anew None (by_check o s r after).1)
+    anew (Some x) e = tells_nothing s
+    anew None e =
+        let follows = effect-follows s sound r.day r.command (passes (is_key_taken r s) KeyTaken (checks s r.day r.command) e) in
+        with-tells r.key (command_text r.command) (answer_of s after) s after (Some (answer_of s after)) (record {
           drawn = subst (λ l. AreDrawn s.counter.next l after.counter.next) (sym (append-nil _)) (between s.counter.next after.counter.next follows.numbers);
           written = omega (arith, follows.entries);
-        }
+        })
 
-ids_of-first : (o : Outcome) (os : List Outcome) → ids_of (o ∷ os) ≡ ids_of (o ∷ []) ++ ids_of os
-ids_of-first (Ok a) os = ap (λ l. l ++ ids_of os) (sym (append-nil _))
-ids_of-first (Err x) os = refl
+    again : (o : Option Answer) → Tells s (by_repeat o s (step_anew s r)).0 (answer_anew o (by_repeat o s (step_anew s r)).1)
+    again (Some a) = tells_nothing s
+    again None = anew (check s r) refl
 
-entries_of-first : (o : Outcome) (os : List Outcome) → entries_of (o ∷ os) ≡ entries_of (o ∷ []) + entries_of os
-entries_of-first (Ok a) os = omega arith
-entries_of-first (Err x) os = omega arith
+ids_of-first : (told : Option Answer) (rest : List Answer) → ids_of (onto told rest) ≡ ids_of (onto told []) ++ ids_of rest
+ids_of-first (Some a) rest = ap (λ l. l ++ ids_of rest) (sym (append-nil _))
+ids_of-first None rest = refl
 
--- a run draws the numbers from its first to its last, each once, and its history grows by what is told
-pub record RunTells (old new : State) (os : List Outcome) : Type 0 where
-  pub drawn : AreDrawn old.counter.next (ids_of os) new.counter.next
-  pub written : entries_in new ≡ entries_in old + entries_of os
+entries_of-first : (told : Option Answer) (rest : List Answer) → entries_of (onto told rest) ≡ entries_of (onto told []) + entries_of rest
+entries_of-first (Some a) rest = omega arith
+entries_of-first None rest = omega arith
 
-run-tells : (s : State) → IsSoundState s → (rs : List Request) → RunTells s (run s rs).0 (run s rs).1
+-- a run draws the numbers from its first to its last, each once, and its history grows by what is told anew
+pub record RunTells (old new : State) (told : List Answer) : Type 0 where
+  pub drawn : AreDrawn old.counter.next (ids_of told) new.counter.next
+  pub written : entries_in new ≡ entries_in old + entries_of told
+
+run-tells : (s : State) → AreSoundStores s → (rs : List Request) → RunTells s (run s rs).0 (answers_of s rs)
 run-tells s sound [] = record { drawn = refl; written = omega arith }
 run-tells s sound (r ∷ rs) =
     let next = (step s r).0 in
-    let o = (step s r).1 in
-    let rest = run-tells next (step-sound s sound r).sound rs in
+    let told = answer_anew (repeated r s) (step s r).1 in
+    let rest = run-tells next (step-follows s sound r).stores rs in
     let one = step-tells s sound r in record {
-      drawn = subst (λ l. AreDrawn s.counter.next l (run next rs).0.counter.next) (sym (ids_of-first o (run next rs).1))
-          (AreDrawn-append s.counter.next (ids_of (o ∷ [])) next.counter.next (ids_of (run next rs).1) (run next rs).0.counter.next one.drawn rest.drawn);
-      written = omega (arith, one.written, rest.written, entries_of-first o (run next rs).1);
+      drawn = subst (λ l. AreDrawn s.counter.next l (run next rs).0.counter.next) (sym (ids_of-first told (answers_of next rs)))
+          (AreDrawn-append s.counter.next (ids_of (onto told [])) next.counter.next (ids_of (answers_of next rs)) (run next rs).0.counter.next one.drawn rest.drawn);
+      written = omega (arith, one.written, rest.written, entries_of-first told (answers_of next rs));
     }
 
-pub told_in : (s : State) → IsSoundState s → (rs : List Request) (t : State) (os : List Outcome) → run s rs ≡ (t, os) → RunTells s t os
-told_in s sound rs t os e = subst (λ (p : State × List Outcome). RunTells s p.0 p.1) e (run-tells s sound rs)
+pub told_in : (s : State) → IsSoundState s → (rs : List Request) (t : State) (os : List Outcome) → run s rs ≡ (t, os) → RunTells s t (answers_of s rs)
+told_in s sound rs t os e = subst (λ (p : State × List Outcome). RunTells s p.0 (answers_of s rs)) e (run-tells s (sound_stores s sound) rs)
 
 pub start-sound : (limits : Limits) → IsSoundState (start limits)
-start-sound limits = record { bills = variants.sound-nothing; stock = beside.sound-nothing limits }
+start-sound limits = record { bills = variants.sound-nothing; stock = beside.sound-nothing limits; answers = none_kept }
+  where
+    none_kept : AreKept table.empty
+    none_kept k row e = absurd (let none : table.get (table.empty {X = Kept} {R = key_cmp}) k ≡ None = table.get-empty key_cmp k in let both : None ≡ Some row = sym none ∙ e in cc)

@@ -1,17 +1,20 @@
 -- The stock machine: its state, the checks of each command, its effect, one step and a run.
-use Rattle.std.specs.Prelude.{◌≡◌, ℕ, ◌+◌, ◌-◌, List, [], ◌∷◌, ◌++◌, Option, Some, None, Result, Ok, Err}
+use Rattle.std.specs.Prelude.{◌≡◌, ℕ, ◌+◌, ◌-◌, Bool, true, false, not, if◌then◌else◌, List, [], ◌∷◌, ◌++◌, Option, Some, None, option_and_then, Result, Ok, Err}
 use Rattle.std.specs.FinMap as table
+use Rattle.std.specs.Str.{bytes_eq}
 use Rattle.part_core.specs.Catalogue.{Parts, Register, no_parts}
 use Rattle.part_core.specs.Checks.{Check, first, AreInOrder}
 use Rattle.part_core.specs.Counter.{Numbering, numbers_between}
 use Rattle.part_core.specs.Counter as counter
 use Rattle.part_core.specs.Day.{CivilDay}
 use Rattle.part_core.specs.PartMachine as part
+use Rattle.part_core.specs.Sheet.{Table}
 use Rattle.part_core.specs.declared.answer.Answer.{Answer}
 use Rattle.part_core.specs.declared.limits.Limits.{Limits}
 use Rattle.part_core.specs.declared.refusal.CoreFault.{CoreFault}
 use Rattle.part_core.specs.declared.refusal.CoreFault.TheVariants.{Refused, Memory}
 use Rattle.part_core.specs.declared.refusal.Refusal.{Refusal}
+use Rattle.part_core.specs.declared.refusal.Refusal.TheVariants.{KeyTaken}
 use Rattle.bom_core.specs.Bills.{Bills, no_bills}
 use Rattle.bom_core.specs.BomMachine as bom
 use Rattle.bom_core.specs.Changes.{BillBooks}
@@ -24,6 +27,9 @@ use Rattle.stock_core.specs.StockMachine as stock
 use Rattle.desk_core.specs.declared.command.Command.{Command}
 use Rattle.desk_core.specs.declared.command.Command.TheVariants as command
 use Rattle.desk_core.specs.declared.command.Request.{Request}
+use Rattle.desk_core.specs.declared.kept.Kept.{Kept}
+use Rattle.desk_core.specs.CommandText.{command_text}
+use Rattle.desk_core.specs.Key.{is_key}
 
 pub record State : Type 0 where
   pub parts : Parts
@@ -31,10 +37,12 @@ pub record State : Type 0 where
   pub stock : Stock
   -- the next row number, and the limits
   pub counter : Numbering
+  -- the answers that are kept, each under its key
+  pub answers : Table Kept
 
 -- the state with nothing in it
 abbrev pub start : Limits → State
-start limits = record { parts = no_parts; bills = no_bills; stock = empty_stock; counter = counter.start limits }
+start limits = record { parts = no_parts; bills = no_bills; stock = empty_stock; counter = counter.start limits; answers = table.empty }
 
 -- ---- what the commands of each crate read and change
 
@@ -48,13 +56,13 @@ abbrev pub books_in : State → Books
 books_in s = record { stock = s.stock; counter = s.counter }
 
 abbrev pub with_register : State → Register → State
-with_register s r = record { parts = r.parts; bills = s.bills; stock = s.stock; counter = r.counter }
+with_register s r = record { parts = r.parts; bills = s.bills; stock = s.stock; counter = r.counter; answers = s.answers }
 
 abbrev pub with_bill_books : State → BillBooks → State
-with_bill_books s b = record { parts = s.parts; bills = b.bills; stock = s.stock; counter = b.counter }
+with_bill_books s b = record { parts = s.parts; bills = b.bills; stock = s.stock; counter = b.counter; answers = s.answers }
 
 abbrev pub with_books : State → Books → State
-with_books s b = record { parts = s.parts; bills = s.bills; stock = b.stock; counter = b.counter }
+with_books s b = record { parts = s.parts; bills = s.bills; stock = b.stock; counter = b.counter; answers = s.answers }
 
 -- ---- checks and effects
 
@@ -69,13 +77,9 @@ checks s day (command.Bom c) = bom.checks c (open_parts s) s.parts (bill_books_i
 checks s day (command.Yard c) = yard.checks c (books_in s)
 checks s day (command.Stock c) = stock.checks c day s.parts (books_in s)
 
--- each command's refusals stand in the one order of checks
+-- each command's refusals stand in the one order of checks, in which that of a key comes before them
 abbrev pub ChecksAreInOrder : Type 0
 ChecksAreInOrder = (s : State) (day : CivilDay) (c : Command) → AreInOrder (checks s day c)
-
--- the first refusal whose condition holds
-abbrev pub check : State → CivilDay → Command → Option Refusal
-check s day c = first (checks s day c)
 
 -- the state after an accepted command
 abbrev pub effect : State → CivilDay → Command → State
@@ -92,35 +96,94 @@ entries_in s = table.len s.stock.history
 abbrev pub answer_of : State → State → Answer
 answer_of old new = record { ids = numbers_between old.counter new.counter; entries = entries_in new - entries_in old }
 
+-- ---- keys
+
+-- what is kept under the request's key
+abbrev pub kept_for : Request → State → Option Kept
+kept_for r s = option_and_then (λ key. table.get s.answers key) r.key
+
+abbrev pub answer_of_same : List ℕ → Option Kept → Option Answer
+answer_of_same text None = None
+answer_of_same text (Some kept) = if bytes_eq kept.command text then Some kept.answer else None
+
+-- the answer that is kept for this very command, whatever its day
+abbrev pub repeated : Request → State → Option Answer
+repeated r s = answer_of_same (command_text r.command) (kept_for r s)
+
+abbrev pub is_other : List ℕ → Option Kept → Bool
+is_other text None = false
+is_other text (Some kept) = not (bytes_eq kept.command text)
+
+-- another command is kept under the request's key
+abbrev pub is_key_taken : Request → State → Bool
+is_key_taken r s = is_other (command_text r.command) (kept_for r s)
+
+-- the conditions of a request's refusals: that of its key comes first
+abbrev pub request_checks : State → Request → List Check
+request_checks s r = (is_key_taken r s, KeyTaken) ∷ checks s r.day r.command
+
+-- the first refusal whose condition holds
+abbrev pub check : State → Request → Option Refusal
+check s r = first (request_checks s r)
+
+-- the answer is kept under the key, where there is one
+abbrev pub with_answer : Option (List ℕ) → List ℕ → Answer → State → State
+with_answer None text answer s = s
+with_answer (Some key) text answer s =
+    record s { answers = table.insert s.answers key (record { word = key; command = text; answer = answer }) }
+
 -- ---- steps and runs
 
 abbrev pub Outcome : Type 0
 Outcome = Result Answer Refusal
 
--- a refusal changes nothing
-abbrev pub by_check : Option Refusal → State → State → State × Outcome
-by_check (Some refusal) s after = (s, Err refusal)
-by_check None s after = (after, Ok (answer_of s after))
+-- a refusal changes nothing and keeps nothing; after is what the command does to the state
+abbrev pub by_check : Option Refusal → State → Request → State → State × Outcome
+by_check (Some refusal) s r after = (s, Err refusal)
+by_check None s r after =
+    (with_answer r.key (command_text r.command) (answer_of s after) after, Ok (answer_of s after))
+
+-- a request that isn't a repeat is refused, or its command is done
+abbrev pub step_anew : State → Request → State × Outcome
+step_anew s r = by_check (check s r) s r (effect s r.day r.command)
+
+-- a repeat gets the answer that is kept, and changes nothing
+abbrev pub by_repeat : Option Answer → State → State × Outcome → State × Outcome
+by_repeat (Some answer) s anew = (s, Ok answer)
+by_repeat None s anew = anew
 
 abbrev pub step : State → Request → State × Outcome
-step s r = by_check (check s r.day r.command) s (effect s r.day r.command)
+step s r = by_repeat (repeated r s) s (step_anew s r)
 
 -- the last state of a list of requests, and their outcomes in order
 abbrev pub run : State → List Request → State × List Outcome
 run s [] = (s, [])
 run s (r ∷ rs) = ((run (step s r).0 rs).0, (step s r).1 ∷ (run (step s r).0 rs).1)
 
--- the numbers that outcomes tell, in order
-abbrev pub ids_of : List Outcome → List ℕ
-ids_of [] = []
-ids_of (Ok answer ∷ os) = answer.ids ++ ids_of os
-ids_of (Err refusal ∷ os) = ids_of os
+-- the answer of a request that isn't a repeat
+abbrev pub answer_anew : Option Answer → Outcome → Option Answer
+answer_anew None (Ok answer) = Some answer
+answer_anew None (Err refusal) = None
+answer_anew (Some again) outcome = None
 
--- how many entries outcomes tell
-abbrev pub entries_of : List Outcome → ℕ
+abbrev pub onto : Option Answer → List Answer → List Answer
+onto None rest = rest
+onto (Some answer) rest = answer ∷ rest
+
+-- the answers of a run, in order, without those of repeats
+abbrev pub answers_of : State → List Request → List Answer
+answers_of s [] = []
+answers_of s (r ∷ rs) = onto (answer_anew (repeated r s) (step s r).1) (answers_of (step s r).0 rs)
+
+-- the numbers that answers tell, in order
+abbrev pub ids_of : List Answer → List ℕ
+ids_of [] = []
+ids_of (answer ∷ rest) = answer.ids ++ ids_of rest
+
+-- how many entries answers tell
+abbrev pub entries_of : List Answer → ℕ
 entries_of [] = 0
-entries_of (Ok answer ∷ os) = answer.entries + entries_of os
-entries_of (Err refusal ∷ os) = entries_of os
+entries_of (answer ∷ rest) = answer.entries + entries_of rest
 
 -- these are the numbers from the one to the other, each once
 abbrev pub AreDrawn : ℕ → List ℕ → ℕ → Type 0
@@ -150,7 +213,14 @@ told (Err (Refused refusal) ∷ os) = Err refusal ∷ told os
 
 -- ---- what holds in every state that a run reaches
 
--- the bills with their catalogue, and the stock with its locations and its history, beside the counter
+-- a kept answer stands under its own key, which is one
+pub record StandsKept (k : List ℕ) (row : Kept) : Type 0 where
+  pub own : k ≡ row.word
+  pub key : is_key row.word ≡ true
+
+-- the bills with their catalogue, and the stock with its locations and its history, beside the counter; and the
+-- answers that are kept
 pub record IsSoundState (s : State) : Type 0 where
   pub bills : IsSoundBill s.parts s.bills s.counter.next
   pub stock : IsSoundStock s.parts (books_in s)
+  pub answers : (k : List ℕ) (row : Kept) → table.get s.answers k ≡ Some row → StandsKept k row

@@ -1,6 +1,7 @@
 -- What a contract sees of a shop: the machine's state now, and as last kept.
 use Rattle.part_core.specs.Catalogues.{parts_of, kept_parts}
 use Rattle.part_core.specs.Counter.{kept_numbering, numbering_of}
+use Rattle.part_core.specs.Sheet.{now_of}
 use Rattle.bom_core.specs.Boms.{bills_of, kept_bills}
 use Rattle.yard_core.specs.Yards.{stock_of, kept_of}
 use Rattle.desk_core.specs.declared.shop.Shop.{Shop}
@@ -8,8 +9,20 @@ use Rattle.desk_core.specs.Machine.{State}
 
 abbrev pub state_of : Shop → State
 state_of shop =
-    record { parts = parts_of shop.catalogue; bills = bills_of shop.boms; stock = stock_of shop.yard; counter = numbering_of shop.counter }
+    record {
+      parts = parts_of shop.catalogue;
+      bills = bills_of shop.boms;
+      stock = stock_of shop.yard;
+      counter = numbering_of shop.counter;
+      answers = now_of shop.answers;
+    }
 
 abbrev pub kept_state : Shop → State
 kept_state shop =
-    record { parts = kept_parts shop.catalogue; bills = kept_bills shop.boms; stock = kept_of shop.yard; counter = kept_numbering shop.counter }
+    record {
+      parts = kept_parts shop.catalogue;
+      bills = kept_bills shop.boms;
+      stock = kept_of shop.yard;
+      counter = kept_numbering shop.counter;
+      answers = shop.answers.kept;
+    }

@@ -1,5 +1,5 @@
 //! The key of a request.
-ghost use Rattle.std.specs.Prelude.{◌≡◌, ◌↔◌, IsTrue, IsSome, IfOk, IfSome};
+ghost use Rattle.std.specs.Prelude.{◌≡◌, ◌↔◌, true, IsTrue, IsSome, IfOk, IfSome};
 ghost use Rattle.std.specs.String.{string_bytes};
 ghost use Rattle.std.specs.List.{list_all};
 ghost use Rattle.desk_core.specs.Key.{is_key, is_visible};
@@ -61,7 +61,8 @@ impl Key {
 
     /// The key as a text of its own, by which a kept answer is looked up.
     pub fn text(&self) -> &String
-        ensures { string_bytes result.now ≡ self.now }
+        ensures value { string_bytes result.now ≡ self.now }
+        ensures fits { is_key self.now ≡ true }
     {
         &self.text
     }

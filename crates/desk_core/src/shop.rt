@@ -4,29 +4,33 @@
 //! begins by keeping what is there. From then on each store knows what it held before the request: a call that
 //! stands for a command takes its own changes back where it is refused or memory ends, so that nothing is pending
 //! after that, and after an answer exactly this request's changes are.
-ghost use Rattle.std.specs.Prelude.{◌≡◌, ◌+◌, ℕ, length, IfOk, OnErr};
+ghost use Rattle.std.specs.Prelude.{◌≡◌, ◌+◌, ℕ, Some, length, IfOk, OnErr, OnOk};
 ghost use Rattle.part_core.specs.Acts.{Acts};
 ghost use Rattle.bom_core.specs.Walks.{IsAcyclic};
 ghost use Rattle.forest.specs.Forest.{Balanced};
 ghost use Rattle.yard_core.specs.Stock.{machine_of};
 ghost use Rattle.stock_core.specs.Sound.{SerialsStandOnce};
-ghost use Rattle.desk_core.specs.Machine.{AreDrawn, Decides, IsSoundState, answer_of, answered, checks, effect, entries_in, entries_of, ids_of, open_parts, run, start, told};
+ghost use Rattle.desk_core.specs.Machine.{AreDrawn, Decides, IsSoundState, answer_of, answered, answers_of, checks, effect, entries_in, entries_of, ids_of, open_parts, run, start, told, with_answer};
 ghost use Rattle.desk_core.specs.Shops.{kept_state, state_of};
 
 use crate::command::{Command, Request};
+use crate::kept::{CommandText, Kept};
+use crate::key::Key;
+use crate::texts::command_text;
 use bom_core::{Boms, bom_command};
-use part_core::{Answer, Catalogue, CoreFault, Counter, Id, Limits, part_command};
+use part_core::{Answer, Catalogue, CoreFault, Counter, Id, Limits, Refusal, Sheet, part_command};
 use std::alloc::{AllocError, Global};
 use stock_core::stock_command;
 use yard_core::{Yard, yard_command};
 
-/// All that a desk holds: the catalogue, the bills, the yard and the counter.
+/// All that a desk holds: the catalogue, the bills, the yard, the counter and the answers that are kept.
 #[derive(Drop)]
 pub struct Shop {
     catalogue: Catalogue,
     boms: Boms,
     yard: Yard,
     counter: Counter,
+    answers: Sheet<Kept>,
     alloc: Global,
 }
 
@@ -42,6 +46,7 @@ impl Shop {
             boms: Boms::new(alloc),
             yard: Yard::new(alloc),
             counter: Counter::new(limits),
+            answers: Sheet::new(alloc),
             alloc,
         }
     }
@@ -72,6 +77,13 @@ impl Shop {
         ensures { result.now ≡ self.now.counter }
     {
         &self.counter
+    }
+
+    /// The answers that are kept, as a sheet.
+    pub fn answers(&self) -> &Sheet<Kept>
+        ensures { result.now ≡ self.now.answers }
+    {
+        &self.answers
     }
 
     /// The parts with an open build: no command opens one yet.
@@ -122,6 +134,52 @@ impl Shop {
         }
     }
 
+    /// Keeps the answer under the key.
+    fn keep_answer(
+        &mut self,
+        key: &Key,
+        command: CommandText,
+        answer: &Answer,
+    ) -> Result<(), AllocError>
+        ensures ok { OnOk result (state_of self.new ≡ with_answer (Some key.now) command answer.now (state_of self.old)) }
+        ensures kept { kept_state self.new ≡ kept_state self.old }
+    {
+        let word = key.copy(self.alloc)?;
+        let answer = answer.copy(self.alloc)?;
+        self.answers.put(Kept {
+            word,
+            command,
+            answer,
+        })
+    }
+
+    /// Does the request of this key, once: a repeat is answered as before, another command is refused.
+    fn act_once(&mut self, key: &Key, request: &Request) -> Result<Answer, CoreFault>
+        requires named { request.now.key ≡ Some key.now }
+        requires nothing_pending { kept_state self.old ≡ state_of self.old }
+        requires sound { IsSoundState (state_of self.old) }
+        ensures decides { Decides (state_of self.old) request.now result (state_of self.new) }
+        ensures pending { OnErr result (kept_state self.new ≡ state_of self.new) }
+        ensures kept { kept_state self.new ≡ kept_state self.old }
+        ensures sound { IsSoundState (state_of self.new) }
+    {
+        let command = CommandText::new(command_text(self.alloc, &request.command)?);
+        if let Some(kept) = self.answers.get(key.text()) {
+            if !kept.command.equals(&command) {
+                return Err(CoreFault::Refused(Refusal::KeyTaken));
+            }
+            return Ok(kept.answer.copy(self.alloc)?);
+        }
+        let answer = self.act(request)?;
+        match self.keep_answer(key, command, &answer) {
+            Ok(()) => Ok(answer),
+            Err(_) => {
+                self.back();
+                Err(CoreFault::Memory)
+            }
+        }
+    }
+
     /// What is pending stays so.
     pub fn keep(&mut self)
         ensures now { state_of self.new ≡ state_of self.old }
@@ -131,6 +189,7 @@ impl Shop {
         self.boms.keep();
         self.yard.keep();
         self.counter.keep();
+        self.answers.keep();
     }
 
     /// What is pending is taken back.
@@ -142,6 +201,7 @@ impl Shop {
         self.boms.back();
         self.yard.back();
         self.counter.back();
+        self.answers.back();
     }
 
     /// One step of the machine. What was pending before is kept, and what is pending after are this
@@ -154,7 +214,10 @@ impl Shop {
         ensures sound { IsSoundState (state_of self.new) }
     {
         self.keep();
-        self.act(request)
+        match &request.key {
+            None => self.act(request),
+            Some(key) => self.act_once(key, request),
+        }
     }
 
     /// A run of the machine over the requests that did not end by want of memory. The list of outcomes
@@ -165,10 +228,15 @@ impl Shop {
         requests: &[Request],
     ) -> Result<Vec<Result<Answer, CoreFault>>, AllocError>
         requires { IsSoundState (state_of self.old) }
-        ensures ran { IfOk result (λ outcomes. run (state_of self.old) (answered requests.now outcomes.items) ≡ (state_of self.new, told outcomes.items)) }
+        ensures ran { IfOk result (λ outcomes.
+            run (state_of self.old) (answered requests.now outcomes.items) ≡ (state_of self.new, told outcomes.items)) }
         ensures count { IfOk result (λ outcomes. length outcomes.items ≡ length requests.now) }
-        ensures drawn { IfOk result (λ outcomes. AreDrawn (state_of self.old).counter.next (ids_of (told outcomes.items)) (state_of self.new).counter.next) }
-        ensures written { IfOk result (λ outcomes. entries_in (state_of self.new) ≡ entries_in (state_of self.old) + entries_of (told outcomes.items)) }
+        ensures drawn { IfOk result (λ outcomes.
+            let answers = answers_of (state_of self.old) (answered requests.now outcomes.items) in
+            AreDrawn (state_of self.old).counter.next (ids_of answers) (state_of self.new).counter.next) }
+        ensures written { IfOk result (λ outcomes.
+            let answers = answers_of (state_of self.old) (answered requests.now outcomes.items) in
+            entries_in (state_of self.new) ≡ entries_in (state_of self.old) + entries_of answers) }
         ensures balanced { (part : ℕ) → Balanced part (machine_of (state_of self.new).stock) }
         ensures serials { SerialsStandOnce (state_of self.new).parts (state_of self.new).stock }
         ensures acyclic { IsAcyclic (state_of self.new).parts (state_of self.new).bills }

@@ -1,7 +1,7 @@
-use Rattle.std.proofs.Common.{◌≡◌, ◌+◌, ◌++◌, ◌∷◌, [], length, take, sym, ap, ◌∙◌, arith}
+use Rattle.std.proofs.Common.{◌≡◌, ◌+◌, ◌++◌, ◌∷◌, [], length, take, sym, ap, ◌∙◌, subst, arith}
 use Rattle.std.proofs.lemmas.Grind.{common_steps}
-use Rattle.std.proofs.lemmas.List.{take_more}
-use Rattle.desk_core.specs.Machine.{answered, told}
+use Rattle.std.proofs.lemmas.List.{take_all, take_more}
+use Rattle.desk_core.specs.Machine.{AreDrawn, answered, answers_of, entries_in, entries_of, ids_of, told}
 use Rattle.desk_core.specs.Shops.{state_of}
 use Rattle.desk_core.proofs.Steps.{run-push, told_in}
 use Rattle.desk_core.proofs.shop.Shop.run_list.Goals as goal
@@ -25,9 +25,13 @@ loop-request-preserved c =
 pub returns-clause-drawn : goal.returns-clause-drawn
 returns-clause-drawn c =
     let outcomes = c.loop-request.outcomes.items in
+    let all : take c.loop-request.request-index c.args.requests.now ≡ c.args.requests.now = take_all c.loop-request.request-index c.args.requests.now (omega arith) in
+    subst (λ rs. AreDrawn (state_of c.args.self.now).counter.next (ids_of (answers_of (state_of c.args.self.now) (answered rs outcomes))) (state_of c.loop-request.self).counter.next) all
     (told_in (state_of c.args.self.now) c.requires (answered (take c.loop-request.request-index c.args.requests.now) outcomes) (state_of c.loop-request.self) (told outcomes) c.loop-request.invariant.ran).drawn
 
 pub returns-clause-written : goal.returns-clause-written
 returns-clause-written c =
     let outcomes = c.loop-request.outcomes.items in
+    let all : take c.loop-request.request-index c.args.requests.now ≡ c.args.requests.now = take_all c.loop-request.request-index c.args.requests.now (omega arith) in
+    subst (λ rs. entries_in (state_of c.loop-request.self) ≡ entries_in (state_of c.args.self.now) + entries_of (answers_of (state_of c.args.self.now) (answered rs outcomes))) all
     (told_in (state_of c.args.self.now) c.requires (answered (take c.loop-request.request-index c.args.requests.now) outcomes) (state_of c.loop-request.self) (told outcomes) c.loop-request.invariant.ran).written
