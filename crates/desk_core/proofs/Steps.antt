@@ -91,6 +91,14 @@ passes : (taken : Bool) (x : Refusal) (cs : List Check) → first ((taken, x) �
 passes true x cs e = cc
 passes false x cs e = e
 
+passes_taken : (taken : Bool) (x : Refusal) (cs : List Check) → first ((taken, x) ∷ cs) ≡ None → taken ≡ false
+passes_taken true x cs e = cc
+passes_taken false x cs e = refl
+
+-- where a request isn't refused, its key isn't taken
+pub passes_key : (s : State) (r : Request) → check s r ≡ None → is_key_taken r s ≡ false
+passes_key s r e = passes_taken (is_key_taken r s) KeyTaken (checks s r.day r.command) e
+
 -- an answer that is kept beside changes nothing else
 beside_answer : (key : Option (List ℕ)) (text : List ℕ) (a : Answer) (old new : State) → Follows old new → Follows old (with_answer key text a new)
 beside_answer None text a old new f = f
@@ -120,7 +128,7 @@ step-follows s sound r = again (repeated r s)
 abbrev AreKept : Table Kept → Type 0
 AreKept t = (k : List ℕ) (row : Kept) → table.get t k ≡ Some row → StandsKept k row
 
-effect-answers : (s : State) (day : CivilDay) (c : Command) → (effect s day c).answers ≡ s.answers
+pub effect-answers : (s : State) (day : CivilDay) (c : Command) → (effect s day c).answers ≡ s.answers
 effect-answers s day (command.Part c) = refl
 effect-answers s day (command.Bom c) = refl
 effect-answers s day (command.Yard c) = refl

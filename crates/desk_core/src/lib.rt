@@ -6,6 +6,7 @@ mod command;
 mod kept;
 mod key;
 mod order;
+mod repeats;
 mod shop;
 mod texts;
 
@@ -14,5 +15,6 @@ pub use command::{Command, Request};
 pub use kept::{CommandText, Kept};
 pub use key::{Key, is_key};
 pub use order::checks_are_in_order;
+pub use repeats::{later_repeats_change_nothing, repeats_change_nothing, sending_again_ends_alike};
 pub use shop::Shop;
 pub use texts::{command_text, texts_tell_commands};

@@ -1,0 +1,40 @@
+-- What comes of sending a request with a key again.
+use Rattle.std.specs.Prelude.{◌≡◌, ℕ, List, [], ◌∷◌, ◌++◌, Some, IsSome, Ok, Err}
+use Rattle.part_core.specs.declared.answer.Answer.{Answer}
+use Rattle.desk_core.specs.declared.command.Request.{Request}
+use Rattle.desk_core.specs.CommandText.{command_text}
+use Rattle.desk_core.specs.Machine.{State, Outcome, step, run}
+
+-- each request has a key
+abbrev pub AreKeyed : List Request → Type 0
+AreKeyed [] = Unit {0}
+AreKeyed (r ∷ rs) = IsSome r.key × AreKeyed rs
+
+-- each request was accepted
+abbrev pub AreAccepted : List Outcome → Type 0
+AreAccepted [] = Unit {0}
+AreAccepted (Ok answer ∷ os) = AreAccepted os
+AreAccepted (Err refusal ∷ os) = ⊥
+
+-- the request has the key and the command of the other, on whatever day
+pub record IsRepeat (again r : Request) : Type 0 where
+  pub key : again.key ≡ r.key
+  pub command : command_text again.command ≡ command_text r.command
+
+-- a later repeat of a request that was accepted gets its answer and changes nothing
+abbrev pub LaterRepeatsChangeNothing : Type 0
+LaterRepeatsChangeNothing =
+    (s : State) (before between : List Request) (r again : Request) (answer : Answer)
+    → IsSome r.key
+    → IsRepeat again r
+    → (step (run s before).0 r).1 ≡ Ok answer
+    → (let then_ = (run s (before ++ r ∷ between)).0 in step then_ again ≡ (then_, Ok answer))
+
+-- a list of accepted requests that is run again ends in the same state with the same outcomes
+abbrev pub RepeatsChangeNothing : Type 0
+RepeatsChangeNothing = (s : State) (rs : List Request) → AreKeyed rs → AreAccepted (run s rs).1 → run (run s rs).0 rs ≡ run s rs
+
+-- where the first of a list were run and accepted, the whole list, sent again, ends as if it had been sent once
+abbrev pub SendingAgainEndsAlike : Type 0
+SendingAgainEndsAlike = (s : State) (done rest : List Request) → AreKeyed done → AreAccepted (run s done).1
+    → run (run s done).0 (done ++ rest) ≡ run s (done ++ rest)
