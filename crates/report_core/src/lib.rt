@@ -1,6 +1,18 @@
 //! Reports: what a shop shows of a part or an item, as lines of fields.
 #![tactic(auto)]
 
+mod fields;
+pub mod history;
+pub mod ledger;
+mod lines;
 mod name;
+mod reports;
+pub mod stock;
+pub mod where_used;
 
+pub use lines::Report;
 pub use name::{ReportName, report_named};
+pub use reports::report;
+
+#[cfg(test)]
+mod tests;
