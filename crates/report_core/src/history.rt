@@ -1,6 +1,5 @@
 //! The history of an item: what became of it.
 ghost use Rattle.std.specs.Prelude.{◌≡◌, map, IfOk};
-ghost use Rattle.desk_core.specs.Machine.{IsSoundState};
 ghost use Rattle.desk_core.specs.Shops.{state_of};
 ghost use Rattle.report_core.specs.History.{entry_line, history_lines};
 ghost use Rattle.report_core.specs.Lines.{Gives, fields_of, lines_of};

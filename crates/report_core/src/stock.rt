@@ -1,6 +1,5 @@
 //! The stock of a part: each of its items that isn't gone.
 ghost use Rattle.std.specs.Prelude.{◌≡◌, map, IfOk};
-ghost use Rattle.desk_core.specs.Machine.{IsSoundState};
 ghost use Rattle.desk_core.specs.Shops.{state_of};
 ghost use Rattle.report_core.specs.Lines.{Gives, fields_of, lines_of};
 ghost use Rattle.report_core.specs.Stock.{is_stock_of, item_line, stock_lines};
