@@ -1,6 +1,19 @@
 //! Reports: what a shop shows of a part or an item, as lines of fields.
 #![tactic(auto)]
 
+mod fields;
+pub mod history;
+pub mod ledger;
+mod lines;
 mod name;
+mod reports;
+pub mod stock;
+pub mod where_used;
 
+pub use lines::Report;
 pub use name::{ReportName, report_named};
+pub use reports::report;
+pub use where_used::uses_tells_walks;
+
+#[cfg(test)]
+mod tests;

@@ -1,0 +1,66 @@
+-- What stands in the fields of a report.
+use Rattle.std.specs.Prelude.{ℕ, nat_lt, if◌then◌else◌, List, [], ◌∷◌, ◌++◌, codes, decimal, Option, Some, None}
+use Rattle.part_core.specs.Day.{CivilDay}
+use Rattle.part_core.specs.declared.status.Status.{Status}
+use Rattle.part_core.specs.declared.status.Status.TheVariants.{Okay, Attention, Damaged, Destroyed, Rejected, Lost, Quarantined}
+use Rattle.part_core.specs.declared.status.Status.TheVariants as status
+use Rattle.forest.specs.declared.entry.Kind.{Kind}
+use Rattle.forest.specs.declared.entry.Kind.TheVariants.{Received, Found, Built, Consumed, Shipped, Returned, Written, Moved, Cut, Poured, Installed, TakenOut, Marked}
+use Rattle.forest.specs.declared.place.Place.{Place}
+use Rattle.forest.specs.declared.place.Place.TheVariants.{At, In, Output, Sent, Used, Off, Gone}
+use Rattle.forest.specs.declared.place.Reason.{Reason}
+use Rattle.forest.specs.declared.place.Reason.TheVariants.{Removed, Counted, Disassembled, Scrapped}
+
+abbrev pub kind_name : Kind → List ℕ
+kind_name Received = codes "received"
+kind_name Found = codes "found"
+kind_name Built = codes "built"
+kind_name Consumed = codes "consumed"
+kind_name Shipped = codes "shipped"
+kind_name Returned = codes "returned"
+kind_name Written = codes "written"
+kind_name Moved = codes "moved"
+kind_name Cut = codes "cut"
+kind_name Poured = codes "poured"
+kind_name Installed = codes "installed"
+kind_name TakenOut = codes "taken_out"
+kind_name Marked = codes "marked"
+
+abbrev pub status_name : Status → List ℕ
+status_name Okay = codes "OK"
+status_name Attention = codes "Attention"
+status_name Damaged = codes "Damaged"
+status_name Destroyed = codes "Destroyed"
+status_name Rejected = codes "Rejected"
+status_name Lost = codes "Lost"
+status_name Quarantined = codes "Quarantined"
+status_name status.Returned = codes "Returned"
+
+abbrev pub reason_name : Reason → List ℕ
+reason_name Removed = codes "removed"
+reason_name Counted = codes "counted"
+reason_name Disassembled = codes "disassembled"
+reason_name Scrapped = codes "scrapped"
+
+-- a place, with the number of the row that it names
+abbrev pub place_text : Place → List ℕ
+place_text (At location) = codes "at " ++ decimal location
+place_text (In item) = codes "in " ++ decimal item
+place_text (Output build) = codes "output " ++ decimal build
+place_text (Sent order) = codes "sent " ++ decimal order
+place_text (Used build) = codes "used " ++ decimal build
+place_text (Off reason) = codes "off " ++ reason_name reason
+place_text Gone = codes "gone"
+
+-- a number below 100, in two digits
+abbrev pub two_digits : ℕ → List ℕ
+two_digits n = if nat_lt n 10 then 48 ∷ decimal n else decimal n
+
+-- a day as `YYYY-MM-DD`
+abbrev pub day_text : CivilDay → List ℕ
+day_text d = decimal d.year ++ 45 ∷ two_digits d.month ++ 45 ∷ two_digits d.day
+
+-- a text that may be absent: then the field is empty
+abbrev pub text_or_empty : Option (List ℕ) → List ℕ
+text_or_empty None = []
+text_or_empty (Some text) = text

@@ -1,0 +1,122 @@
+//! What stands in the fields of a report.
+ghost use Rattle.std.specs.Prelude.{◌≡◌, ◌++◌, decimal, IfOk, OnOk};
+ghost use Rattle.std.specs.String.{string_bytes};
+ghost use Rattle.report_core.specs.Fields.{day_text, kind_name, place_text, reason_name, status_name, text_or_empty, two_digits};
+
+use part_core::{Batch, Serial, Status};
+use std::alloc::{AllocError, Global};
+use yard_core::{Kind, Place, Reason};
+
+/// The kind's name.
+pub fn kind_name(kind: Kind) -> &'static str
+    ensures { result.now ≡ kind_name kind }
+{
+    match kind {
+        Kind::Received => "received",
+        Kind::Found => "found",
+        Kind::Built => "built",
+        Kind::Consumed => "consumed",
+        Kind::Shipped => "shipped",
+        Kind::Returned => "returned",
+        Kind::Written => "written",
+        Kind::Moved => "moved",
+        Kind::Cut => "cut",
+        Kind::Poured => "poured",
+        Kind::Installed => "installed",
+        Kind::TakenOut => "taken_out",
+        Kind::Marked => "marked",
+    }
+}
+
+/// The status's name.
+pub fn status_name(status: Status) -> &'static str
+    ensures { result.now ≡ status_name status }
+{
+    match status {
+        Status::Okay => "OK",
+        Status::Attention => "Attention",
+        Status::Damaged => "Damaged",
+        Status::Destroyed => "Destroyed",
+        Status::Rejected => "Rejected",
+        Status::Lost => "Lost",
+        Status::Quarantined => "Quarantined",
+        Status::Returned => "Returned",
+    }
+}
+
+fn reason_name(reason: Reason) -> &'static str
+    ensures { result.now ≡ reason_name reason }
+{
+    match reason {
+        Reason::Removed => "removed",
+        Reason::Counted => "counted",
+        Reason::Disassembled => "disassembled",
+        Reason::Scrapped => "scrapped",
+    }
+}
+
+/// A number's digits.
+pub fn number_field(alloc: Global, number: u64) -> Result<String, AllocError>
+    ensures { IfOk result (λ text. string_bytes text ≡ decimal number) }
+{
+    format!(in alloc; "{number}")
+}
+
+/// A place, with the number of the row that it names.
+pub fn place_field(alloc: Global, place: Place) -> Result<String, AllocError>
+    ensures { IfOk result (λ text. string_bytes text ≡ place_text place) }
+{
+    match place {
+        Place::At(location) => format!(in alloc; "at {location}"),
+        Place::In(item) => format!(in alloc; "in {item}"),
+        Place::Output(build) => format!(in alloc; "output {build}"),
+        Place::Sent(order) => format!(in alloc; "sent {order}"),
+        Place::Used(build) => format!(in alloc; "used {build}"),
+        Place::Off(reason) => {
+            let name = reason_name(reason);
+            format!(in alloc; "off {name}")
+        }
+        Place::Gone => String::from_str(alloc, "gone"),
+    }
+}
+
+fn push_two_digits(text: &mut String, number: u8) -> Result<(), AllocError>
+    ensures { OnOk result (string_bytes text.new ≡ string_bytes text.old ++ two_digits number) }
+{
+    if number < 10 {
+        text.push_str("0")?;
+    }
+    write!(text, "{number}")
+}
+
+/// A day of these parts as `YYYY-MM-DD`.
+pub fn day_field(alloc: Global, year: u16, month: u8, day: u8) -> Result<String, AllocError>
+    ensures { IfOk result (λ text. string_bytes text
+        ≡ day_text (record { year = year; month = month; day = day })) }
+{
+    let mut text = format!(in alloc; "{year}-")?;
+    push_two_digits(&mut text, month)?;
+    text.push_str("-")?;
+    push_two_digits(&mut text, day)?;
+    Ok(text)
+}
+
+/// A batch, or nothing where there is none.
+pub fn batch_field(alloc: Global, batch: &Option<Batch>) -> Result<String, AllocError>
+    ensures { IfOk result (λ text. string_bytes text ≡ text_or_empty batch.now) }
+{
+    match batch {
+        Some(batch) => String::from_str(alloc, batch.as_str()),
+        None => Ok(String::new(alloc)),
+    }
+}
+
+/// A serial number, or nothing where there is none.
+pub fn serial_field(alloc: Global, serial: &Option<Serial>) -> Result<String, AllocError>
+    ensures { IfOk result (λ text. string_bytes text ≡ text_or_empty serial.now) }
+{
+    match serial {
+        Some(serial) => String::from_str(alloc, serial.as_str()),
+        None => Ok(String::new(alloc)),
+    }
+}

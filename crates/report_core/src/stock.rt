@@ -1,0 +1,57 @@
+//! The stock of a part: each of its items that isn't gone.
+ghost use Rattle.std.specs.Prelude.{◌≡◌, map, IfOk};
+ghost use Rattle.desk_core.specs.Shops.{state_of};
+ghost use Rattle.report_core.specs.Lines.{Gives, fields_of, lines_of};
+ghost use Rattle.report_core.specs.Stock.{is_stock_of, item_line, stock_lines};
+
+use crate::fields::{batch_field, number_field, place_field, serial_field, status_name};
+use crate::lines::Report;
+use desk_core::Shop;
+use part_core::{CoreFault, Refusal};
+use std::alloc::{AllocError, Global};
+use yard_core::{Item, Place};
+
+fn is_stock_of(part: u64, item: &Item) -> bool
+    ensures { result ≡ is_stock_of part item.now }
+{
+    item.part == part && !matches!(item.place, Place::Gone)
+}
+
+fn item_line(alloc: Global, item: &Item) -> Result<Vec<String>, AllocError>
+    ensures { IfOk result (λ line. fields_of line ≡ item_line item.now) }
+{
+    let number = number_field(alloc, item.number)?;
+    let quantity = number_field(alloc, item.quantity)?;
+    let status = String::from_str(alloc, status_name(item.lot.status))?;
+    let place = place_field(alloc, item.place)?;
+    let batch = batch_field(alloc, &item.lot.batch)?;
+    let serial = serial_field(alloc, &item.lot.serial)?;
+    Ok(vec![in alloc; number, quantity, status, place, batch, serial]?)
+}
+
+fn item_lines(alloc: Global, items: &[&Item]) -> Result<Vec<Vec<String>>, AllocError>
+    ensures { IfOk result (λ lines. lines_of lines.items
+        ≡ map item_line (map (λ i. i.now) items.now)) }
+{
+    let mut lines = Vec::with_capacity(alloc, items.len())?;
+    for item in items {
+        lines.push(item_line(alloc, item)?)?;
+    }
+    Ok(lines)
+}
+
+/// The items of the part of that number that aren't gone, in order of number. NoSuch where there is
+/// no such part.
+pub fn stock(alloc: Global, shop: &Shop, number: u64) -> Result<Report, CoreFault>
+    ensures { Gives (stock_lines number (state_of shop.now)) result }
+{
+    if shop.catalogue().part(number).is_none() {
+        return Err(CoreFault::Refused(Refusal::NoSuch));
+    }
+    let items = shop
+        .yard()
+        .items()
+        .select(|item| is_stock_of(number, item))?;
+    let lines = item_lines(alloc, items.as_slice())?;
+    Ok(Report::new(lines))
+}
