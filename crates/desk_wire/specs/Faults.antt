@@ -1,0 +1,18 @@
+-- The faults' names.
+use Rattle.std.specs.Prelude.{ℕ, List, codes}
+use Rattle.desk_wire.specs.declared.fault.What.{What}
+use Rattle.desk_wire.specs.declared.fault.What.TheVariants.{TooLong, NotJson, NotObject, NoField, WrongType, UnknownCommand, UnknownField, BadKey, BadDay, BadText, BadSerials, BadWord}
+
+abbrev pub fault_name : What → List ℕ
+fault_name TooLong = codes "TooLong"
+fault_name NotJson = codes "NotJson"
+fault_name NotObject = codes "NotObject"
+fault_name NoField = codes "NoField"
+fault_name WrongType = codes "WrongType"
+fault_name UnknownCommand = codes "UnknownCommand"
+fault_name UnknownField = codes "UnknownField"
+fault_name BadKey = codes "BadKey"
+fault_name BadDay = codes "BadDay"
+fault_name BadText = codes "BadText"
+fault_name BadSerials = codes "BadSerials"
+fault_name BadWord = codes "BadWord"

@@ -1,0 +1,22 @@
+-- The names of an object's members.
+use Rattle.std.specs.Prelude.{ℕ, List, [], ◌∷◌, ◌||◌, ◌&&◌, Bool, true, false, Option, Some, None}
+use Rattle.std.specs.Str.{bytes_eq}
+use Rattle.serde_json.specs.Data.{Data, Members, no_members, member}
+use Rattle.serde_json.specs.Find.{as_object}
+
+-- this name stands in the list
+abbrev pub is_among : List ℕ → List (List ℕ) → Bool
+is_among name [] = false
+is_among name (n ∷ ns) = bytes_eq name n || is_among name ns
+
+abbrev pub all_known : List (List ℕ) → Members → Bool
+all_known names no_members = true
+all_known names (member k d ms) = is_among k names && all_known names ms
+
+-- each member has one of these names
+abbrev pub knows_all : List (List ℕ) → Data → Bool
+knows_all names d = in_members (as_object d)
+  where
+    in_members : Option Members → Bool
+    in_members None = true
+    in_members (Some ms) = all_known names ms

@@ -1,0 +1,26 @@
+-- The lines that are answered, each with its LF.
+use Rattle.std.specs.Prelude.{ℕ, List, [], ◌∷◌, ◌++◌, decimal, codes}
+use Rattle.serde_json.specs.Data.{Data, object, no_members, member}
+use Rattle.serde_json.specs.Written.{compact_text}
+use Rattle.part_core.specs.declared.refusal.Refusal.{Refusal}
+use Rattle.part_core.specs.Refusal.{refusal_name}
+use Rattle.part_core.specs.declared.answer.Answer.{Answer}
+use Rattle.desk_core.specs.AnswerLine.{answer_line}
+use Rattle.desk_wire.specs.declared.fault.WireFault.{WireFault}
+use Rattle.desk_wire.specs.Faults.{fault_name}
+
+abbrev pub answer_text : Answer → List ℕ
+answer_text answer = answer_line answer ++ 10 ∷ []
+
+abbrev pub refused_text : Refusal → List ℕ
+refused_text refusal = codes "{\"refused\":\"" ++ refusal_name refusal ++ codes "\"}\n"
+
+abbrev pub fault_text : WireFault → List ℕ
+fault_text fault = codes "{\"fault\":\"" ++ fault_name fault.what ++ codes "\",\"line\":" ++ decimal fault.line ++ codes "}\n"
+
+-- an object whose one member is the report
+abbrev pub report_data : Data → Data
+report_data report = object (member (codes "report") report no_members)
+
+abbrev pub report_text : Data → List ℕ
+report_text report = compact_text (report_data report) ++ 10 ∷ []

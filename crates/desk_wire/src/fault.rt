@@ -1,0 +1,103 @@
+//! What may be wrong with a line.
+ghost use Rattle.std.specs.Prelude.{◌≡◌};
+ghost use Rattle.desk_wire.specs.Faults.{fault_name};
+
+use std::alloc::AllocError;
+
+/// Why a line asks for nothing. The crate's page says which of several is told.
+#[derive(Clone, Copy, Debug, PartialEq, Eq)]
+pub enum What {
+    /// It has more than 65,536 bytes.
+    TooLong,
+    /// It isn't JSON in UTF-8.
+    NotJson,
+    /// It is JSON, and no object.
+    NotObject,
+    /// A member that must be there is missing.
+    NoField,
+    /// A member's value is of another type, or a number has a sign, a fraction or an exponent, or
+    /// is 2 to the 64 or more. In an array the types of all elements come before what they say.
+    WrongType,
+    /// `do` names no command.
+    UnknownCommand,
+    /// A member has a name that the command, or the report, doesn't know.
+    UnknownField,
+    /// The key isn't 1 to 80 visible characters of ASCII.
+    BadKey,
+    /// The day isn't `YYYY-MM-DD`, or the calendar hasn't it, or it isn't in the years 2000 to 2099.
+    BadDay,
+    /// A name or a batch isn't 1 to 200 bytes without control characters.
+    BadText,
+    /// The serials don't stand in a list as it is to be written.
+    BadSerials,
+    /// A status, a flag or a report of no such name, or a flag that stands twice.
+    BadWord,
+}
+
+impl What {
+    /// The fault's name, as a fault line has it.
+    pub fn name(self) -> &'static str
+        ensures { result.now ≡ fault_name self }
+    {
+        match self {
+            What::TooLong => "TooLong",
+            What::NotJson => "NotJson",
+            What::NotObject => "NotObject",
+            What::NoField => "NoField",
+            What::WrongType => "WrongType",
+            What::UnknownCommand => "UnknownCommand",
+            What::UnknownField => "UnknownField",
+            What::BadKey => "BadKey",
+            What::BadDay => "BadDay",
+            What::BadText => "BadText",
+            What::BadSerials => "BadSerials",
+            What::BadWord => "BadWord",
+        }
+    }
+}
+
+/// What is wrong with a line, and the line's number.
+#[derive(Clone, Copy, Debug, PartialEq, Eq)]
+pub struct WireFault {
+    pub line: u64,
+    pub what: What,
+}
+
+/// Why a line wasn't read.
+#[derive(Clone, Copy, Debug, PartialEq, Eq)]
+pub enum ReadError {
+    /// A growth was refused for want of memory.
+    Memory,
+    /// The line asks for nothing.
+    Wrong(WireFault),
+}
+
+/// Why a part of a line wasn't read.
+#[derive(Clone, Copy, Debug, PartialEq, Eq)]
+pub enum Bad {
+    /// A growth was refused for want of memory.
+    Memory,
+    Wrong(What),
+}
+
+impl From<AllocError> for Bad {
+    ghost use Rattle.std.specs.Prelude.{◌≡◌};
+    ghost use Rattle.desk_wire.specs.declared.fault.Bad.TheVariants.{Memory};
+
+    ghost from_gives = { λ _ bad. bad ≡ Memory };
+
+    fn from(_: AllocError) -> Self {
+        Bad::Memory
+    }
+}
+
+impl From<What> for Bad {
+    ghost use Rattle.std.specs.Prelude.{◌≡◌};
+    ghost use Rattle.desk_wire.specs.declared.fault.Bad.TheVariants.{Wrong};
+
+    ghost from_gives = { λ what bad. bad ≡ Wrong what };
+
+    fn from(what: What) -> Self {
+        Bad::Wrong(what)
+    }
+}

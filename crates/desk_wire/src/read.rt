@@ -1,0 +1,143 @@
+//! A line, as what it asks.
+ghost use Rattle.std.specs.Prelude.{◌≡◌, Ok, Err, Some, MatchResult};
+ghost use Rattle.serde_json.specs.View.{view};
+ghost use Rattle.desk_wire.specs.Steps.{Gives, GivesAt, Fails, or_fault};
+ghost use Rattle.desk_wire.specs.Reading.{parsed, object_of, verb_in, request_of, is_report, report_of, asked_of};
+ghost use Rattle.desk_wire.specs.Reading as reading;
+
+use crate::fault::{Bad, ReadError, What, WireFault};
+use crate::fields::{day, key, member, number, text, text_of};
+use crate::members::knows_all;
+use crate::verb::{Verb, command, members, verb_named};
+use desk_core::Request;
+use report_core::{ReportName, report_named};
+use serde_json::Value;
+use std::alloc::Global;
+
+/// What a line asks.
+#[derive(Drop)]
+pub enum Asked {
+    Request(Request),
+    /// The report of that name on the part, or the item, of this number.
+    Report { name: ReportName, of: u64 },
+}
+
+#[tactic(auto, using(crate::proofs::Parsed::parsed_ok, crate::proofs::Parsed::parsed_none))]
+fn parsed(alloc: Global, bytes: &[u8]) -> Result<Value, Bad>
+    ensures { MatchResult result (λ value. parsed bytes.now ≡ Some (view value))
+        (λ bad. Fails bad (or_fault What.NotJson (parsed bytes.now))) }
+{
+    match Value::from_slice(alloc, bytes) {
+        Ok(value) => Ok(value),
+        Err(e) => {
+            if e.is_memory() {
+                Err(Bad::Memory)
+            } else {
+                Err(Bad::Wrong(What::NotJson))
+            }
+        }
+    }
+}
+
+/// The object that a line is.
+fn object(alloc: Global, bytes: &[u8]) -> Result<Value, Bad>
+    ensures { MatchResult result (λ value. object_of bytes.now ≡ Ok (view value))
+        (λ bad. Fails bad (object_of bytes.now)) }
+{
+    if bytes.len() > 65_536 {
+        return Err(Bad::Wrong(What::TooLong));
+    }
+    let value = parsed(alloc, bytes)?;
+    if !value.is_object() {
+        return Err(Bad::Wrong(What::NotObject));
+    }
+    Ok(value)
+}
+
+fn verb(object: &Value) -> Result<Verb, What>
+    ensures { result ≡ verb_in (view object.now) }
+{
+    let value = member(object, "do")?;
+    let name = text_of(value)?;
+    verb_named(name).ok_or(What::UnknownCommand)
+}
+
+fn request(alloc: Global, object: &Value) -> Result<Request, Bad>
+    ensures { Gives result (request_of (view object.now)) }
+{
+    let verb = verb(object)?;
+    if !knows_all(members(verb), object) {
+        return Err(Bad::Wrong(What::UnknownField));
+    }
+    let key = key(alloc, object)?;
+    let day = day(object)?;
+    let command = command(alloc, verb, object)?;
+    Ok(Request { key, day, command })
+}
+
+/// Whether an object asks for a report: it has `report`, and `do` is missing.
+fn is_report(object: &Value) -> bool
+    ensures { result ≡ is_report (view object.now) }
+{
+    object.get("do").is_none() && object.get("report").is_some()
+}
+
+fn report(object: &Value) -> Result<Asked, What>
+    ensures { result ≡ report_of (view object.now) }
+{
+    if !knows_all(&["of", "report"], object) {
+        return Err(What::UnknownField);
+    }
+    let of = number(object, "of")?;
+    let text = text(object, "report")?;
+    let name = report_named(text).ok_or(What::BadWord)?;
+    Ok(Asked::Report { name, of })
+}
+
+fn asked_of(alloc: Global, object: &Value) -> Result<Asked, Bad>
+    ensures { Gives result (asked_of (view object.now)) }
+{
+    if is_report(object) {
+        return Ok(report(object)?);
+    }
+    let request = request(alloc, object)?;
+    Ok(Asked::Request(request))
+}
+
+fn line_asked(alloc: Global, bytes: &[u8]) -> Result<Asked, Bad>
+    ensures { Gives result (reading.line bytes.now) }
+{
+    let object = object(alloc, bytes)?;
+    asked_of(alloc, &object)
+}
+
+fn line_request(alloc: Global, bytes: &[u8]) -> Result<Request, Bad>
+    ensures { Gives result (reading.request bytes.now) }
+{
+    let object = object(alloc, bytes)?;
+    request(alloc, &object)
+}
+
+/// What the line of this number asks, or its first fault. Of a longer line its first 65,537 bytes are
+/// enough.
+pub fn read_line(alloc: Global, bytes: &[u8], line: u64) -> Result<Asked, ReadError>
+    ensures { GivesAt line result (reading.line bytes.now) }
+{
+    match line_asked(alloc, bytes) {
+        Ok(asked) => Ok(asked),
+        Err(Bad::Memory) => Err(ReadError::Memory),
+        Err(Bad::Wrong(what)) => Err(ReadError::Wrong(WireFault { line, what })),
+    }
+}
+
+/// The request of the line of this number, where only requests may stand, or its first fault. A line
+/// that asks for a report is `NoField`.
+pub fn read_request(alloc: Global, bytes: &[u8], line: u64) -> Result<Request, ReadError>
+    ensures { GivesAt line result (reading.request bytes.now) }
+{
+    match line_request(alloc, bytes) {
+        Ok(request) => Ok(request),
+        Err(Bad::Memory) => Err(ReadError::Memory),
+        Err(Bad::Wrong(what)) => Err(ReadError::Wrong(WireFault { line, what })),
+    }
+}
