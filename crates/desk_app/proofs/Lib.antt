@@ -1,6 +1,5 @@
 pub mod Known
 pub mod Cutting
 pub mod Partway
-pub mod Members
 pub mod Stepping
 pub mod Running

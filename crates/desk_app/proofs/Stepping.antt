@@ -2,9 +2,9 @@
 use Rattle.std.proofs.Common.{◌≡◌, ◌+◌, ◌≤◌, ℕ, Bool, true, false, List, [], ◌∷◌, length, nat_le, arith, ap, sym, refl, ◌∙◌, length-take, take}
 use Rattle.std.specs.Prelude.{Err}
 use Rattle.desk_core.specs.Machine.{State}
-use Rattle.desk_app.specs.declared.fault.What.TheVariants.{TooLong}
+use Rattle.desk_wire.specs.declared.fault.What.TheVariants.{TooLong}
 use Rattle.desk_app.specs.Cuts.{held}
-use Rattle.desk_app.specs.Reading.{ask}
+use Rattle.desk_wire.specs.Reading.{line}
 use Rattle.desk_app.specs.Runs.{is_blank, line_step}
 use Rattle.desk_app.proofs.Cutting.{held_short}
 
@@ -18,8 +18,8 @@ blank-held [] = refl
 blank-held (b ∷ []) = refl
 blank-held (b ∷ c ∷ bs) = refl
 
-ask_long : (l : List ℕ) → nat_le (length l) 65536 ≡ false → ask l ≡ Err TooLong
-ask_long l e = rw e refl
+line_long : (l : List ℕ) → nat_le (length l) 65536 ≡ false → line l ≡ Err TooLong
+line_long l e = rw e refl
 
 long_take : (m : ℕ) (l : List ℕ) → nat_le (length l) m ≡ false → nat_le (length (take (m + 1) l)) m ≡ false
 long_take m l e = grind (arith, length-take (m + 1) l)
@@ -31,13 +31,13 @@ long-held l e = long_take 65536 l e
 short_length : (l : List ℕ) → nat_le (length l) 65536 ≡ true → length l ≤ 65537
 short_length l e = grind arith
 
-ask-held : (l : List ℕ) → ask (held l) ≡ ask l
-ask-held l = cases (nat_le (length l) 65536) refl
+line-held : (l : List ℕ) → line (held l) ≡ line l
+line-held l = cases (nat_le (length l) 65536) refl
   where
-    cases : (b : Bool) → nat_le (length l) 65536 ≡ b → ask (held l) ≡ ask l
-    cases true e = ap ask (held_short l (short_length l e))
-    cases false e = ask_long (held l) (long-held l e) ∙ sym (ask_long l e)
+    cases : (b : Bool) → nat_le (length l) 65536 ≡ b → line (held l) ≡ line l
+    cases true e = ap line (held_short l (short_length l e))
+    cases false e = line_long (held l) (long-held l e) ∙ sym (line_long l e)
 
 pub step-held : (s : State) (n : ℕ) (l : List ℕ) → line_step s n (held l) ≡ line_step s n l
 unfolding line_step
-step-held s n l = rw (blank-held l, ask-held l) refl
+step-held s n l = rw (blank-held l, line-held l) refl

@@ -1,10 +1,3 @@
 pub mod Cuts
 pub mod Ends
-pub mod Faults
-pub mod Steps
-pub mod Verbs
-pub mod FlagWords
-pub mod Reading
-pub mod Writing
-pub mod Ledger
 pub mod Runs

@@ -3,14 +3,15 @@ use Rattle.std.specs.Prelude.{◌≡◌, ◌≤◌, ℕ, length, ◌+◌, ◌==�
 use Rattle.std.specs.Io.KnownBytes.{Appends, Keeps}
 use Rattle.part_core.specs.declared.refusal.Refusal.TheVariants.{NoSuch}
 use Rattle.desk_core.specs.Machine.{State, Outcome, step}
+use Rattle.report_core.specs.Lines.{Lines}
+use Rattle.report_core.specs.Reports.{report_lines}
+use Rattle.desk_wire.specs.declared.fault.What.{What}
+use Rattle.desk_wire.specs.declared.read.Asked.{Asked}
+use Rattle.desk_wire.specs.declared.read.Asked.TheVariants.{Request, Report}
+use Rattle.desk_wire.specs.Reading as reading
+use Rattle.desk_wire.specs.Writing.{answer_text, refused_text, fault_text, report_text}
 use Rattle.desk_app.specs.declared.end.Stop.{Stop}
 use Rattle.desk_app.specs.declared.end.Stop.TheVariants.{ReadFailed, WriteFailed, Memory}
-use Rattle.desk_app.specs.declared.fault.What.{What}
-use Rattle.desk_app.specs.declared.read.Ask.{Ask}
-use Rattle.desk_app.specs.declared.read.Ask.TheVariants.{Request, Ledger}
-use Rattle.desk_app.specs.Reading.{ask}
-use Rattle.desk_app.specs.Ledger.{ledger_lines}
-use Rattle.desk_app.specs.Writing.{answer_line, refused_line, fault_line, report_line}
 
 -- ---- one line: the state after it, the text with LF that is answered, and whether nothing was
 -- refused or faulty
@@ -19,17 +20,18 @@ abbrev pub Told : Type 0
 Told = State × List ℕ × Bool
 
 abbrev pub by_outcome : State × Outcome → Told
-by_outcome (s, Ok answer) = (s, answer_line answer, true)
-by_outcome (s, Err refusal) = (s, refused_line refusal, false)
+by_outcome (s, Ok answer) = (s, answer_text answer, true)
+by_outcome (s, Err refusal) = (s, refused_text refusal, false)
 
-abbrev pub by_ledger : State → Option (List (List (List ℕ))) → Told
-by_ledger s None = (s, refused_line NoSuch, false)
-by_ledger s (Some lines) = (s, report_line lines, true)
+-- a report is of the state so far
+abbrev pub by_report : State → Option Lines → Told
+by_report s None = (s, refused_text NoSuch, false)
+by_report s (Some lines) = (s, report_text lines, true)
 
-abbrev pub by_ask : State → ℕ → Result Ask What → Told
-by_ask s number (Ok (Request request)) = by_outcome (step s request)
-by_ask s number (Ok (Ledger part)) = by_ledger s (ledger_lines part s)
-by_ask s number (Err what) = (s, fault_line what number, false)
+abbrev pub by_asked : State → ℕ → Result Asked What → Told
+by_asked s number (Ok (Request request)) = by_outcome (step s request)
+by_asked s number (Ok (Report name of)) = by_report s (report_lines name of s)
+by_asked s number (Err what) = (s, fault_text (record { line = number; what = what }), false)
 
 -- nothing, or one CR
 abbrev pub is_blank : List ℕ → Bool
@@ -39,7 +41,7 @@ is_blank (b ∷ c ∷ bs) = false
 
 -- a blank line gives nothing
 unfoldable pub line_step : State → ℕ → List ℕ → Told
-line_step s number line = if is_blank line then (s, [], true) else by_ask s number (ask line)
+line_step s number line = if is_blank line then (s, [], true) else by_asked s number (reading.line line)
 
 abbrev pub line_after : State → ℕ → List ℕ → State
 line_after s number line = (line_step s number line).0

@@ -8,19 +8,17 @@ ghost use Rattle.desk_core.specs.Machine.{IsSoundState, step};
 ghost use Rattle.desk_core.specs.Shops.{state_of};
 ghost use Rattle.desk_app.specs.declared.end.Stop.{Stop};
 ghost use Rattle.desk_app.specs.Ends.{end_of};
-ghost use Rattle.desk_app.specs.Ledger.{ledger_lines};
-ghost use Rattle.desk_app.specs.Runs.{by_outcome, by_ledger, is_blank, line_step, line_after, line_out, is_fine, CutShort, Finished, Stopped};
+ghost use Rattle.report_core.specs.Reports.{report_lines};
+ghost use Rattle.desk_app.specs.Runs.{by_outcome, by_report, is_blank, line_step, line_after, line_out, is_fine, CutShort, Finished, Stopped};
 
 use crate::end::{RunEnd, Stop};
-use crate::fault::ReadError;
-use crate::ledger::ledger_line;
 use crate::lines::Lines;
-use crate::read::{Ask, read_line};
 use crate::send::send;
-use crate::write::{answer_line, fault_line, refused_line};
 use desk_core::{Request, Shop};
-use part_core::{CoreFault, Refusal};
-use std::alloc::{AllocError, Global};
+use desk_wire::{Asked, ReadError, answer_text, fault_text, read_line, refused_text, report_text};
+use part_core::CoreFault;
+use report_core::{ReportName, report};
+use std::alloc::Global;
 use std::io::{Read, Write};
 
 /// What is answered to a line, and whether nothing was refused or faulty.
@@ -52,35 +50,36 @@ fn tell_outcome(alloc: Global, shop: &mut Shop, request: &Request) -> Result<Tol
 {
     match shop.decide(request) {
         Ok(answer) => Ok(Told {
-            text: answer_line(alloc, &answer)?,
+            text: answer_text(alloc, &answer)?,
             fine: true,
         }),
         Err(CoreFault::Refused(refusal)) => Ok(Told {
-            text: refused_line(alloc, refusal)?,
+            text: refused_text(alloc, refusal)?,
             fine: false,
         }),
         Err(CoreFault::Memory) => Err(Stop::Memory),
     }
 }
 
-/// Tells the ledger of a part.
-fn tell_ledger(alloc: Global, shop: &Shop, part: u64) -> Result<Told, AllocError>
+/// Tells the report of that name.
+fn tell_report(alloc: Global, shop: &Shop, name: ReportName, of: u64) -> Result<Told, Stop>
     requires { IsSoundState (state_of shop.now) }
-    ensures { IfOk result (λ told.
-        by_ledger (state_of shop.now) (ledger_lines part (state_of shop.now))
+    ensures ok { IfOk result (λ told.
+        by_report (state_of shop.now) (report_lines name of (state_of shop.now))
         ≡ (state_of shop.now, string_bytes told.text, told.fine)) }
+    ensures memory { IfErr result (λ stop. stop ≡ Stop.Memory) }
 {
-    let Some(row) = shop.catalogue().part(part) else {
-        return Ok(Told {
-            text: refused_line(alloc, Refusal::NoSuch)?,
+    match report(alloc, shop, name, of) {
+        Ok(report) => Ok(Told {
+            text: report_text(alloc, &report)?,
+            fine: true,
+        }),
+        Err(CoreFault::Refused(refusal)) => Ok(Told {
+            text: refused_text(alloc, refusal)?,
             fine: false,
-        });
-    };
-    let sums = shop.yard().sums(part);
-    Ok(Told {
-        text: ledger_line(alloc, part, row.name.as_str(), &sums)?,
-        fine: true,
-    })
+        }),
+        Err(CoreFault::Memory) => Err(Stop::Memory),
+    }
 }
 
 #[tactic(auto, unfolding(crate::specs::Runs::line_step))]
@@ -95,11 +94,11 @@ fn tell(alloc: Global, shop: &mut Shop, number: u64, line: &[u8]) -> Result<Told
         ⊎ (state_of shop.new ≡ line_after (state_of shop.old) number line.now)) }
     ensures sound { IsSoundState (state_of shop.new) }
 {
-    match read_line(alloc, line) {
-        Ok(Ask::Request(request)) => tell_outcome(alloc, shop, &request),
-        Ok(Ask::Ledger(part)) => Ok(tell_ledger(alloc, shop, part)?),
-        Err(ReadError::Wrong(what)) => Ok(Told {
-            text: fault_line(alloc, what, number)?,
+    match read_line(alloc, line, number) {
+        Ok(Asked::Request(request)) => tell_outcome(alloc, shop, &request),
+        Ok(Asked::Report { name, of }) => tell_report(alloc, shop, name, of),
+        Err(ReadError::Wrong(fault)) => Ok(Told {
+            text: fault_text(alloc, fault)?,
             fine: false,
         }),
         Err(ReadError::Memory) => Err(Stop::Memory),

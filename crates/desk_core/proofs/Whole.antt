@@ -21,7 +21,7 @@ of_wholes : (ns : List ℕ) → items_have_float (items_of (map whole ns)) ≡ f
 of_wholes [] = refl
 of_wholes (n ∷ ns) = rw (of_wholes ns) refl
 
-of_strings : (ts : List (List ℕ)) → items_have_float (items_of (map string ts)) ≡ false
+pub of_strings : (ts : List (List ℕ)) → items_have_float (items_of (map string ts)) ≡ false
 of_strings [] = refl
 of_strings (t ∷ ts) = rw (of_strings ts) refl
 

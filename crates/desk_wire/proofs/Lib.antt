@@ -1,2 +1,3 @@
 pub mod MemberNames
 pub mod Parsed
+pub mod Spelled

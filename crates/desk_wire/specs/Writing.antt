@@ -6,6 +6,7 @@ use Rattle.part_core.specs.declared.refusal.Refusal.{Refusal}
 use Rattle.part_core.specs.Refusal.{refusal_name}
 use Rattle.part_core.specs.declared.answer.Answer.{Answer}
 use Rattle.desk_core.specs.AnswerLine.{answer_line}
+use Rattle.report_core.specs.Lines.{Lines, report_data}
 use Rattle.desk_wire.specs.declared.fault.WireFault.{WireFault}
 use Rattle.desk_wire.specs.Faults.{fault_name}
 
@@ -19,8 +20,8 @@ abbrev pub fault_text : WireFault → List ℕ
 fault_text fault = codes "{\"fault\":\"" ++ fault_name fault.what ++ codes "\",\"line\":" ++ decimal fault.line ++ codes "}\n"
 
 -- an object whose one member is the report
-abbrev pub report_data : Data → Data
-report_data report = object (member (codes "report") report no_members)
+abbrev pub report_object : Data → Data
+report_object report = object (member (codes "report") report no_members)
 
-abbrev pub report_text : Data → List ℕ
-report_text report = compact_text (report_data report) ++ 10 ∷ []
+abbrev pub report_text : Lines → List ℕ
+report_text lines = compact_text (report_object (report_data lines)) ++ 10 ∷ []

@@ -1,7 +1,7 @@
 //! Lines as they come, with what they ask or what is wrong with them; and the lines that are answered.
 use crate::{
     Asked, ReadError, What, WireFault, answer_text, fault_text, read_line, read_request,
-    refused_text, report_text,
+    refused_text,
 };
 use bom_core::BomCommand;
 use desk_core::{Command, Request};
@@ -426,11 +426,5 @@ fn writes_lines(rt: HostRuntime) -> Result<(), Fail> {
     };
     let text = fault_text(alloc, fault)?;
     assert_eq!(rt; text.as_str(), "{\"fault\":\"NotJson\",\"line\":12}\n");
-    let report = json!(in alloc; [["ledger", "2", "5\" Screw"], ["found", "100"]])?;
-    let text = report_text(alloc, report)?;
-    assert_eq!(rt;
-        text.as_str(),
-        "{\"report\":[[\"ledger\",\"2\",\"5\\\" Screw\"],[\"found\",\"100\"]]}\n"
-    );
     Ok(())
 }

@@ -1,13 +1,14 @@
 //! The lines that are answered, each with its LF.
-ghost use Rattle.std.specs.Prelude.{◌≡◌, IfOk, false};
+ghost use Rattle.std.specs.Prelude.{◌≡◌, ◌++◌, ◌∷◌, [], IfOk, false};
 ghost use Rattle.std.specs.String.{string_bytes};
 ghost use Rattle.serde_json.specs.View.{view};
-ghost use Rattle.serde_json.specs.Written.{has_float};
-ghost use Rattle.desk_wire.specs.Writing.{answer_text, refused_text, fault_text, report_data, report_text};
+ghost use Rattle.serde_json.specs.Written.{compact_text, has_float};
+ghost use Rattle.desk_wire.specs.Writing.{answer_text, refused_text, fault_text, report_object, report_text};
 
 use crate::fault::WireFault;
 use desk_core::answer_line;
 use part_core::{Answer, Refusal};
+use report_core::Report;
 use serde_json::{Value, json};
 use std::alloc::{AllocError, Global};
 
@@ -42,17 +43,25 @@ pub fn fault_text(alloc: Global, fault: WireFault) -> Result<String, AllocError>
 }
 
 fn report_value(alloc: Global, report: Value) -> Result<Value, AllocError>
-    ensures { IfOk result (λ value. view value ≡ report_data (view report)) }
+    ensures { IfOk result (λ value. view value ≡ report_object (view report)) }
 {
     json!(in alloc; {"report": report})
 }
 
-/// The line of a report. A report has no floats: of those no clause says how they are spelled.
-pub fn report_text(alloc: Global, report: Value) -> Result<String, AllocError>
+/// The line of an object whose one member is this value. Of floats no clause says how they are spelled.
+fn value_text(alloc: Global, report: Value) -> Result<String, AllocError>
     ensures { IfOk result (λ text. has_float (view report) ≡ false
-        → string_bytes text ≡ report_text (view report)) }
+        → string_bytes text ≡ compact_text (report_object (view report)) ++ 10 ∷ []) }
 {
     let mut text = report_value(alloc, report)?.to_string(alloc)?;
     text.push_str("\n")?;
     Ok(text)
+}
+
+/// What a line is answered that asks for a report.
+pub fn report_text(alloc: Global, report: &Report) -> Result<String, AllocError>
+    ensures { IfOk result (λ text. string_bytes text ≡ report_text report.now) }
+{
+    let value = report.json(alloc)?;
+    value_text(alloc, value)
 }

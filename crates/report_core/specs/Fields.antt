@@ -1,9 +1,5 @@
 -- What stands in the fields of a report.
-use Rattle.std.specs.Prelude.{ℕ, nat_lt, if◌then◌else◌, List, [], ◌∷◌, ◌++◌, codes, decimal, Option, Some, None}
-use Rattle.part_core.specs.Day.{CivilDay}
-use Rattle.part_core.specs.declared.status.Status.{Status}
-use Rattle.part_core.specs.declared.status.Status.TheVariants.{Okay, Attention, Damaged, Destroyed, Rejected, Lost, Quarantined}
-use Rattle.part_core.specs.declared.status.Status.TheVariants as status
+use Rattle.std.specs.Prelude.{ℕ, List, [], ◌++◌, codes, decimal, Option, Some, None}
 use Rattle.forest.specs.declared.entry.Kind.{Kind}
 use Rattle.forest.specs.declared.entry.Kind.TheVariants.{Received, Found, Built, Consumed, Shipped, Returned, Written, Moved, Cut, Poured, Installed, TakenOut, Marked}
 use Rattle.forest.specs.declared.place.Place.{Place}
@@ -26,16 +22,6 @@ kind_name Installed = codes "installed"
 kind_name TakenOut = codes "taken_out"
 kind_name Marked = codes "marked"
 
-abbrev pub status_name : Status → List ℕ
-status_name Okay = codes "OK"
-status_name Attention = codes "Attention"
-status_name Damaged = codes "Damaged"
-status_name Destroyed = codes "Destroyed"
-status_name Rejected = codes "Rejected"
-status_name Lost = codes "Lost"
-status_name Quarantined = codes "Quarantined"
-status_name status.Returned = codes "Returned"
-
 abbrev pub reason_name : Reason → List ℕ
 reason_name Removed = codes "removed"
 reason_name Counted = codes "counted"
@@ -51,14 +37,6 @@ place_text (Sent order) = codes "sent " ++ decimal order
 place_text (Used build) = codes "used " ++ decimal build
 place_text (Off reason) = codes "off " ++ reason_name reason
 place_text Gone = codes "gone"
-
--- a number below 100, in two digits
-abbrev pub two_digits : ℕ → List ℕ
-two_digits n = if nat_lt n 10 then 48 ∷ decimal n else decimal n
-
--- a day as `YYYY-MM-DD`
-abbrev pub day_text : CivilDay → List ℕ
-day_text d = decimal d.year ++ 45 ∷ two_digits d.month ++ 45 ∷ two_digits d.day
 
 -- a text that may be absent: then the field is empty
 abbrev pub text_or_empty : Option (List ℕ) → List ℕ

@@ -1,6 +1,7 @@
 -- The history of an item: the entries on it, in order.
 use Rattle.std.specs.Prelude.{ℕ, List, [], ◌∷◌, map, filter, decimal, Option, option_map}
 use Rattle.std.specs.FinMap as table
+use Rattle.part_core.specs.Day.{day_text}
 use Rattle.forest.specs.declared.entry.Entry.{Entry}
 use Rattle.yard_core.specs.Stock.{is_entry_on}
 use Rattle.desk_core.specs.Machine.{State}
@@ -10,6 +11,7 @@ use Rattle.report_core.specs.Lines.{Lines}
 abbrev pub entry_line : Entry → List (List ℕ)
 entry_line entry =
     decimal entry.number
+    ∷ day_text entry.day
     ∷ kind_name entry.note.kind
     ∷ decimal entry.note.quantity
     ∷ place_text entry.note.place

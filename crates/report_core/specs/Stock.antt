@@ -2,10 +2,11 @@
 use Rattle.std.specs.Prelude.{ℕ, Bool, ◌&&◌, ◌==◌, not, List, [], ◌∷◌, map, filter, decimal, Option, option_map}
 use Rattle.std.specs.FinMap as table
 use Rattle.part_core.specs.Catalogue.{part_in}
+use Rattle.part_core.specs.Status.{status_name}
 use Rattle.forest.specs.declared.item.Item.{Item}
 use Rattle.yard_core.specs.Stock.{is_gone}
 use Rattle.desk_core.specs.Machine.{State}
-use Rattle.report_core.specs.Fields.{place_text, status_name, text_or_empty}
+use Rattle.report_core.specs.Fields.{place_text, text_or_empty}
 use Rattle.report_core.specs.Lines.{Lines}
 
 -- whether an item is of the part, and not gone

@@ -1,9 +1,9 @@
 //! What stands in the fields of a report.
-ghost use Rattle.std.specs.Prelude.{◌≡◌, ◌++◌, decimal, IfOk, OnOk};
+ghost use Rattle.std.specs.Prelude.{◌≡◌, decimal, IfOk};
 ghost use Rattle.std.specs.String.{string_bytes};
-ghost use Rattle.report_core.specs.Fields.{day_text, kind_name, place_text, reason_name, status_name, text_or_empty, two_digits};
+ghost use Rattle.report_core.specs.Fields.{kind_name, place_text, reason_name, text_or_empty};
 
-use part_core::{Batch, Serial, Status};
+use part_core::{Batch, Serial};
 use std::alloc::{AllocError, Global};
 use yard_core::{Kind, Place, Reason};
 
@@ -25,22 +25,6 @@ pub fn kind_name(kind: Kind) -> &'static str
         Kind::Installed => "installed",
         Kind::TakenOut => "taken_out",
         Kind::Marked => "marked",
-    }
-}
-
-/// The status's name.
-pub fn status_name(status: Status) -> &'static str
-    ensures { result.now ≡ status_name status }
-{
-    match status {
-        Status::Okay => "OK",
-        Status::Attention => "Attention",
-        Status::Damaged => "Damaged",
-        Status::Destroyed => "Destroyed",
-        Status::Rejected => "Rejected",
-        Status::Lost => "Lost",
-        Status::Quarantined => "Quarantined",
-        Status::Returned => "Returned",
     }
 }
 
@@ -78,27 +62,6 @@ pub fn place_field(alloc: Global, place: Place) -> Result<String, AllocError>
         }
         Place::Gone => String::from_str(alloc, "gone"),
     }
-}
-
-fn push_two_digits(text: &mut String, number: u8) -> Result<(), AllocError>
-    ensures { OnOk result (string_bytes text.new ≡ string_bytes text.old ++ two_digits number) }
-{
-    if number < 10 {
-        text.push_str("0")?;
-    }
-    write!(text, "{number}")
-}
-
-/// A day of these parts as `YYYY-MM-DD`.
-pub fn day_field(alloc: Global, year: u16, month: u8, day: u8) -> Result<String, AllocError>
-    ensures { IfOk result (λ text. string_bytes text
-        ≡ day_text (record { year = year; month = month; day = day })) }
-{
-    let mut text = format!(in alloc; "{year}-")?;
-    push_two_digits(&mut text, month)?;
-    text.push_str("-")?;
-    push_two_digits(&mut text, day)?;
-    Ok(text)
 }
 
 /// A batch, or nothing where there is none.

@@ -15,10 +15,11 @@ fn entry_line(alloc: Global, entry: &Entry) -> Result<Vec<String>, AllocError>
     ensures { IfOk result (λ line. fields_of line ≡ entry_line entry.now) }
 {
     let number = number_field(alloc, entry.number)?;
+    let day = entry.day.text(alloc)?;
     let kind = String::from_str(alloc, kind_name(entry.note.kind))?;
     let quantity = number_field(alloc, entry.note.quantity)?;
     let place = place_field(alloc, entry.note.place)?;
-    Ok(vec![in alloc; number, kind, quantity, place]?)
+    Ok(vec![in alloc; number, day, kind, quantity, place]?)
 }
 
 fn entry_lines(alloc: Global, entries: &[&Entry]) -> Result<Vec<Vec<String>>, AllocError>

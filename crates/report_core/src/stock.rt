@@ -4,7 +4,7 @@ ghost use Rattle.desk_core.specs.Shops.{state_of};
 ghost use Rattle.report_core.specs.Lines.{Gives, fields_of, lines_of};
 ghost use Rattle.report_core.specs.Stock.{is_stock_of, item_line, stock_lines};
 
-use crate::fields::{batch_field, number_field, place_field, serial_field, status_name};
+use crate::fields::{batch_field, number_field, place_field, serial_field};
 use crate::lines::Report;
 use desk_core::Shop;
 use part_core::{CoreFault, Refusal};
@@ -22,7 +22,7 @@ fn item_line(alloc: Global, item: &Item) -> Result<Vec<String>, AllocError>
 {
     let number = number_field(alloc, item.number)?;
     let quantity = number_field(alloc, item.quantity)?;
-    let status = String::from_str(alloc, status_name(item.lot.status))?;
+    let status = String::from_str(alloc, item.lot.status.name())?;
     let place = place_field(alloc, item.place)?;
     let batch = batch_field(alloc, &item.lot.batch)?;
     let serial = serial_field(alloc, &item.lot.serial)?;

@@ -2,7 +2,6 @@
 ghost use Rattle.desk_core.specs.Machine.{IsSoundState};
 ghost use Rattle.desk_core.specs.Shops.{state_of};
 
-use crate::fields::day_field;
 use crate::{ReportName, report};
 use bom_core::{BomCommand, LineFlags, NewLine};
 use desk_core::{Command, Request, Shop};
@@ -244,6 +243,6 @@ fn tells_a_report_as_json(rt: HostRuntime) -> Result<(), Fail> {
 #[test]
 fn writes_a_day(rt: HostRuntime) -> Result<(), Fail> {
     let alloc = rt.alloc();
-    let text = day_field(alloc, 2030, 1, 12)?;
+    let text = Day::parse("2030-01-12").ok_or("a day")?.text(alloc)?;
     holds(text.as_str() == "2030-01-12", "another day")
 }

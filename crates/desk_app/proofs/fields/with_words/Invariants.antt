@@ -1,8 +1,0 @@
-use Rattle.std.proofs.Common.{◌≡◌, drop}
-use Rattle.serde_json.specs.View.{items_view}
-use Rattle.desk_app.specs.FlagWords.{no_flags}
-use Rattle.desk_app.specs.Reading.{with_words}
-use Rattle.desk_app.proofs.fields.with_words.Given as goal
-
-abbrev pub invariant-loop-value : goal.invariant-loop-value
-invariant-loop-value l = with_words no_flags (items_view l.values) ≡ with_words l.flags (items_view (drop l.value-index l.values))
