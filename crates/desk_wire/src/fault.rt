@@ -24,7 +24,7 @@ pub enum What {
     UnknownField,
     /// The key isn't 1 to 80 visible characters of ASCII.
     BadKey,
-    /// The day isn't `YYYY-MM-DD`, or the calendar hasn't it, or it isn't in the years 2000 to 2099.
+    /// The day isn't `YYYY-MM-DD`, or the calendar hasn't it, or it isn't from 2000 to 2099.
     BadDay,
     /// A name or a batch isn't 1 to 200 bytes without control characters.
     BadText,

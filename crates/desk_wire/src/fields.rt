@@ -234,7 +234,7 @@ fn with_words(values: &[Value]) -> Result<Flags, What>
     Ok(flags)
 }
 
-/// An array of words, each of which sets one flag: `BadWord` where one is no flag's, or stands twice.
+/// An array of words, each of which sets one flag: `BadWord` where one is no flag's or comes twice.
 pub fn flags(object: &Value) -> Result<Flags, What>
     ensures { result ≡ flags_in (view object.now) }
 {

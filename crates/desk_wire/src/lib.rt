@@ -1,7 +1,7 @@
 //! Requests and reports as lines of JSON, and the lines that are answered.
 //!
-//! A request is an object with `do`, a command's name, `day`, `key` where it has one, and the fields of
-//! the command. An object with `report` and without `do` asks for a report on what `of` numbers.
+//! A request is an object with `do`, a command's name, `day`, `key` where it has one, and the fields
+//! of the command. An object with `report` and without `do` asks for a report on what `of` numbers.
 //!
 //! The first of these faults is told:
 //!
@@ -10,8 +10,8 @@
 //! 3. of the members' names: `UnknownField`;
 //! 4. of `key`, which may be missing: `WrongType`, `BadKey`;
 //! 5. of `day`: `NoField`, `WrongType`, `BadDay`;
-//! 6. of each field, in the order in which the command's function reads them: `NoField`, `WrongType`,
-//!    and then by what it says, `BadText`, `BadSerials` or `BadWord`.
+//! 6. of each field, in the order in which the command's function reads them: `NoField`,
+//!    `WrongType`, and then by what it says, `BadText`, `BadSerials` or `BadWord`.
 //!
 //! Of a report it is `UnknownField`, and then those of `of` and of `report`.
 #![tactic(auto)]

@@ -118,8 +118,8 @@ fn line_request(alloc: Global, bytes: &[u8]) -> Result<Request, Bad>
     request(alloc, &object)
 }
 
-/// What the line of this number asks, or its first fault. Of a longer line its first 65,537 bytes are
-/// enough.
+/// What the line of this number asks, or its first fault. Of a long line its first 65,537 bytes
+/// are enough.
 pub fn read_line(alloc: Global, bytes: &[u8], line: u64) -> Result<Asked, ReadError>
     ensures { GivesAt line result (reading.line bytes.now) }
 {
@@ -130,8 +130,8 @@ pub fn read_line(alloc: Global, bytes: &[u8], line: u64) -> Result<Asked, ReadEr
     }
 }
 
-/// The request of the line of this number, where only requests may stand, or its first fault. A line
-/// that asks for a report is `NoField`.
+/// The request of the line of this number, where only requests may stand, or its first fault. A
+/// line that asks for a report is `NoField`.
 pub fn read_request(alloc: Global, bytes: &[u8], line: u64) -> Result<Request, ReadError>
     ensures { GivesAt line result (reading.request bytes.now) }
 {

@@ -1,5 +1,5 @@
-//! The lines of stock. Of each command there are the names of the members that it knows, and a function
-//! that reads it: the fields in their order, and the command that they name.
+//! The lines of stock. Of each command there are the names of the members that it knows, and
+//! a function that reads it: the fields in their order, and the command that they name.
 ghost use Rattle.serde_json.specs.View.{view};
 ghost use Rattle.desk_wire.specs.Steps.{Gives};
 ghost use Rattle.desk_wire.specs.StockLines.{found_of, add_of, remove_of, count_of, transfer_of, split_of, merge_of, serialise_of, set_status_of};

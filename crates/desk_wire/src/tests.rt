@@ -1,4 +1,4 @@
-//! Lines as they come, with what they ask or what is wrong with them; and the lines that are answered.
+//! Lines with what they ask or what is wrong with them, and the lines that are answered.
 use crate::{
     Asked, ReadError, What, WireFault, answer_text, fault_text, read_line, read_request,
     refused_text,

@@ -83,7 +83,7 @@ pub fn members(verb: Verb) -> &'static [&'static str]
     }
 }
 
-/// The command of this verb whose fields are the object's. The first field that is at fault is told.
+/// The command of this verb whose fields are the object's, or the first fault of a field.
 pub fn command(alloc: Global, verb: Verb, object: &Value) -> Result<Command, Bad>
     ensures { Gives result (command_of verb (view object.now)) }
 {

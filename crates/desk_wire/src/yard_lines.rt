@@ -1,5 +1,5 @@
-//! The lines of the yard. Of each command there are the names of the members that it knows, and a function
-//! that reads it: the fields in their order, and the command that they name.
+//! The lines of the yard. Of each command there are the names of the members that it knows, and
+//! a function that reads it: the fields in their order, and the command that they name.
 ghost use Rattle.serde_json.specs.View.{view};
 ghost use Rattle.desk_wire.specs.Steps.{Gives};
 ghost use Rattle.desk_wire.specs.YardLines.{add_location_of};
