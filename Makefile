@@ -16,7 +16,7 @@ build:
 install: build
 	install -D $(PROGRAM) $(PREFIX)/bin/invdesk
 
-# Lines per second and peak memory over 10,000 and 20,000 lines, and how calls grow that no line makes yet.
+# Lines per second and peak memory over 10,000 and 20,000 lines of each kind, and how calls of the libraries grow.
 bench: build
 	python3 tools/bench.py $(PROGRAM)
 	python3 tools/bench_calls.py

@@ -1,6 +1,6 @@
 #!/usr/bin/env python3
-"""Runs the program on 10,000 and on 20,000 lines of found and remove on one part; prints lines per second and peak
-memory of each run, and by what factor the time grows.
+"""Runs the program on 10,000 and on 20,000 lines of each kind; prints lines per second and peak memory of each run, and
+by what factor the time grows.
 
 usage: tools/bench.py PROGRAM"""
 import resource
@@ -10,33 +10,85 @@ import time
 
 DAY = '"day":"2030-01-02"'
 COUNTS = (10_000, 20_000)
+LOCATION = f'{{{DAY},"do":"add_location","name":"A"}}'
+PART = f'{{{DAY},"do":"add_part","flags":["component","trackable"],"name":"Screw"}}'
+FOUND = '"do":"found","location":1,"part":2,"quantity"'
 
 
-def lines(count):
-    """So many requests: a location and a part, then in turn a find and a removal of it."""
-    yield f'{{{DAY},"do":"add_location","name":"A"}}'
-    yield f'{{{DAY},"do":"add_part","flags":["component"],"name":"Screw"}}'
+def found_and_remove(count):
+    """In turn a find and a removal of it, on one part."""
+    yield LOCATION
+    yield PART
     for i in range((count - 2) // 2):
-        yield f'{{{DAY},"do":"found","location":1,"part":2,"quantity":100}}'
+        yield f'{{{DAY},{FOUND}:100}}'
         yield f'{{{DAY},"do":"remove","item":{i + 3},"quantity":30}}'
 
 
-def run(count):
-    """Gives the seconds that so many lines take."""
-    text = "".join(line + "\n" for line in lines(count)).encode()
+def transfer(count):
+    """Pieces of one item, each to the location where it lies."""
+    yield LOCATION
+    yield PART
+    yield f'{{{DAY},{FOUND}:1000000}}'
+    for _ in range(count - 3):
+        yield f'{{{DAY},"do":"transfer","item":3,"location":1,"quantity":1}}'
+
+
+def found_with_serial(count):
+    """One piece at a time, with a batch and a serial of its own."""
+    yield LOCATION
+    yield PART
+    for i in range(count - 2):
+        yield f'{{{DAY},{FOUND}:1,"batch":"B-7","serials":"S{i}"}}'
+
+
+def add_line(count):
+    """A bill of half as many parts, each of which contains the two after it: the parts, and then the lines."""
+    parts = count // 3
+    for i in range(parts + 2):
+        yield f'{{{DAY},"do":"add_part","flags":["assembly","component"],"name":"Part {i}"}}'
+    for i in range(1, (count - parts - 2) // 2 + 1):
+        yield f'{{{DAY},"do":"add_line","assembly":{i},"component":{i + 1},"quantity":1}}'
+        yield f'{{{DAY},"do":"add_line","assembly":{i},"component":{i + 2},"quantity":1}}'
+
+
+def keyed_found(count):
+    """Finds with a key each."""
+    yield LOCATION
+    yield PART
+    for i in range(count - 2):
+        yield f'{{{DAY},{FOUND}:1,"key":"k{i}"}}'
+
+
+def reading_alone(count):
+    """Requests that are read, and refused at their first check."""
+    for i in range(count):
+        yield f'{{{DAY},"do":"transfer","item":{i + 1},"location":1,"quantity":1}}'
+
+
+KINDS = (found_and_remove, transfer, found_with_serial, add_line, keyed_found, reading_alone)
+
+
+def run(kind, count):
+    """Gives the seconds that so many lines of the kind take."""
+    text = "".join(line + "\n" for line in kind(count)).encode()
     begin = time.monotonic()
     done = subprocess.run([sys.argv[1]], input=text, stdout=subprocess.PIPE, check=False)
     seconds = time.monotonic() - begin
     answers = done.stdout.count(b"\n")
     # The most of any run so far: the runs grow.
     peak = resource.getrusage(resource.RUSAGE_CHILDREN).ru_maxrss
-    print(f"{answers} answers, status {done.returncode}, {seconds:.2f} s, {answers / seconds:.0f} lines per second, {peak} KiB at most")
+    print(
+        f"{kind.__name__}: {answers} answers, status {done.returncode}, {seconds:.2f} s,"
+        f" {answers / seconds:.0f} lines per second, {peak} KiB at most",
+        flush=True,
+    )
     return seconds
 
 
 def main():
-    small, large = (run(count) for count in COUNTS)
-    print(f"{large / small:.2f} times the time for {COUNTS[1] / COUNTS[0]:.0f} times the lines")
+    for kind in KINDS:
+        small, large = (run(kind, count) for count in COUNTS)
+        print(f"{kind.__name__}: {large / small:.2f} times the time for {COUNTS[1] / COUNTS[0]:.0f} times the lines", flush=True)
 
 
 main()

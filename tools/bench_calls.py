@@ -1,6 +1,6 @@
 #!/usr/bin/env python3
-"""Times library calls that no line of the program makes: the cycle test of bills, and transfers in part, each at 1,000
-and at 2,000 rows. Prints milliseconds per call, and by what factor they grow.
+"""Times calls of the libraries, without the reading and writing of lines: the cycle test of bills, and transfers in part,
+each at 1,000 and at 2,000 rows. Prints milliseconds per call, and by what factor they grow.
 
 The program that makes the calls, tools/bench/main.rt.txt, is no crate of the repository and isn't proved: a copy of the
 crates gets it as one more, and 'rt try' runs it there. So it isn't named .rt, of which the gate wants each file in a

@@ -188,9 +188,6 @@ step-new s r e = rw e refl
 pub step-repeated : (s : State) (r : Request) (row : Kept) → kept_for r s ≡ Some row → bytes_eq row.command (command_text r.command) ≡ true → step s r ≡ (s, Ok row.answer)
 step-repeated s r row e same = rw (e, same) refl
 
-pub step-taken : (s : State) (r : Request) (row : Kept) → kept_for r s ≡ Some row → bytes_eq row.command (command_text r.command) ≡ false → step s r ≡ (s, Err KeyTaken)
-step-taken s r row e other = rw (e, other) refl
-
 -- what acts as checks and effect say, and keeps its answer, decides the step
 pub decided-ok : (s t : State) (r : Request) (a : Answer) → kept_for r s ≡ None
     → Acts (checks s r.day r.command) (effect s r.day r.command, answer_of s (effect s r.day r.command)) s (Ok a) t → Decides s r (Ok a) (with_answer r.key (command_text r.command) a t)

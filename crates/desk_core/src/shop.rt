@@ -141,7 +141,8 @@ impl Shop {
         command: CommandText,
         answer: &Answer,
     ) -> Result<(), AllocError>
-        ensures ok { OnOk result (state_of self.new ≡ with_answer (Some key.now) command answer.now (state_of self.old)) }
+        ensures ok { OnOk result (state_of self.new
+            ≡ with_answer (Some key.now) command answer.now (state_of self.old)) }
         ensures kept { kept_state self.new ≡ kept_state self.old }
     {
         let word = key.copy(self.alloc)?;

@@ -192,7 +192,7 @@ fn reports(alloc: Global, shop: &mut Shop) -> Result<(), Fail>
         shop,
         ReportName::History,
         10,
-        "4\tfound\t5\tat 1\n5\twritten\t5\toff removed\n",
+        "4\t2030-01-02\tfound\t5\tat 1\n5\t2030-01-02\twritten\t5\toff removed\n",
     )
 }
 

@@ -63,7 +63,8 @@ pub fn maybe_serials(alloc: Global, list: &Option<Serials>) -> Result<Value, All
 
 /// Those of the words whose flag is set, in order.
 fn chosen(alloc: Global, words: &[(&str, bool)]) -> Result<Value, AllocError>
-    ensures { IfOk result (λ value. view value ≡ strings (chosen (map (λ w. (w.0.now, w.1)) words.now))) }
+    ensures { IfOk result (λ value.
+        view value ≡ strings (chosen (map (λ w. (w.0.now, w.1)) words.now))) }
 {
     let mut values = Vec::new(alloc);
     for (word, is_set) in words {
