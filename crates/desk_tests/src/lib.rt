@@ -2,7 +2,7 @@
 #![tactic(auto)]
 
 #[cfg(test)]
-mod bills;
+mod calls;
 #[cfg(test)]
 mod devices;
 #[cfg(test)]
@@ -12,8 +12,8 @@ mod lines;
 #[cfg(test)]
 mod outcomes;
 #[cfg(test)]
+mod play;
+#[cfg(test)]
 mod requests;
 #[cfg(test)]
 mod sheets;
-#[cfg(test)]
-mod stocks;

@@ -1,4 +1,4 @@
-//! Worked examples, as lines: through slow and failing readers and writers.
+//! Lines, a repeat and reports among them, through slow and failing readers and writers.
 use crate::devices::{Sink, Source};
 use desk_app::{RunEnd, run_lines};
 use desk_core::Shop;
@@ -6,22 +6,23 @@ use part_core::Limits;
 use std::io::ErrorKind;
 use std::test::Fail;
 
-const FIRST: &str = concat!(
-    "{\"day\":\"2030-01-02\",\"do\":\"add_location\",\"name\":\"A\"}\n",
-    "{\"day\":\"2030-01-02\",\"do\":\"add_part\",\"flags\":[\"component\",\"purchaseable\"],\"name\":\"Screw\"}\n",
-    "{\"day\":\"2030-01-02\",\"do\":\"found\",\"location\":1,\"part\":2,\"quantity\":100}\n",
-    "{\"day\":\"2030-01-03\",\"do\":\"remove\",\"item\":3,\"quantity\":30}\n",
-    "{\"of\":2,\"report\":\"ledger\"}\n"
-);
+const FIRST: &str = r#"{"day":"2030-01-02","do":"add_location","name":"A"}
+{"day":"2030-01-02","do":"add_part","flags":["component","purchaseable"],"name":"Screw"}
+{"day":"2030-01-02","do":"found","key":"k","location":1,"part":2,"quantity":100}
+{"day":"2030-01-03","do":"remove","item":3,"quantity":30}
+{"day":"2030-01-03","do":"found","key":"k","location":1,"part":2,"quantity":100}
+{"of":3,"report":"history"}
+{"of":2,"report":"ledger"}
+"#;
 
-const FIRST_OUT: &str = concat!(
-    "{\"entries\":0,\"ids\":[1]}\n",
-    "{\"entries\":0,\"ids\":[2]}\n",
-    "{\"entries\":1,\"ids\":[3]}\n",
-    "{\"entries\":1,\"ids\":[]}\n",
-    "{\"report\":[[\"ledger\",\"2\",\"Screw\"],[\"received\",\"0\"],[\"found\",\"100\"],[\"built\",\"0\"],[\"returned\",\"0\"],",
-    "[\"consumed\",\"0\"],[\"shipped\",\"0\"],[\"written\",\"30\"],[\"present\",\"70\"],[\"sent\",\"0\"],[\"used\",\"0\"]]}\n"
-);
+const FIRST_OUT: &str = r#"{"entries":0,"ids":[1]}
+{"entries":0,"ids":[2]}
+{"entries":1,"ids":[3]}
+{"entries":1,"ids":[]}
+{"entries":1,"ids":[3]}
+{"report":[["1","2030-01-02","found","100","at 1"],["2","2030-01-03","written","30","off removed"]]}
+{"report":[["ledger","2","Screw"],["received","0"],["found","100"],["built","0"],["returned","0"],["consumed","0"],["shipped","0"],["written","30"],["present","70"],["sent","0"],["used","0"]]}
+"#;
 
 #[test]
 fn first_run(rt: HostRuntime) -> Result<(), Fail> {
@@ -44,7 +45,7 @@ fn first_run(rt: HostRuntime) -> Result<(), Fail> {
 fn each_read_fails(rt: HostRuntime) -> Result<(), Fail> {
     let alloc = rt.alloc();
     let mut before = 0;
-    for fails in 1..40u64 {
+    for fails in 1..60u64 {
         let mut shop = Shop::new(alloc, Limits::LARGEST);
         let mut source = Source::new(FIRST.as_bytes(), 20);
         source.fails = fails;
@@ -68,7 +69,7 @@ fn each_read_fails(rt: HostRuntime) -> Result<(), Fail> {
 fn each_write_fails(rt: HostRuntime) -> Result<(), Fail> {
     let alloc = rt.alloc();
     let mut whole = false;
-    for fails in 1..60u64 {
+    for fails in 1..90u64 {
         let mut shop = Shop::new(alloc, Limits::LARGEST);
         let mut source = Source::new(FIRST.as_bytes(), 4096);
         let mut sink = Sink::new(alloc, 10);

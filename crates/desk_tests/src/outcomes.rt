@@ -12,34 +12,15 @@ use std::test::Fail;
 pub enum Wanted {
     /// It draws the number, and writes so many entries.
     Drawn(u64, u64),
-    /// It draws the numbers from the first to the last, and writes so many entries.
-    Several(u64, u64, u64),
     /// It draws no number, and writes so many entries.
     Done(u64),
     Refused(Refusal),
 }
 
-/// Whether these are the numbers from the first to the last, each once and in order.
-fn are_drawn(ids: &[u64], first: u64, last: u64) -> bool {
-    let mut next = first;
-    for number in ids {
-        if *number != next {
-            return false;
-        }
-        next = next.wrapping_add(1);
-    }
-    next == last.wrapping_add(1)
-}
-
 fn is_answer(answer: &Answer, wanted: &Wanted) -> bool {
     let ids = answer.ids.as_slice();
     match wanted {
-        Wanted::Drawn(number, entries) => {
-            are_drawn(ids, *number, *number) && answer.entries == *entries
-        }
-        Wanted::Several(first, last, entries) => {
-            are_drawn(ids, *first, *last) && answer.entries == *entries
-        }
+        Wanted::Drawn(number, entries) => ids == [*number].as_slice() && answer.entries == *entries,
         Wanted::Done(entries) => ids.is_empty() && answer.entries == *entries,
         Wanted::Refused(_) => false,
     }

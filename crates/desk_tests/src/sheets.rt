@@ -4,7 +4,7 @@ ghost use Rattle.desk_core.specs.Shops.{state_of};
 
 use crate::outcomes::{Wanted, holds, plays};
 use crate::requests::{
-    category, component, drop_line, found, location, part, plain_line, substitute, transfer,
+    category, component, drop_line, found, line, location, part, substitute, transfer,
 };
 use desk_core::{Request, Shop};
 use part_core::{Limits, Serial, Sheet, Status};
@@ -121,7 +121,7 @@ fn change_each_sheet(alloc: Global, shop: &mut Shop) -> Result<(), Fail>
     changes(
         alloc,
         shop,
-        plain_line(3, 2, 8)?,
+        line(3, 2, 8)?,
         Wanted::Drawn(5, 0),
         [0, 0, 1, 0, 0, 0, 0],
     )?;
