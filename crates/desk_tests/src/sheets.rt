@@ -6,7 +6,7 @@ use crate::outcomes::{Wanted, holds, plays};
 use crate::requests::{
     category, component, drop_line, found, line, location, part, substitute, transfer,
 };
-use desk_core::{Request, Shop};
+use desk_core::{Key, Request, Shop};
 use part_core::{Limits, Serial, Sheet, Status};
 use std::alloc::{AllocError, Global};
 use std::test::Fail;
@@ -59,17 +59,18 @@ fn pending(alloc: Global, shop: &Shop) -> Result<Vec<usize>, AllocError> {
     counts.push(shop.yard().locations().pending()?.len())?;
     counts.push(shop.yard().items().pending()?.len())?;
     counts.push(shop.yard().journal().pending()?.len())?;
+    counts.push(shop.answers().pending()?.len())?;
     Ok(counts)
 }
 
 /// Runs the request, and fails where other rows are pending after it: categories, parts, lines,
-/// substitutes, locations, items and entries.
+/// substitutes, locations, items, entries and kept answers.
 fn changes(
     alloc: Global,
     shop: &mut Shop,
     request: Request,
     wanted: Wanted,
-    rows: [usize; 7],
+    rows: [usize; 8],
 ) -> Result<(), Fail>
     requires { IsSoundState (state_of shop.old) }
     ensures { IsSoundState (state_of shop.new) }
@@ -81,6 +82,11 @@ fn changes(
         pending(alloc, shop)?.as_slice() == rows.as_slice(),
         "other rows pending",
     )
+}
+
+fn with_key(alloc: Global, mut request: Request) -> Result<Request, Fail> {
+    request.key = Key::new(String::from_str(alloc, "k")?);
+    Ok(request)
 }
 
 fn change_each_sheet(alloc: Global, shop: &mut Shop) -> Result<(), Fail>
@@ -95,70 +101,77 @@ fn change_each_sheet(alloc: Global, shop: &mut Shop) -> Result<(), Fail>
         shop,
         category(alloc, "All", None)?,
         Wanted::Drawn(1, 0),
-        [1, 0, 0, 0, 0, 0, 0],
+        [1, 0, 0, 0, 0, 0, 0, 0],
     )?;
     changes(
         alloc,
         shop,
         screw,
         Wanted::Drawn(2, 0),
-        [0, 1, 0, 0, 0, 0, 0],
+        [0, 1, 0, 0, 0, 0, 0, 0],
     )?;
     changes(
         alloc,
         shop,
         robot,
         Wanted::Drawn(3, 0),
-        [0, 1, 0, 0, 0, 0, 0],
+        [0, 1, 0, 0, 0, 0, 0, 0],
     )?;
     changes(
         alloc,
         shop,
         part(alloc, "Bolt", None, component())?,
         Wanted::Drawn(4, 0),
-        [0, 1, 0, 0, 0, 0, 0],
+        [0, 1, 0, 0, 0, 0, 0, 0],
     )?;
     changes(
         alloc,
         shop,
         line(3, 2, 8)?,
         Wanted::Drawn(5, 0),
-        [0, 0, 1, 0, 0, 0, 0],
+        [0, 0, 1, 0, 0, 0, 0, 0],
     )?;
     changes(
         alloc,
         shop,
         substitute(5, 4)?,
         Wanted::Drawn(6, 0),
-        [0, 0, 0, 1, 0, 0, 0],
+        [0, 0, 0, 1, 0, 0, 0, 0],
     )?;
     changes(
         alloc,
         shop,
         location(alloc, "A", None)?,
         Wanted::Drawn(7, 0),
-        [0, 0, 0, 0, 1, 0, 0],
+        [0, 0, 0, 0, 1, 0, 0, 0],
     )?;
     changes(
         alloc,
         shop,
-        found(2, 7, 9)?,
+        with_key(alloc, found(2, 7, 9)?)?,
         Wanted::Drawn(8, 1),
-        [0, 0, 0, 0, 0, 1, 1],
+        [0, 0, 0, 0, 0, 1, 1, 1],
+    )?;
+    changes(
+        alloc,
+        shop,
+        with_key(alloc, found(2, 7, 9)?)?,
+        Wanted::Drawn(8, 1),
+        [0, 0, 0, 0, 0, 0, 0, 0],
     )?;
     changes(
         alloc,
         shop,
         transfer(8, 7, 4)?,
         Wanted::Drawn(9, 2),
-        [0, 0, 0, 0, 0, 2, 2],
+        [0, 0, 0, 0, 0, 2, 2, 0],
     )?;
     changes(
         alloc,
         shop,
         drop_line(5)?,
         Wanted::Done(0),
-        [0, 0, 1, 1, 0, 0, 0],
+        [0, 0, 1, 1, 0, 0, 0, 0],
     )
 }
 
