@@ -112,7 +112,7 @@ fn days_and_texts(rt: HostRuntime) -> Result<(), Fail> {
         assert!(rt; Text::new(String::from_str(alloc, text)?).is_none());
     }
     assert!(rt; Text::new(String::from_str(alloc, "Schraube \u{e4}")?).is_some());
-    assert!(rt; is_key("receipts/D1/7~!"));
+    assert!(rt; is_key("count-17!~"));
     for text in ["", "a b", "a\u{7f}", "\u{e4}"] {
         assert!(rt; !is_key(text), "{text}");
     }
