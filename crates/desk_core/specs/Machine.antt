@@ -77,7 +77,7 @@ checks s day (command.Bom c) = bom.checks c (open_parts s) s.parts (bill_books_i
 checks s day (command.Yard c) = yard.checks c (books_in s)
 checks s day (command.Stock c) = stock.checks c day s.parts (books_in s)
 
--- each command's refusals stand in the one order of checks, in which that of a key comes before them
+-- each command's refusals stand in the one order of checks
 abbrev pub ChecksAreInOrder : Type 0
 ChecksAreInOrder = (s : State) (day : CivilDay) (c : Command) → AreInOrder (checks s day c)
 
