@@ -1,5 +1,5 @@
 -- Bills: which lines hold for a part, what fits a line, and which parts a part contains.
-use Rattle.std.specs.Prelude.{ℕ, Bool, ◌==◌, ◌&&◌, ◌||◌, List, filter}
+use Rattle.std.specs.Prelude.{ℕ, Bool, ◌==◌, ◌&&◌, ◌||◌, not, List, filter}
 use Rattle.std.specs.List.{list_any}
 use Rattle.std.specs.FinMap as table
 use Rattle.part_core.specs.Sheet.{Table}
@@ -50,6 +50,11 @@ fits_line parts substitutes l p = covers parts l.component l.flags.variants p ||
 
 abbrev pub fits : Parts → Bills → Line → ℕ → Bool
 fits parts bills l p = fits_line (part_rows parts) (substitute_rows bills) l p
+
+-- the part may be installed in the assembly: a line that holds for that and isn't consumable fits it
+abbrev pub fits_in : Parts → Bills → ℕ → ℕ → Bool
+fits_in parts bills a p =
+    list_any (λ l. is_effective (part_rows parts) a l && not l.flags.consumable && fits parts bills l p) (line_rows bills)
 
 -- a line that holds for a fits c
 abbrev pub contains_by : List Part → List Line → List Substitute → ℕ → ℕ → Bool

@@ -2,7 +2,7 @@
 ghost use Rattle.std.specs.Prelude.{◌≡◌, ◌∷◌, [], ℕ, true, ◌↔◌, IsTrue, IfOk, map, option_copied};
 ghost use Rattle.std.specs.FinMap as table;
 ghost use Rattle.part_core.specs.Catalogues.{parts_of};
-ghost use Rattle.bom_core.specs.Bills.{covers, effective, fits, line_rows, no_bills, part_rows, substitute_rows};
+ghost use Rattle.bom_core.specs.Bills.{covers, effective, fits, fits_in, is_effective, line_rows, no_bills, part_rows, substitute_rows};
 ghost use Rattle.bom_core.specs.Boms.{bills_of, kept_bills};
 ghost use Rattle.bom_core.specs.Changes.{has_row, is_line_open};
 ghost use Rattle.bom_core.specs.Search.{is_among, is_next};
@@ -24,6 +24,13 @@ pub struct Boms {
     lines: Sheet<Line>,
     substitutes: Sheet<Substitute>,
     alloc: Global,
+}
+
+/// Whether the line holds for the part: it is the part's own, or an inherited one of its template.
+fn is_effective(catalogue: &Catalogue, line: &Line, part: Id) -> bool
+    ensures { result ≡ is_effective (part_rows (parts_of catalogue.now)) part line.now }
+{
+    line.assembly == part || (line.flags.inherited && is_variant(catalogue, part, line.assembly))
 }
 
 impl Boms {
@@ -90,10 +97,8 @@ impl Boms {
     pub fn effective(&self, catalogue: &Catalogue, part: Id) -> Result<Vec<&Line>, AllocError>
         ensures { IfOk result (λ lines. map (λ l. l.now) lines.items ≡ effective (parts_of catalogue.now) (bills_of self.now) part) }
     {
-        self.lines.select(|line| {
-            line.assembly == part
-                || (line.flags.inherited && is_variant(catalogue, part, line.assembly))
-        })
+        self.lines
+            .select(|line| is_effective(catalogue, line, part))
     }
 
     /// Whether the part fits the line: it is its component, a variant of it where the line allows variants, or a
@@ -105,6 +110,18 @@ impl Boms {
             || (line.flags.variants && is_variant(catalogue, part, line.component))
             || self.substitutes.any(|substitute| substitute.line == line.number
                 && substitute.part == part)
+    }
+
+    /// Whether the part may be installed in the assembly: a line that holds for that and isn't consumable fits it. It
+    /// takes no memory.
+    pub fn fits_in(&self, catalogue: &Catalogue, assembly: Id, part: Id) -> bool
+        ensures { result ≡ fits_in (parts_of catalogue.now) (bills_of self.now) assembly part }
+    {
+        self.lines.any(|line| {
+            is_effective(catalogue, line, assembly)
+                && !line.flags.consumable
+                && self.fits(catalogue, line, part)
+        })
     }
 
     // The parts that a walk leads to from the part, or from which one leads to it.

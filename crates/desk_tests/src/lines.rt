@@ -3,6 +3,7 @@ use crate::devices::{Sink, Source};
 use desk_app::{RunEnd, run_lines};
 use desk_core::Shop;
 use part_core::Limits;
+use std::alloc::Global;
 use std::io::ErrorKind;
 use std::test::Fail;
 
@@ -24,18 +25,21 @@ const FIRST_OUT: &str = r#"{"entries":0,"ids":[1]}
 {"report":[["ledger","2","Screw"],["received","0"],["found","100"],["built","0"],["returned","0"],["consumed","0"],["shipped","0"],["written","30"],["present","70"],["sent","0"],["used","0"]]}
 "#;
 
+/// Runs the lines on a shop with nothing in it.
+fn runs(alloc: Global, source: &mut Source, sink: &mut Sink) -> RunEnd {
+    let mut shop = Shop::new(alloc, Limits::LARGEST);
+    run_lines(alloc, source, sink, &mut shop)
+}
+
 #[test]
 fn first_run(rt: HostRuntime) -> Result<(), Fail> {
     let alloc = rt.alloc();
     for (read, write) in [(4096, 4096), (1, 1), (7, 3)] {
-        let mut shop = Shop::new(alloc, Limits::LARGEST);
         let mut source = Source::new(FIRST.as_bytes(), read);
         let mut sink = Sink::new(alloc, write);
-        let end = run_lines(alloc, &mut source, &mut sink, &mut shop);
+        let end = runs(alloc, &mut source, &mut sink);
         assert!(rt; end == RunEnd::Done(true));
         assert!(rt; sink.bytes.as_slice() == FIRST_OUT.as_bytes());
-        let left = shop.yard().item(3).map_or(0, |item| item.quantity);
-        assert_eq!(rt; left, 70);
     }
     Ok(())
 }
@@ -46,11 +50,10 @@ fn each_read_fails(rt: HostRuntime) -> Result<(), Fail> {
     let alloc = rt.alloc();
     let mut before = 0;
     for fails in 1..60u64 {
-        let mut shop = Shop::new(alloc, Limits::LARGEST);
         let mut source = Source::new(FIRST.as_bytes(), 20);
         source.fails = fails;
         let mut sink = Sink::new(alloc, 4096);
-        let end = run_lines(alloc, &mut source, &mut sink, &mut shop);
+        let end = runs(alloc, &mut source, &mut sink);
         assert!(rt; FIRST_OUT.as_bytes().starts_with(sink.bytes.as_slice()));
         assert!(rt; before <= sink.bytes.len());
         before = sink.bytes.len();
@@ -70,11 +73,10 @@ fn each_write_fails(rt: HostRuntime) -> Result<(), Fail> {
     let alloc = rt.alloc();
     let mut whole = false;
     for fails in 1..90u64 {
-        let mut shop = Shop::new(alloc, Limits::LARGEST);
         let mut source = Source::new(FIRST.as_bytes(), 4096);
         let mut sink = Sink::new(alloc, 10);
         sink.fails = fails;
-        let end = run_lines(alloc, &mut source, &mut sink, &mut shop);
+        let end = runs(alloc, &mut source, &mut sink);
         assert!(rt; FIRST_OUT.as_bytes().starts_with(sink.bytes.as_slice()));
         if sink.calls < fails {
             assert!(rt; end == RunEnd::Done(true));
@@ -92,18 +94,16 @@ fn each_write_fails(rt: HostRuntime) -> Result<(), Fail> {
 #[test]
 fn interrupted_and_full(rt: HostRuntime) -> Result<(), Fail> {
     let alloc = rt.alloc();
-    let mut shop = Shop::new(alloc, Limits::LARGEST);
     let mut source = Source::new(FIRST.as_bytes(), 30);
     source.fails = 3;
     source.failure = ErrorKind::Interrupted;
     let mut sink = Sink::new(alloc, 4096);
-    let end = run_lines(alloc, &mut source, &mut sink, &mut shop);
+    let end = runs(alloc, &mut source, &mut sink);
     assert!(rt; end == RunEnd::Done(true));
     assert!(rt; sink.bytes.as_slice() == FIRST_OUT.as_bytes());
-    let mut shop = Shop::new(alloc, Limits::LARGEST);
     let mut source = Source::new(FIRST.as_bytes(), 4096);
     let mut sink = Sink::new(alloc, 0);
-    let end = run_lines(alloc, &mut source, &mut sink, &mut shop);
+    let end = runs(alloc, &mut source, &mut sink);
     assert!(rt; end == RunEnd::WriteFailed);
     Ok(())
 }
@@ -134,10 +134,9 @@ fn faults(rt: HostRuntime) -> Result<(), Fail> {
         "{\"fault\":\"NotJson\",\"line\":9}\n",
         "{\"refused\":\"NoSuch\"}\n"
     );
-    let mut shop = Shop::new(alloc, Limits::LARGEST);
     let mut source = Source::new(text.as_bytes(), 11);
     let mut sink = Sink::new(alloc, 4096);
-    let end = run_lines(alloc, &mut source, &mut sink, &mut shop);
+    let end = runs(alloc, &mut source, &mut sink);
     assert!(rt; end == RunEnd::Done(false));
     assert!(rt; sink.bytes.as_slice() == wanted.as_bytes());
     Ok(())
@@ -164,10 +163,9 @@ fn long_lines(rt: HostRuntime) -> Result<(), Fail> {
     ] {
         let mut text = vec![in alloc; b' '; length]?;
         text.extend_from_slice(next.as_bytes())?;
-        let mut shop = Shop::new(alloc, Limits::LARGEST);
         let mut source = Source::new(text.as_slice(), 5000);
         let mut sink = Sink::new(alloc, 4096);
-        let end = run_lines(alloc, &mut source, &mut sink, &mut shop);
+        let end = runs(alloc, &mut source, &mut sink);
         assert!(rt; end == RunEnd::Done(false));
         assert!(rt; sink.bytes.as_slice() == wanted.as_bytes());
     }

@@ -12,12 +12,12 @@ use Rattle.stock_core.proofs.SplitSound.{sound-split}
 use Rattle.stock_core.proofs.TransferSound.{sound-transfer}
 
 pub sound-effect : EffectsAreSound
-sound-effect (Found part location new) day parts b sound e = sound-found part location new day parts b sound e
-sound-effect (Add n quantity) day parts b sound e = sound-add n quantity day parts b sound e
-sound-effect (Remove n quantity) day parts b sound e = sound-remove n quantity day parts b sound e
-sound-effect (Count n quantity) day parts b sound e = sound-count n quantity day parts b sound e
-sound-effect (Transfer n location quantity) day parts b sound e = sound-transfer n location quantity day parts b sound e
-sound-effect (Split n quantity) day parts b sound e = sound-split n quantity day parts b sound e
-sound-effect (Merge into items) day parts b sound e = sound-merge into items day parts b sound e
-sound-effect (Serialise n quantity serials) day parts b sound e = sound-serialise n quantity serials day parts b sound e
-sound-effect (SetStatus n status) day parts b sound e = sound-set_status n status day parts b sound e
+sound-effect (Found part location new) day parts bills b sound e = sound-found part location new day parts b sound e
+sound-effect (Add n quantity) day parts bills b sound e = sound-add n quantity day parts b sound e
+sound-effect (Remove n quantity) day parts bills b sound e = sound-remove n quantity day parts b sound e
+sound-effect (Count n quantity) day parts bills b sound e = sound-count n quantity day parts b sound e
+sound-effect (Transfer n location quantity) day parts bills b sound e = sound-transfer n location quantity day parts b sound e
+sound-effect (Split n quantity) day parts bills b sound e = sound-split n quantity day parts b sound e
+sound-effect (Merge into items) day parts bills b sound e = sound-merge into items day parts b sound e
+sound-effect (Serialise n quantity serials) day parts bills b sound e = sound-serialise n quantity serials day parts b sound e
+sound-effect (SetStatus n status) day parts bills b sound e = sound-set_status n status day parts b sound e

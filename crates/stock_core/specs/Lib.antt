@@ -2,9 +2,12 @@ pub mod Add
 pub mod Arrives
 pub mod Asked
 pub mod Count
+pub mod Disassemble
 pub mod Found
+pub mod Install
 pub mod Merge
 pub mod Pieces
+pub mod Reinstate
 pub mod Remove
 pub mod Serialise
 pub mod Serials
@@ -14,3 +17,4 @@ pub mod Split
 pub mod Steps
 pub mod StockMachine
 pub mod Transfer
+pub mod Uninstall

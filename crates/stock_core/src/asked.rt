@@ -1,11 +1,14 @@
 //! What is asked of items. One that isn't there counts as one that is gone.
-ghost use Rattle.std.specs.Prelude.{◌≡◌};
+ghost use Rattle.std.specs.Prelude.{◌≡◌, is_none};
+ghost use Rattle.part_core.specs.Status.{is_allocatable};
+ghost use Rattle.forest.specs.Forest.{is_off};
+ghost use Rattle.forest.specs.Rows.{parent_in};
 ghost use Rattle.yard_core.specs.Stock.{item_at};
 ghost use Rattle.yard_core.specs.Yards.{stock_of};
-ghost use Rattle.stock_core.specs.Asked.{has_less, has_more, is_loose, is_no_item, is_no_location, is_serialised, quantity_at};
+ghost use Rattle.stock_core.specs.Asked.{has_less, has_more, is_loose, is_no_item, is_no_location, is_serialised, part_at, quantity_at, stands_loose};
 
 use part_core::{Id, Quantity};
-use yard_core::Yard;
+use yard_core::{Place, Yard};
 
 pub fn is_no_location(yard: &Yard, location: Id) -> bool
     ensures { result ≡ is_no_location location (stock_of yard.now) }
@@ -26,6 +29,43 @@ pub fn is_loose(yard: &Yard, item: Id) -> bool
     match yard.item(item) {
         Some(row) => row.place.is_at(),
         None => false,
+    }
+}
+
+/// Whether what the item stands under, itself where it lies in no other, lies at a location.
+pub fn stands_loose(yard: &Yard, item: Id) -> bool
+    ensures { result ≡ stands_loose item (stock_of yard.now) }
+{
+    is_loose(yard, yard.root(item))
+}
+
+/// Whether the item lies in no other.
+pub fn lies_in_none(yard: &Yard, item: Id) -> bool
+    ensures { result ≡ is_none (parent_in (item_at item (stock_of yard.now)).place) }
+{
+    match yard.item(item) {
+        Some(row) => !matches!(row.place, Place::In(_)),
+        None => true,
+    }
+}
+
+/// Whether the item itself is off the books.
+pub fn is_off(yard: &Yard, item: Id) -> bool
+    ensures { result ≡ is_off (item_at item (stock_of yard.now)).place }
+{
+    match yard.item(item) {
+        Some(row) => row.place.is_off(),
+        None => false,
+    }
+}
+
+/// Whether the item's status is one in which stock may be used. One that isn't there counts as okay.
+pub fn is_available(yard: &Yard, item: Id) -> bool
+    ensures { result ≡ is_allocatable (item_at item (stock_of yard.now)).lot.status }
+{
+    match yard.item(item) {
+        Some(row) => row.lot.status.is_allocatable(),
+        None => true,
     }
 }
 
@@ -65,7 +105,7 @@ pub fn has_less(yard: &Yard, item: Id, quantity: Quantity) -> bool
 
 /// The number of the item's part, or 0 where the item isn't there.
 pub fn part_at(yard: &Yard, item: Id) -> Id
-    ensures { result ≡ (item_at item (stock_of yard.now)).part }
+    ensures { result ≡ part_at item (stock_of yard.now) }
 {
     match yard.item(item) {
         Some(row) => row.part,

@@ -4,13 +4,17 @@ ghost use Rattle.part_core.specs.Catalogue.{no_parts};
 ghost use Rattle.part_core.specs.Catalogues.{parts_of};
 ghost use Rattle.part_core.specs.Counter.{start};
 ghost use Rattle.part_core.specs.declared.limits.Limits.{Limits};
+ghost use Rattle.bom_core.specs.Boms.{bills_of};
 ghost use Rattle.yard_core.specs.Books.{Does, books_of, kept_books};
 ghost use Rattle.yard_core.specs.Stock.{empty_stock};
 ghost use Rattle.stock_core.specs.Sound.{IsSoundStock};
 ghost use Rattle.stock_core.specs.StockMachine.{ChecksAreInOrder, EffectsAreSound, checks, effect};
 
 use crate::arrivals::NewStock;
-use crate::{add, count, found, merge, remove, serialise, set_status, split, transfer};
+use crate::{
+    add, count, disassemble, found, install, merge, reinstate, remove, serialise, set_status, split, transfer, uninstall,
+};
+use bom_core::Boms;
 use part_core::{Answer, Catalogue, CoreFault, Counter, Day, Id, Ids, Quantity, Serials, Status};
 use std::alloc::Global;
 use yard_core::Yard;
@@ -67,6 +71,27 @@ pub enum StockCommand {
         item: Id,
         status: Status,
     },
+    /// An amount of an item is installed in another item.
+    Install {
+        item: Id,
+        parent: Id,
+        quantity: Quantity,
+    },
+    /// An item comes out of the item that it lies in.
+    Uninstall {
+        item: Id,
+        location: Id,
+    },
+    /// An item is taken apart.
+    Disassemble {
+        item: Id,
+        location: Id,
+    },
+    /// What was written off comes back.
+    Reinstate {
+        item: Id,
+        location: Id,
+    },
 }
 
 /// Does the command, or is refused by the first check that applies. The docstrings of the calls that stand
@@ -74,6 +99,7 @@ pub enum StockCommand {
 pub fn act(
     alloc: Global,
     catalogue: &Catalogue,
+    boms: &Boms,
     yard: &mut Yard,
     counter: &mut Counter,
     day: Day,
@@ -82,7 +108,8 @@ pub fn act(
     requires nothing_pending { kept_books yard.old counter.old ≡ books_of yard.old counter.old }
     requires sound { IsSoundStock (parts_of catalogue.now) (books_of yard.old counter.old) }
     ensures does { let b = books_of yard.old counter.old in
-        Does (checks command.now day (parts_of catalogue.now) b) (effect command.now day b) b result (books_of yard.new counter.new) }
+        Does (checks command.now day (parts_of catalogue.now) (bills_of boms.now) b) (effect command.now day b) b result
+            (books_of yard.new counter.new) }
     ensures kept { kept_books yard.new counter.new ≡ kept_books yard.old counter.old }
 {
     match command {
@@ -125,6 +152,22 @@ pub fn act(
         ),
         StockCommand::SetStatus { item, status } => {
             set_status(alloc, yard, counter, day, *item, *status)
+        }
+        StockCommand::Install {
+            item,
+            parent,
+            quantity,
+        } => install(
+            alloc, catalogue, boms, yard, counter, day, *item, *parent, *quantity,
+        ),
+        StockCommand::Uninstall { item, location } => {
+            uninstall(alloc, yard, counter, day, *item, *location)
+        }
+        StockCommand::Disassemble { item, location } => {
+            disassemble(alloc, yard, counter, day, *item, *location)
+        }
+        StockCommand::Reinstate { item, location } => {
+            reinstate(alloc, yard, counter, day, *item, *location)
         }
     }
 }

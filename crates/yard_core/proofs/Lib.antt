@@ -12,4 +12,5 @@ pub mod Moved
 pub mod SoundRows
 pub mod Grafting
 pub mod Heights
+pub mod Within
 pub mod Showing
