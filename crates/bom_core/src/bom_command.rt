@@ -35,11 +35,13 @@ pub fn act(
     open_parts: &[Id],
     command: &BomCommand,
 ) -> Result<Answer, CoreFault>
-    requires nothing_pending { kept_bill_books boms.old counter.old ≡ bill_books boms.old counter.old }
+    requires nothing_pending { kept_bill_books boms.old counter.old
+        ≡ bill_books boms.old counter.old }
     requires sound { IsSoundBill (parts_of catalogue.now) (bills_of boms.old) counter.old.next }
     ensures acts { let b = bill_books boms.old counter.old in
         let after = effect command.now b in
-        Acts (checks command.now open_parts.now (parts_of catalogue.now) b) (after, answer_of b after) b result (bill_books boms.new counter.new) }
+        Acts (checks command.now open_parts.now (parts_of catalogue.now) b)
+        (after, answer_of b after) b result (bill_books boms.new counter.new) }
     ensures kept { kept_bill_books boms.new counter.new ≡ kept_bill_books boms.old counter.old }
 {
     match command {

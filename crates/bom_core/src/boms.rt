@@ -95,7 +95,8 @@ impl Boms {
     /// The lines that hold for the part: its own and the inherited ones of its template, in order of number. An error
     /// is one of memory.
     pub fn effective(&self, catalogue: &Catalogue, part: Id) -> Result<Vec<&Line>, AllocError>
-        ensures { IfOk result (λ lines. map (λ l. l.now) lines.items ≡ effective (parts_of catalogue.now) (bills_of self.now) part) }
+        ensures { IfOk result (λ lines. map (λ l. l.now) lines.items
+            ≡ effective (parts_of catalogue.now) (bills_of self.now) part) }
     {
         self.lines
             .select(|line| is_effective(catalogue, line, part))
@@ -131,7 +132,9 @@ impl Boms {
         direction: Direction,
         start: Id,
     ) -> Result<Vec<Id>, AllocError>
-        ensures { IfOk result (λ seen. (p : ℕ) → (is_among seen.items p ≡ true) ↔ ((n : ℕ) × StepsFrom (is_next direction (part_rows (parts_of catalogue.now)) (line_rows (bills_of self.now)) (substitute_rows (bills_of self.now))) n start p)) }
+        ensures { IfOk result (λ seen. (p : ℕ) → (is_among seen.items p ≡ true)
+            ↔ ((n : ℕ) × StepsFrom (is_next direction (part_rows (parts_of catalogue.now))
+            (line_rows (bills_of self.now)) (substitute_rows (bills_of self.now))) n start p)) }
     {
         let parts = catalogue.parts().select(|_| true)?;
         let lines = self.lines.select(|_| true)?;
@@ -142,7 +145,8 @@ impl Boms {
     /// Whether a walk leads from the part to the other: at least one step, each to a part that fits a line that holds
     /// for the one before. It looks at the lines once for each part that it comes to. An error is one of memory.
     pub fn reaches(&self, catalogue: &Catalogue, from: Id, to: Id) -> Result<bool, AllocError>
-        ensures { IfOk result (λ answer. IsTrue answer ↔ HasWalk (parts_of catalogue.now) (bills_of self.now) from to) }
+        ensures { IfOk result (λ answer.
+            IsTrue answer ↔ HasWalk (parts_of catalogue.now) (bills_of self.now) from to) }
     {
         let seen = self.walk(catalogue, Direction::Down, from)?;
         Ok(is_seen(&seen, to))
@@ -154,7 +158,8 @@ impl Boms {
         catalogue: &'a Catalogue,
         part: Id,
     ) -> Result<Vec<&'a Part>, AllocError>
-        ensures { IfOk result (λ used. IsWhereUsed (parts_of catalogue.now) (bills_of self.now) part (map (λ p. p.now) used.items)) }
+        ensures { IfOk result (λ used. IsWhereUsed
+            (parts_of catalogue.now) (bills_of self.now) part (map (λ p. p.now) used.items)) }
     {
         let seen = self.walk(catalogue, Direction::Up, part)?;
         catalogue.parts().select(|row| is_seen(&seen, row.number))
@@ -167,7 +172,9 @@ impl Boms {
         number: Id,
         variants: bool,
     ) -> Result<bool, AllocError>
-        ensures { IfOk result (λ answer. IsTrue answer ↔ ((a : ℕ) × (covers (part_rows (parts_of catalogue.now)) number variants a ≡ true) × HasWalk (parts_of catalogue.now) (bills_of self.now) a a)) }
+        ensures { IfOk result (λ answer. IsTrue answer
+            ↔ ((a : ℕ) × (covers (part_rows (parts_of catalogue.now)) number variants a ≡ true)
+            × HasWalk (parts_of catalogue.now) (bills_of self.now) a a)) }
     {
         let rows = catalogue.parts().select(|_| true)?;
         let mut covered = Vec::new(self.alloc);
@@ -182,7 +189,8 @@ impl Boms {
 
     // Whether the line's assembly, or a variant of it, is among those with an open build.
     pub(crate) fn is_line_open(&self, catalogue: &Catalogue, open_parts: &[Id], line: Id) -> bool
-        ensures { result ≡ is_line_open (parts_of catalogue.now) (bills_of self.now) open_parts.now line }
+        ensures { result
+            ≡ is_line_open (parts_of catalogue.now) (bills_of self.now) open_parts.now line }
     {
         match self.lines.get(&line) {
             Some(line) => is_open(catalogue, open_parts, line.assembly),

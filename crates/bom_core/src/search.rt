@@ -35,7 +35,8 @@ fn push_new(seen: &mut Vec<Id>, part: Id) -> Result<(), AllocError>
 
 // Adds the variants of the template.
 fn push_variants(parts: &[&Part], template: Id, seen: &mut Vec<Id>) -> Result<(), AllocError>
-    ensures { OnOk result (seen.new.items ≡ push_all seen.old.items (variants_in (map (λ x. x.now) parts.now) template)) }
+    ensures { OnOk result (seen.new.items
+        ≡ push_all seen.old.items (variants_in (map (λ x. x.now) parts.now) template)) }
 {
     for row in parts {
         if row.template == Some(template) {
@@ -53,7 +54,8 @@ pub fn push_covered(
     variants: bool,
     seen: &mut Vec<Id>,
 ) -> Result<(), AllocError>
-    ensures { OnOk result (seen.new.items ≡ push_all seen.old.items (covered (map (λ x. x.now) parts.now) number variants)) }
+    ensures { OnOk result (seen.new.items
+        ≡ push_all seen.old.items (covered (map (λ x. x.now) parts.now) number variants)) }
 {
     push_new(seen, number)?;
     if variants {
@@ -64,7 +66,8 @@ pub fn push_covered(
 
 // The templates of the part: of a part in the catalogue at most one.
 fn templates_of(alloc: Global, parts: &[&Part], part: Id) -> Result<Vec<Id>, AllocError>
-    ensures { IfOk result (λ templates. templates.items ≡ templates_in (map (λ x. x.now) parts.now) part) }
+    ensures { IfOk result (λ templates.
+        templates.items ≡ templates_in (map (λ x. x.now) parts.now) part) }
 {
     let mut templates = Vec::new(alloc);
     for row in parts {
@@ -90,7 +93,8 @@ fn push_substitutes(
     line: Id,
     seen: &mut Vec<Id>,
 ) -> Result<(), AllocError>
-    ensures { OnOk result (seen.new.items ≡ push_all seen.old.items (substitutes_in (map (λ x. x.now) substitutes.now) line)) }
+    ensures { OnOk result (seen.new.items
+        ≡ push_all seen.old.items (substitutes_in (map (λ x. x.now) substitutes.now) line)) }
 {
     for row in substitutes {
         if row.line == line {
@@ -108,7 +112,8 @@ fn push_fitting(
     line: &Line,
     seen: &mut Vec<Id>,
 ) -> Result<(), AllocError>
-    ensures { OnOk result (seen.new.items ≡ push_all seen.old.items (fitting (map (λ x. x.now) parts.now) (map (λ x. x.now) substitutes.now) line.now)) }
+    ensures { OnOk result (seen.new.items ≡ push_all seen.old.items
+        (fitting (map (λ x. x.now) parts.now) (map (λ x. x.now) substitutes.now) line.now)) }
 {
     push_covered(parts, line.component, line.flags.variants, seen)?;
     push_substitutes(substitutes, line.number, seen)?;
@@ -125,7 +130,9 @@ fn push_contained(
     part: Id,
     seen: &mut Vec<Id>,
 ) -> Result<(), AllocError>
-    ensures { OnOk result (seen.new.items ≡ push_all seen.old.items (contained templates.now (map (λ x. x.now) parts.now) (map (λ x. x.now) lines.now) (map (λ x. x.now) substitutes.now) part)) }
+    ensures { OnOk result (seen.new.items
+        ≡ push_all seen.old.items (contained templates.now (map (λ x. x.now) parts.now)
+        (map (λ x. x.now) lines.now) (map (λ x. x.now) substitutes.now) part)) }
 {
     for line in lines {
         if is_covered(line.assembly, line.flags.inherited, part, templates) {
@@ -143,7 +150,8 @@ fn push_assemblies_of(
     number: Id,
     seen: &mut Vec<Id>,
 ) -> Result<(), AllocError>
-    ensures { OnOk result (seen.new.items ≡ push_all seen.old.items (assemblies_of (map (λ x. x.now) parts.now) (map (λ x. x.now) lines.now) number)) }
+    ensures { OnOk result (seen.new.items ≡ push_all seen.old.items
+        (assemblies_of (map (λ x. x.now) parts.now) (map (λ x. x.now) lines.now) number)) }
 {
     for line in lines {
         if line.number == number {
@@ -162,7 +170,9 @@ fn push_by_component(
     part: Id,
     seen: &mut Vec<Id>,
 ) -> Result<(), AllocError>
-    ensures { OnOk result (seen.new.items ≡ push_all seen.old.items (by_component templates.now (map (λ x. x.now) parts.now) (map (λ x. x.now) lines.now) part)) }
+    ensures { OnOk result (seen.new.items
+        ≡ push_all seen.old.items (by_component templates.now
+        (map (λ x. x.now) parts.now) (map (λ x. x.now) lines.now) part)) }
 {
     for line in lines {
         if is_covered(line.component, line.flags.variants, part, templates) {
@@ -181,7 +191,9 @@ fn push_by_substitute(
     part: Id,
     seen: &mut Vec<Id>,
 ) -> Result<(), AllocError>
-    ensures { OnOk result (seen.new.items ≡ push_all seen.old.items (by_substitute (map (λ x. x.now) parts.now) (map (λ x. x.now) lines.now) (map (λ x. x.now) substitutes.now) part)) }
+    ensures { OnOk result (seen.new.items
+        ≡ push_all seen.old.items (by_substitute (map (λ x. x.now) parts.now)
+        (map (λ x. x.now) lines.now) (map (λ x. x.now) substitutes.now) part)) }
 {
     for row in substitutes {
         if row.part == part {
@@ -202,7 +214,9 @@ fn push_next(
     seen: &mut Vec<Id>,
     alloc: Global,
 ) -> Result<(), AllocError>
-    ensures { OnOk result (seen.new.items ≡ push_all seen.old.items (next_parts direction (map (λ x. x.now) parts.now) (map (λ x. x.now) lines.now) (map (λ x. x.now) substitutes.now) part)) }
+    ensures { OnOk result (seen.new.items
+        ≡ push_all seen.old.items (next_parts direction (map (λ x. x.now) parts.now)
+        (map (λ x. x.now) lines.now) (map (λ x. x.now) substitutes.now) part)) }
 {
     let templates = templates_of(alloc, parts, part)?;
     match direction {
@@ -223,7 +237,9 @@ pub fn search(
     substitutes: &[&Substitute],
     start: Id,
 ) -> Result<Vec<Id>, AllocError>
-    ensures { IfOk result (λ seen. (p : ℕ) → (is_among seen.items p ≡ true) ↔ ((n : ℕ) × StepsFrom (is_next direction (map (λ x. x.now) parts.now) (map (λ x. x.now) lines.now) (map (λ x. x.now) substitutes.now)) n start p)) }
+    ensures { IfOk result (λ seen. (p : ℕ) → (is_among seen.items p ≡ true)
+        ↔ ((n : ℕ) × StepsFrom (is_next direction (map (λ x. x.now) parts.now)
+        (map (λ x. x.now) lines.now) (map (λ x. x.now) substitutes.now)) n start p)) }
 {
     let mut seen = Vec::new(alloc);
     push_next(

@@ -30,8 +30,10 @@ pub fn act(
 ) -> Result<Answer, CoreFault>
     requires { kept_register catalogue.old counter.old ≡ register_of catalogue.old counter.old }
     ensures acts { let r = register_of catalogue.old counter.old in
-        Acts (checks command.now r) (effect command.now r, answer_of r (effect command.now r)) r result (register_of catalogue.new counter.new) }
-    ensures kept { kept_register catalogue.new counter.new ≡ kept_register catalogue.old counter.old }
+        Acts (checks command.now r) (effect command.now r, answer_of r (effect command.now r))
+        r result (register_of catalogue.new counter.new) }
+    ensures kept { kept_register catalogue.new counter.new
+        ≡ kept_register catalogue.old counter.old }
 {
     match command {
         PartCommand::AddCategory { name, parent } => {

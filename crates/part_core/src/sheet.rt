@@ -68,7 +68,8 @@ impl<R: Row> Model for Sheet<R> {
       kept = table_by kept_row (slots_of R.digits s.slots.entries);
     } };
 
-    ghost invariant = { λ s. IsSound (slots_of R.digits s.slots.entries) s.changed.items s.len s.kept_len };
+    ghost invariant = { λ s.
+        IsSound (slots_of R.digits s.slots.entries) s.changed.items s.len s.kept_len };
 }
 
 impl<R: Row> Sheet<R> {
@@ -119,7 +120,8 @@ impl<R: Row> Sheet<R> {
     /// Whether a row passes the test: a scan that ends at the first that does, and takes no memory.
     pub fn any<F: Fn(&R) -> bool>(&self, test: F) -> bool
         requires { F.IsAlwaysCallable test }
-        ensures { (p : R → Bool) → IsTest F.Fn test p → result ≡ list_any p (table.values (now_of self.now)) }
+        ensures { (p : R → Bool)
+            → IsTest F.Fn test p → result ≡ list_any p (table.values (now_of self.now)) }
     {
         any_row::<R, F>(&self.slots, test)
     }
@@ -128,7 +130,8 @@ impl<R: Row> Sheet<R> {
     /// measure gives.
     pub fn sum<F: Fn(&R) -> u64>(&self, measure: F) -> u128
         requires { F.IsAlwaysCallable measure }
-        ensures { (f : R → ℕ) → IsMeasure F.Fn measure f → result ≡ sum_by f (table.values (now_of self.now)) }
+        ensures { (f : R → ℕ)
+            → IsMeasure F.Fn measure f → result ≡ sum_by f (table.values (now_of self.now)) }
     {
         sum_rows::<R, F>(&self.slots, measure)
     }
@@ -136,7 +139,8 @@ impl<R: Row> Sheet<R> {
     /// The rows that pass the test, in order of key: a scan, and a sort of the rows found. An error is one of memory.
     pub fn select<F: Fn(&R) -> bool>(&self, test: F) -> Result<Vec<&R>, AllocError>
         requires { F.IsAlwaysCallable test }
-        ensures { IfOk result (λ rows. (p : R → Bool) → IsTest F.Fn test p → map (λ r. r.now) rows.items ≡ filter p (table.values (now_of self.now))) }
+        ensures { IfOk result (λ rows. (p : R → Bool) → IsTest F.Fn test p
+            → map (λ r. r.now) rows.items ≡ filter p (table.values (now_of self.now))) }
     {
         let mut found = find_rows::<R, F>(self.alloc, &self.slots, test)?;
         sort_found::<R>(&mut found);
@@ -149,8 +153,10 @@ impl<R: Row> Sheet<R> {
     /// key, whatever is written. An error is one of memory.
     pub fn get_mut(&mut self, key: R::Key) -> Result<&mut R, AllocError>
         requires { IsSome (table.get (now_of self.old) (R.digits key)) }
-        ensures* writes_back { sem 𝓛 (lends_row R.row R.Key.row R.Row R.Key.Hash self.entry (R.digits key) result) }
-        ensures value { IfOk result (λ row. table.get (now_of self.old) (R.digits key) ≡ Some row.now) }
+        ensures* writes_back { sem
+            𝓛 (lends_row R.row R.Key.row R.Row R.Key.Hash self.entry (R.digits key) result) }
+        ensures value { IfOk result (λ row.
+            table.get (now_of self.old) (R.digits key) ≡ Some row.now) }
     {
         let i = note::<R>(self.alloc, &mut self.slots, &mut self.changed, &key)?;
         let held = &mut self.slots[i];
@@ -162,7 +168,8 @@ impl<R: Row> Sheet<R> {
 
     /// Puts the row under its key, in the place of the one that stands there. An error is one of memory.
     pub fn put(&mut self, row: R) -> Result<(), AllocError>
-        ensures ok { OnOk result (now_of self.new ≡ table.insert (now_of self.old) (R.key_of row) row) }
+        ensures ok { OnOk result (now_of self.new
+            ≡ table.insert (now_of self.old) (R.key_of row) row) }
         ensures err { OnErr result (self.new ≡ self.old) }
         ensures kept { self.new.kept ≡ self.old.kept }
     {
@@ -184,7 +191,8 @@ impl<R: Row> Sheet<R> {
 
     /// Removes the row under the key, if there is one. An error is one of memory.
     pub fn remove(&mut self, key: &R::Key) -> Result<(), AllocError>
-        ensures ok { OnOk result (now_of self.new ≡ table.remove (now_of self.old) (R.digits key.now)) }
+        ensures ok { OnOk result (now_of self.new
+            ≡ table.remove (now_of self.old) (R.digits key.now)) }
         ensures err { OnErr result (self.new ≡ self.old) }
         ensures kept { self.new.kept ≡ self.old.kept }
     {
@@ -202,9 +210,12 @@ impl<R: Row> Sheet<R> {
     /// A row that was changed back, or put and removed again, is not listed. This goes over the changes since the rows
     /// were kept. An error is one of memory.
     pub fn pending(&self) -> Result<Vec<Pending<'_, R>>, AllocError>
-        ensures once { IfOk result (λ pending. IsEachOnce (map (λ p. R.digits p.key.now) pending.items)) }
-        ensures exact { IfOk result (λ pending. IsDifference (map (λ p. R.digits p.key.now) pending.items) (now_of self.now) self.now.kept) }
-        ensures rows { IfOk result (λ pending. All (λ p. option_copied p.row ≡ table.get (now_of self.now) (R.digits p.key.now)) pending.items) }
+        ensures once { IfOk result (λ pending.
+            IsEachOnce (map (λ p. R.digits p.key.now) pending.items)) }
+        ensures exact { IfOk result (λ pending. IsDifference
+            (map (λ p. R.digits p.key.now) pending.items) (now_of self.now) self.now.kept) }
+        ensures rows { IfOk result (λ pending. All (λ p. option_copied p.row
+            ≡ table.get (now_of self.now) (R.digits p.key.now)) pending.items) }
     {
         list_pending::<R>(self.alloc, &self.slots, self.changed.as_slice())
     }

@@ -32,8 +32,10 @@ pub(crate) struct Found<'a, K, R> {
 // Where the key stands.
 pub(crate) fn place<R: Row>(slots: &IndexMap<R::Key, Held<R>>, key: &R::Key) -> Option<usize>
     ensures in_range { IfSome result (λ i. i < length slots.now.entries) }
-    ensures found { IfSome result (λ i. HasKeyAt (slots_of R.digits slots.now.entries) i (R.digits key.now)) }
-    ensures absent { IfNone result (table.find key_cmp (R.digits key.now) (slots_of R.digits slots.now.entries) ≡ None) }
+    ensures found { IfSome result (λ i.
+        HasKeyAt (slots_of R.digits slots.now.entries) i (R.digits key.now)) }
+    ensures absent { IfNone result
+        (table.find key_cmp (R.digits key.now) (slots_of R.digits slots.now.entries) ≡ None) }
 {
     slots.get_index_of(key)
 }
@@ -44,7 +46,8 @@ pub(crate) fn row_of<'a, R: Row>(
     key: &R::Key,
 ) -> Option<&'a R>
     requires { IsDistinct (slots_of R.digits slots.now.entries) }
-    ensures { option_copied result ≡ table.get (table_by now_row (slots_of R.digits slots.now.entries)) (R.digits key.now) }
+    ensures { option_copied result
+        ≡ table.get (table_by now_row (slots_of R.digits slots.now.entries)) (R.digits key.now) }
 {
     let held = slots.get(key)?;
     held.row.as_ref()
@@ -74,8 +77,10 @@ pub(crate) fn rewrite<R: Row>(
     ensures used { AreUsed (slots_of R.digits slots.new.entries) }
     ensures places { ArePlaces changed.new.items (slots_of R.digits slots.new.entries) }
     ensures rows { (k : List ℕ) → HasKeyAt (slots_of R.digits slots.old.entries) i k
-        → table_by now_row (slots_of R.digits slots.new.entries) ≡ given k row (table_by now_row (slots_of R.digits slots.old.entries)) }
-    ensures kept { table_by kept_row (slots_of R.digits slots.new.entries) ≡ table_by kept_row (slots_of R.digits slots.old.entries) }
+        → table_by now_row (slots_of R.digits slots.new.entries)
+        ≡ given k row (table_by now_row (slots_of R.digits slots.old.entries)) }
+    ensures kept { table_by kept_row (slots_of R.digits slots.new.entries)
+        ≡ table_by kept_row (slots_of R.digits slots.old.entries) }
     ensures few { length slots.old.entries < 2 ^ 63 }
     ensures had { (k : List ℕ) → HasKeyAt (slots_of R.digits slots.old.entries) i k
         → result ≡ table.contains_key (table_by now_row (slots_of R.digits slots.old.entries)) k }
@@ -99,7 +104,8 @@ pub(crate) fn add<R: Row>(
     key: R::Key,
     row: R,
 ) -> Result<(), AllocError>
-    requires absent { table.find key_cmp (R.digits key) (slots_of R.digits slots.old.entries) ≡ None }
+    requires absent { table.find key_cmp (R.digits key) (slots_of R.digits slots.old.entries)
+        ≡ None }
     requires room { length changed.old.items < vec_capacity changed.old }
     requires distinct { IsDistinct (slots_of R.digits slots.old.entries) }
     requires used { AreUsed (slots_of R.digits slots.old.entries) }
@@ -108,8 +114,10 @@ pub(crate) fn add<R: Row>(
     ensures used { AreUsed (slots_of R.digits slots.new.entries) }
     ensures places { ArePlaces changed.new.items (slots_of R.digits slots.new.entries) }
     ensures rows { OnOk result (table_by now_row (slots_of R.digits slots.new.entries)
-        ≡ table.insert (table_by now_row (slots_of R.digits slots.old.entries)) (R.digits key) row) }
-    ensures kept { table_by kept_row (slots_of R.digits slots.new.entries) ≡ table_by kept_row (slots_of R.digits slots.old.entries) }
+        ≡ table.insert
+        (table_by now_row (slots_of R.digits slots.old.entries)) (R.digits key) row) }
+    ensures kept { table_by kept_row (slots_of R.digits slots.new.entries)
+        ≡ table_by kept_row (slots_of R.digits slots.old.entries) }
     ensures few { length slots.old.entries < 2 ^ 63 }
     ensures err { OnErr result (slots.new.entries ≡ slots.old.entries) }
 {
@@ -129,9 +137,12 @@ pub(crate) fn add<R: Row>(
 fn take_out<R: Row>(slots: &mut IndexMap<R::Key, Held<R>>, i: usize)
     requires in_range { i < length slots.old.entries }
     requires last { NoneFrom (i + 1) (slots_of R.digits slots.old.entries) }
-    ensures noted { IsUnnoted (slots_of R.digits slots.old.entries) (slots_of R.digits slots.new.entries) i }
-    ensures taken { (k : List ℕ) → (held : Held R) → slice_get (slots_of R.digits slots.old.entries) i ≡ Some (k, held)
-        → IsPermutation (slots_of R.digits slots.old.entries) ((k, held) ∷ slots_of R.digits slots.new.entries) }
+    ensures noted { IsUnnoted
+        (slots_of R.digits slots.old.entries) (slots_of R.digits slots.new.entries) i }
+    ensures taken { (k : List ℕ)
+        → (held : Held R) → slice_get (slots_of R.digits slots.old.entries) i ≡ Some (k, held)
+        → IsPermutation (slots_of R.digits slots.old.entries)
+        ((k, held) ∷ slots_of R.digits slots.new.entries) }
 {
     let _ = slots.swap_remove_index(i);
 }
@@ -144,8 +155,10 @@ fn keep_at<R: Row>(slots: &mut IndexMap<R::Key, Held<R>>, i: usize)
     requires last { NoneFrom (i + 1) (slots_of R.digits slots.old.entries) }
     ensures distinct { IsDistinct (slots_of R.digits slots.new.entries) }
     ensures used { AreUsed (slots_of R.digits slots.new.entries) }
-    ensures noted { IsUnnoted (slots_of R.digits slots.old.entries) (slots_of R.digits slots.new.entries) i }
-    ensures rows { table_by now_row (slots_of R.digits slots.new.entries) ≡ table_by now_row (slots_of R.digits slots.old.entries) }
+    ensures noted { IsUnnoted
+        (slots_of R.digits slots.old.entries) (slots_of R.digits slots.new.entries) i }
+    ensures rows { table_by now_row (slots_of R.digits slots.new.entries)
+        ≡ table_by now_row (slots_of R.digits slots.old.entries) }
 {
     if slots[i].row.is_some() {
         let held = &mut slots[i];
@@ -183,8 +196,10 @@ fn back_at<R: Row>(slots: &mut IndexMap<R::Key, Held<R>>, i: usize)
     requires last { NoneFrom (i + 1) (slots_of R.digits slots.old.entries) }
     ensures distinct { IsDistinct (slots_of R.digits slots.new.entries) }
     ensures used { AreUsed (slots_of R.digits slots.new.entries) }
-    ensures noted { IsUnnoted (slots_of R.digits slots.old.entries) (slots_of R.digits slots.new.entries) i }
-    ensures kept { table_by kept_row (slots_of R.digits slots.new.entries) ≡ table_by kept_row (slots_of R.digits slots.old.entries) }
+    ensures noted { IsUnnoted
+        (slots_of R.digits slots.old.entries) (slots_of R.digits slots.new.entries) i }
+    ensures kept { table_by kept_row (slots_of R.digits slots.new.entries)
+        ≡ table_by kept_row (slots_of R.digits slots.old.entries) }
 {
     if had_row(&slots[i]) {
         restore(&mut slots[i]);
@@ -201,8 +216,10 @@ pub(crate) fn keep_all<R: Row>(slots: &mut IndexMap<R::Key, Held<R>>, changed: &
     ensures distinct { IsDistinct (slots_of R.digits slots.new.entries) }
     ensures used { AreUsed (slots_of R.digits slots.new.entries) }
     ensures places { ArePlaces changed.new.items (slots_of R.digits slots.new.entries) }
-    ensures rows { table_by now_row (slots_of R.digits slots.new.entries) ≡ table_by now_row (slots_of R.digits slots.old.entries) }
-    ensures kept { table_by kept_row (slots_of R.digits slots.new.entries) ≡ table_by now_row (slots_of R.digits slots.old.entries) }
+    ensures rows { table_by now_row (slots_of R.digits slots.new.entries)
+        ≡ table_by now_row (slots_of R.digits slots.old.entries) }
+    ensures kept { table_by kept_row (slots_of R.digits slots.new.entries)
+        ≡ table_by now_row (slots_of R.digits slots.old.entries) }
 {
     changed.sort_unstable();
     while let Some(i) = changed.pop() {
@@ -218,8 +235,10 @@ pub(crate) fn back_all<R: Row>(slots: &mut IndexMap<R::Key, Held<R>>, changed: &
     ensures distinct { IsDistinct (slots_of R.digits slots.new.entries) }
     ensures used { AreUsed (slots_of R.digits slots.new.entries) }
     ensures places { ArePlaces changed.new.items (slots_of R.digits slots.new.entries) }
-    ensures rows { table_by now_row (slots_of R.digits slots.new.entries) ≡ table_by kept_row (slots_of R.digits slots.old.entries) }
-    ensures kept { table_by kept_row (slots_of R.digits slots.new.entries) ≡ table_by kept_row (slots_of R.digits slots.old.entries) }
+    ensures rows { table_by now_row (slots_of R.digits slots.new.entries)
+        ≡ table_by kept_row (slots_of R.digits slots.old.entries) }
+    ensures kept { table_by kept_row (slots_of R.digits slots.new.entries)
+        ≡ table_by kept_row (slots_of R.digits slots.old.entries) }
 {
     changed.sort_unstable();
     while let Some(i) = changed.pop() {
@@ -251,7 +270,8 @@ pub(crate) fn is_as_kept<R: Row>(held: &Held<R>) -> bool
 // Whether a row passes the test.
 pub(crate) fn any_row<R: Row, F: Fn(&R) -> bool>(slots: &IndexMap<R::Key, Held<R>>, test: F) -> bool
     requires { F.IsAlwaysCallable test }
-    ensures { (p : R → Bool) → IsTest F.Fn test p → result ≡ list_any p (map (λ e. e.1) (rows_by now_row (slots_of R.digits slots.now.entries))) }
+    ensures { (p : R → Bool) → IsTest F.Fn test p → result
+        ≡ list_any p (map (λ e. e.1) (rows_by now_row (slots_of R.digits slots.now.entries))) }
 {
     for i in 0..slots.len() {
         if let Some(row) = &slots[i].row {
@@ -269,7 +289,8 @@ pub(crate) fn sum_rows<R: Row, F: Fn(&R) -> u64>(
     measure: F,
 ) -> u128
     requires { F.IsAlwaysCallable measure }
-    ensures { (f : R → ℕ) → IsMeasure F.Fn measure f → result ≡ sum_by f (map (λ e. e.1) (rows_by now_row (slots_of R.digits slots.now.entries))) }
+    ensures { (f : R → ℕ) → IsMeasure F.Fn measure f → result
+        ≡ sum_by f (map (λ e. e.1) (rows_by now_row (slots_of R.digits slots.now.entries))) }
 {
     let mut total = 0;
     for i in 0..slots.len() {
@@ -288,7 +309,8 @@ pub(crate) fn find_rows<'a, R: Row, F: Fn(&R) -> bool>(
 ) -> Result<Vec<Found<'a, R::Key, R>>, AllocError>
     requires { F.IsAlwaysCallable test }
     ensures { IfOk result (λ found. (p : R → Bool) → IsTest F.Fn test p
-        → map (row_found R.digits) found.items ≡ filter (λ e. p e.1) (rows_by now_row (slots_of R.digits slots.now.entries))) }
+        → map (row_found R.digits) found.items
+        ≡ filter (λ e. p e.1) (rows_by now_row (slots_of R.digits slots.now.entries))) }
 {
     let mut found = Vec::new(alloc);
     for i in 0..slots.len() {
@@ -344,9 +366,15 @@ pub(crate) fn list_pending<'a, R: Row>(
 ) -> Result<Vec<Pending<'a, R>>, AllocError>
     requires distinct { IsDistinct (slots_of R.digits slots.now.entries) }
     requires places { ArePlaces changed.now (slots_of R.digits slots.now.entries) }
-    ensures once { IfOk result (λ pending. IsEachOnce (map (λ p. R.digits p.key.now) pending.items)) }
-    ensures exact { IfOk result (λ pending. IsDifference (map (λ p. R.digits p.key.now) pending.items) (table_by now_row (slots_of R.digits slots.now.entries)) (table_by kept_row (slots_of R.digits slots.now.entries))) }
-    ensures rows { IfOk result (λ pending. All (λ p. option_copied p.row ≡ table.get (table_by now_row (slots_of R.digits slots.now.entries)) (R.digits p.key.now)) pending.items) }
+    ensures once { IfOk result (λ pending.
+        IsEachOnce (map (λ p. R.digits p.key.now) pending.items)) }
+    ensures exact { IfOk result (λ pending.
+        IsDifference (map (λ p. R.digits p.key.now) pending.items)
+        (table_by now_row (slots_of R.digits slots.now.entries))
+        (table_by kept_row (slots_of R.digits slots.now.entries))) }
+    ensures rows { IfOk result (λ pending. All (λ p. option_copied p.row
+        ≡ table.get (table_by now_row (slots_of R.digits slots.now.entries)) (R.digits p.key.now))
+        pending.items) }
 {
     let mut pending = Vec::new(alloc);
     for i in changed {
@@ -373,14 +401,18 @@ pub(crate) fn note<R: Row>(
     requires distinct { IsDistinct (slots_of R.digits slots.old.entries) }
     requires used { AreUsed (slots_of R.digits slots.old.entries) }
     requires places { ArePlaces changed.old.items (slots_of R.digits slots.old.entries) }
-    requires present { IsSome (table.get (table_by now_row (slots_of R.digits slots.old.entries)) (R.digits key.now)) }
+    requires present { IsSome
+        (table.get (table_by now_row (slots_of R.digits slots.old.entries)) (R.digits key.now)) }
     ensures distinct { IsDistinct (slots_of R.digits slots.new.entries) }
     ensures used { AreUsed (slots_of R.digits slots.new.entries) }
     ensures places { ArePlaces changed.new.items (slots_of R.digits slots.new.entries) }
-    ensures rows { table_by now_row (slots_of R.digits slots.new.entries) ≡ table_by now_row (slots_of R.digits slots.old.entries) }
-    ensures kept { table_by kept_row (slots_of R.digits slots.new.entries) ≡ table_by kept_row (slots_of R.digits slots.old.entries) }
+    ensures rows { table_by now_row (slots_of R.digits slots.new.entries)
+        ≡ table_by now_row (slots_of R.digits slots.old.entries) }
+    ensures kept { table_by kept_row (slots_of R.digits slots.new.entries)
+        ≡ table_by kept_row (slots_of R.digits slots.old.entries) }
     ensures in_range { IfOk result (λ i. i < length slots.new.entries) }
-    ensures found { IfOk result (λ i. HasKeyAt (slots_of R.digits slots.new.entries) i (R.digits key.now)) }
+    ensures found { IfOk result (λ i.
+        HasKeyAt (slots_of R.digits slots.new.entries) i (R.digits key.now)) }
     ensures noted { IfOk result (λ i. noted_at (slots_of R.digits slots.new.entries) i ≡ 1) }
 {
     let Some(i) = place::<R>(slots, key) else {

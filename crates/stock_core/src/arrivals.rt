@@ -54,7 +54,8 @@ pub fn names_many(new: &NewStock) -> bool
 
 /// Whether serials are named for a part that has none.
 pub fn names_needless(catalogue: &Catalogue, part: Id, new: &NewStock) -> bool
-    ensures { result ≡ given (λ _. not (is_trackable (part_in part (parts_of catalogue.now)))) new.now.serials }
+    ensures { result ≡ given (λ _.
+        not (is_trackable (part_in part (parts_of catalogue.now)))) new.now.serials }
 {
     match &new.serials {
         None => false,
@@ -74,7 +75,8 @@ pub fn names_other_count(new: &NewStock) -> bool
 
 /// Whether a serial is named twice, or one that is held in the part's family.
 pub fn names_taken(catalogue: &Catalogue, yard: &Yard, part: Id, new: &NewStock) -> bool
-    ensures { result ≡ given (are_taken part (parts_of catalogue.now) (stock_of yard.now)) new.now.serials }
+    ensures { result
+        ≡ given (are_taken part (parts_of catalogue.now) (stock_of yard.now)) new.now.serials }
 {
     match &new.serials {
         None => false,
@@ -121,7 +123,8 @@ fn make_one(
     requires room { HasRoom 1 (books_of yard.old counter.old) }
     requires arrival { IsArrival arrival }
     requires quantity { (1 ≤ quantity) × (quantity ≤ largest) × IfSome serial (λ _. quantity ≡ 1) }
-    ensures ok { OnOk result (books_of yard.new counter.new ≡ make_one arrival quantity batch.now serial day (books_of yard.old counter.old)) }
+    ensures ok { OnOk result (books_of yard.new counter.new
+        ≡ make_one arrival quantity batch.now serial day (books_of yard.old counter.old)) }
     ensures sound { OnOk result (IsSound (stock_of yard.new)) }
     ensures kept { kept_books yard.new counter.new ≡ kept_books yard.old counter.old }
 {
@@ -143,7 +146,8 @@ fn make_each(
 ) -> Result<(), AllocError>
     requires room { HasRoom (length serials.now) (books_of yard.old counter.old) }
     requires arrival { IsArrival arrival }
-    ensures ok { OnOk result (books_of yard.new counter.new ≡ make_each arrival batch.now serials.now day (books_of yard.old counter.old)) }
+    ensures ok { OnOk result (books_of yard.new counter.new
+        ≡ make_each arrival batch.now serials.now day (books_of yard.old counter.old)) }
     ensures kept { kept_books yard.new counter.new ≡ kept_books yard.old counter.old }
 {
     for serial in serials {
@@ -165,7 +169,8 @@ pub fn make_new(
     requires room { HasRoom (count_of new.now.serials) (books_of yard.old counter.old) }
     requires arrival { IsArrival arrival }
     requires quantity { (1 ≤ new.now.quantity) × (new.now.quantity ≤ largest) }
-    ensures ok { OnOk result (books_of yard.new counter.new ≡ make_new arrival new.now day (books_of yard.old counter.old)) }
+    ensures ok { OnOk result (books_of yard.new counter.new
+        ≡ make_new arrival new.now day (books_of yard.old counter.old)) }
     ensures kept { kept_books yard.new counter.new ≡ kept_books yard.old counter.old }
 {
     match &new.serials {

@@ -11,7 +11,8 @@ use yard_core::Yard;
 /// Whether so many numbers, or so many entries, more pass the limits.
 pub fn lacks_room(yard: &Yard, counter: &Counter, numbers: u64, entries: u64) -> bool
     ensures { let b = books_of yard.now counter.now in
-        result ≡ (lacks numbers b.counter || nat_lt b.counter.limits.entries (entries_in b + entries)) }
+        result ≡ (lacks numbers b.counter
+        || nat_lt b.counter.limits.entries (entries_in b + entries)) }
 {
     let most = counter.limits().entries;
     counter.lacks(numbers) || entries > most || yard.entries() > most - entries
@@ -26,8 +27,10 @@ pub fn conclude(
     moved: Result<(), AllocError>,
 ) -> Result<Answer, CoreFault>
     ensures moved { IfOk result (λ _. IsOk moved) }
-    ensures done { IfOk result (λ _. books_of yard.new counter.new ≡ books_of yard.old counter.old) }
-    ensures told { IfOk result (λ answer. answer ≡ answer_of (kept_books yard.old counter.old) (books_of yard.old counter.old)) }
+    ensures done { IfOk result (λ _.
+        books_of yard.new counter.new ≡ books_of yard.old counter.old) }
+    ensures told { IfOk result (λ answer.
+        answer ≡ answer_of (kept_books yard.old counter.old) (books_of yard.old counter.old)) }
     ensures memory { OnErr result (result ≡ Err CoreFault.Memory) }
     ensures back { OnErr result (books_of yard.new counter.new ≡ kept_books yard.old counter.old) }
     ensures kept { kept_books yard.new counter.new ≡ kept_books yard.old counter.old }

@@ -23,7 +23,8 @@ pub fn cut_off(
     day: Day,
 ) -> Result<Id, AllocError>
     requires can { CanCut item quantity serial (books_of yard.old counter.old) }
-    ensures ok { IfOk result (λ _. books_of yard.new counter.new ≡ cut_off item quantity serial day (books_of yard.old counter.old)) }
+    ensures ok { IfOk result (λ _. books_of yard.new counter.new
+        ≡ cut_off item quantity serial day (books_of yard.old counter.old)) }
     ensures number { IfOk result (λ number. number ≡ counter.old.next) }
     ensures sound { OnOk result (IsSound (stock_of yard.new)) }
     ensures kept { kept_books yard.new counter.new ≡ kept_books yard.old counter.old }
@@ -43,7 +44,8 @@ pub fn cut_each(
 ) -> Result<(), AllocError>
     requires room { HasRoom (length serials.now) (books_of yard.old counter.old) }
     requires whole { IsWhole item (length serials.now) (books_of yard.old counter.old) }
-    ensures ok { OnOk result (books_of yard.new counter.new ≡ cut_each item serials.now day (books_of yard.old counter.old)) }
+    ensures ok { OnOk result (books_of yard.new counter.new
+        ≡ cut_each item serials.now day (books_of yard.old counter.old)) }
     ensures kept { kept_books yard.new counter.new ≡ kept_books yard.old counter.old }
 {
     for serial in serials {
@@ -64,11 +66,14 @@ pub fn take(
 ) -> Result<Id, AllocError>
     requires sound { IsSound (stock_of yard.old) }
     requires loose { is_loose item (stock_of yard.old) ≡ true }
-    requires can { has_more item quantity (stock_of yard.old) ≡ true → CanCut item quantity None (books_of yard.old counter.old) }
-    ensures ok { IfOk result (λ number. take item quantity day (books_of yard.old counter.old) ≡ (books_of yard.new counter.new, number)) }
+    requires can { has_more item quantity (stock_of yard.old) ≡ true
+        → CanCut item quantity None (books_of yard.old counter.old) }
+    ensures ok { IfOk result (λ number. take item quantity day (books_of yard.old counter.old)
+        ≡ (books_of yard.new counter.new, number)) }
     ensures sound { OnOk result (IsSound (stock_of yard.new)) }
     ensures loose { IfOk result (λ number. is_loose number (stock_of yard.new) ≡ true) }
-    ensures entries { OnOk result (next_entry (stock_of yard.new) ≤ next_entry (stock_of yard.old) + 1) }
+    ensures entries { OnOk result (next_entry (stock_of yard.new)
+        ≤ next_entry (stock_of yard.old) + 1) }
     ensures kept { kept_books yard.new counter.new ≡ kept_books yard.old counter.old }
 {
     if !has_more(yard, item, quantity) {

@@ -12,7 +12,8 @@ ghost use Rattle.stock_core.specs.StockMachine.{ChecksAreInOrder, EffectsAreSoun
 
 use crate::arrivals::NewStock;
 use crate::{
-    add, count, disassemble, found, install, merge, reinstate, remove, serialise, set_status, split, transfer, uninstall,
+    add, count, disassemble, found, install, merge, reinstate, remove, serialise, set_status,
+    split, transfer, uninstall,
 };
 use bom_core::Boms;
 use part_core::{Answer, Catalogue, CoreFault, Counter, Day, Id, Ids, Quantity, Serials, Status};
@@ -108,8 +109,9 @@ pub fn act(
     requires nothing_pending { kept_books yard.old counter.old ≡ books_of yard.old counter.old }
     requires sound { IsSoundStock (parts_of catalogue.now) (books_of yard.old counter.old) }
     ensures does { let b = books_of yard.old counter.old in
-        Does (checks command.now day (parts_of catalogue.now) (bills_of boms.now) b) (effect command.now day b) b result
-            (books_of yard.new counter.new) }
+        Does (checks command.now day (parts_of catalogue.now) (bills_of boms.now) b)
+        (effect command.now day b) b result
+        (books_of yard.new counter.new) }
     ensures kept { kept_books yard.new counter.new ≡ kept_books yard.old counter.old }
 {
     match command {
@@ -184,5 +186,6 @@ pub fn effects_are_sound()
 
 /// Where there is nothing yet, the stock is sound.
 pub fn no_stock_is_sound()
-    ensures { (limits : Limits) → IsSoundStock no_parts (record { stock = empty_stock; counter = start limits }) }
+    ensures { (limits : Limits)
+        → IsSoundStock no_parts (record { stock = empty_stock; counter = start limits }) }
 {}

@@ -25,7 +25,8 @@ pub fn act(
 ) -> Result<Answer, CoreFault>
     requires nothing_pending { kept_books yard.old counter.old ≡ books_of yard.old counter.old }
     ensures does { let b = books_of yard.old counter.old in
-        Does (checks command.now b) (effect command.now b) b result (books_of yard.new counter.new) }
+        Does (checks command.now b)
+        (effect command.now b) b result (books_of yard.new counter.new) }
     ensures kept { kept_books yard.new counter.new ≡ kept_books yard.old counter.old }
 {
     match command {

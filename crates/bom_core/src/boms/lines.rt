@@ -26,7 +26,8 @@ fn numbers_of(alloc: Global, substitutes: &[&Substitute]) -> Result<Vec<Id>, All
 
 // Removes the rows of these numbers.
 fn remove_all(substitutes: &mut Sheet<Substitute>, numbers: &[Id]) -> Result<(), AllocError>
-    ensures removed { OnOk result (now_of substitutes.new ≡ removed_all numbers.now (now_of substitutes.old)) }
+    ensures removed { OnOk result (now_of substitutes.new
+        ≡ removed_all numbers.now (now_of substitutes.old)) }
     ensures kept { substitutes.new.kept ≡ substitutes.old.kept }
 {
     for number in numbers {
@@ -41,8 +42,12 @@ impl Boms {
         requires sound { IsSoundBill (parts_of catalogue.now) (bills_of self.old) line.number }
         requires component { IsThere (parts_of catalogue.now).parts line.component }
         ensures put { OnOk result (bills_of self.new ≡ with_line line (bills_of self.old)) }
-        ensures acyclic { OnOk result (contains_itself (parts_of catalogue.now) (with_line line (bills_of self.old)) ≡ false) }
-        ensures refused { (refusal : Refusal) → result ≡ Err (CoreFault.Refused refusal) → (refusal ≡ Refusal.Cycle) × (contains_itself (parts_of catalogue.now) (with_line line (bills_of self.old)) ≡ true) }
+        ensures acyclic { OnOk result (contains_itself
+            (parts_of catalogue.now) (with_line line (bills_of self.old)) ≡ false) }
+        ensures refused { (refusal : Refusal)
+            → result ≡ Err (CoreFault.Refused refusal) → (refusal ≡ Refusal.Cycle)
+            × (contains_itself (parts_of catalogue.now) (with_line line (bills_of self.old))
+            ≡ true) }
         ensures kept { kept_bills self.new ≡ kept_bills self.old }
     {
         let assembly = line.assembly;
@@ -66,10 +71,12 @@ impl Boms {
         open_parts: &[Id],
         new: NewLine,
     ) -> Result<Id, CoreFault>
-        requires nothing_pending { kept_bill_books self.old counter.old ≡ bill_books self.old counter.old }
+        requires nothing_pending { kept_bill_books self.old counter.old
+            ≡ bill_books self.old counter.old }
         requires sound { IsSoundBill (parts_of catalogue.now) (bills_of self.old) counter.old.next }
         ensures acts { let b = bill_books self.old counter.old in
-            Acts (add_line_checks new open_parts.now (parts_of catalogue.now) b) (add_line new b, b.counter.next) b result (bill_books self.new counter.new) }
+            Acts (add_line_checks new open_parts.now (parts_of catalogue.now) b)
+            (add_line new b, b.counter.next) b result (bill_books self.new counter.new) }
         ensures kept { kept_bill_books self.new counter.new ≡ kept_bill_books self.old counter.old }
     {
         let refusal = line_refusal(catalogue, open_parts, new);
@@ -117,7 +124,8 @@ impl Boms {
     ) -> Result<(), CoreFault>
         requires { kept_bills self.old ≡ bills_of self.old }
         ensures acts { let bills = bills_of self.old in
-            Acts (drop_line_checks line open_parts.now (parts_of catalogue.now) bills) (without_line line bills, tt) bills result (bills_of self.new) }
+            Acts (drop_line_checks line open_parts.now (parts_of catalogue.now) bills)
+            (without_line line bills, tt) bills result (bills_of self.new) }
         ensures kept { kept_bills self.new ≡ kept_bills self.old }
     {
         if !self.has_line(line) {

@@ -45,7 +45,8 @@ impl Boms {
         line: Id,
         part: Id,
     ) -> Option<Refusal>
-        ensures { result ≡ first (substitute_row_checks line part open_parts.now (parts_of catalogue.now) (bills_of self.now)) }
+        ensures { result ≡ first (substitute_row_checks
+            line part open_parts.now (parts_of catalogue.now) (bills_of self.now)) }
     {
         if !(self.has_line(line) && has_part(catalogue, part)) {
             return Some(Refusal::NoSuch);
@@ -70,12 +71,17 @@ impl Boms {
         catalogue: &Catalogue,
         substitute: Substitute,
     ) -> Result<(), CoreFault>
-        requires sound { IsSoundBill (parts_of catalogue.now) (bills_of self.old) substitute.number }
+        requires sound { IsSoundBill
+            (parts_of catalogue.now) (bills_of self.old) substitute.number }
         requires line { IsThere (bills_of self.old).lines substitute.line }
         requires part { IsThere (parts_of catalogue.now).parts substitute.part }
-        ensures put { OnOk result (bills_of self.new ≡ with_substitute substitute (bills_of self.old)) }
-        ensures acyclic { OnOk result (contains_itself (parts_of catalogue.now) (with_substitute substitute (bills_of self.old)) ≡ false) }
-        ensures refused { (refusal : Refusal) → result ≡ Err (CoreFault.Refused refusal) → (refusal ≡ Refusal.Cycle) × (contains_itself (parts_of catalogue.now) (with_substitute substitute (bills_of self.old)) ≡ true) }
+        ensures put { OnOk result (bills_of self.new
+            ≡ with_substitute substitute (bills_of self.old)) }
+        ensures acyclic { OnOk result (contains_itself
+            (parts_of catalogue.now) (with_substitute substitute (bills_of self.old)) ≡ false) }
+        ensures refused { (refusal : Refusal) → result ≡ Err (CoreFault.Refused refusal)
+            → (refusal ≡ Refusal.Cycle) × (contains_itself
+            (parts_of catalogue.now) (with_substitute substitute (bills_of self.old)) ≡ true) }
         ensures kept { kept_bills self.new ≡ kept_bills self.old }
     {
         let of_line = substitute.line;
@@ -101,10 +107,13 @@ impl Boms {
         line: Id,
         part: Id,
     ) -> Result<Id, CoreFault>
-        requires nothing_pending { kept_bill_books self.old counter.old ≡ bill_books self.old counter.old }
+        requires nothing_pending { kept_bill_books self.old counter.old
+            ≡ bill_books self.old counter.old }
         requires sound { IsSoundBill (parts_of catalogue.now) (bills_of self.old) counter.old.next }
         ensures acts { let b = bill_books self.old counter.old in
-            Acts (add_substitute_checks line part open_parts.now (parts_of catalogue.now) b) (add_substitute line part b, b.counter.next) b result (bill_books self.new counter.new) }
+            Acts (add_substitute_checks line part open_parts.now (parts_of catalogue.now) b)
+            (add_substitute line part b, b.counter.next)
+            b result (bill_books self.new counter.new) }
         ensures kept { kept_bill_books self.new counter.new ≡ kept_bill_books self.old counter.old }
     {
         let refusal = self.substitute_refusal(catalogue, open_parts, line, part);
@@ -129,7 +138,8 @@ impl Boms {
 
     // Whether the assembly of the substitute's line, or a variant of that, is among those with an open build.
     fn is_substitute_open(&self, catalogue: &Catalogue, open_parts: &[Id], substitute: Id) -> bool
-        ensures { result ≡ row_is (λ s. is_line_open (parts_of catalogue.now) (bills_of self.now) open_parts.now s.line) (bills_of self.now).substitutes substitute }
+        ensures { result ≡ row_is (λ s. is_line_open (parts_of catalogue.now)
+            (bills_of self.now) open_parts.now s.line) (bills_of self.now).substitutes substitute }
     {
         match self.substitutes.get(&substitute) {
             Some(substitute) => self.is_line_open(catalogue, open_parts, substitute.line),
@@ -147,7 +157,8 @@ impl Boms {
     ) -> Result<(), CoreFault>
         requires { kept_bills self.old ≡ bills_of self.old }
         ensures acts { let bills = bills_of self.old in
-            Acts (drop_substitute_checks substitute open_parts.now (parts_of catalogue.now) bills) (without_substitute substitute bills, tt) bills result (bills_of self.new) }
+            Acts (drop_substitute_checks substitute open_parts.now (parts_of catalogue.now) bills)
+            (without_substitute substitute bills, tt) bills result (bills_of self.new) }
         ensures kept { kept_bills self.new ≡ kept_bills self.old }
     {
         if !self.has_substitute(substitute) {

@@ -65,7 +65,8 @@ impl Catalogue {
     pub fn add_part(&mut self, counter: &mut Counter, new: &NewPart) -> Result<Id, CoreFault>
         requires { kept_register self.old counter.old ≡ register_of self.old counter.old }
         ensures acts { let r = register_of self.old counter.old in
-            Acts (add_part_checks new.now r) (add_part new.now r, r.counter.next) r result (register_of self.new counter.new) }
+            Acts (add_part_checks new.now r)
+            (add_part new.now r, r.counter.next) r result (register_of self.new counter.new) }
         ensures kept { kept_register self.new counter.new ≡ kept_register self.old counter.old }
     {
         if self.is_category_missing(new.category) || self.is_template_missing(new.template) {

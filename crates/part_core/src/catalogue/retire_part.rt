@@ -14,7 +14,9 @@ use std::alloc::AllocError;
 /// Retires the part of that number.
 fn set_retired(parts: &mut Sheet<Part>, number: Id) -> Result<(), AllocError>
     requires { IsSome (table.get (now_of parts.old) (number ∷ [])) }
-    ensures ok { OnOk result (IfSome (table.get (now_of parts.old) (number ∷ [])) (λ part. now_of parts.new ≡ table.insert (now_of parts.old) (number ∷ []) (retired_part part))) }
+    ensures ok { OnOk result (IfSome (table.get (now_of parts.old) (number ∷ []))
+        (λ part. now_of parts.new
+        ≡ table.insert (now_of parts.old) (number ∷ []) (retired_part part))) }
     ensures err { OnErr result (now_of parts.new ≡ now_of parts.old) }
     ensures kept { parts.new.kept ≡ parts.old.kept }
 {
@@ -28,7 +30,8 @@ impl Catalogue {
     pub fn retire(&mut self, part: Id) -> Result<(), CoreFault>
         requires { kept_parts self.old ≡ parts_of self.old }
         ensures acts { let parts = parts_of self.old in
-            Acts (retire_part_checks part parts) (retire_part part parts, tt) parts result (parts_of self.new) }
+            Acts (retire_part_checks part parts)
+            (retire_part part parts, tt) parts result (parts_of self.new) }
         ensures kept { kept_parts self.new ≡ kept_parts self.old }
     {
         let Some(row) = self.part(part) else {
