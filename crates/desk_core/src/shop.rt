@@ -8,7 +8,7 @@ ghost use Rattle.std.specs.Prelude.{◌≡◌, ◌+◌, ℕ, Some, length, IfOk,
 ghost use Rattle.part_core.specs.Acts.{Acts};
 ghost use Rattle.bom_core.specs.Walks.{IsAcyclic};
 ghost use Rattle.forest.specs.Forest.{Balanced};
-ghost use Rattle.yard_core.specs.Stock.{machine_of};
+ghost use Rattle.yard_core.specs.Stock.{forest_and_history};
 ghost use Rattle.stock_core.specs.Sound.{SerialsStandOnce};
 ghost use Rattle.desk_core.specs.Machine.{AreDrawn, Decides, IsSoundState, answer_of, answered, answers_of, checks, effect, entries_in, entries_of, ids_of, open_parts, run, start, told, with_answer};
 ghost use Rattle.desk_core.specs.Shops.{kept_state, state_of};
@@ -238,7 +238,7 @@ impl Shop {
         ensures written { IfOk result (λ outcomes.
             let answers = answers_of (state_of self.old) (answered requests.now outcomes.items) in
             entries_in (state_of self.new) ≡ entries_in (state_of self.old) + entries_of answers) }
-        ensures balanced { (part : ℕ) → Balanced part (machine_of (state_of self.new).stock) }
+        ensures balanced { (part : ℕ) → Balanced part (forest_and_history (state_of self.new).stock) }
         ensures serials { SerialsStandOnce (state_of self.new).parts (state_of self.new).stock }
         ensures acyclic { IsAcyclic (state_of self.new).parts (state_of self.new).bills }
         ensures none_run { OnErr result (state_of self.new ≡ state_of self.old) }
