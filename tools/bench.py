@@ -1,6 +1,6 @@
 #!/usr/bin/env python3
-"""Runs the program on 10,000 and on 20,000 lines of each kind; prints lines per second and peak memory of each run, and
-by what factor the time grows.
+"""Runs the program on lines of each kind, twice: on 10,000 lines and on 20,000, or on as many lines among 1,000 items
+and among 2,000. Prints lines per second and peak memory of each run, and by what factor the time grows.
 
 usage: tools/bench.py PROGRAM"""
 import resource
@@ -10,6 +10,7 @@ import time
 
 DAY = '"day":"2030-01-02"'
 COUNTS = (10_000, 20_000)
+ITEMS = (1_000, 2_000)
 LOCATION = f'{{{DAY},"do":"add_location","name":"A"}}'
 PART = f'{{{DAY},"do":"add_part","flags":["component","trackable"],"name":"Screw"}}'
 FOUND = '"do":"found","location":1,"part":2,"quantity"'
@@ -59,17 +60,47 @@ def keyed_found(count):
         yield f'{{{DAY},{FOUND}:1,"key":"k{i}"}}'
 
 
+def robot_with_motors(items):
+    """A robot, under number 5, and so many motors, a thousand under the numbers from 6 at a time."""
+    yield LOCATION
+    yield f'{{{DAY},"do":"add_part","flags":["assembly","component","trackable"],"name":"Robot"}}'
+    yield f'{{{DAY},"do":"add_part","flags":["component","trackable"],"name":"Motor"}}'
+    yield f'{{{DAY},"do":"add_line","assembly":2,"component":3,"quantity":1}}'
+    yield f'{{{DAY},"do":"found","location":1,"part":2,"quantity":1,"serials":"R"}}'
+    for first in range(1, items, 1_000):
+        yield f'{{{DAY},"do":"found","location":1,"part":3,"quantity":1000,"serials":"{first}-{first + 999}"}}'
+
+
+def install_and_uninstall(items):
+    """In turn a motor goes into the robot and comes out, among so many."""
+    yield from robot_with_motors(items)
+    for _ in range(1_000):
+        yield f'{{{DAY},"do":"install","item":6,"parent":5,"quantity":1}}'
+        yield f'{{{DAY},"do":"uninstall","item":6,"location":1}}'
+
+
+def write_off_and_reinstate(items):
+    """In turn a robot with so many motors in it is counted as missing and comes back."""
+    yield from robot_with_motors(items)
+    for i in range(items):
+        yield f'{{{DAY},"do":"install","item":{i + 6},"parent":5,"quantity":1}}'
+    for _ in range(20):
+        yield f'{{{DAY},"do":"count","item":5,"quantity":0}}'
+        yield f'{{{DAY},"do":"reinstate","item":5,"location":1}}'
+
+
 def reading_alone(count):
     """Requests that are read, and refused at their first check."""
     for i in range(count):
         yield f'{{{DAY},"do":"transfer","item":{i + 1},"location":1,"quantity":1}}'
 
 
-KINDS = (found_and_remove, transfer, found_with_serial, add_line, keyed_found, reading_alone)
+LINES = (found_and_remove, transfer, found_with_serial, add_line, keyed_found, reading_alone)
+AMONG = (install_and_uninstall, write_off_and_reinstate)
 
 
 def run(kind, count):
-    """Gives the seconds that so many lines of the kind take."""
+    """Gives the seconds that the kind's lines take at that count."""
     text = "".join(line + "\n" for line in kind(count)).encode()
     begin = time.monotonic()
     done = subprocess.run([sys.argv[1]], input=text, stdout=subprocess.PIPE, check=False)
@@ -78,17 +109,19 @@ def run(kind, count):
     # The most of any run so far: the runs grow.
     peak = resource.getrusage(resource.RUSAGE_CHILDREN).ru_maxrss
     print(
-        f"{kind.__name__}: {answers} answers, status {done.returncode}, {seconds:.2f} s,"
+        f"{kind.__name__}({count}): {answers} answers, status {done.returncode}, {seconds:.2f} s,"
         f" {answers / seconds:.0f} lines per second, {peak} KiB at most",
         flush=True,
     )
     return seconds
 
 
-def main():
-    for kind in KINDS:
-        small, large = (run(kind, count) for count in COUNTS)
-        print(f"{kind.__name__}: {large / small:.2f} times the time for {COUNTS[1] / COUNTS[0]:.0f} times the lines", flush=True)
+def compare(kinds, counts, what):
+    """Prints how each kind's time grows from the one count to the other."""
+    for kind in kinds:
+        small, large = (run(kind, count) for count in counts)
+        print(f"{kind.__name__}: {large / small:.2f} times the time for {counts[1] / counts[0]:.0f} times the {what}", flush=True)
 
 
-main()
+compare(LINES, COUNTS, "lines")
+compare(AMONG, ITEMS, "items")
