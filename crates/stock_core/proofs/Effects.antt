@@ -1,9 +1,10 @@
 -- What passes its checks leaves sound stock sound.
 use Rattle.stock_core.specs.StockMachine.{EffectsAreSound}
-use Rattle.stock_core.specs.declared.stock_command.StockCommand.TheVariants.{Found, Add, Remove, Count, Transfer, Split, Merge, Serialise, SetStatus}
+use Rattle.stock_core.specs.declared.stock_command.StockCommand.TheVariants.{Found, Add, Remove, Count, Transfer, Split, Merge, Serialise, SetStatus, Install}
 use Rattle.stock_core.proofs.AddSound.{sound-add}
 use Rattle.stock_core.proofs.CountSound.{sound-count}
 use Rattle.stock_core.proofs.FoundSound.{sound-found}
+use Rattle.stock_core.proofs.InstallSound.{sound-install}
 use Rattle.stock_core.proofs.MergeSound.{sound-merge}
 use Rattle.stock_core.proofs.RemoveSound.{sound-remove}
 use Rattle.stock_core.proofs.SerialiseSound.{sound-serialise}
@@ -21,3 +22,4 @@ sound-effect (Split n quantity) day parts bills b sound e = sound-split n quanti
 sound-effect (Merge into items) day parts bills b sound e = sound-merge into items day parts b sound e
 sound-effect (Serialise n quantity serials) day parts bills b sound e = sound-serialise n quantity serials day parts b sound e
 sound-effect (SetStatus n status) day parts bills b sound e = sound-set_status n status day parts b sound e
+sound-effect (Install n parent quantity) day parts bills b sound e = sound-install n parent quantity day parts bills b sound e

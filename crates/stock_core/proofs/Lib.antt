@@ -2,6 +2,7 @@ pub mod Uses
 pub mod Able
 pub mod Rooms
 pub mod Transfers
+pub mod Installs
 pub mod Counts
 pub mod Upright
 pub mod Kept
@@ -16,6 +17,7 @@ pub mod AddSound
 pub mod RemoveSound
 pub mod CountSound
 pub mod TransferSound
+pub mod InstallSound
 pub mod SplitSound
 pub mod MergeSound
 pub mod SerialiseSound

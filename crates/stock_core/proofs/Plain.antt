@@ -54,7 +54,7 @@ plain-same n s t same h = record {
 pub item-at : (n : ℕ) (x : Item) (t : Stock) → table.get t.items (n ∷ []) ≡ Some x → table.get t.items (n ∷ []) ≡ Some (item_at n t)
 item-at n x t is = is ∙ ap (λ o. Some (item_of o)) (sym is)
 
-left-loose : (q : ℕ) (l : Place) → 1 ≤ q → is_at l ≡ true → is_at (place_left q l) ≡ true
+pub left-loose : (q : ℕ) (l : Place) → 1 ≤ q → is_at l ≡ true → is_at (place_left q l) ≡ true
 left-loose q l some loose = go (q == 0) refl
   where
     go : (b : Bool) → (q == 0) ≡ b → is_at (if b then Gone else l) ≡ true

@@ -7,7 +7,7 @@ use Rattle.part_core.specs.Day.{CivilDay}
 use Rattle.part_core.specs.Rows.{IsThere}
 use Rattle.part_core.specs.declared.status.Status.{Status}
 use Rattle.part_core.proofs.RowLemmas.{get-insert_other, right-none, right-number, same_digit, there, there-new}
-use Rattle.forest.specs.declared.entry.Kind.TheVariants.{Written}
+use Rattle.forest.specs.declared.entry.Kind.TheVariants.{Installed, Written}
 use Rattle.forest.specs.declared.entry.Note.{Note}
 use Rattle.forest.specs.declared.item.Item.{Item}
 use Rattle.forest.specs.declared.place.Place.{Place}
@@ -15,9 +15,11 @@ use Rattle.forest.specs.declared.place.Place.TheVariants.{At, In, Output, Sent, 
 use Rattle.forest.specs.declared.place.Reason.{Reason}
 use Rattle.forest.specs.Forest.{is_at}
 use Rattle.forest.specs.Moves.{CanLift, cut_change, grow_change, largest, lift_entries, make_change, mark_change, place_left, pour_change, shrink_change}
+use Rattle.forest.specs.Rows.{entry_to}
 use Rattle.forest.specs.Tables.{node_of}
 use Rattle.yard_core.specs.Books.{Books, with_drawn, with_stock}
-use Rattle.yard_core.specs.Stock.{CanCutItem, CanGrowItem, CanMakeItem, CanMarkItem, CanPourItem, CanShrinkItem, IsItem, IsSound, Stock, grow, is_gone, item_at, lift, lift_notes, mark, moved, pour, shrink, tree_of}
+use Rattle.yard_core.specs.Stock.{CanCutItem, CanGraftItem, CanGrowItem, CanMakeItem, CanMarkItem, CanPourItem, CanShrinkItem, IsItem, IsSound, Stock, graft, grow, is_gone, item_at, lift, lift_notes, mark, moved, pour, shrink, tree_of}
+use Rattle.yard_core.proofs.Grafting.{grafted}
 use Rattle.yard_core.proofs.Keeping.{good_at, grown, is_cut_off, lifted, made, marked, poured, shrunk}
 use Rattle.yard_core.proofs.Rows.{get-other, get-own}
 use Rattle.stock_core.specs.Arrives.{IsArrival}
@@ -164,6 +166,13 @@ module _ (parts : Parts) (b : Books) (up : Upright parts b) where
       leads-off reason =
           leads-changed (stays-loose x.place loose) x.lot.status x.quantity (Off reason) (lift_notes n (Off reason) s) day
           (lifted n (Off reason) day s up.stock (record { there = is_there; in_table = loose-off x.place loose reason })).0 tt (notes-off x.place loose reason)
+
+      -- the other item is there, so it is a place
+      pub leads-graft : (m : ℕ) → CanGraftItem n m s → Leads parts b (with_stock (graft n m day s) b)
+      leads-graft m can =
+          let place = there s.items m (item_at m s) can.into_there in
+          leads-changed (stays-loose x.place loose) x.lot.status x.quantity (In m) (entry_to Installed (In m) x ∷ []) day
+          (grafted n m s up.stock can day).0 place (note _ refl refl place, tt)
 
     -- ---- an amount is cut off an item
 
