@@ -11,6 +11,7 @@ pub mod Steps
 pub mod Checked
 pub mod FreeSerials
 pub mod Pours
+pub mod Prunes
 pub mod FoundSound
 pub mod AddSound
 pub mod RemoveSound
@@ -20,5 +21,7 @@ pub mod SplitSound
 pub mod MergeSound
 pub mod SerialiseSound
 pub mod SetStatusSound
+pub mod UninstallSound
+pub mod ReinstateSound
 pub mod Effects
 pub mod Beside
