@@ -23,5 +23,6 @@ pub mod SerialiseSound
 pub mod SetStatusSound
 pub mod UninstallSound
 pub mod ReinstateSound
+pub mod DisassembleSound
 pub mod Effects
 pub mod Beside
