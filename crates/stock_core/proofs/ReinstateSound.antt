@@ -22,4 +22,5 @@ sound-reinstate n l day parts b sound e =
     let holds = none-holds (reinstate_checks n l day b) e in
     let location = there-row b.stock.locations l (or_none (is_no_item n b.stock) (is_no_location l b.stock) holds.0).1 in
     let off = not_false (is_off (item_at n b.stock).place) holds.1.0 in
-    sound-leads parts b (reinstate n l day b) (leads-back parts b (upright-of parts b sound) n (back-checked n l day b e).there l location day off) holds.1.1.0
+    let can = back-checked n l day b e in
+    sound-leads parts b (reinstate n l day b) (leads-back parts b (upright-of parts b sound) n can.there l location day off can) holds.1.1.0

@@ -18,7 +18,7 @@ use Rattle.forest.specs.Moves.{CanLift, cut_change, grow_change, largest, lift_e
 use Rattle.forest.specs.Rows.{entry_to, parent_in}
 use Rattle.forest.specs.Tables.{node_of}
 use Rattle.yard_core.specs.Books.{Books, with_drawn, with_stock}
-use Rattle.yard_core.specs.Stock.{CanCutItem, CanGrowItem, CanMakeItem, CanMarkItem, CanPourItem, CanPruneItem, CanShrinkItem, IsItem, IsSound, Stock, grow, is_gone, item_at, lift, lift_notes, mark, moved, pour, prune, shrink, tree_of}
+use Rattle.yard_core.specs.Stock.{CanCutItem, CanGrowItem, CanLiftItem, CanMakeItem, CanMarkItem, CanPourItem, CanPruneItem, CanShrinkItem, IsItem, IsSound, Stock, grow, is_gone, item_at, lift, lift_notes, mark, moved, pour, prune, shrink, tree_of}
 use Rattle.yard_core.proofs.Grafting.{pruned}
 use Rattle.yard_core.proofs.Keeping.{good_at, grown, is_cut_off, lifted, made, marked, poured, shrunk}
 use Rattle.yard_core.proofs.Rows.{get-other, get-own}
@@ -144,15 +144,6 @@ module _ (parts : Parts) (b : Books) (up : Upright parts b) where
         h (note _ refl refl h, tt)
 
     -- an item that was off the books comes back, with an entry for each that lies in it
-    back : (from : Place) → is_off from ≡ true → (l : ℕ) → CanLift from (At l)
-    back (At k) e l = cc
-    back (In k) e l = cc
-    back (Output k) e l = cc
-    back (Sent k) e l = cc
-    back (Used k) e l = cc
-    back (Off k) e l = tt
-    back Gone e l = cc
-
     notes-back : (from : Place) → is_off from ≡ true → (l : ℕ) → IsThere s.locations l → AreSoundNotes parts s (lift_entries from (At l) (tree_of n s))
     notes-back (At k) e l h = cc
     notes-back (In k) e l h = cc
@@ -162,10 +153,10 @@ module _ (parts : Parts) (b : Books) (up : Upright parts b) where
     notes-back (Off k) e l h = (note _ refl refl h, notes-below parts s b.counter.next up.rows up.each_item Found 16 x.number)
     notes-back Gone e l h = cc
 
-    pub leads-back : (l : ℕ) → IsThere s.locations l → (day : CivilDay) → is_off x.place ≡ true → Leads parts b (with_stock (lift n (At l) day s) b)
-    leads-back l h day off =
-        leads-changed (stays-off x.place off) x.lot.status x.quantity (At l) (lift_notes n (At l) s) day
-        (lifted n (At l) day s up.stock (record { there = is_there; in_table = back x.place off l })).0 h (notes-back x.place off l h)
+    pub leads-back : (l : ℕ) → IsThere s.locations l → (day : CivilDay) → is_off x.place ≡ true → CanLiftItem n (At l) s → Leads parts b (with_stock (lift n (At l) day s) b)
+    leads-back l h day off can =
+        leads-changed (stays-off x.place off) x.lot.status x.quantity (At l) (lift_notes n (At l) s) day (lifted n (At l) day s up.stock can).0
+        h (notes-back x.place off l h)
 
     -- ---- an item goes elsewhere
 
