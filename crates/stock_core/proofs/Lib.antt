@@ -12,6 +12,7 @@ pub mod Steps
 pub mod Checked
 pub mod FreeSerials
 pub mod Pours
+pub mod Prunes
 pub mod FoundSound
 pub mod AddSound
 pub mod RemoveSound
@@ -22,5 +23,8 @@ pub mod SplitSound
 pub mod MergeSound
 pub mod SerialiseSound
 pub mod SetStatusSound
+pub mod UninstallSound
+pub mod ReinstateSound
+pub mod DisassembleSound
 pub mod Effects
 pub mod Beside

@@ -1,25 +1,25 @@
 -- Each step of a command leaves the stock upright.
 use Rattle.std.proofs.Common.{◌≡◌, ◌≢◌, ℕ, ◌+◌, ◌-◌, ◌≤◌, Bool, true, false, List, [], ◌∷◌, Option, Some, None, refl, sym, ap, ◌∙◌, subst, arith}
-use Rattle.std.specs.Prelude.{◌==◌, if◌then◌else◌, IfSome}
+use Rattle.std.specs.Prelude.{◌==◌, if◌then◌else◌, IfSome, IsSome}
 use Rattle.std.specs.FinMap as table
 use Rattle.part_core.specs.Catalogue.{Parts, family}
 use Rattle.part_core.specs.Day.{CivilDay}
 use Rattle.part_core.specs.Rows.{IsThere}
 use Rattle.part_core.specs.declared.status.Status.{Status}
 use Rattle.part_core.proofs.RowLemmas.{get-insert_other, right-none, right-number, same_digit, there, there-new}
-use Rattle.forest.specs.declared.entry.Kind.TheVariants.{Installed, Written}
+use Rattle.forest.specs.declared.entry.Kind.TheVariants.{Found, Installed, TakenOut, Written}
 use Rattle.forest.specs.declared.entry.Note.{Note}
 use Rattle.forest.specs.declared.item.Item.{Item}
 use Rattle.forest.specs.declared.place.Place.{Place}
 use Rattle.forest.specs.declared.place.Place.TheVariants.{At, In, Output, Sent, Used, Off, Gone}
 use Rattle.forest.specs.declared.place.Reason.{Reason}
-use Rattle.forest.specs.Forest.{is_at}
+use Rattle.forest.specs.Forest.{is_at, is_off}
 use Rattle.forest.specs.Moves.{CanLift, cut_change, grow_change, largest, lift_entries, make_change, mark_change, place_left, pour_change, shrink_change}
-use Rattle.forest.specs.Rows.{entry_to}
+use Rattle.forest.specs.Rows.{entry_to, parent_in}
 use Rattle.forest.specs.Tables.{node_of}
 use Rattle.yard_core.specs.Books.{Books, with_drawn, with_stock}
-use Rattle.yard_core.specs.Stock.{CanCutItem, CanGraftItem, CanGrowItem, CanMakeItem, CanMarkItem, CanPourItem, CanShrinkItem, IsItem, IsSound, Stock, graft, grow, is_gone, item_at, lift, lift_notes, mark, moved, pour, shrink, tree_of}
-use Rattle.yard_core.proofs.Grafting.{grafted}
+use Rattle.yard_core.specs.Stock.{CanCutItem, CanGraftItem, CanGrowItem, CanLiftItem, CanMakeItem, CanMarkItem, CanPourItem, CanPruneItem, CanShrinkItem, IsItem, IsSound, Stock, graft, grow, is_gone, item_at, lift, lift_notes, mark, moved, pour, prune, shrink, tree_of}
+use Rattle.yard_core.proofs.Grafting.{grafted, pruned}
 use Rattle.yard_core.proofs.Keeping.{good_at, grown, is_cut_off, lifted, made, marked, poured, shrunk}
 use Rattle.yard_core.proofs.Rows.{get-other, get-own}
 use Rattle.stock_core.specs.Arrives.{IsArrival}
@@ -38,6 +38,26 @@ left-place s q l h = go (q == 0)
     go : (b : Bool) → IsPlace s (if b then Gone else l)
     go true = tt
     go false = h
+
+-- what lies in an item isn't gone
+stays-inside : (l : Place) → IsSome (parent_in l) → is_gone l ≡ false
+stays-inside (At k) e = refl
+stays-inside (In k) e = refl
+stays-inside (Output k) e = refl
+stays-inside (Sent k) e = refl
+stays-inside (Used k) e = refl
+stays-inside (Off k) e = refl
+stays-inside Gone e = cc
+
+-- what is off the books isn't gone
+stays-off : (l : Place) → is_off l ≡ true → is_gone l ≡ false
+stays-off (At k) e = refl
+stays-off (In k) e = refl
+stays-off (Output k) e = refl
+stays-off (Sent k) e = refl
+stays-off (Used k) e = refl
+stays-off (Off k) e = refl
+stays-off Gone e = cc
 
 -- a loose item of another quantity than 1 has no serial
 pub serial-one : (n : ℕ) (s : Stock) → IsSound s → table.get s.items (n ∷ []) ≡ Some (item_at n s) → is_at (item_at n s).place ≡ true → ((item_at n s).quantity ≡ 1 → ⊥) → (item_at n s).lot.serial ≡ None
@@ -117,6 +137,26 @@ module _ (parts : Parts) (b : Books) (up : Upright parts b) where
     leads-mark status day can =
         leads-changed (stays-loose x.place can.loose) status x.quantity x.place (mark_change status (tree_of n s)).notes day (marked n status day s up.stock can).0
         known.place (note _ refl refl known.place, tt)
+
+    pub leads-prune : (l : ℕ) → IsThere s.locations l → (day : CivilDay) → CanPruneItem n s → Leads parts b (with_stock (prune n l day s) b)
+    leads-prune l h day can =
+        leads-changed (stays-inside x.place can.inside) x.lot.status x.quantity (At l) (entry_to TakenOut (At l) x ∷ []) day (pruned n l s up.stock can day).0
+        h (note _ refl refl h, tt)
+
+    -- an item that was off the books comes back, with an entry for each that lies in it
+    notes-back : (from : Place) → is_off from ≡ true → (l : ℕ) → IsThere s.locations l → AreSoundNotes parts s (lift_entries from (At l) (tree_of n s))
+    notes-back (At k) e l h = cc
+    notes-back (In k) e l h = cc
+    notes-back (Output k) e l h = cc
+    notes-back (Sent k) e l h = cc
+    notes-back (Used k) e l h = cc
+    notes-back (Off k) e l h = (note _ refl refl h, notes-below parts s b.counter.next up.rows up.each_item Found 16 x.number)
+    notes-back Gone e l h = cc
+
+    pub leads-back : (l : ℕ) → IsThere s.locations l → (day : CivilDay) → is_off x.place ≡ true → CanLiftItem n (At l) s → Leads parts b (with_stock (lift n (At l) day s) b)
+    leads-back l h day off can =
+        leads-changed (stays-off x.place off) x.lot.status x.quantity (At l) (lift_notes n (At l) s) day (lifted n (At l) day s up.stock can).0
+        h (notes-back x.place off l h)
 
     -- ---- an item goes elsewhere
 
