@@ -19,7 +19,7 @@ use Rattle.bom_core.specs.declared.bom_command.BomCommand.TheVariants.{AddLine, 
 use Rattle.yard_core.specs.declared.yard_command.YardCommand.{YardCommand}
 use Rattle.yard_core.specs.declared.yard_command.YardCommand.TheVariants.{AddLocation}
 use Rattle.stock_core.specs.declared.stock_command.StockCommand.{StockCommand}
-use Rattle.stock_core.specs.declared.stock_command.StockCommand.TheVariants.{Found, Add, Remove, Count, Transfer, Split, Merge, Serialise, SetStatus}
+use Rattle.stock_core.specs.declared.stock_command.StockCommand.TheVariants.{Found, Add, Remove, Count, Transfer, Split, Merge, Serialise, SetStatus, Install, Uninstall, Disassemble, Reinstate}
 use Rattle.desk_core.specs.declared.command.Command.{Command}
 use Rattle.desk_core.specs.declared.command.Command.TheVariants.{Part, Bom, Yard, Stock}
 use Rattle.desk_core.specs.DataOf.{whole, maybe_whole, maybe_string, maybe_strings, chosen, flag_words}
@@ -205,6 +205,9 @@ yard_in d =
 abbrev amount_in : (ℕ → ℕ → StockCommand) → Data → Option StockCommand
 amount_in command d = Some (command (number_named (codes "item") d) (number_named (codes "quantity") d))
 
+abbrev taken_in : (ℕ → ℕ → StockCommand) → Data → Option StockCommand
+taken_in command d = Some (command (number_named (codes "item") d) (number_named (codes "location") d))
+
 abbrev stock_in : Data → Option StockCommand
 stock_in d =
     let verb = text_named (codes "do") d in
@@ -221,6 +224,10 @@ stock_in d =
     else if bytes_eq verb (codes "merge") then Some (Merge (number_named (codes "into") d) (numbers_named (codes "items") d))
     else if bytes_eq verb (codes "serialise") then Some (Serialise (number_named (codes "item") d) (number_named (codes "quantity") d) (texts_named (codes "serials") d))
     else if bytes_eq verb (codes "set_status") then Some (SetStatus (number_named (codes "item") d) (status_of (text_named (codes "status") d)))
+    else if bytes_eq verb (codes "install") then Some (Install (number_named (codes "item") d) (number_named (codes "parent") d) (number_named (codes "quantity") d))
+    else if bytes_eq verb (codes "uninstall") then taken_in Uninstall d
+    else if bytes_eq verb (codes "disassemble") then taken_in Disassemble d
+    else if bytes_eq verb (codes "reinstate") then taken_in Reinstate d
     else None
 
 abbrev or_else : {A : Type 0} → Option A → Option A → Option A
@@ -270,6 +277,10 @@ stock_back (Split i quantity) = refl
 stock_back (Merge into items) = rw (numbers_back items) refl
 stock_back (Serialise i quantity serials) = rw (texts_back serials) refl
 stock_back (SetStatus i status) = rw (status_back status) refl
+stock_back (Install i parent quantity) = refl
+stock_back (Uninstall i location) = refl
+stock_back (Disassemble i location) = refl
+stock_back (Reinstate i location) = refl
 
 back : (c : Command) → command_in (command_data c) ≡ Some c
 back (Part c) = part_back c
@@ -317,6 +328,10 @@ plain (Stock (Split i quantity)) h = (tt, (h.0, (h.1, tt)))
 plain (Stock (Merge into items)) h = (tt, (h.0, (wholes_plain items h.1, tt)))
 plain (Stock (Serialise i quantity serials)) h = (tt, (h.0, (h.1, (strings_plain serials, tt))))
 plain (Stock (SetStatus i status)) h = (tt, (h, (tt, tt)))
+plain (Stock (Install i parent quantity)) h = (tt, (h.0, (h.1, (h.2, tt))))
+plain (Stock (Uninstall i location)) h = (tt, (h.0, (h.1, tt)))
+plain (Stock (Disassemble i location)) h = (tt, (h.0, (h.1, tt)))
+plain (Stock (Reinstate i location)) h = (tt, (h.0, (h.1, tt)))
 
 flat_wholes : (ns : List ℕ) → items_depth (items_outline (items_of (map whole ns))) ≡ 0
 flat_wholes [] = refl
@@ -357,6 +372,10 @@ shallow (Stock (Split i quantity)) = lit≤ tt
 shallow (Stock (Merge into items)) = rw (flat_wholes items) (lit≤ tt)
 shallow (Stock (Serialise i quantity serials)) = rw (flat_strings serials) (lit≤ tt)
 shallow (Stock (SetStatus i status)) = lit≤ tt
+shallow (Stock (Install i parent quantity)) = lit≤ tt
+shallow (Stock (Uninstall i location)) = lit≤ tt
+shallow (Stock (Disassemble i location)) = lit≤ tt
+shallow (Stock (Reinstate i location)) = lit≤ tt
 
 pub one_text : TextsTellCommands
 one_text a b f g e =

@@ -77,7 +77,7 @@ effect-follows s sound day (command.Yard c) none =
       entries = (let same = ap (λ h. table.len h) (locations.effect-history c (books_in s)) in omega (arith, same));
     }
 effect-follows s sound day (command.Stock c) none =
-    let kept = effects.sound-effect c day s.parts (books_in s) sound.stock none in record {
+    let kept = effects.sound-effect c day s.parts s.bills (books_in s) sound.stock none in record {
       stores = record {
         bills = bills.sound-more s.parts s.bills s.counter.next (stock.effect c day (books_in s)).counter.next kept.1.numbers sound.bills;
         stock = kept.0;

@@ -7,7 +7,7 @@ use Rattle.serde_json.specs.Written.{has_float, items_have_float}
 use Rattle.part_core.specs.declared.part_command.PartCommand.TheVariants.{AddCategory, AddPart, RetirePart}
 use Rattle.bom_core.specs.declared.bom_command.BomCommand.TheVariants.{AddLine, DropLine, AddSubstitute, DropSubstitute}
 use Rattle.yard_core.specs.declared.yard_command.YardCommand.TheVariants.{AddLocation}
-use Rattle.stock_core.specs.declared.stock_command.StockCommand.TheVariants.{Found, Add, Remove, Count, Transfer, Split, Merge, Serialise, SetStatus}
+use Rattle.stock_core.specs.declared.stock_command.StockCommand.TheVariants.{Found, Add, Remove, Count, Transfer, Split, Merge, Serialise, SetStatus, Install, Uninstall, Disassemble, Reinstate}
 use Rattle.desk_core.specs.declared.command.Command.{Command}
 use Rattle.desk_core.specs.declared.command.Command.TheVariants.{Part, Bom, Yard, Stock}
 use Rattle.desk_core.specs.DataOf.{whole, maybe_whole, maybe_string, maybe_strings, flag_words}
@@ -51,3 +51,7 @@ no_float (Stock (Split item quantity)) = refl
 no_float (Stock (Merge into items)) = rw (of_wholes items) refl
 no_float (Stock (Serialise item quantity serials)) = rw (of_strings serials) refl
 no_float (Stock (SetStatus item status)) = refl
+no_float (Stock (Install item parent quantity)) = refl
+no_float (Stock (Uninstall item location)) = refl
+no_float (Stock (Disassemble item location)) = refl
+no_float (Stock (Reinstate item location)) = refl

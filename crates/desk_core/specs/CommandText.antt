@@ -13,7 +13,7 @@ use Rattle.yard_core.specs.declared.yard_command.YardCommand.{YardCommand}
 use Rattle.yard_core.specs.declared.yard_command.YardCommand.TheVariants.{AddLocation}
 use Rattle.stock_core.specs.declared.arrivals.NewStock.{NewStock}
 use Rattle.stock_core.specs.declared.stock_command.StockCommand.{StockCommand}
-use Rattle.stock_core.specs.declared.stock_command.StockCommand.TheVariants.{Found, Add, Remove, Count, Transfer, Split, Merge, Serialise, SetStatus}
+use Rattle.stock_core.specs.declared.stock_command.StockCommand.TheVariants.{Found, Add, Remove, Count, Transfer, Split, Merge, Serialise, SetStatus, Install, Uninstall, Disassemble, Reinstate}
 use Rattle.desk_core.specs.declared.command.Command.{Command}
 use Rattle.desk_core.specs.declared.command.Command.TheVariants.{Part, Bom, Yard, Stock}
 use Rattle.desk_core.specs.DataOf.{whole, maybe_whole, maybe_string, wholes, strings, maybe_strings, flag_words}
@@ -92,6 +92,11 @@ abbrev pub amount_data : List ℕ → ℕ → ℕ → Data
 amount_data verb item quantity =
     object ((codes "do", string verb) ▸ (codes "item", whole item) ▸ (codes "quantity", whole quantity) ▸ no_members)
 
+-- an item that goes to a location
+abbrev pub taken_data : List ℕ → ℕ → ℕ → Data
+taken_data verb item location =
+    object ((codes "do", string verb) ▸ (codes "item", whole item) ▸ (codes "location", whole location) ▸ no_members)
+
 abbrev pub stock_data : StockCommand → Data
 stock_data (Found part location new) = found_data part location new
 stock_data (Add item quantity) = amount_data (codes "add") item quantity
@@ -121,6 +126,16 @@ stock_data (SetStatus item status) =
     ▸ (codes "item", whole item)
     ▸ (codes "status", string (status_name status))
     ▸ no_members)
+stock_data (Install item parent quantity) =
+    object
+    ((codes "do", string (codes "install"))
+    ▸ (codes "item", whole item)
+    ▸ (codes "parent", whole parent)
+    ▸ (codes "quantity", whole quantity)
+    ▸ no_members)
+stock_data (Uninstall item location) = taken_data (codes "uninstall") item location
+stock_data (Disassemble item location) = taken_data (codes "disassemble") item location
+stock_data (Reinstate item location) = taken_data (codes "reinstate") item location
 
 -- ---- all commands
 
@@ -166,6 +181,10 @@ StockFits (Split item quantity) = Fits item × Fits quantity
 StockFits (Merge into items) = Fits into × AreFit items
 StockFits (Serialise item quantity serials) = Fits item × Fits quantity
 StockFits (SetStatus item status) = Fits item
+StockFits (Install item parent quantity) = Fits item × Fits parent × Fits quantity
+StockFits (Uninstall item location) = Fits item × Fits location
+StockFits (Disassemble item location) = Fits item × Fits location
+StockFits (Reinstate item location) = Fits item × Fits location
 
 abbrev pub CommandFits : Command → Type 0
 CommandFits (Part c) = PartFits c

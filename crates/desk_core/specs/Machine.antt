@@ -75,7 +75,7 @@ abbrev pub checks : State → CivilDay → Command → List Check
 checks s day (command.Part c) = part.checks c (register_in s)
 checks s day (command.Bom c) = bom.checks c (open_parts s) s.parts (bill_books_in s)
 checks s day (command.Yard c) = yard.checks c (books_in s)
-checks s day (command.Stock c) = stock.checks c day s.parts (books_in s)
+checks s day (command.Stock c) = stock.checks c day s.parts s.bills (books_in s)
 
 -- each command's refusals stand in the one order of checks
 abbrev pub ChecksAreInOrder : Type 0

@@ -126,6 +126,7 @@ impl Shop {
             Command::Stock(command) => stock_command::act(
                 self.alloc,
                 &self.catalogue,
+                &self.boms,
                 &mut self.yard,
                 &mut self.counter,
                 request.day,

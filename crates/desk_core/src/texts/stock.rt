@@ -2,7 +2,7 @@
 ghost use Rattle.std.specs.Prelude.{◌≡◌, IfOk};
 ghost use Rattle.serde_json.specs.View.{view};
 ghost use Rattle.stock_core.specs.declared.stock_command.StockCommand.TheVariants.{Serialise};
-ghost use Rattle.desk_core.specs.CommandText.{amount_data, found_data, stock_data};
+ghost use Rattle.desk_core.specs.CommandText.{amount_data, found_data, stock_data, taken_data};
 
 use super::values::{maybe_batch, maybe_serials, serials, wholes};
 use part_core::{Id, Quantity, Serials};
@@ -24,6 +24,13 @@ fn amount(alloc: Global, verb: &str, item: Id, quantity: Quantity) -> Result<Val
     ensures { IfOk result (λ value. view value ≡ amount_data verb.now item quantity) }
 {
     json!(in alloc; {"do": verb, "item": item, "quantity": quantity})
+}
+
+/// An item that goes to a location.
+fn taken(alloc: Global, verb: &str, item: Id, location: Id) -> Result<Value, AllocError>
+    ensures { IfOk result (λ value. view value ≡ taken_data verb.now item location) }
+{
+    json!(in alloc; {"do": verb, "item": item, "location": location})
 }
 
 fn serialise(
@@ -74,5 +81,18 @@ pub fn stock_value(alloc: Global, command: &StockCommand) -> Result<Value, Alloc
             let status = status.name();
             json!(in alloc; {"do": "set_status", "item": item, "status": status})
         }
+        StockCommand::Install {
+            item,
+            parent,
+            quantity,
+        } => {
+            let (item, parent, quantity) = (*item, *parent, *quantity);
+            json!(in alloc; {"do": "install", "item": item, "parent": parent, "quantity": quantity})
+        }
+        StockCommand::Uninstall { item, location } => taken(alloc, "uninstall", *item, *location),
+        StockCommand::Disassemble { item, location } => {
+            taken(alloc, "disassemble", *item, *location)
+        }
+        StockCommand::Reinstate { item, location } => taken(alloc, "reinstate", *item, *location),
     }
 }
