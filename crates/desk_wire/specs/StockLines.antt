@@ -3,7 +3,7 @@ use Rattle.std.specs.Prelude.{ℕ, List, [], ◌∷◌, codes, Result, Ok}
 use Rattle.serde_json.specs.Data.{Data}
 use Rattle.desk_core.specs.declared.command.Command.{Command}
 use Rattle.desk_core.specs.declared.command.Command.TheVariants as commands
-use Rattle.stock_core.specs.declared.stock_command.StockCommand.TheVariants.{Found, Add, Remove, Count, Transfer, Split, Merge, Serialise, SetStatus}
+use Rattle.stock_core.specs.declared.stock_command.StockCommand.TheVariants.{Found, Add, Remove, Count, Transfer, Split, Merge, Serialise, SetStatus, Install, Uninstall, Disassemble, Reinstate}
 use Rattle.desk_wire.specs.declared.fault.What.{What}
 use Rattle.desk_wire.specs.Steps.{◌>>=◌}
 use Rattle.desk_wire.specs.Fields.{number_in, maybe_batch_in, serials_in, maybe_serials_in, items_in, status_in}
@@ -111,3 +111,48 @@ set_status_of d = do
   number ← number_in (codes "item") d
   status ← status_in d
   Ok (commands.Stock (SetStatus number status))
+
+-- ---- install
+
+abbrev pub install_members : List (List ℕ)
+install_members = codes "do" ∷ codes "key" ∷ codes "day" ∷ codes "item" ∷ codes "parent" ∷ codes "quantity" ∷ []
+
+abbrev pub install_of : Data → Result Command What
+install_of d = do
+  number ← number_in (codes "item") d
+  parent ← number_in (codes "parent") d
+  quantity ← number_in (codes "quantity") d
+  Ok (commands.Stock (Install number parent quantity))
+
+-- ---- uninstall
+
+abbrev pub uninstall_members : List (List ℕ)
+uninstall_members = codes "do" ∷ codes "key" ∷ codes "day" ∷ codes "item" ∷ codes "location" ∷ []
+
+abbrev pub uninstall_of : Data → Result Command What
+uninstall_of d = do
+  number ← number_in (codes "item") d
+  location ← number_in (codes "location") d
+  Ok (commands.Stock (Uninstall number location))
+
+-- ---- disassemble
+
+abbrev pub disassemble_members : List (List ℕ)
+disassemble_members = codes "do" ∷ codes "key" ∷ codes "day" ∷ codes "item" ∷ codes "location" ∷ []
+
+abbrev pub disassemble_of : Data → Result Command What
+disassemble_of d = do
+  number ← number_in (codes "item") d
+  location ← number_in (codes "location") d
+  Ok (commands.Stock (Disassemble number location))
+
+-- ---- reinstate
+
+abbrev pub reinstate_members : List (List ℕ)
+reinstate_members = codes "do" ∷ codes "key" ∷ codes "day" ∷ codes "item" ∷ codes "location" ∷ []
+
+abbrev pub reinstate_of : Data → Result Command What
+reinstate_of d = do
+  number ← number_in (codes "item") d
+  location ← number_in (codes "location") d
+  Ok (commands.Stock (Reinstate number location))

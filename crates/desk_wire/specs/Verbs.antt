@@ -4,12 +4,12 @@ use Rattle.serde_json.specs.Data.{Data}
 use Rattle.desk_core.specs.declared.command.Command.{Command}
 use Rattle.desk_wire.specs.declared.fault.What.{What}
 use Rattle.desk_wire.specs.declared.verb.Verb.{Verb}
-use Rattle.desk_wire.specs.declared.verb.Verb.TheVariants.{AddCategory, AddLocation, AddPart, RetirePart, AddLine, DropLine, AddSubstitute, DropSubstitute, Found, Add, Remove, Count, Transfer, Split, Merge, Serialise, SetStatus}
+use Rattle.desk_wire.specs.declared.verb.Verb.TheVariants.{AddCategory, AddLocation, AddPart, RetirePart, AddLine, DropLine, AddSubstitute, DropSubstitute, Found, Add, Remove, Count, Transfer, Split, Merge, Serialise, SetStatus, Install, Uninstall, Disassemble, Reinstate}
 use Rattle.desk_wire.specs.Named.{find_named}
 use Rattle.desk_wire.specs.PartLines.{add_category_members, add_category_of, add_part_members, add_part_of, retire_part_members, retire_part_of}
 use Rattle.desk_wire.specs.BomLines.{add_line_members, add_line_of, drop_line_members, drop_line_of, add_substitute_members, add_substitute_of, drop_substitute_members, drop_substitute_of}
 use Rattle.desk_wire.specs.YardLines.{add_location_members, add_location_of}
-use Rattle.desk_wire.specs.StockLines.{found_members, found_of, add_members, add_of, remove_members, remove_of, count_members, count_of, transfer_members, transfer_of, split_members, split_of, merge_members, merge_of, serialise_members, serialise_of, set_status_members, set_status_of}
+use Rattle.desk_wire.specs.StockLines.{found_members, found_of, add_members, add_of, remove_members, remove_of, count_members, count_of, transfer_members, transfer_of, split_members, split_of, merge_members, merge_of, serialise_members, serialise_of, set_status_members, set_status_of, install_members, install_of, uninstall_members, uninstall_of, disassemble_members, disassemble_of, reinstate_members, reinstate_of}
 
 abbrev pub verb_named : List ℕ → Option Verb
 verb_named name =
@@ -31,6 +31,10 @@ verb_named name =
     ∷ (codes "merge", Merge)
     ∷ (codes "serialise", Serialise)
     ∷ (codes "set_status", SetStatus)
+    ∷ (codes "install", Install)
+    ∷ (codes "uninstall", Uninstall)
+    ∷ (codes "disassemble", Disassemble)
+    ∷ (codes "reinstate", Reinstate)
     ∷ [])
 
 -- all members that a request of this verb may have
@@ -52,6 +56,10 @@ members_of Split = split_members
 members_of Merge = merge_members
 members_of Serialise = serialise_members
 members_of SetStatus = set_status_members
+members_of Install = install_members
+members_of Uninstall = uninstall_members
+members_of Disassemble = disassemble_members
+members_of Reinstate = reinstate_members
 
 abbrev pub command_of : Verb → Data → Result Command What
 command_of AddCategory d = add_category_of d
@@ -71,3 +79,7 @@ command_of Split d = split_of d
 command_of Merge d = merge_of d
 command_of Serialise d = serialise_of d
 command_of SetStatus d = set_status_of d
+command_of Install d = install_of d
+command_of Uninstall d = uninstall_of d
+command_of Disassemble d = disassemble_of d
+command_of Reinstate d = reinstate_of d

@@ -2,7 +2,7 @@
 //! a function that reads it: the fields in their order, and the command that they name.
 ghost use Rattle.serde_json.specs.View.{view};
 ghost use Rattle.desk_wire.specs.Steps.{Gives};
-ghost use Rattle.desk_wire.specs.StockLines.{found_of, add_of, remove_of, count_of, transfer_of, split_of, merge_of, serialise_of, set_status_of};
+ghost use Rattle.desk_wire.specs.StockLines.{found_of, add_of, remove_of, count_of, transfer_of, split_of, merge_of, serialise_of, set_status_of, install_of, uninstall_of, disassemble_of, reinstate_of};
 
 use crate::fault::Bad;
 use crate::fields::{items, maybe_batch, maybe_serials, number, serials, status};
@@ -123,4 +123,49 @@ pub fn set_status(object: &Value) -> Result<Command, Bad>
     let item = number(object, "item")?;
     let status = status(object)?;
     Ok(Command::Stock(StockCommand::SetStatus { item, status }))
+}
+
+pub const INSTALL: &[&str] = &["do", "key", "day", "item", "parent", "quantity"];
+
+pub fn install(object: &Value) -> Result<Command, Bad>
+    ensures { Gives result (install_of (view object.now)) }
+{
+    let item = number(object, "item")?;
+    let parent = number(object, "parent")?;
+    let quantity = number(object, "quantity")?;
+    Ok(Command::Stock(StockCommand::Install {
+        item,
+        parent,
+        quantity,
+    }))
+}
+
+pub const UNINSTALL: &[&str] = &["do", "key", "day", "item", "location"];
+
+pub fn uninstall(object: &Value) -> Result<Command, Bad>
+    ensures { Gives result (uninstall_of (view object.now)) }
+{
+    let item = number(object, "item")?;
+    let location = number(object, "location")?;
+    Ok(Command::Stock(StockCommand::Uninstall { item, location }))
+}
+
+pub const DISASSEMBLE: &[&str] = &["do", "key", "day", "item", "location"];
+
+pub fn disassemble(object: &Value) -> Result<Command, Bad>
+    ensures { Gives result (disassemble_of (view object.now)) }
+{
+    let item = number(object, "item")?;
+    let location = number(object, "location")?;
+    Ok(Command::Stock(StockCommand::Disassemble { item, location }))
+}
+
+pub const REINSTATE: &[&str] = &["do", "key", "day", "item", "location"];
+
+pub fn reinstate(object: &Value) -> Result<Command, Bad>
+    ensures { Gives result (reinstate_of (view object.now)) }
+{
+    let item = number(object, "item")?;
+    let location = number(object, "location")?;
+    Ok(Command::Stock(StockCommand::Reinstate { item, location }))
 }

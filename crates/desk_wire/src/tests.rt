@@ -103,6 +103,20 @@ fn show_stock(alloc: Global, command: &StockCommand) -> Result<String, AllocErro
         StockCommand::SetStatus { item, status } => {
             format!(in alloc; "set_status {item} {status:?}")
         }
+        StockCommand::Install {
+            item,
+            parent,
+            quantity,
+        } => format!(in alloc; "install {item} {parent} {quantity}"),
+        StockCommand::Uninstall { item, location } => {
+            format!(in alloc; "uninstall {item} {location}")
+        }
+        StockCommand::Disassemble { item, location } => {
+            format!(in alloc; "disassemble {item} {location}")
+        }
+        StockCommand::Reinstate { item, location } => {
+            format!(in alloc; "reinstate {item} {location}")
+        }
     }
 }
 
@@ -224,6 +238,22 @@ fn reads_each_command(rt: HostRuntime) -> Result<(), Fail> {
         (
             r#"{"do":"set_status","day":"2030-01-02","item":1,"status":"Quarantined"}"#,
             "set_status 1 Quarantined",
+        ),
+        (
+            r#"{"do":"install","day":"2030-01-02","item":1,"parent":2,"quantity":3}"#,
+            "install 1 2 3",
+        ),
+        (
+            r#"{"do":"uninstall","day":"2030-01-02","item":1,"location":2}"#,
+            "uninstall 1 2",
+        ),
+        (
+            r#"{"do":"disassemble","day":"2030-01-02","item":1,"location":2}"#,
+            "disassemble 1 2",
+        ),
+        (
+            r#"{"do":"reinstate","day":"2030-01-02","item":1,"location":2}"#,
+            "reinstate 1 2",
         ),
     ] {
         let want = format!(in alloc; "Day {{ year: 2030, month: 1, day: 2 }} {want}")?;
@@ -398,6 +428,23 @@ fn finds_what_is_wrong_with_a_field(rt: HostRuntime) -> Result<(), Fail> {
         (r#""set_status","item":1"#, What::NoField),
         (r#""set_status","item":1,"status":0"#, What::WrongType),
         (r#""set_status","item":1,"status":"Okay""#, What::BadWord),
+        (r#""install","item":1,"quantity":"x""#, What::NoField),
+        (r#""install","item":1,"parent":"2""#, What::WrongType),
+        (r#""install","item":1,"parent":2"#, What::NoField),
+        (
+            r#""install","item":1,"parent":2,"quantity":3,"location":4"#,
+            What::UnknownField,
+        ),
+        (r#""uninstall","item":1"#, What::NoField),
+        (r#""uninstall","item":null,"location":2"#, What::WrongType),
+        (
+            r#""uninstall","item":1,"location":2,"quantity":1"#,
+            What::UnknownField,
+        ),
+        (r#""disassemble","location":2"#, What::NoField),
+        (r#""disassemble","item":1,"location":"A""#, What::WrongType),
+        (r#""reinstate","item":1"#, What::NoField),
+        (r#""reinstate","item":1,"location":2.5"#, What::WrongType),
     ] {
         let line = format!(in alloc; "{{\"day\":\"2030-01-02\",\"do\":{rest}}}")?;
         assert_eq!(rt;

@@ -30,6 +30,10 @@ pub enum Verb {
     Merge,
     Serialise,
     SetStatus,
+    Install,
+    Uninstall,
+    Disassemble,
+    Reinstate,
 }
 
 /// The verb of that name.
@@ -54,6 +58,10 @@ pub fn verb_named(name: &str) -> Option<Verb>
         "merge" => Some(Verb::Merge),
         "serialise" => Some(Verb::Serialise),
         "set_status" => Some(Verb::SetStatus),
+        "install" => Some(Verb::Install),
+        "uninstall" => Some(Verb::Uninstall),
+        "disassemble" => Some(Verb::Disassemble),
+        "reinstate" => Some(Verb::Reinstate),
         _ => None,
     }
 }
@@ -80,6 +88,10 @@ pub fn members(verb: Verb) -> &'static [&'static str]
         Verb::Merge => stock_lines::MERGE,
         Verb::Serialise => stock_lines::SERIALISE,
         Verb::SetStatus => stock_lines::SET_STATUS,
+        Verb::Install => stock_lines::INSTALL,
+        Verb::Uninstall => stock_lines::UNINSTALL,
+        Verb::Disassemble => stock_lines::DISASSEMBLE,
+        Verb::Reinstate => stock_lines::REINSTATE,
     }
 }
 
@@ -105,5 +117,9 @@ pub fn command(alloc: Global, verb: Verb, object: &Value) -> Result<Command, Bad
         Verb::Merge => stock_lines::merge(alloc, object),
         Verb::Serialise => stock_lines::serialise(alloc, object),
         Verb::SetStatus => stock_lines::set_status(object),
+        Verb::Install => stock_lines::install(object),
+        Verb::Uninstall => stock_lines::uninstall(object),
+        Verb::Disassemble => stock_lines::disassemble(object),
+        Verb::Reinstate => stock_lines::reinstate(object),
     }
 }
