@@ -277,6 +277,7 @@ fn reads_keys_and_reports(rt: HostRuntime) -> Result<(), Fail> {
         (r#"{"report":"stock","of":0}"#, "Stock of 0"),
         (r#"{"report":"where_used","of":3}"#, "WhereUsed of 3"),
         (r#"{"report":"history","of":4}"#, "History of 4"),
+        (r#"{"report":"content","of":5}"#, "Content of 5"),
     ] {
         let asked = read_line(alloc, line.as_bytes(), 1).map_err(|_| "it is a line")?;
         assert_eq!(rt; show(alloc, &asked)?.as_str(), want, "at {line}");

@@ -1,3 +1,4 @@
+pub mod Content
 pub mod Fields
 pub mod History
 pub mod Ledger

@@ -1,6 +1,7 @@
 //! Reports: what a shop shows of a part or an item, as lines of fields.
 #![tactic(auto)]
 
+pub mod content;
 mod fields;
 pub mod history;
 pub mod ledger;

@@ -2,13 +2,14 @@
 ghost use Rattle.std.specs.Prelude.{◌≡◌};
 ghost use Rattle.report_core.specs.Names.{report_named};
 
-/// Which report is asked for. The number beside it is a part's, for a history an item's.
+/// Which report is asked for. The number beside it is a part's, for a history and for a content an item's.
 #[derive(Clone, Copy, Debug, PartialEq, Eq)]
 pub enum ReportName {
     Ledger,
     Stock,
     WhereUsed,
     History,
+    Content,
 }
 
 /// The report of that name.
@@ -20,6 +21,7 @@ pub fn report_named(name: &str) -> Option<ReportName>
         "stock" => Some(ReportName::Stock),
         "where_used" => Some(ReportName::WhereUsed),
         "history" => Some(ReportName::History),
+        "content" => Some(ReportName::Content),
         _ => None,
     }
 }

@@ -3,6 +3,7 @@ ghost use Rattle.desk_core.specs.Machine.{IsSoundState};
 ghost use Rattle.desk_core.specs.Shops.{state_of};
 ghost use Rattle.report_core.specs.Reports.{Reports};
 
+use crate::content::content;
 use crate::history::history;
 use crate::ledger::ledger;
 use crate::lines::Report;
@@ -13,8 +14,8 @@ use desk_core::Shop;
 use part_core::CoreFault;
 use std::alloc::Global;
 
-/// The report of that name on the part of that number, for a history on the item. NoSuch where there is
-/// no such row.
+/// The report of that name on the part of that number, for a history and for a content on the
+/// item. NoSuch where there is no such row.
 pub fn report(
     alloc: Global,
     shop: &Shop,
@@ -29,5 +30,6 @@ pub fn report(
         ReportName::Stock => stock(alloc, shop, number),
         ReportName::WhereUsed => where_used(alloc, shop, number),
         ReportName::History => history(alloc, shop, number),
+        ReportName::Content => content(alloc, shop, number),
     }
 }

@@ -49,10 +49,10 @@ fn line(assembly: u64, component: u64) -> Result<Request, Fail> {
     })))
 }
 
-/// Stock of part 2 at location 1.
-fn found(new: NewStock) -> Result<Request, Fail> {
+/// Stock of the part at location 1.
+fn found(part: u64, new: NewStock) -> Result<Request, Fail> {
     request(Command::Stock(StockCommand::Found {
-        part: 2,
+        part,
         location: 1,
         new,
     }))
@@ -69,6 +69,7 @@ fn parts(alloc: Global) -> Result<Vec<Request>, Fail> {
     screw.trackable = true;
     let mut cell = Flags::default();
     cell.assembly = true;
+    cell.trackable = true;
     let mut robot = cell;
     robot.component = true;
     let mut requests = Vec::new(alloc);
@@ -111,9 +112,9 @@ fn plain(quantity: u64) -> NewStock {
 fn items(alloc: Global) -> Result<Vec<Request>, Fail> {
     let status = Status::Damaged;
     let mut requests = Vec::new(alloc);
-    requests.push(found(with_batch(alloc, 10)?)?)?;
-    requests.push(found(with_serials(alloc, 2, "A-1,A-2")?)?)?;
-    requests.push(found(plain(5))?)?;
+    requests.push(found(2, with_batch(alloc, 10)?)?)?;
+    requests.push(found(2, with_serials(alloc, 2, "A-1,A-2")?)?)?;
+    requests.push(found(2, plain(5))?)?;
     requests.push(of_stock(StockCommand::Remove {
         item: 10,
         quantity: 5,
@@ -127,6 +128,25 @@ fn items(alloc: Global) -> Result<Vec<Request>, Fail> {
         item: 7,
         quantity: 4,
     })?)?;
+    Ok(requests)
+}
+
+fn install(item: u64, parent: u64, quantity: u64) -> Result<Request, Fail> {
+    of_stock(StockCommand::Install {
+        item,
+        parent,
+        quantity,
+    })
+}
+
+/// Screws, item 10, which are cut off from 9, in robot 7, in cell 8.
+fn nested(alloc: Global) -> Result<Vec<Request>, Fail> {
+    let mut requests = Vec::new(alloc);
+    requests.push(found(3, with_serials(alloc, 1, "R-1")?)?)?;
+    requests.push(found(4, with_serials(alloc, 1, "C-1")?)?)?;
+    requests.push(found(2, plain(5))?)?;
+    requests.push(install(9, 7, 4)?)?;
+    requests.push(install(7, 8, 1)?)?;
     Ok(requests)
 }
 
@@ -187,6 +207,8 @@ fn reports(alloc: Global, shop: &mut Shop) -> Result<(), Fail>
     tells(alloc, shop, ReportName::Stock, 2, STOCK)?;
     tells(alloc, shop, ReportName::Stock, 4, "")?;
     tells(alloc, shop, ReportName::WhereUsed, 2, "3\tRobot\n4\tCell\n")?;
+    tells(alloc, shop, ReportName::Content, 8, "1\t8\tScrew\t1\tA-1\n")?;
+    tells(alloc, shop, ReportName::Content, 10, "1\t10\tScrew\t0\t\n")?;
     tells(
         alloc,
         shop,
@@ -203,6 +225,36 @@ fn tells_each_report(rt: HostRuntime) -> Result<(), Fail> {
     reports(alloc, &mut shop)
 }
 
+fn contents(alloc: Global, shop: &mut Shop) -> Result<(), Fail>
+    requires { IsSoundState (state_of shop.old) }
+{
+    plays(alloc, shop, parts(alloc)?)?;
+    plays(alloc, shop, nested(alloc)?)?;
+    tells(
+        alloc,
+        shop,
+        ReportName::Content,
+        8,
+        "1\t8\tCell\t1\tC-1\n2\t7\tRobot\t1\tR-1\n3\t10\tScrew\t4\t\n",
+    )?;
+    tells(
+        alloc,
+        shop,
+        ReportName::Content,
+        7,
+        "1\t7\tRobot\t1\tR-1\n2\t10\tScrew\t4\t\n",
+    )?;
+    tells(alloc, shop, ReportName::Content, 9, "1\t9\tScrew\t1\t\n")
+}
+
+/// An item begins its own tree, also where it lies in another.
+#[test]
+fn tells_content_at_each_depth(rt: HostRuntime) -> Result<(), Fail> {
+    let alloc = rt.alloc();
+    let mut shop = Shop::new(alloc, Limits::LARGEST);
+    contents(alloc, &mut shop)
+}
+
 fn missing_rows(alloc: Global, shop: &mut Shop) -> Result<(), Fail>
     requires { IsSoundState (state_of shop.old) }
 {
@@ -210,7 +262,8 @@ fn missing_rows(alloc: Global, shop: &mut Shop) -> Result<(), Fail>
     finds_nothing(alloc, shop, ReportName::Ledger, 1)?;
     finds_nothing(alloc, shop, ReportName::Stock, 5)?;
     finds_nothing(alloc, shop, ReportName::WhereUsed, 7)?;
-    finds_nothing(alloc, shop, ReportName::History, 2)
+    finds_nothing(alloc, shop, ReportName::History, 2)?;
+    finds_nothing(alloc, shop, ReportName::Content, 2)
 }
 
 /// A number of another table's row is no number of this one's.
