@@ -99,7 +99,8 @@ impl Shop {
         requires sound { IsSoundState (state_of self.old) }
         ensures acts { let s = state_of self.old in
             let after = effect s request.now.day request.now.command in
-            Acts (checks s request.now.day request.now.command) (after, answer_of s after) s result (state_of self.new) }
+            Acts (checks s request.now.day request.now.command)
+            (after, answer_of s after) s result (state_of self.new) }
         ensures kept { kept_state self.new ≡ kept_state self.old }
     {
         match &request.command {
@@ -231,15 +232,18 @@ impl Shop {
     ) -> Result<Vec<Result<Answer, CoreFault>>, AllocError>
         requires { IsSoundState (state_of self.old) }
         ensures ran { IfOk result (λ outcomes.
-            run (state_of self.old) (answered requests.now outcomes.items) ≡ (state_of self.new, told outcomes.items)) }
+            run (state_of self.old) (answered requests.now outcomes.items)
+            ≡ (state_of self.new, told outcomes.items)) }
         ensures count { IfOk result (λ outcomes. length outcomes.items ≡ length requests.now) }
         ensures drawn { IfOk result (λ outcomes.
             let answers = answers_of (state_of self.old) (answered requests.now outcomes.items) in
-            AreDrawn (state_of self.old).counter.next (ids_of answers) (state_of self.new).counter.next) }
+            AreDrawn (state_of self.old).counter.next (ids_of answers)
+            (state_of self.new).counter.next) }
         ensures written { IfOk result (λ outcomes.
             let answers = answers_of (state_of self.old) (answered requests.now outcomes.items) in
             entries_in (state_of self.new) ≡ entries_in (state_of self.old) + entries_of answers) }
-        ensures balanced { (part : ℕ) → Balanced part (forest_and_history (state_of self.new).stock) }
+        ensures balanced { (part : ℕ)
+            → Balanced part (forest_and_history (state_of self.new).stock) }
         ensures serials { SerialsStandOnce (state_of self.new).parts (state_of self.new).stock }
         ensures acyclic { IsAcyclic (state_of self.new).parts (state_of self.new).bills }
         ensures none_run { OnErr result (state_of self.new ≡ state_of self.old) }

@@ -17,7 +17,8 @@ use yard_core::{Inside, Item};
 
 /// The name of the part of that number, or nothing where there is none.
 fn name_field(alloc: Global, catalogue: &Catalogue, number: u64) -> Result<String, AllocError>
-    ensures { IfOk result (λ text. string_bytes text ≡ name_of (part_in number (parts_of catalogue.now))) }
+    ensures { IfOk result (λ text.
+        string_bytes text ≡ name_of (part_in number (parts_of catalogue.now))) }
 {
     match catalogue.part(number) {
         Some(part) => String::from_str(alloc, part.name.as_str()),
@@ -31,7 +32,8 @@ fn node_line(
     item: &Item,
     depth: u64,
 ) -> Result<Vec<String>, AllocError>
-    ensures { IfOk result (λ line. fields_of line ≡ node_line (parts_of catalogue.now) (item.now, depth)) }
+    ensures { IfOk result (λ line.
+        fields_of line ≡ node_line (parts_of catalogue.now) (item.now, depth)) }
 {
     let depth = number_field(alloc, depth)?;
     let number = number_field(alloc, item.number)?;
