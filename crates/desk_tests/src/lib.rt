@@ -10,6 +10,8 @@ mod examples;
 #[cfg(test)]
 mod lines;
 #[cfg(test)]
+mod nested;
+#[cfg(test)]
 mod outcomes;
 #[cfg(test)]
 mod play;

@@ -1,7 +1,7 @@
 //! Requests, each by the name of its command.
 use bom_core::{BomCommand, LineFlags, NewLine};
 use desk_core::{Command, Request};
-use part_core::{Day, Flags, Name, NewPart, PartCommand, Text};
+use part_core::{Day, Flags, Name, NewPart, PartCommand, Serials, Text, read_serials};
 use std::alloc::Global;
 use std::test::Fail;
 use stock_core::{NewStock, StockCommand};
@@ -47,6 +47,14 @@ pub fn category(alloc: Global, text: &str, parent: Option<u64>) -> Result<Reques
 pub fn component() -> Flags {
     let mut flags = Flags::default();
     flags.component = true;
+    flags
+}
+
+/// What holds others, and what others may hold, with serials.
+pub fn assembly() -> Flags {
+    let mut flags = component();
+    flags.assembly = true;
+    flags.trackable = true;
     flags
 }
 
@@ -99,8 +107,27 @@ pub fn found(part: u64, location: u64, quantity: u64) -> Result<Request, Fail> {
     })
 }
 
+/// A piece with a serial.
+pub fn found_one(alloc: Global, part: u64, location: u64, serial: &str) -> Result<Request, Fail> {
+    let serials = read_serials(alloc, serial).ok().ok_or("a serial")?;
+    let new = NewStock {
+        quantity: 1,
+        batch: None,
+        serials: Some(Serials::new(serials)),
+    };
+    of_stock(StockCommand::Found {
+        part,
+        location,
+        new,
+    })
+}
+
 pub fn remove(item: u64, quantity: u64) -> Result<Request, Fail> {
     of_stock(StockCommand::Remove { item, quantity })
+}
+
+pub fn count(item: u64, quantity: u64) -> Result<Request, Fail> {
+    of_stock(StockCommand::Count { item, quantity })
 }
 
 pub fn transfer(item: u64, location: u64, quantity: u64) -> Result<Request, Fail> {
@@ -109,4 +136,24 @@ pub fn transfer(item: u64, location: u64, quantity: u64) -> Result<Request, Fail
         location,
         quantity,
     })
+}
+
+pub fn install(item: u64, parent: u64, quantity: u64) -> Result<Request, Fail> {
+    of_stock(StockCommand::Install {
+        item,
+        parent,
+        quantity,
+    })
+}
+
+pub fn uninstall(item: u64, location: u64) -> Result<Request, Fail> {
+    of_stock(StockCommand::Uninstall { item, location })
+}
+
+pub fn disassemble(item: u64, location: u64) -> Result<Request, Fail> {
+    of_stock(StockCommand::Disassemble { item, location })
+}
+
+pub fn reinstate(item: u64, location: u64) -> Result<Request, Fail> {
+    of_stock(StockCommand::Reinstate { item, location })
 }
