@@ -1,8 +1,7 @@
 -- What passes its checks leaves the locations sound.
-use Rattle.std.proofs.Common.{◌≡◌, ◌≤◌, ◌<◌, ◌+◌, ℕ, [], ◌∷◌, List, Option, Some, None, refl, sym, ap, ◌∙◌, arith}
-use Rattle.std.specs.FinMap as table
+use Rattle.std.proofs.Common.{◌≡◌, ◌≤◌, ◌<◌, ◌+◌, ℕ, [], ◌∷◌, List, Option, None, refl, arith}
 use Rattle.part_core.specs.Checks.{first}
-use Rattle.part_core.specs.Rows.{EachRow, IsThere, StandRight}
+use Rattle.part_core.specs.Rows.{IsThere}
 use Rattle.part_core.proofs.Conditions.{none-holds}
 use Rattle.part_core.proofs.RowLemmas.{each-insert, each-so, right-empty, right-later, right-new, row_there, same_digit, there, there-insert, each-empty}
 use Rattle.part_core.proofs.SoundRows.{named_there}

@@ -1,5 +1,5 @@
 -- What the commands of the yard read and change: the stock, and the counter that its rows draw their numbers from.
-use Rattle.std.specs.Prelude.{◌≡◌, ℕ, ◌-◌, ◌||◌, Bool, nat_lt, List, Result}
+use Rattle.std.specs.Prelude.{ℕ, ◌-◌, ◌||◌, Bool, nat_lt, List, Result}
 use Rattle.std.specs.FinMap as table
 use Rattle.part_core.specs.Acts.{Acts}
 use Rattle.part_core.specs.Checks.{Check}

@@ -1,5 +1,5 @@
 -- The commands of the yard as a machine: checks, effect, and what stays sound.
-use Rattle.std.specs.Prelude.{◌≡◌, ◌≤◌, ℕ, List, None}
+use Rattle.std.specs.Prelude.{◌≡◌, ◌≤◌, List, None}
 use Rattle.part_core.specs.Checks.{AreInOrder, Check, first}
 use Rattle.yard_core.specs.AddLocation.{add_location, add_location_checks}
 use Rattle.yard_core.specs.Books.{Books}
