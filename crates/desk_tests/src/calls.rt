@@ -2,7 +2,7 @@
 ghost use Rattle.desk_core.specs.Machine.{IsSoundState};
 ghost use Rattle.desk_core.specs.Shops.{state_of};
 
-use crate::examples::{bill_cycles, refused_rows};
+use crate::examples::{bill_cycles, nesting_deep, refused_rows};
 use crate::outcomes::{Wanted, holds, plays};
 use crate::play::plays_on;
 use crate::requests::{component, found, location, part, remove};
@@ -49,6 +49,40 @@ fn families(rt: HostRuntime) -> Result<(), Fail> {
     let alloc = rt.alloc();
     let mut shop = Shop::new(alloc, Limits::LARGEST);
     ask_families(alloc, &mut shop)
+}
+
+fn ask_tower(alloc: Global, shop: &mut Shop) -> Result<(), Fail>
+    requires { IsSoundState (state_of shop.old) }
+{
+    plays_on(alloc, shop, nesting_deep::LINES, nesting_deep::ANSWERS)?;
+    let yard = shop.yard();
+    if yard.item(35).is_none() || yard.item(50).is_none() {
+        return holds(false, "both ends are there");
+    }
+    holds(yard.root(50) == 35, "the lowest stands under the first")?;
+    holds(yard.depth(50) == 16, "the lowest stands at 16")?;
+    holds(yard.height(35) == 16, "the first is 16 high")?;
+    holds(yard.is_within(50, 35), "the lowest is in the first")?;
+    holds(!yard.is_within(35, 50), "the first isn't in the lowest")?;
+    holds(
+        yard.children(35)?.as_slice() == [36].as_slice(),
+        "one in the first",
+    )?;
+    holds(yard.content(35)?.len() == 15, "15 in the first")?;
+    let tree = yard.tree(35)?;
+    let below = tree.trees.first().ok_or("a tree")?;
+    holds(
+        tree.item.number == 35 && below.item.number == 36,
+        "the first, and what is in it",
+    )
+}
+
+/// Walks in a tower of 16.
+#[test]
+fn tower(rt: HostRuntime) -> Result<(), Fail> {
+    let alloc = rt.alloc();
+    let mut shop = Shop::new(alloc, Limits::LARGEST);
+    ask_tower(alloc, &mut shop)
 }
 
 /// One number and one entry more than there are.

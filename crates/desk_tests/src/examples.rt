@@ -11,7 +11,7 @@ mod keys;
 mod long_tour;
 mod merging;
 mod nesting;
-mod nesting_deep;
+pub mod nesting_deep;
 mod nesting_self;
 mod refused_nesting;
 pub mod refused_rows;

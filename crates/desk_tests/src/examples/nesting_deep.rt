@@ -2,7 +2,7 @@
 use crate::play::plays;
 use std::test::Fail;
 
-const LINES: &str = r#"{"day":"2030-01-02","do":"add_location","name":"A"}
+pub const LINES: &str = r#"{"day":"2030-01-02","do":"add_location","name":"A"}
 {"day":"2030-01-02","do":"add_part","flags":["assembly","component","trackable"],"name":"P2"}
 {"day":"2030-01-02","do":"add_part","flags":["assembly","component","trackable"],"name":"P3"}
 {"day":"2030-01-02","do":"add_part","flags":["assembly","component","trackable"],"name":"P4"}
@@ -71,7 +71,7 @@ const LINES: &str = r#"{"day":"2030-01-02","do":"add_location","name":"A"}
 {"day":"2030-01-02","do":"install","item":51,"parent":50,"quantity":1}
 "#;
 
-const ANSWERS: &str = r#"{"entries":0,"ids":[1]}
+pub const ANSWERS: &str = r#"{"entries":0,"ids":[1]}
 {"entries":0,"ids":[2]}
 {"entries":0,"ids":[3]}
 {"entries":0,"ids":[4]}
