@@ -1,0 +1,4 @@
+pub mod Schema
+pub mod Texts
+pub mod Transactions
+pub mod Making

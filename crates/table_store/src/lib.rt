@@ -1,0 +1,12 @@
+//! The tables of the desk's file: they are made, and changed within transactions.
+#![tactic(auto)]
+
+mod create;
+mod fault;
+mod name;
+mod transaction;
+
+pub use create::create_tables;
+pub use fault::{Failed, TableFault};
+pub use name::TableName;
+pub use transaction::{begin, commit, rollback};

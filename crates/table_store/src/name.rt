@@ -1,0 +1,101 @@
+//! The desk's tables, and the texts of their statements.
+ghost use Rattle.std.specs.Prelude.{◌≡◌, ◌<◌};
+ghost use Rattle.table_store.specs.Schema.{position, name_of};
+ghost use Rattle.table_store.specs.Texts.{create_text};
+
+/// A table of the desk's file.
+#[derive(Clone, Copy, Debug, PartialEq, Eq)]
+pub enum TableName {
+    Meta,
+    Categories,
+    Locations,
+    Parts,
+    Lines,
+    Substitutes,
+    Items,
+    History,
+    Orders,
+    OrderLines,
+    Builds,
+    Allocations,
+    Kept,
+}
+
+impl TableName {
+    /// The name that the table has in the file.
+    pub fn name(self) -> &'static str
+        ensures { result.now ≡ name_of self }
+    {
+        match self {
+            TableName::Meta => "meta",
+            TableName::Categories => "categories",
+            TableName::Locations => "locations",
+            TableName::Parts => "parts",
+            TableName::Lines => "lines",
+            TableName::Substitutes => "substitutes",
+            TableName::Items => "items",
+            TableName::History => "history",
+            TableName::Orders => "orders",
+            TableName::OrderLines => "order_lines",
+            TableName::Builds => "builds",
+            TableName::Allocations => "allocations",
+            TableName::Kept => "kept",
+        }
+    }
+
+    /// The table at a place, in the order in which they are made.
+    pub(crate) fn at(place: usize) -> TableName
+        requires { place < 13 }
+        ensures { position result ≡ place }
+    {
+        match place {
+            0 => TableName::Meta,
+            1 => TableName::Categories,
+            2 => TableName::Locations,
+            3 => TableName::Parts,
+            4 => TableName::Lines,
+            5 => TableName::Substitutes,
+            6 => TableName::Items,
+            7 => TableName::History,
+            8 => TableName::Orders,
+            9 => TableName::OrderLines,
+            10 => TableName::Builds,
+            11 => TableName::Allocations,
+            _ => TableName::Kept,
+        }
+    }
+
+    /// Makes the table.
+    pub(crate) fn create_text(self) -> &'static str
+        ensures { result.now ≡ create_text self }
+    {
+        match self {
+            TableName::Meta =>
+                "CREATE TABLE meta (one INTEGER PRIMARY KEY, version INTEGER NOT NULL, next INTEGER NOT NULL, entries INTEGER NOT NULL, max_numbers INTEGER NOT NULL, max_entries INTEGER NOT NULL) STRICT",
+            TableName::Categories =>
+                "CREATE TABLE categories (id INTEGER PRIMARY KEY, name TEXT NOT NULL, parent INTEGER) STRICT",
+            TableName::Locations =>
+                "CREATE TABLE locations (id INTEGER PRIMARY KEY, name TEXT NOT NULL, parent INTEGER) STRICT",
+            TableName::Parts =>
+                "CREATE TABLE parts (id INTEGER PRIMARY KEY, name TEXT NOT NULL, category INTEGER, template INTEGER, flags INTEGER NOT NULL, retired INTEGER NOT NULL) STRICT",
+            TableName::Lines =>
+                "CREATE TABLE lines (id INTEGER PRIMARY KEY, assembly INTEGER NOT NULL, component INTEGER NOT NULL, quantity INTEGER NOT NULL, flags INTEGER NOT NULL) STRICT",
+            TableName::Substitutes =>
+                "CREATE TABLE substitutes (id INTEGER PRIMARY KEY, line INTEGER NOT NULL, part INTEGER NOT NULL) STRICT",
+            TableName::Items =>
+                "CREATE TABLE items (id INTEGER PRIMARY KEY, part INTEGER NOT NULL, batch TEXT, serial TEXT, status INTEGER NOT NULL, quantity INTEGER NOT NULL, place INTEGER NOT NULL, ref INTEGER NOT NULL) STRICT",
+            TableName::History =>
+                "CREATE TABLE history (n INTEGER PRIMARY KEY, day TEXT NOT NULL, kind INTEGER NOT NULL, item INTEGER NOT NULL, part INTEGER NOT NULL, quantity INTEGER NOT NULL, place INTEGER NOT NULL, ref INTEGER NOT NULL) STRICT",
+            TableName::Orders =>
+                "CREATE TABLE orders (id INTEGER PRIMARY KEY, side INTEGER NOT NULL, partner TEXT NOT NULL, state INTEGER NOT NULL) STRICT",
+            TableName::OrderLines =>
+                "CREATE TABLE order_lines (id INTEGER PRIMARY KEY, owner INTEGER NOT NULL, part INTEGER NOT NULL, quantity INTEGER NOT NULL, done INTEGER NOT NULL) STRICT",
+            TableName::Builds =>
+                "CREATE TABLE builds (id INTEGER PRIMARY KEY, part INTEGER NOT NULL, quantity INTEGER NOT NULL, state INTEGER NOT NULL, done INTEGER NOT NULL) STRICT",
+            TableName::Allocations =>
+                "CREATE TABLE allocations (id INTEGER PRIMARY KEY, item INTEGER NOT NULL, quantity INTEGER NOT NULL, side INTEGER NOT NULL, owner INTEGER NOT NULL, line INTEGER NOT NULL, output INTEGER NOT NULL) STRICT",
+            TableName::Kept =>
+                "CREATE TABLE kept (word TEXT PRIMARY KEY NOT NULL, command TEXT NOT NULL, answer TEXT NOT NULL) STRICT",
+        }
+    }
+}
