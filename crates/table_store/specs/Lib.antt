@@ -2,3 +2,4 @@ pub mod Schema
 pub mod Texts
 pub mod Transactions
 pub mod Making
+pub mod Values

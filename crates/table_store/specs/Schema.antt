@@ -57,7 +57,7 @@ number = column_of Integer true
 abbrev number_or_null : List ℕ → Column
 number_or_null = column_of Integer false
 
-abbrev text : List ℕ → Column
+abbrev pub text : List ℕ → Column
 text = column_of Text true
 
 abbrev text_or_null : List ℕ → Column

@@ -4,9 +4,11 @@
 mod create;
 mod fault;
 mod name;
+mod rows;
 mod transaction;
 
 pub use create::create_tables;
 pub use fault::{Failed, TableFault};
 pub use name::TableName;
+pub use rows::put_row;
 pub use transaction::{begin, commit, rollback};

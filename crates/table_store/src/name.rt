@@ -1,7 +1,7 @@
 //! The desk's tables, and the texts of their statements.
 ghost use Rattle.std.specs.Prelude.{◌≡◌, ◌<◌};
 ghost use Rattle.table_store.specs.Schema.{position, name_of};
-ghost use Rattle.table_store.specs.Texts.{create_text};
+ghost use Rattle.table_store.specs.Texts.{create_text, put_text};
 
 /// A table of the desk's file.
 #[derive(Clone, Copy, Debug, PartialEq, Eq)]
@@ -96,6 +96,39 @@ impl TableName {
                 "CREATE TABLE allocations (id INTEGER PRIMARY KEY, item INTEGER NOT NULL, quantity INTEGER NOT NULL, side INTEGER NOT NULL, owner INTEGER NOT NULL, line INTEGER NOT NULL, output INTEGER NOT NULL) STRICT",
             TableName::Kept =>
                 "CREATE TABLE kept (word TEXT PRIMARY KEY NOT NULL, command TEXT NOT NULL, answer TEXT NOT NULL) STRICT",
+        }
+    }
+
+    /// Puts a row.
+    pub(crate) fn put_text(self) -> &'static str
+        ensures { result.now ≡ put_text self }
+    {
+        match self {
+            TableName::Meta =>
+                "INSERT OR REPLACE INTO meta (one, version, next, entries, max_numbers, max_entries) VALUES (?1, ?2, ?3, ?4, ?5, ?6)",
+            TableName::Categories =>
+                "INSERT OR REPLACE INTO categories (id, name, parent) VALUES (?1, ?2, ?3)",
+            TableName::Locations =>
+                "INSERT OR REPLACE INTO locations (id, name, parent) VALUES (?1, ?2, ?3)",
+            TableName::Parts =>
+                "INSERT OR REPLACE INTO parts (id, name, category, template, flags, retired) VALUES (?1, ?2, ?3, ?4, ?5, ?6)",
+            TableName::Lines =>
+                "INSERT OR REPLACE INTO lines (id, assembly, component, quantity, flags) VALUES (?1, ?2, ?3, ?4, ?5)",
+            TableName::Substitutes =>
+                "INSERT OR REPLACE INTO substitutes (id, line, part) VALUES (?1, ?2, ?3)",
+            TableName::Items =>
+                "INSERT OR REPLACE INTO items (id, part, batch, serial, status, quantity, place, ref) VALUES (?1, ?2, ?3, ?4, ?5, ?6, ?7, ?8)",
+            TableName::History =>
+                "INSERT OR REPLACE INTO history (n, day, kind, item, part, quantity, place, ref) VALUES (?1, ?2, ?3, ?4, ?5, ?6, ?7, ?8)",
+            TableName::Orders =>
+                "INSERT OR REPLACE INTO orders (id, side, partner, state) VALUES (?1, ?2, ?3, ?4)",
+            TableName::OrderLines =>
+                "INSERT OR REPLACE INTO order_lines (id, owner, part, quantity, done) VALUES (?1, ?2, ?3, ?4, ?5)",
+            TableName::Builds =>
+                "INSERT OR REPLACE INTO builds (id, part, quantity, state, done) VALUES (?1, ?2, ?3, ?4, ?5)",
+            TableName::Allocations =>
+                "INSERT OR REPLACE INTO allocations (id, item, quantity, side, owner, line, output) VALUES (?1, ?2, ?3, ?4, ?5, ?6, ?7)",
+            TableName::Kept => "INSERT INTO kept (word, command, answer) VALUES (?1, ?2, ?3)",
         }
     }
 }

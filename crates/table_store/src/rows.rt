@@ -1,0 +1,31 @@
+//! The rows of the tables.
+ghost use Rattle.std.specs.Prelude.{◌≡◌, ◌⊎◌, OnOk, OnErr};
+ghost use Rattle.sqlite.specs.Held.{state};
+ghost use Rattle.sqlite.specs.State.{HasCleanDisk, IsUnchanged, IsRolledBack, Survives};
+ghost use Rattle.sqlite.specs.Values.{bound};
+ghost use Rattle.table_store.specs.Schema.{position};
+ghost use Rattle.table_store.specs.Values.{IsRow, with_row, IsInside, HasSet};
+
+use crate::fault::{Failed, TableFault};
+use crate::name::TableName;
+use sqlite::{Alter, Connection};
+use sqlite_value::value::ValueRef;
+
+/// Puts a row under its key, its first value. Where `kept` has the word the database refuses it, and
+/// nothing changes.
+pub fn put_row<S: Alter>(
+    conn: &mut Connection<S>,
+    table: TableName,
+    values: &[ValueRef<'_>],
+) -> Result<(), TableFault>
+    requires inside { HasCleanDisk (state S.Store conn.old) → IsInside (state S.Store conn.old) }
+    requires fits { IsRow table (bound values.now) }
+    ensures put { HasCleanDisk (state S.Store conn.new) → OnOk result (HasSet table (with_row table (bound values.now) ((state S.Store conn.old).now.trees (position table))) (state S.Store conn.old) (state S.Store conn.new)) }
+    ensures failed { HasCleanDisk (state S.Store conn.new) → OnErr result (IsUnchanged (state S.Store conn.old) (state S.Store conn.new) ⊎ IsRolledBack (state S.Store conn.old) (state S.Store conn.new)) }
+    ensures crash { Survives (state S.Store conn.old) (state S.Store conn.new) (λ _. ⊥) }
+{
+    match conn.execute(table.put_text(), values) {
+        Ok(_) => Ok(()),
+        Err(error) => Err(TableFault::Store(Failed::new(error))),
+    }
+}
