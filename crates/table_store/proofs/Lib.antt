@@ -6,3 +6,5 @@ pub mod Writing
 pub mod Casts
 pub mod Plans
 pub mod Putting
+pub mod Ordered
+pub mod Loading

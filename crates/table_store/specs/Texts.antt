@@ -32,3 +32,18 @@ put_text OrderLines = codes "INSERT OR REPLACE INTO order_lines (id, owner, part
 put_text Builds = codes "INSERT OR REPLACE INTO builds (id, part, quantity, state, done) VALUES (?1, ?2, ?3, ?4, ?5)"
 put_text Allocations = codes "INSERT OR REPLACE INTO allocations (id, item, quantity, side, owner, line, output) VALUES (?1, ?2, ?3, ?4, ?5, ?6, ?7)"
 put_text Kept = codes "INSERT INTO kept (word, command, answer) VALUES (?1, ?2, ?3)"
+
+abbrev pub load_text : TableName → List ℕ
+load_text Meta = codes "SELECT one, version, next, entries, max_numbers, max_entries FROM meta ORDER BY one"
+load_text Categories = codes "SELECT id, name, parent FROM categories ORDER BY id"
+load_text Locations = codes "SELECT id, name, parent FROM locations ORDER BY id"
+load_text Parts = codes "SELECT id, name, category, template, flags, retired FROM parts ORDER BY id"
+load_text Lines = codes "SELECT id, assembly, component, quantity, flags FROM lines ORDER BY id"
+load_text Substitutes = codes "SELECT id, line, part FROM substitutes ORDER BY id"
+load_text Items = codes "SELECT id, part, batch, serial, status, quantity, place, ref FROM items ORDER BY id"
+load_text History = codes "SELECT n, day, kind, item, part, quantity, place, ref FROM history ORDER BY n"
+load_text Orders = codes "SELECT id, side, partner, state FROM orders ORDER BY id"
+load_text OrderLines = codes "SELECT id, owner, part, quantity, done FROM order_lines ORDER BY id"
+load_text Builds = codes "SELECT id, part, quantity, state, done FROM builds ORDER BY id"
+load_text Allocations = codes "SELECT id, item, quantity, side, owner, line, output FROM allocations ORDER BY id"
+load_text Kept = codes "SELECT word, command, answer FROM kept ORDER BY word"

@@ -1,7 +1,7 @@
 //! The desk's tables, and the texts of their statements.
 ghost use Rattle.std.specs.Prelude.{◌≡◌, ◌<◌};
 ghost use Rattle.table_store.specs.Schema.{position, name_of};
-ghost use Rattle.table_store.specs.Texts.{create_text, put_text};
+ghost use Rattle.table_store.specs.Texts.{create_text, put_text, load_text};
 
 /// A table of the desk's file.
 #[derive(Clone, Copy, Debug, PartialEq, Eq)]
@@ -129,6 +129,34 @@ impl TableName {
             TableName::Allocations =>
                 "INSERT OR REPLACE INTO allocations (id, item, quantity, side, owner, line, output) VALUES (?1, ?2, ?3, ?4, ?5, ?6, ?7)",
             TableName::Kept => "INSERT INTO kept (word, command, answer) VALUES (?1, ?2, ?3)",
+        }
+    }
+
+    /// All rows, in the order of the key.
+    pub(crate) fn load_text(self) -> &'static str
+        ensures { result.now ≡ load_text self }
+    {
+        match self {
+            TableName::Meta =>
+                "SELECT one, version, next, entries, max_numbers, max_entries FROM meta ORDER BY one",
+            TableName::Categories => "SELECT id, name, parent FROM categories ORDER BY id",
+            TableName::Locations => "SELECT id, name, parent FROM locations ORDER BY id",
+            TableName::Parts =>
+                "SELECT id, name, category, template, flags, retired FROM parts ORDER BY id",
+            TableName::Lines =>
+                "SELECT id, assembly, component, quantity, flags FROM lines ORDER BY id",
+            TableName::Substitutes => "SELECT id, line, part FROM substitutes ORDER BY id",
+            TableName::Items =>
+                "SELECT id, part, batch, serial, status, quantity, place, ref FROM items ORDER BY id",
+            TableName::History =>
+                "SELECT n, day, kind, item, part, quantity, place, ref FROM history ORDER BY n",
+            TableName::Orders => "SELECT id, side, partner, state FROM orders ORDER BY id",
+            TableName::OrderLines =>
+                "SELECT id, owner, part, quantity, done FROM order_lines ORDER BY id",
+            TableName::Builds => "SELECT id, part, quantity, state, done FROM builds ORDER BY id",
+            TableName::Allocations =>
+                "SELECT id, item, quantity, side, owner, line, output FROM allocations ORDER BY id",
+            TableName::Kept => "SELECT word, command, answer FROM kept ORDER BY word",
         }
     }
 }

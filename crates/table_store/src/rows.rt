@@ -1,14 +1,14 @@
 //! The rows of the tables.
-ghost use Rattle.std.specs.Prelude.{◌≡◌, ◌⊎◌, OnOk, OnErr};
+ghost use Rattle.std.specs.Prelude.{◌≡◌, ◌⊎◌, IfOk, OnOk, OnErr};
 ghost use Rattle.sqlite.specs.Held.{state};
 ghost use Rattle.sqlite.specs.State.{HasCleanDisk, IsUnchanged, IsRolledBack, Survives};
 ghost use Rattle.sqlite.specs.Values.{bound};
 ghost use Rattle.table_store.specs.Schema.{position};
-ghost use Rattle.table_store.specs.Values.{IsRow, with_row, IsInside, HasSet};
+ghost use Rattle.table_store.specs.Values.{IsRow, with_row, HasTables, IsInside, IsLoaded, HasSet};
 
 use crate::fault::{Failed, TableFault};
 use crate::name::TableName;
-use sqlite::{Alter, Connection};
+use sqlite::{Alter, Connection, Row};
 use sqlite_value::value::ValueRef;
 
 /// Puts a row under its key, its first value. Where `kept` has the word the database refuses it, and
@@ -26,6 +26,22 @@ pub fn put_row<S: Alter>(
 {
     match conn.execute(table.put_text(), values) {
         Ok(_) => Ok(()),
+        Err(error) => Err(TableFault::Store(Failed::new(error))),
+    }
+}
+
+/// All rows of a table, the key first, in the order of the key: the words of `kept` by their bytes.
+pub fn load_rows<S: Alter>(
+    conn: &mut Connection<S>,
+    table: TableName,
+) -> Result<Vec<Row>, TableFault>
+    requires { HasCleanDisk (state S.Store conn.old) → HasTables (state S.Store conn.old) }
+    ensures loaded { HasCleanDisk (state S.Store conn.new) → IfOk result (λ rows. IsLoaded table ((state S.Store conn.old).now.trees (position table)) rows.items) }
+    ensures same { HasCleanDisk (state S.Store conn.new) → OnOk result (IsUnchanged (state S.Store conn.old) (state S.Store conn.new)) }
+    ensures crash { Survives (state S.Store conn.old) (state S.Store conn.new) (λ _. ⊥) }
+{
+    match conn.query_all(table.load_text(), &[]) {
+        Ok(rows) => Ok(rows),
         Err(error) => Err(TableFault::Store(Failed::new(error))),
     }
 }
