@@ -19,6 +19,11 @@ use Rattle.sqlite_tied.specs.Compute.{everything}
 use Rattle.std.specs.Prelude.{MatchBool, if◌then◌else◌}
 use Rattle.sqlite.proofs.StateLemmas.{survives_weaker}
 use Rattle.table_store.specs.Transactions.{IsBack}
+use Rattle.sqlite.specs.Effect.{Database}
+use Rattle.sqlite_trees.specs.View.{IsShaped}
+use Rattle.sqlite_trees.specs.declared.store.Shape.TheVariants.{Table}
+use Rattle.table_store.specs.Schema.{position}
+use Rattle.table_store.specs.Values.{HasTables}
 use Rattle.sqlite.specs.declared.error.Error.TheVariants.{ExecuteReturnedResults}
 use Rattle.sqlite.proofs.Callers.{IsPlain, command_of, statement_of, runs_as}
 
@@ -226,3 +231,9 @@ keeps_commit_then a b c p q = record { was_open = λ up. p.was_open (q.was_open 
 
 pub is_back : (old new : State) → IsRolledBack old new → IsBack old new
 is_back old new back = record { was_open = back.was_open; undone = back.undone; autocommit = back.autocommit }
+
+pub same_tables : (old new : State) → new.now ≡ old.now → HasTables old → HasTables new
+same_tables old new same has = record {
+  schema = ap (λ (d : Database). d.schema) same ∙ has.schema;
+  shaped = λ table. subst (λ (d : Database). IsShaped Table (d.trees (position table))) (sym same) (has.shaped table);
+}

@@ -8,3 +8,5 @@ pub mod Plans
 pub mod Putting
 pub mod Ordered
 pub mod Loading
+pub mod Deleting
+pub mod Dropping

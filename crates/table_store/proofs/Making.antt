@@ -17,6 +17,9 @@ use Rattle.table_store.specs.declared.name.TableName.{TableName}
 use Rattle.table_store.specs.declared.name.TableName.TheVariants.{Meta, Categories, Locations, Parts, Lines, Substitutes, Items, History, Orders, OrderLines, Builds, Allocations, Kept}
 use Rattle.table_store.specs.Schema.{position, table_of, schema_up_to, desk_schema}
 use Rattle.table_store.specs.Texts.{create_text}
+use Rattle.sqlite_trees.specs.View.{IsShaped}
+use Rattle.sqlite_trees.specs.declared.store.Shape.TheVariants.{Table as Rows}
+use Rattle.table_store.specs.Values.{IsInside}
 use Rattle.table_store.specs.Making.{HasMade, IsFresh}
 use Rattle.table_store.proofs.Inside.{Ends, inside_only, shows_inside}
 use Rattle.table_store.proofs.Parts.{went, same_value}
@@ -118,3 +121,6 @@ all_made s has = record { schema = has.schema; empty = λ table. each table (sub
     each Builds h = h.1.1.1.1.1.1.1.1.1.1.0
     each Allocations h = h.1.1.1.1.1.1.1.1.1.1.1.0
     each Kept h = h.1.1.1.1.1.1.1.1.1.1.1.1.0
+
+pub made_inside : (s : State) → HasMade 13 s → IsInside s
+made_inside s has = (record { schema = has.schema; shaped = λ table. subst (IsShaped Rows) (sym ((all_made s has).empty table)) (tt, tt) }, has.inside)

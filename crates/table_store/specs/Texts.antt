@@ -1,5 +1,5 @@
 -- The texts of the statements.
-use Rattle.std.specs.Prelude.{codes, ℕ, List}
+use Rattle.std.specs.Prelude.{codes, ℕ, List, []}
 use Rattle.table_store.specs.declared.name.TableName.{TableName}
 use Rattle.table_store.specs.declared.name.TableName.TheVariants.{Meta, Categories, Locations, Parts, Lines, Substitutes, Items, History, Orders, OrderLines, Builds, Allocations, Kept}
 
@@ -47,3 +47,10 @@ load_text OrderLines = codes "SELECT id, owner, part, quantity, done FROM order_
 load_text Builds = codes "SELECT id, part, quantity, state, done FROM builds ORDER BY id"
 load_text Allocations = codes "SELECT id, item, quantity, side, owner, line, output FROM allocations ORDER BY id"
 load_text Kept = codes "SELECT word, command, answer FROM kept ORDER BY word"
+
+-- of the tables whose rows are dropped
+abbrev pub drop_text : TableName → List ℕ
+drop_text Lines = codes "DELETE FROM lines WHERE id = ?1"
+drop_text Substitutes = codes "DELETE FROM substitutes WHERE id = ?1"
+drop_text Allocations = codes "DELETE FROM allocations WHERE id = ?1"
+drop_text _ = []

@@ -53,6 +53,13 @@ pub record HasTables (s : State) : Type 0 where
 abbrev pub IsInside : State → Type 0
 IsInside s = HasTables s × IsTrue s.in_transaction
 
+-- lines, their substitutes and allocations go; all else that was written stays
+abbrev pub AreDropped : TableName → Type 0
+AreDropped Lines = ⊤
+AreDropped Substitutes = ⊤
+AreDropped Allocations = ⊤
+AreDropped _ = ⊥
+
 -- where the database has the columns of a row: first the key, which a table under a whole number has as the row's own number
 abbrev pub places : TableName → List ℕ
 places Meta = 0 ∷ 2 ∷ 3 ∷ 4 ∷ 5 ∷ 6 ∷ []

@@ -3,6 +3,7 @@ ghost use Rattle.std.specs.Prelude.{◌≡◌, ◌+◌, OnOk, IsTrue};
 ghost use Rattle.sqlite.specs.Held.{state};
 ghost use Rattle.sqlite.specs.State.{HasCleanDisk, Survives, KeepsCommit};
 ghost use Rattle.table_store.specs.Schema.{position, schema_up_to};
+ghost use Rattle.table_store.specs.Values.{IsInside};
 ghost use Rattle.table_store.specs.Making.{HasMade, IsFresh};
 
 use crate::fault::{Failed, TableFault};
@@ -28,7 +29,7 @@ pub fn create_tables<S: Alter>(conn: &mut Connection<S>) -> Result<(), TableFaul
     requires bare { HasCleanDisk (state S.Store conn.old) → (state S.Store conn.old).now.schema ≡ schema_up_to 0 }
     requires inside { HasCleanDisk (state S.Store conn.old) → IsTrue (state S.Store conn.old).in_transaction }
     ensures made { HasCleanDisk (state S.Store conn.new) → OnOk result (IsFresh (state S.Store conn.new)) }
-    ensures inside { HasCleanDisk (state S.Store conn.new) → OnOk result (IsTrue (state S.Store conn.new).in_transaction) }
+    ensures inside { HasCleanDisk (state S.Store conn.new) → OnOk result (IsInside (state S.Store conn.new)) }
     ensures kept { HasCleanDisk (state S.Store conn.new) → KeepsCommit (state S.Store conn.old) (state S.Store conn.new) }
     ensures crash { Survives (state S.Store conn.old) (state S.Store conn.new) (λ _. ⊥) }
 {

@@ -10,5 +10,5 @@ mod transaction;
 pub use create::create_tables;
 pub use fault::{Failed, TableFault};
 pub use name::TableName;
-pub use rows::{load_rows, put_row};
+pub use rows::{drop_row, load_rows, put_row};
 pub use transaction::{begin, commit, rollback};

@@ -1,7 +1,8 @@
 //! The desk's tables, and the texts of their statements.
 ghost use Rattle.std.specs.Prelude.{◌≡◌, ◌<◌};
 ghost use Rattle.table_store.specs.Schema.{position, name_of};
-ghost use Rattle.table_store.specs.Texts.{create_text, put_text, load_text};
+ghost use Rattle.table_store.specs.Values.{AreDropped};
+ghost use Rattle.table_store.specs.Texts.{create_text, put_text, load_text, drop_text};
 
 /// A table of the desk's file.
 #[derive(Clone, Copy, Debug, PartialEq, Eq)]
@@ -157,6 +158,18 @@ impl TableName {
             TableName::Allocations =>
                 "SELECT id, item, quantity, side, owner, line, output FROM allocations ORDER BY id",
             TableName::Kept => "SELECT word, command, answer FROM kept ORDER BY word",
+        }
+    }
+
+    /// Drops the row of a key, where the table is one whose rows are dropped.
+    pub(crate) fn drop_text(self) -> &'static str
+        requires { AreDropped self }
+        ensures { result.now ≡ drop_text self }
+    {
+        match self {
+            TableName::Lines => "DELETE FROM lines WHERE id = ?1",
+            TableName::Substitutes => "DELETE FROM substitutes WHERE id = ?1",
+            _ => "DELETE FROM allocations WHERE id = ?1",
         }
     }
 }

@@ -2,9 +2,10 @@
 ghost use Rattle.std.specs.Prelude.{◌≡◌, ◌⊎◌, IfOk, OnOk, OnErr};
 ghost use Rattle.sqlite.specs.Held.{state};
 ghost use Rattle.sqlite.specs.State.{HasCleanDisk, IsUnchanged, IsRolledBack, Survives};
+ghost use Rattle.sqlite.specs.Tree.{without_rowid};
 ghost use Rattle.sqlite.specs.Values.{bound};
 ghost use Rattle.table_store.specs.Schema.{position};
-ghost use Rattle.table_store.specs.Values.{IsRow, with_row, HasTables, IsInside, IsLoaded, HasSet};
+ghost use Rattle.table_store.specs.Values.{IsRow, AreDropped, with_row, HasTables, IsInside, IsLoaded, HasSet};
 
 use crate::fault::{Failed, TableFault};
 use crate::name::TableName;
@@ -25,6 +26,24 @@ pub fn put_row<S: Alter>(
     ensures crash { Survives (state S.Store conn.old) (state S.Store conn.new) (λ _. ⊥) }
 {
     match conn.execute(table.put_text(), values) {
+        Ok(_) => Ok(()),
+        Err(error) => Err(TableFault::Store(Failed::new(error))),
+    }
+}
+
+/// Drops the row of a key, if it is there.
+pub fn drop_row<S: Alter>(
+    conn: &mut Connection<S>,
+    table: TableName,
+    key: i64,
+) -> Result<(), TableFault>
+    requires inside { HasCleanDisk (state S.Store conn.old) → IsInside (state S.Store conn.old) }
+    requires dropped { AreDropped table }
+    ensures gone { HasCleanDisk (state S.Store conn.new) → OnOk result (HasSet table (without_rowid key ((state S.Store conn.old).now.trees (position table))) (state S.Store conn.old) (state S.Store conn.new)) }
+    ensures failed { HasCleanDisk (state S.Store conn.new) → OnErr result (IsUnchanged (state S.Store conn.old) (state S.Store conn.new) ⊎ IsRolledBack (state S.Store conn.old) (state S.Store conn.new)) }
+    ensures crash { Survives (state S.Store conn.old) (state S.Store conn.new) (λ _. ⊥) }
+{
+    match conn.execute(table.drop_text(), &[ValueRef::Int(key)]) {
         Ok(_) => Ok(()),
         Err(error) => Err(TableFault::Store(Failed::new(error))),
     }

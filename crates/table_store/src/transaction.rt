@@ -2,6 +2,7 @@
 ghost use Rattle.std.specs.Prelude.{◌≡◌, false, true, IfErr, OnOk, IsTrue};
 ghost use Rattle.sqlite.specs.Held.{state};
 ghost use Rattle.sqlite.specs.State.{HasCleanDisk, Survives, Shows, IsRolledBack};
+ghost use Rattle.table_store.specs.Values.{HasTables};
 ghost use Rattle.table_store.specs.Transactions.{Stops, IsBack};
 
 use crate::fault::{Failed, TableFault};
@@ -11,6 +12,7 @@ use sqlite::{Alter, Connection};
 pub fn begin<S: Alter>(conn: &mut Connection<S>) -> Result<(), TableFault>
     requires { HasCleanDisk (state S.Store conn.old) → (state S.Store conn.old).in_transaction ≡ false }
     ensures begun { HasCleanDisk (state S.Store conn.new) → OnOk result (Shows (state S.Store conn.old) (state S.Store conn.new) (state S.Store conn.old).now (state S.Store conn.old).committed true) }
+    ensures tables { HasCleanDisk (state S.Store conn.new) → HasTables (state S.Store conn.old) → OnOk result (HasTables (state S.Store conn.new)) }
     ensures stopped { HasCleanDisk (state S.Store conn.new) → IfErr result (Stops (state S.Store conn.old) (state S.Store conn.new)) }
     ensures crash { Survives (state S.Store conn.old) (state S.Store conn.new) (λ _. ⊥) }
 {
@@ -25,6 +27,7 @@ pub fn begin<S: Alter>(conn: &mut Connection<S>) -> Result<(), TableFault>
 pub fn commit<S: Alter>(conn: &mut Connection<S>) -> Result<(), TableFault>
     requires { HasCleanDisk (state S.Store conn.old) → IsTrue (state S.Store conn.old).in_transaction }
     ensures committed { HasCleanDisk (state S.Store conn.new) → OnOk result (Shows (state S.Store conn.old) (state S.Store conn.new) (state S.Store conn.old).now (state S.Store conn.old).now false) }
+    ensures tables { HasCleanDisk (state S.Store conn.new) → HasTables (state S.Store conn.old) → OnOk result (HasTables (state S.Store conn.new)) }
     ensures stopped { HasCleanDisk (state S.Store conn.new) → IfErr result (Stops (state S.Store conn.old) (state S.Store conn.new)) }
     ensures crash { Survives (state S.Store conn.old) (state S.Store conn.new) (λ trees. trees ≡ (state S.Store conn.old).now.trees) }
 {
