@@ -12,17 +12,23 @@ use crate::name::TableName;
 use sqlite::{Alter, Connection, Row};
 use sqlite_value::value::ValueRef;
 
-/// Puts a row under its key, its first value. Where `kept` has the word the database refuses it, and
-/// nothing changes.
+/// Puts a row under its key, its first value. After a fault, as where `kept` has the word, either
+/// nothing has changed or the transaction is undone.
 pub fn put_row<S: Alter>(
     conn: &mut Connection<S>,
     table: TableName,
     values: &[ValueRef<'_>],
 ) -> Result<(), TableFault>
-    requires inside { HasCleanDisk (state S.Store conn.old) → IsInside (state S.Store conn.old) }
+    requires inside { HasCleanDisk (state S.Store conn.old)
+        → IsInside (state S.Store conn.old) }
     requires fits { IsRow table (bound values.now) }
-    ensures put { HasCleanDisk (state S.Store conn.new) → OnOk result (HasSet table (with_row table (bound values.now) ((state S.Store conn.old).now.trees (position table))) (state S.Store conn.old) (state S.Store conn.new)) }
-    ensures failed { HasCleanDisk (state S.Store conn.new) → OnErr result (IsUnchanged (state S.Store conn.old) (state S.Store conn.new) ⊎ IsRolledBack (state S.Store conn.old) (state S.Store conn.new)) }
+    ensures put { HasCleanDisk (state S.Store conn.new)
+        → OnOk result (HasSet table
+        (with_row table (bound values.now) ((state S.Store conn.old).now.trees (position table)))
+        (state S.Store conn.old) (state S.Store conn.new)) }
+    ensures failed { HasCleanDisk (state S.Store conn.new)
+        → OnErr result (IsUnchanged (state S.Store conn.old) (state S.Store conn.new)
+        ⊎ IsRolledBack (state S.Store conn.old) (state S.Store conn.new)) }
     ensures crash { Survives (state S.Store conn.old) (state S.Store conn.new) (λ _. ⊥) }
 {
     match conn.execute(table.put_text(), values) {
@@ -37,10 +43,16 @@ pub fn drop_row<S: Alter>(
     table: TableName,
     key: i64,
 ) -> Result<(), TableFault>
-    requires inside { HasCleanDisk (state S.Store conn.old) → IsInside (state S.Store conn.old) }
+    requires inside { HasCleanDisk (state S.Store conn.old)
+        → IsInside (state S.Store conn.old) }
     requires dropped { AreDropped table }
-    ensures gone { HasCleanDisk (state S.Store conn.new) → OnOk result (HasSet table (without_rowid key ((state S.Store conn.old).now.trees (position table))) (state S.Store conn.old) (state S.Store conn.new)) }
-    ensures failed { HasCleanDisk (state S.Store conn.new) → OnErr result (IsUnchanged (state S.Store conn.old) (state S.Store conn.new) ⊎ IsRolledBack (state S.Store conn.old) (state S.Store conn.new)) }
+    ensures gone { HasCleanDisk (state S.Store conn.new)
+        → OnOk result (HasSet table
+        (without_rowid key ((state S.Store conn.old).now.trees (position table)))
+        (state S.Store conn.old) (state S.Store conn.new)) }
+    ensures failed { HasCleanDisk (state S.Store conn.new)
+        → OnErr result (IsUnchanged (state S.Store conn.old) (state S.Store conn.new)
+        ⊎ IsRolledBack (state S.Store conn.old) (state S.Store conn.new)) }
     ensures crash { Survives (state S.Store conn.old) (state S.Store conn.new) (λ _. ⊥) }
 {
     match conn.execute(table.drop_text(), &[ValueRef::Int(key)]) {
@@ -55,8 +67,11 @@ pub fn load_rows<S: Alter>(
     table: TableName,
 ) -> Result<Vec<Row>, TableFault>
     requires { HasCleanDisk (state S.Store conn.old) → HasTables (state S.Store conn.old) }
-    ensures loaded { HasCleanDisk (state S.Store conn.new) → IfOk result (λ rows. IsLoaded table ((state S.Store conn.old).now.trees (position table)) rows.items) }
-    ensures same { HasCleanDisk (state S.Store conn.new) → OnOk result (IsUnchanged (state S.Store conn.old) (state S.Store conn.new)) }
+    ensures loaded { HasCleanDisk (state S.Store conn.new)
+        → IfOk result (λ rows.
+        IsLoaded table ((state S.Store conn.old).now.trees (position table)) rows.items) }
+    ensures same { HasCleanDisk (state S.Store conn.new)
+        → OnOk result (IsUnchanged (state S.Store conn.old) (state S.Store conn.new)) }
     ensures crash { Survives (state S.Store conn.old) (state S.Store conn.new) (λ _. ⊥) }
 {
     match conn.query_all(table.load_text(), &[]) {
