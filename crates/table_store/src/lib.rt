@@ -12,3 +12,6 @@ pub use fault::{Failed, TableFault};
 pub use name::TableName;
 pub use rows::{drop_row, load_rows, put_row};
 pub use transaction::{begin, commit, rollback};
+
+#[cfg(test)]
+mod tests;
