@@ -1,0 +1,12 @@
+pub mod Inside
+pub mod Parts
+pub mod Making
+pub mod Replacing
+pub mod Writing
+pub mod Casts
+pub mod Plans
+pub mod Putting
+pub mod Ordered
+pub mod Loading
+pub mod Deleting
+pub mod Dropping

@@ -1,0 +1,5 @@
+pub mod Schema
+pub mod Texts
+pub mod Transactions
+pub mod Making
+pub mod Values

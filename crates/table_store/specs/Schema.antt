@@ -1,0 +1,125 @@
+-- The desk's tables, as the database describes them.
+use Rattle.std.specs.Prelude.{true, false, nat_lt, if◌then◌else◌, take, map, codes, ℕ, Bool, List, [], ◌∷◌, Some, None}
+use Rattle.sqlite_value.specs.Keys.{plain}
+use Rattle.sqlite.specs.declared.types.Value.TheVariants.{Null}
+use Rattle.sqlite.specs.Collation.TheVariants.{Binary}
+use Rattle.sqlite.specs.Kind.{Kind}
+use Rattle.sqlite.specs.Kind.TheVariants.{Integer, Text}
+use Rattle.sqlite.specs.Table.{Table}
+use Rattle.sqlite.specs.Schema.{Schema}
+use Rattle.sqlite_schema.specs.declared.schema.Column.{Column}
+use Rattle.sqlite_schema.specs.declared.schema.Index.{Index}
+use Rattle.table_store.specs.declared.name.TableName.{TableName}
+use Rattle.table_store.specs.declared.name.TableName.TheVariants.{Meta, Categories, Locations, Parts, Lines, Substitutes, Items, History, Orders, OrderLines, Builds, Allocations, Kept}
+
+-- the place of a table among the thirteen, which is also its tree's number
+abbrev pub position : TableName → ℕ
+position Meta = 0
+position Categories = 1
+position Locations = 2
+position Parts = 3
+position Lines = 4
+position Substitutes = 5
+position Items = 6
+position History = 7
+position Orders = 8
+position OrderLines = 9
+position Builds = 10
+position Allocations = 11
+position Kept = 12
+
+abbrev pub name_of : TableName → List ℕ
+name_of Meta = codes "meta"
+name_of Categories = codes "categories"
+name_of Locations = codes "locations"
+name_of Parts = codes "parts"
+name_of Lines = codes "lines"
+name_of Substitutes = codes "substitutes"
+name_of Items = codes "items"
+name_of History = codes "history"
+name_of Orders = codes "orders"
+name_of OrderLines = codes "order_lines"
+name_of Builds = codes "builds"
+name_of Allocations = codes "allocations"
+name_of Kept = codes "kept"
+
+-- a column of a STRICT table, without a default
+abbrev column_of : Kind → Bool → List ℕ → Column
+column_of kind not_null name = record { name = name; kind = kind; is_strict = true; not_null = not_null; default = Null; collation = Binary }
+
+-- the whole number that is the primary key, which is never NULL though the column doesn't say so
+abbrev key : List ℕ → Column
+key = column_of Integer false
+
+abbrev number : List ℕ → Column
+number = column_of Integer true
+
+abbrev number_or_null : List ℕ → Column
+number_or_null = column_of Integer false
+
+abbrev pub text : List ℕ → Column
+text = column_of Text true
+
+abbrev text_or_null : List ℕ → Column
+text_or_null = column_of Text false
+
+abbrev pub columns_of : TableName → List Column
+columns_of Meta = key (codes "one") ∷ number (codes "version") ∷ number (codes "next") ∷ number (codes "entries") ∷ number (codes "max_numbers") ∷ number (codes "max_entries") ∷ []
+columns_of Categories = key (codes "id") ∷ text (codes "name") ∷ number_or_null (codes "parent") ∷ []
+columns_of Locations = key (codes "id") ∷ text (codes "name") ∷ number_or_null (codes "parent") ∷ []
+columns_of Parts = key (codes "id") ∷ text (codes "name") ∷ number_or_null (codes "category") ∷ number_or_null (codes "template") ∷ number (codes "flags") ∷ number (codes "retired") ∷ []
+columns_of Lines = key (codes "id") ∷ number (codes "assembly") ∷ number (codes "component") ∷ number (codes "quantity") ∷ number (codes "flags") ∷ []
+columns_of Substitutes = key (codes "id") ∷ number (codes "line") ∷ number (codes "part") ∷ []
+columns_of Items = key (codes "id") ∷ number (codes "part") ∷ text_or_null (codes "batch") ∷ text_or_null (codes "serial") ∷ number (codes "status") ∷ number (codes "quantity") ∷ number (codes "place") ∷ number (codes "ref") ∷ []
+columns_of History = key (codes "n") ∷ text (codes "day") ∷ number (codes "kind") ∷ number (codes "item") ∷ number (codes "part") ∷ number (codes "quantity") ∷ number (codes "place") ∷ number (codes "ref") ∷ []
+columns_of Orders = key (codes "id") ∷ number (codes "side") ∷ text (codes "partner") ∷ number (codes "state") ∷ []
+columns_of OrderLines = key (codes "id") ∷ number (codes "owner") ∷ number (codes "part") ∷ number (codes "quantity") ∷ number (codes "done") ∷ []
+columns_of Builds = key (codes "id") ∷ number (codes "part") ∷ number (codes "quantity") ∷ number (codes "state") ∷ number (codes "done") ∷ []
+columns_of Allocations = key (codes "id") ∷ number (codes "item") ∷ number (codes "quantity") ∷ number (codes "side") ∷ number (codes "owner") ∷ number (codes "line") ∷ number (codes "output") ∷ []
+columns_of Kept = text (codes "word") ∷ text (codes "command") ∷ text (codes "answer") ∷ []
+
+-- a STRICT table whose first column is its INTEGER PRIMARY KEY
+abbrev keyed : List ℕ → ℕ → List Column → Table
+keyed name tree columns = record {
+  name = name;
+  tree = tree;
+  columns = columns;
+  key = Some 0;
+  primary = 0 ∷ [];
+  uniques = [];
+  orders = [];
+  checks = [];
+  references = [];
+  computed = [];
+  stamps = record { places = []; terms = []; formats = [] };
+  is_counted = false;
+}
+
+abbrev pub table_of : TableName → Table
+table_of Kept = record (keyed (name_of Kept) (position Kept) (columns_of Kept)) { key = None; primary = 1 ∷ []; uniques = (1 ∷ []) ∷ []; orders = plain ∷ [] }
+table_of Meta = keyed (name_of Meta) (position Meta) (columns_of Meta)
+table_of Categories = keyed (name_of Categories) (position Categories) (columns_of Categories)
+table_of Locations = keyed (name_of Locations) (position Locations) (columns_of Locations)
+table_of Parts = keyed (name_of Parts) (position Parts) (columns_of Parts)
+table_of Lines = keyed (name_of Lines) (position Lines) (columns_of Lines)
+table_of Substitutes = keyed (name_of Substitutes) (position Substitutes) (columns_of Substitutes)
+table_of Items = keyed (name_of Items) (position Items) (columns_of Items)
+table_of History = keyed (name_of History) (position History) (columns_of History)
+table_of Orders = keyed (name_of Orders) (position Orders) (columns_of Orders)
+table_of OrderLines = keyed (name_of OrderLines) (position OrderLines) (columns_of OrderLines)
+table_of Builds = keyed (name_of Builds) (position Builds) (columns_of Builds)
+table_of Allocations = keyed (name_of Allocations) (position Allocations) (columns_of Allocations)
+
+-- the index that the database makes for the words of `kept`
+abbrev kept_index : Index
+kept_index = record { name = codes "sqlite_autoindex_kept_1"; tree = 13; table = 12; columns = 1 ∷ []; order = plain; is_unique = true }
+
+abbrev pub all_names : List TableName
+all_names = Meta ∷ Categories ∷ Locations ∷ Parts ∷ Lines ∷ Substitutes ∷ Items ∷ History ∷ Orders ∷ OrderLines ∷ Builds ∷ Allocations ∷ Kept ∷ []
+
+-- the schema once so many of the tables are made, in their order
+abbrev pub schema_up_to : ℕ → Schema
+schema_up_to count = record { tables = map table_of (take count all_names); indexes = if nat_lt 12 count then kept_index ∷ [] else []; views = [] }
+
+abbrev pub desk_schema : Schema
+desk_schema = schema_up_to 13

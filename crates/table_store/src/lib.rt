@@ -1,0 +1,17 @@
+//! The tables of the desk's file: they are made, and changed within transactions.
+#![tactic(auto)]
+
+mod create;
+mod fault;
+mod name;
+mod rows;
+mod transaction;
+
+pub use create::create_tables;
+pub use fault::{Failed, TableFault};
+pub use name::TableName;
+pub use rows::{drop_row, load_rows, put_row};
+pub use transaction::{begin, commit, rollback};
+
+#[cfg(test)]
+mod tests;
