@@ -226,9 +226,6 @@ pub keeps_commit : (old new : State) → IsUnchanged old new ⊎ IsRolledBack ol
 keeps_commit old new (inl same) = record { was_open = λ _. same.0.was_open; committed = λ _. same.0.committed_is }
 keeps_commit old new (inr back) = record { was_open = back.was_open; committed = λ up. (back.undone up).1 }
 
-pub keeps_commit_then : (a b c : State) → KeepsCommit a b → KeepsCommit b c → KeepsCommit a c
-keeps_commit_then a b c p q = record { was_open = λ up. p.was_open (q.was_open up); committed = λ up. q.committed up ∙ p.committed (q.was_open up) }
-
 pub is_back : (old new : State) → IsRolledBack old new → IsBack old new
 is_back old new back = record { was_open = back.was_open; undone = back.undone; autocommit = back.autocommit }
 

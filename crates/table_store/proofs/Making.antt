@@ -1,5 +1,5 @@
 -- What CREATE TABLE makes of the tables before it.
-use Rattle.std.proofs.Common.{◌≡◌, ℕ, ◌+◌, List, [], ◌∷◌, ◌++◌, false, None, Ok, Result, IsTrue, inl, inr, refl, sym, ap, subst, ◌∙◌}
+use Rattle.std.proofs.Common.{◌≡◌, ℕ, ◌+◌, List, [], ◌∷◌, ◌++◌, false, None, Ok, Result, inl, inr, refl, sym, ap, subst, ◌∙◌}
 use Rattle.std.specs.List.{AllByRecursion}
 use Rattle.sqlite.specs.Table.{Table}
 use Rattle.sqlite.specs.Schema.{Schema}
@@ -17,9 +17,6 @@ use Rattle.table_store.specs.declared.name.TableName.{TableName}
 use Rattle.table_store.specs.declared.name.TableName.TheVariants.{Meta, Categories, Locations, Parts, Lines, Substitutes, Items, History, Orders, OrderLines, Builds, Allocations, Kept}
 use Rattle.table_store.specs.Schema.{position, table_of, schema_up_to, desk_schema}
 use Rattle.table_store.specs.Texts.{create_text}
-use Rattle.sqlite_trees.specs.View.{IsShaped}
-use Rattle.sqlite_trees.specs.declared.store.Shape.TheVariants.{Table as Rows}
-use Rattle.table_store.specs.Values.{IsInside}
 use Rattle.table_store.specs.Making.{HasMade, IsFresh}
 use Rattle.table_store.proofs.Inside.{Ends, inside_only, shows_inside}
 use Rattle.table_store.proofs.Parts.{went, same_value}
@@ -101,9 +98,6 @@ creating_commits_nothing name old new has s =
     never (inl e) = cc
     never (inr e) = let is = e.1 in cc
 
-pub none_made : (s : State) → s.now.schema ≡ schema_up_to 0 → IsTrue s.in_transaction → HasMade 0 s
-none_made s bare inside = record { schema = bare; empty = subst (λ d. AllByRecursion (λ t. s.now.trees t.tree ≡ []) d.tables) (sym bare) tt; inside = inside }
-
 pub all_made : (s : State) → HasMade 13 s → IsFresh s
 all_made s has = record { schema = has.schema; empty = λ table. each table (subst (λ d. AllByRecursion (λ t. s.now.trees t.tree ≡ []) d.tables) has.schema has.empty) }
   where
@@ -121,6 +115,3 @@ all_made s has = record { schema = has.schema; empty = λ table. each table (sub
     each Builds h = h.1.1.1.1.1.1.1.1.1.1.0
     each Allocations h = h.1.1.1.1.1.1.1.1.1.1.1.0
     each Kept h = h.1.1.1.1.1.1.1.1.1.1.1.1.0
-
-pub made_inside : (s : State) → HasMade 13 s → IsInside s
-made_inside s has = (record { schema = has.schema; shaped = λ table. subst (IsShaped Rows) (sym ((all_made s has).empty table)) (tt, tt) }, has.inside)
