@@ -15,9 +15,9 @@ use Rattle.sqlite_tied.specs.Compute.{everything}
 use Rattle.sqlite.proofs.Callers.{IsPlain, command_of, statement_of, runs_as}
 use Rattle.table_store.specs.declared.name.TableName.{TableName}
 use Rattle.table_store.specs.declared.name.TableName.TheVariants.{Meta, Categories, Locations, Parts, Lines, Substitutes, Items, History, Orders, OrderLines, Builds, Allocations, Kept}
-use Rattle.table_store.specs.Schema.{position, table_of, schema_up_to, desk_schema}
+use Rattle.table_store.specs.Schema.{position, table_of, schema_up_to}
 use Rattle.table_store.specs.Texts.{create_text}
-use Rattle.table_store.specs.Making.{HasMade, IsFresh}
+use Rattle.table_store.specs.Making.{HasMade}
 use Rattle.table_store.proofs.Inside.{Ends, inside_only, shows_inside}
 use Rattle.table_store.proofs.Parts.{went, same_value}
 
@@ -97,21 +97,3 @@ creating_commits_nothing name old new has s =
     never : ¬ Ends CreateTable
     never (inl e) = cc
     never (inr e) = let is = e.1 in cc
-
-pub all_made : (s : State) → HasMade 13 s → IsFresh s
-all_made s has = record { schema = has.schema; empty = λ table. each table (subst (λ d. AllByRecursion (λ t. s.now.trees t.tree ≡ []) d.tables) has.schema has.empty) }
-  where
-    each : (table : TableName) → AllByRecursion (λ t. s.now.trees t.tree ≡ []) desk_schema.tables → s.now.trees (position table) ≡ []
-    each Meta h = h.0
-    each Categories h = h.1.0
-    each Locations h = h.1.1.0
-    each Parts h = h.1.1.1.0
-    each Lines h = h.1.1.1.1.0
-    each Substitutes h = h.1.1.1.1.1.0
-    each Items h = h.1.1.1.1.1.1.0
-    each History h = h.1.1.1.1.1.1.1.0
-    each Orders h = h.1.1.1.1.1.1.1.1.0
-    each OrderLines h = h.1.1.1.1.1.1.1.1.1.0
-    each Builds h = h.1.1.1.1.1.1.1.1.1.1.0
-    each Allocations h = h.1.1.1.1.1.1.1.1.1.1.1.0
-    each Kept h = h.1.1.1.1.1.1.1.1.1.1.1.1.0
