@@ -28,11 +28,9 @@ impl Catalogue {
     ) -> Result<Id, CoreFault>
         requires { kept_register self.old counter.old ≡ register_of self.old counter.old }
         ensures acts { let r = register_of self.old counter.old in
-            Acts (add_category_checks name.now parent r) (
-              add_category
-                  name.now parent r,
-              r.counter.next,
-            ) r result (register_of self.new counter.new) }
+            Acts (add_category_checks name.now parent r)
+            (add_category name.now parent r, r.counter.next)
+            r result (register_of self.new counter.new) }
         ensures kept { kept_register self.new counter.new ≡ kept_register self.old counter.old }
     {
         if self.is_category_missing(parent) {
