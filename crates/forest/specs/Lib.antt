@@ -1,4 +1,5 @@
 pub mod Forest
+pub mod ItemKeys
 pub mod Moves
 pub mod Rows
 pub mod Sound

@@ -1,0 +1,136 @@
+//! Rows that are found by what stands in them, besides by their number.
+ghost use Rattle.std.specs.Prelude.{◌≡◌, ◌∷◌, [], ℕ, Bool, List, slice_get, IfOk, OnOk, OnErr, map, filter};
+ghost use Rattle.std.specs.List.{list_any};
+ghost use Rattle.std.specs.FinMap as table;
+ghost use Rattle.part_core.specs.Indexed.{IsFiledUnder, IsOfNumber, index_key_of};
+ghost use Rattle.part_core.specs.Select.{IsTest};
+ghost use Rattle.part_core.specs.Sheet.{now_of};
+
+use crate::row::Row;
+use crate::sheet::Sheet;
+use std::alloc::{AllocError, Global};
+use std::hash::{BuildHasher, BuildHasherDefault, FoldHasher, Hash};
+use std::marker::Model;
+
+/// A row under a number that is looked up by what stands in it too: each of that is told by a number, its index key.
+pub trait Indexed: Row<Key = u64> {
+    /// The index keys of the row.
+    ghost index_keys: { Self → List ℕ };
+
+    /// The row's index key at that place, where there is one.
+    fn index_key(&self, place: usize) -> Option<u64>
+        ensures { result ≡ slice_get (index_keys self.now) place };
+
+    /// A number is a key of one digit.
+    ghost numbered: { (number : ℕ) → Self.digits number ≡ number ∷ [] };
+}
+
+/// The index key of what a row is looked up by: its hash. What differs has another key, but for rare accidents.
+pub fn index_key_of<L: Hash + Drop>(lookup: L) -> u64
+    ensures { result ≡ index_key_of (L.hash_input lookup) }
+{
+    let hasher: BuildHasherDefault<FoldHasher> = BuildHasherDefault::new();
+    hasher.hash_one(lookup)
+}
+
+/// A table in memory, as `Sheet`, with an index: the numbers of the rows that have an index key are found without a
+/// look at the other rows.
+#[derive(Drop)]
+pub struct IndexedSheet<R: Indexed> {
+    sheet: Sheet<R>,
+}
+
+impl<R: Indexed> Model for IndexedSheet<R> {
+    ghost use Rattle.part_core.specs.Sheet.{Rows, rows_code};
+
+    ghost Value = { Rows R };
+
+    ghost coded = { rows_code R.code };
+
+    ghost view = { λ s. s.sheet };
+}
+
+impl<R: Indexed> IndexedSheet<R> {
+    /// A sheet with no rows, which takes no memory.
+    pub fn new(alloc: Global) -> Self
+        ensures rows { now_of result ≡ table.empty }
+        ensures kept { result.kept ≡ table.empty }
+    {
+        IndexedSheet {
+            sheet: Sheet::new(alloc),
+        }
+    }
+
+    /// The rows, as a sheet.
+    pub fn rows(&self) -> &Sheet<R>
+        ensures { result.now ≡ self.now }
+    {
+        &self.sheet
+    }
+
+    /// Whether a row passes the test, which none does that lacks the index key: a look at the rows that have it. It
+    /// takes no memory.
+    pub fn any_under<F: Fn(&R) -> bool>(&self, key: u64, test: F) -> bool
+        requires { F.IsAlwaysCallable test }
+        ensures { (p : R → Bool) → IsTest F.Fn test p → IsFiledUnder R.index_keys key p
+            → result ≡ list_any p (table.values (now_of self.now)) }
+    {
+        self.sheet.any(test)
+    }
+
+    /// Whether a row passes the test, which none does that has another number: one look-up, which takes no memory.
+    pub fn any_at<F: Fn(&R) -> bool>(&self, number: u64, test: F) -> bool
+        requires { F.IsAlwaysCallable test }
+        ensures { (p : R → Bool) → IsTest F.Fn test p → IsOfNumber R.key_of number p
+            → result ≡ list_any p (table.values (now_of self.now)) }
+    {
+        self.sheet.any(test)
+    }
+
+    /// The rows that pass the test, in order of number, where none does that lacks the index key: a look at the rows
+    /// that have it. An error is one of memory.
+    pub fn select_under<F: Fn(&R) -> bool>(&self, key: u64, test: F) -> Result<Vec<&R>, AllocError>
+        requires { F.IsAlwaysCallable test }
+        ensures { IfOk result (λ rows. (p : R → Bool)
+            → IsTest F.Fn test p → IsFiledUnder R.index_keys key p
+            → map (λ r. r.now) rows.items ≡ filter p (table.values (now_of self.now))) }
+    {
+        self.sheet.select(test)
+    }
+
+    /// Puts the row under its number, in the place of the one that stands there. An error is one of memory.
+    pub fn put(&mut self, row: R) -> Result<(), AllocError>
+        ensures ok { OnOk result (now_of self.new
+            ≡ table.insert (now_of self.old) (R.key_of row) row) }
+        ensures err { OnErr result (self.new ≡ self.old) }
+        ensures kept { self.new.kept ≡ self.old.kept }
+    {
+        self.sheet.put(row)
+    }
+
+    /// Removes the row of that number, if there is one. An error is one of memory.
+    pub fn remove(&mut self, number: u64) -> Result<(), AllocError>
+        ensures ok { OnOk result (now_of self.new
+            ≡ table.remove (now_of self.old) (number ∷ [])) }
+        ensures err { OnErr result (self.new ≡ self.old) }
+        ensures kept { self.new.kept ≡ self.old.kept }
+    {
+        self.sheet.remove(&number)
+    }
+
+    /// Makes the changes final. It takes no memory.
+    pub fn keep(&mut self)
+        ensures rows { now_of self.new ≡ now_of self.old }
+        ensures kept { self.new.kept ≡ now_of self.old }
+    {
+        self.sheet.keep();
+    }
+
+    /// Takes back each change since the rows were last kept. It takes no memory.
+    pub fn back(&mut self)
+        ensures rows { now_of self.new ≡ self.old.kept }
+        ensures kept { self.new.kept ≡ self.old.kept }
+    {
+        self.sheet.back();
+    }
+}
