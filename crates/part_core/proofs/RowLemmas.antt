@@ -9,7 +9,7 @@ pub same_digit : (a b : ℕ) → a ∷ [] ≡ b ∷ [] → a ≡ b
 same_digit a b e = ap (λ (xs : List ℕ). get_or xs 0 0) e
 
 module _ {X : Type 0} where
-  same_row : (a b : X) → Some a ≡ Some b → a ≡ b
+  pub same_row : (a b : X) → Some a ≡ Some b → a ≡ b
   same_row a b e = cc
 
   -- a row that is there after one was put is that one, or was there

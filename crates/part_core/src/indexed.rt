@@ -6,11 +6,15 @@ ghost use Rattle.part_core.specs.Indexed.{IsFiledUnder, IsOfNumber, index_key_of
 ghost use Rattle.part_core.specs.Select.{IsTest};
 ghost use Rattle.part_core.specs.Sheet.{now_of};
 
+use crate::index::Index;
 use crate::row::Row;
 use crate::sheet::Sheet;
 use std::alloc::{AllocError, Global};
 use std::hash::{BuildHasher, BuildHasherDefault, FoldHasher, Hash};
 use std::marker::Model;
+
+#[cfg(test)]
+mod tests;
 
 /// A row under a number that is looked up by what stands in it too: each of that is told by a number, its index key.
 pub trait Indexed: Row<Key = u64> {
@@ -38,9 +42,12 @@ pub fn index_key_of<L: Hash + Drop>(lookup: L) -> u64
 #[derive(Drop)]
 pub struct IndexedSheet<R: Indexed> {
     sheet: Sheet<R>,
+    index: Index,
+    alloc: Global,
 }
 
 impl<R: Indexed> Model for IndexedSheet<R> {
+    ghost use Rattle.part_core.specs.Index.{IsIndex};
     ghost use Rattle.part_core.specs.Sheet.{Rows, rows_code};
 
     ghost Value = { Rows R };
@@ -48,6 +55,9 @@ impl<R: Indexed> Model for IndexedSheet<R> {
     ghost coded = { rows_code R.code };
 
     ghost view = { λ s. s.sheet };
+
+    ghost invariant = { λ s. IsIndex R.index_keys R.key_of
+        s.sheet s.index.filings.keys s.index.touched.items };
 }
 
 impl<R: Indexed> IndexedSheet<R> {
@@ -58,6 +68,8 @@ impl<R: Indexed> IndexedSheet<R> {
     {
         IndexedSheet {
             sheet: Sheet::new(alloc),
+            index: Index::new(alloc),
+            alloc,
         }
     }
 
@@ -75,7 +87,7 @@ impl<R: Indexed> IndexedSheet<R> {
         ensures { (p : R → Bool) → IsTest F.Fn test p → IsFiledUnder R.index_keys key p
             → result ≡ list_any p (table.values (now_of self.now)) }
     {
-        self.sheet.any(test)
+        self.index.any_row::<R, F>(&self.sheet, key, test)
     }
 
     /// Whether a row passes the test, which none does that has another number: one look-up, which takes no memory.
@@ -84,7 +96,10 @@ impl<R: Indexed> IndexedSheet<R> {
         ensures { (p : R → Bool) → IsTest F.Fn test p → IsOfNumber R.key_of number p
             → result ≡ list_any p (table.values (now_of self.now)) }
     {
-        self.sheet.any(test)
+        match self.sheet.get(&number) {
+            Some(row) => test(row),
+            None => false,
+        }
     }
 
     /// The rows that pass the test, in order of number, where none does that lacks the index key: a look at the rows
@@ -95,7 +110,8 @@ impl<R: Indexed> IndexedSheet<R> {
             → IsTest F.Fn test p → IsFiledUnder R.index_keys key p
             → map (λ r. r.now) rows.items ≡ filter p (table.values (now_of self.now))) }
     {
-        self.sheet.select(test)
+        self.index
+            .find_rows::<R, F>(self.alloc, &self.sheet, key, test)
     }
 
     /// Puts the row under its number, in the place of the one that stands there. An error is one of memory.
@@ -105,6 +121,9 @@ impl<R: Indexed> IndexedSheet<R> {
         ensures err { OnErr result (self.new ≡ self.old) }
         ensures kept { self.new.kept ≡ self.old.kept }
     {
+        let own_number = row.key(self.alloc)?;
+        self.index.file::<R>(&row, own_number)?;
+        self.index.touch::<R>(&self.sheet, own_number)?;
         self.sheet.put(row)
     }
 
@@ -115,6 +134,7 @@ impl<R: Indexed> IndexedSheet<R> {
         ensures err { OnErr result (self.new ≡ self.old) }
         ensures kept { self.new.kept ≡ self.old.kept }
     {
+        self.index.touch::<R>(&self.sheet, number)?;
         self.sheet.remove(&number)
     }
 
@@ -123,7 +143,7 @@ impl<R: Indexed> IndexedSheet<R> {
         ensures rows { now_of self.new ≡ now_of self.old }
         ensures kept { self.new.kept ≡ now_of self.old }
     {
-        self.sheet.keep();
+        self.index.keep::<R>(&mut self.sheet);
     }
 
     /// Takes back each change since the rows were last kept. It takes no memory.
@@ -131,6 +151,6 @@ impl<R: Indexed> IndexedSheet<R> {
         ensures rows { now_of self.new ≡ self.old.kept }
         ensures kept { self.new.kept ≡ self.old.kept }
     {
-        self.sheet.back();
+        self.index.back::<R>(&mut self.sheet);
     }
 }
