@@ -1,5 +1,5 @@
 -- An index after what is filed or logged grows, after a row is given or goes, after the rows are kept or taken back, and while it is swept.
-use Rattle.std.proofs.Common.{◌≡◌, ◌==◌, ◌<◌, ◌^◌, ◌⊎◌, inl, inr, arith, ℕ, Bool, true, false, cond, ◌||◌, List, [], ◌∷◌, ◌++◌, length, Option, Some, None, refl, sym, ap, ◌∙◌, subst, eqb-true, eq-eqb}
+use Rattle.std.proofs.Common.{◌≡◌, ◌==◌, ◌<◌, ◌^◌, inl, inr, arith, ℕ, Bool, true, false, cond, ◌||◌, List, [], ◌∷◌, ◌++◌, Option, Some, None, refl, sym, ap, ◌∙◌, subst, eqb-true}
 use Rattle.std.specs.Prelude.{◌&&◌, nat_lt}
 use Rattle.std.specs.FinMap as table
 use Rattle.std.specs.List.{list_any}
@@ -9,9 +9,9 @@ use Rattle.std.proofs.lemmas.List.Folds.{list_any-append}
 use Rattle.std.proofs.lemmas.Bool.Decides.{nat_tests}
 use Rattle.part_core.specs.declared.index.Filing.{Filing}
 use Rattle.part_core.specs.Index.{is_filed, filed_under, numbers_of, has_key, IsExact, IsFiled, AreFiled, IsGrown, IsIndex, StandOwn, StandsOwn}
-use Rattle.part_core.specs.Indexed.{is_index_key, IsFiledUnder}
+use Rattle.part_core.specs.Indexed.{IsFiledUnder}
 use Rattle.part_core.specs.Sheet.{Rows, Table}
-use Rattle.part_core.proofs.Conditions.{and_both, and_parts, or_cases, or_none}
+use Rattle.part_core.proofs.Conditions.{and_both, and_parts, or_cases}
 use Rattle.part_core.proofs.Filings.{filed-updated, filing_cmp}
 use Rattle.part_core.proofs.Keys.{key_eq, key_eq-self, key_eq-true}
 use Rattle.part_core.proofs.RowLemmas.{same_digit}

@@ -1,5 +1,5 @@
 //! Rows that are found by what stands in them, besides by their number.
-ghost use Rattle.std.specs.Prelude.{◌≡◌, ◌∷◌, [], ℕ, Bool, List, slice_get, IfOk, OnOk, OnErr, map, filter};
+ghost use Rattle.std.specs.Prelude.{◌≡◌, ◌∷◌, [], ℕ, Bool, List, slice_get, option_copied, IfOk, IfSome, OnOk, OnErr, map, filter};
 ghost use Rattle.std.specs.List.{list_any};
 ghost use Rattle.std.specs.FinMap as table;
 ghost use Rattle.part_core.specs.Indexed.{IsFiledUnder, IsOfNumber, index_key_of};
@@ -78,6 +78,14 @@ impl<R: Indexed> IndexedSheet<R> {
         ensures { result.now ≡ self.now }
     {
         &self.sheet
+    }
+
+    /// The row of that number, found by its hash. It takes no memory.
+    pub fn get(&self, number: u64) -> Option<&R>
+        ensures value { option_copied result ≡ table.get (now_of self.now) (number ∷ []) }
+        ensures own { IfSome result (λ row. R.key_of row.now ≡ number ∷ []) }
+    {
+        self.sheet.get(&number)
     }
 
     /// Whether a row passes the test, which none does that lacks the index key: a look at the rows that have it. It

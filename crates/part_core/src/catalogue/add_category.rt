@@ -5,17 +5,19 @@ ghost use Rattle.part_core.specs.AddCategory.{add_category, add_category_checks,
 ghost use Rattle.part_core.specs.Catalogues.{kept_register, parts_of, register_of};
 
 use crate::catalogue::Catalogue;
-use crate::category::Category;
+use crate::category::{Category, named_key};
 use crate::row::is_same_number;
 use crate::{CoreFault, Counter, Id, Name, Refusal};
 
 impl Catalogue {
-    /// Whether a category under this parent has this name. It looks at every category.
+    /// Whether a category under this parent has this name. It looks at those that have the index key of both.
     fn is_category_named(&self, name: &Name, parent: Option<Id>) -> bool
         ensures { result ≡ is_category_named name.now parent (parts_of self.now) }
     {
-        self.categories.any(|category| is_same_number(category.parent, parent)
-            && category.name.equals(name))
+        self.categories.any_under(
+            named_key(parent, name),
+            |category| is_same_number(category.parent, parent) && category.name.equals(name),
+        )
     }
 
     /// A new category, under a number that is drawn for it. `NoSuch` where the parent is no category,

@@ -6,7 +6,7 @@ ghost use Rattle.part_core.specs.Catalogue.{is_missing, part_in};
 ghost use Rattle.part_core.specs.Catalogues.{kept_register, parts_of, register_of};
 
 use crate::catalogue::Catalogue;
-use crate::part::{NewPart, Part};
+use crate::part::{NewPart, Part, name_key};
 use crate::{CoreFault, Counter, Flags, Id, Name, Refusal};
 
 /// Whether a variant is flagged template, which none may be.
@@ -27,11 +27,12 @@ impl Catalogue {
         }
     }
 
-    /// Whether a part has this name. It looks at every part.
+    /// Whether a part has this name. It looks at those that have the index key of the name.
     fn is_part_named(&self, name: &Name) -> bool
         ensures { result ≡ is_part_named name.now (parts_of self.now) }
     {
-        self.parts.any(|part| part.name.equals(name))
+        self.parts
+            .any_under(name_key(name), |part| part.name.equals(name))
     }
 
     fn is_no_template(&self, template: Option<Id>) -> bool

@@ -8,11 +8,12 @@ ghost use Rattle.part_core.specs.Sheet.{now_of};
 
 use crate::catalogue::Catalogue;
 use crate::part::Part;
-use crate::{CoreFault, Id, Refusal, Sheet};
-use std::alloc::AllocError;
+use crate::row::Row;
+use crate::{CoreFault, Id, IndexedSheet, Refusal};
+use std::alloc::{AllocError, Global};
 
 /// Retires the part of that number.
-fn set_retired(parts: &mut Sheet<Part>, number: Id) -> Result<(), AllocError>
+fn set_retired(alloc: Global, parts: &mut IndexedSheet<Part>, number: Id) -> Result<(), AllocError>
     requires { IsSome (table.get (now_of parts.old) (number ∷ [])) }
     ensures ok { OnOk result (IfSome (table.get (now_of parts.old) (number ∷ []))
         (λ part. now_of parts.new
@@ -20,9 +21,12 @@ fn set_retired(parts: &mut Sheet<Part>, number: Id) -> Result<(), AllocError>
     ensures err { OnErr result (now_of parts.new ≡ now_of parts.old) }
     ensures kept { parts.new.kept ≡ parts.old.kept }
 {
-    let part = parts.get_mut(number)?;
+    let Some(part) = parts.get(number) else {
+        unreachable!()
+    };
+    let mut part = part.copy(alloc)?;
     part.retired = true;
-    Ok(())
+    parts.put(part)
 }
 
 impl Catalogue {
@@ -40,7 +44,7 @@ impl Catalogue {
         if row.retired {
             return Err(CoreFault::Refused(Refusal::Retired));
         }
-        set_retired(&mut self.parts, part)?;
+        set_retired(self.alloc, &mut self.parts, part)?;
         Ok(())
     }
 }

@@ -2,7 +2,7 @@ use Rattle.std.proofs.Common.{◌≡◌, ◌||◌, ◌∷◌, [], true, false, r
 use Rattle.std.specs.FinMap as table
 use Rattle.std.specs.List.{list_any}
 use Rattle.std.specs.Map.Iter.{deref}
-use Rattle.std.proofs.lemmas.Map.Iter.{rest_all, rest_more}
+use Rattle.std.proofs.lemmas.Map.Iter.{rest_all}
 use Rattle.part_core.specs.Index.{numbers_of, rows_at}
 use Rattle.part_core.specs.Sheet.{now_of}
 use Rattle.part_core.proofs.Scans.{any-with_row, of_rows, passes}

@@ -1,6 +1,6 @@
-use Rattle.std.proofs.Common.{◌≡◌, ◌∷◌, ◌++◌, ◌-◌, take, [], true, false, Some, None, refl, sym, ap, ◌∙◌, subst, arith}
+use Rattle.std.proofs.Common.{◌≡◌, ◌∷◌, ◌++◌, ◌-◌, take, [], true, false, refl, sym, ap, ◌∙◌}
 use Rattle.std.specs.FinMap as table
-use Rattle.part_core.specs.Index.{IsIndex, has_key}
+use Rattle.part_core.specs.Index.{has_key}
 use Rattle.part_core.specs.Sheet.{now_of}
 use Rattle.part_core.proofs.Indexes.{IsExact-swept, IsIndex-out, IsIndex-stays}
 use Rattle.part_core.proofs.index.Index.sweep.Goals.{in-Some-get, in-None}

@@ -1,11 +1,10 @@
 use Rattle.std.proofs.Common.{◌≡◌, ◌||◌, ◌∷◌, [], false, refl, sym, ap, ◌∙◌}
 use Rattle.std.specs.List.{list_any}
 use Rattle.std.specs.FinMap as table
-use Rattle.part_core.specs.Index.{rows_at}
 use Rattle.part_core.specs.Sheet.{now_of}
 use Rattle.part_core.proofs.FiledRows.{Rise-one, any-filed}
 use Rattle.part_core.proofs.Indexes.{or_false, row-at}
-use Rattle.part_core.proofs.Scans.{any-with_row, of_rows, passes}
+use Rattle.part_core.proofs.Scans.{any-with_row, passes}
 use Rattle.part_core.proofs.indexed.IndexedSheet.any_at.Goals as goal
 
 pub returns-in-Some : goal.returns-in-Some
