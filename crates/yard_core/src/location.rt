@@ -1,8 +1,9 @@
 //! Locations.
-ghost use Rattle.std.specs.Prelude.{◌≡◌, ◌↔◌, ◌∷◌, [], IsTrue, IfOk};
+ghost use Rattle.std.specs.Prelude.{◌≡◌, ◌↔◌, ◌∷◌, [], IsTrue, IfOk, refl};
 ghost use Rattle.part_core.specs.Numbered.{number_digits, number_exact};
+ghost use Rattle.yard_core.specs.LocationKeys.{location_keys, name_key};
 
-use part_core::{Id, Name, Row, compare_numbers};
+use part_core::{Id, Indexed, Name, Row, compare_numbers, index_key_of};
 use std::alloc::{AllocError, Global};
 use std::cmp::Ordering;
 
@@ -13,6 +14,15 @@ pub struct Location {
     /// No two locations under one parent have one name.
     pub name: Name,
     pub parent: Option<Id>,
+}
+
+/// What a location is looked up by, besides its number: its name, which is its own under its parent alone.
+#[derive(Clone, Copy, Debug, PartialEq, Eq, Hash)]
+pub enum LocationLookup<'a> {
+    /// The name of a location that has no parent.
+    Top(&'a str),
+    /// The number of the parent, and the name.
+    Under(Id, &'a str),
 }
 
 impl Row for Location {
@@ -49,5 +59,28 @@ impl Row for Location {
             name,
             parent: self.parent,
         })
+    }
+}
+
+/// The index key of a location that has the name, under this parent.
+pub fn name_key(parent: Option<Id>, name: &Name) -> u64
+    ensures { result ≡ name_key parent name.now }
+{
+    match parent {
+        None => index_key_of(LocationLookup::Top(name.as_str())),
+        Some(parent) => index_key_of(LocationLookup::Under(parent, name.as_str())),
+    }
+}
+
+impl Indexed for Location {
+    ghost index_keys = { location_keys };
+
+    ghost numbered = { λ _. refl };
+
+    fn index_key(&self, place: usize) -> Option<u64> {
+        match place {
+            0 => Some(name_key(self.parent, &self.name)),
+            _ => None,
+        }
     }
 }
