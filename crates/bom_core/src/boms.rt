@@ -1,47 +1,46 @@
 //! The bills of all assemblies. The commands on lines and on substitutes have files of their own below this one.
-ghost use Rattle.std.specs.Prelude.{◌≡◌, ◌∷◌, [], ℕ, true, ◌↔◌, IsTrue, IfOk, map, option_copied};
+ghost use Rattle.std.specs.Prelude.{◌≡◌, ◌==◌, ◌∷◌, [], ℕ, true, ◌↔◌, IsTrue, IfOk, filter, map, option_copied};
+ghost use Rattle.std.specs.List.{list_any};
 ghost use Rattle.std.specs.FinMap as table;
 ghost use Rattle.part_core.specs.Catalogues.{parts_of};
-ghost use Rattle.bom_core.specs.Bills.{covers, effective, fits, fits_in, is_effective, line_rows, no_bills, part_rows, substitute_rows};
-ghost use Rattle.bom_core.specs.Boms.{bills_of, kept_bills};
+ghost use Rattle.bom_core.specs.Bills.{covers, effective, fits, fits_in, line_rows, no_bills, part_rows, substitute_rows};
 ghost use Rattle.bom_core.specs.Changes.{has_row, is_line_open};
 ghost use Rattle.bom_core.specs.Search.{is_among, is_next};
+ghost use Rattle.bom_core.specs.Sides.{AreNumbered};
 ghost use Rattle.bom_core.specs.Walks.{HasWalk, IsWhereUsed, StepsFrom};
 
-use crate::checks::{is_open, is_variant};
-use crate::line::Line;
+use crate::checks::is_open;
+use crate::line::{Line, Side};
 use crate::search::{Direction, is_seen, push_covered, search};
 use crate::substitute::Substitute;
-use part_core::{Catalogue, Id, Part, Sheet};
+use part_core::{Catalogue, Id, IndexedSheet, Part, Sheet};
 use std::alloc::{AllocError, Global};
 
 mod lines;
+mod look_ups;
 mod substitutes;
 
 /// The lines of all bills, and their substitutes.
 #[derive(Drop)]
 pub struct Boms {
-    lines: Sheet<Line>,
-    substitutes: Sheet<Substitute>,
+    lines: IndexedSheet<Line>,
+    substitutes: IndexedSheet<Substitute>,
     alloc: Global,
-}
-
-/// Whether the line holds for the part: it is the part's own, or an inherited one of its template.
-fn is_effective(catalogue: &Catalogue, line: &Line, part: Id) -> bool
-    ensures { result ≡ is_effective (part_rows (parts_of catalogue.now)) part line.now }
-{
-    line.assembly == part || (line.flags.inherited && is_variant(catalogue, part, line.assembly))
+    ghost numbered: { AreNumbered lines.rows },
+    ghost kept_numbered: { AreNumbered lines.kept },
 }
 
 impl Boms {
+    ghost use Rattle.bom_core.specs.Boms.{bills_of, kept_bills};
+
     /// Bills with no line.
     pub fn new(alloc: Global) -> Self
         ensures now { bills_of result ≡ no_bills }
         ensures kept { kept_bills result ≡ no_bills }
     {
         Boms {
-            lines: Sheet::new(alloc),
-            substitutes: Sheet::new(alloc),
+            lines: IndexedSheet::new(alloc),
+            substitutes: IndexedSheet::new(alloc),
             alloc,
         }
     }
@@ -50,28 +49,28 @@ impl Boms {
     pub fn lines(&self) -> &Sheet<Line>
         ensures { result.now ≡ self.now.lines }
     {
-        &self.lines
+        self.lines.rows()
     }
 
     /// The substitutes, as a sheet.
     pub fn substitutes(&self) -> &Sheet<Substitute>
         ensures { result.now ≡ self.now.substitutes }
     {
-        &self.substitutes
+        self.substitutes.rows()
     }
 
     /// The line of that number.
     pub fn line(&self, number: Id) -> Option<&Line>
         ensures { option_copied result ≡ table.get (bills_of self.now).lines (number ∷ []) }
     {
-        self.lines.get(&number)
+        self.lines.rows().get(&number)
     }
 
     /// The substitute of that number.
     pub fn substitute(&self, number: Id) -> Option<&Substitute>
         ensures { option_copied result ≡ table.get (bills_of self.now).substitutes (number ∷ []) }
     {
-        self.substitutes.get(&number)
+        self.substitutes.rows().get(&number)
     }
 
     /// The rows now are those that are kept from here on.
@@ -92,14 +91,13 @@ impl Boms {
         self.substitutes.back();
     }
 
-    /// The lines that hold for the part: its own and the inherited ones of its template, in order of number. An error
-    /// is one of memory.
+    /// The lines that hold for the part: its own and the inherited ones of its template, in order of number. It looks
+    /// at no others. An error is one of memory.
     pub fn effective(&self, catalogue: &Catalogue, part: Id) -> Result<Vec<&Line>, AllocError>
         ensures { IfOk result (λ lines. map (λ l. l.now) lines.items
             ≡ effective (parts_of catalogue.now) (bills_of self.now) part) }
     {
-        self.lines
-            .select(|line| is_effective(catalogue, line, part))
+        self.covering(catalogue, Side::Assembly, part)
     }
 
     /// Whether the part fits the line: it is its component, a variant of it where the line allows variants, or a
@@ -108,9 +106,8 @@ impl Boms {
         ensures { result ≡ fits (parts_of catalogue.now) (bills_of self.now) line.now part }
     {
         line.component == part
-            || (line.flags.variants && is_variant(catalogue, part, line.component))
-            || self.substitutes.any(|substitute| substitute.line == line.number
-                && substitute.part == part)
+            || (line.flags.variants && catalogue.is_variant(part, line.component))
+            || self.is_substitute(line.number, part)
     }
 
     /// Whether the part may be installed in the assembly: a line that holds for that and isn't consumable fits it. It
@@ -118,11 +115,10 @@ impl Boms {
     pub fn fits_in(&self, catalogue: &Catalogue, assembly: Id, part: Id) -> bool
         ensures { result ≡ fits_in (parts_of catalogue.now) (bills_of self.now) assembly part }
     {
-        self.lines.any(|line| {
-            is_effective(catalogue, line, assembly)
-                && !line.flags.consumable
-                && self.fits(catalogue, line, part)
-        })
+        self.fits_in_own(catalogue, assembly, part)
+            || catalogue.any_at(assembly, |row| {
+                row.number == assembly && self.fits_in_template(catalogue, row.template, part)
+            })
     }
 
     // The parts that a walk leads to from the part, or from which one leads to it.
@@ -137,8 +133,8 @@ impl Boms {
             (line_rows (bills_of self.now)) (substitute_rows (bills_of self.now))) n start p)) }
     {
         let parts = catalogue.parts().select(|_| true)?;
-        let lines = self.lines.select(|_| true)?;
-        let substitutes = self.substitutes.select(|_| true)?;
+        let lines = self.lines().select(|_| true)?;
+        let substitutes = self.substitutes().select(|_| true)?;
         search(self.alloc, direction, &parts, &lines, &substitutes, start)
     }
 
@@ -192,7 +188,7 @@ impl Boms {
         ensures { result
             ≡ is_line_open (parts_of catalogue.now) (bills_of self.now) open_parts.now line }
     {
-        match self.lines.get(&line) {
+        match self.line(line) {
             Some(line) => is_open(catalogue, open_parts, line.assembly),
             None => false,
         }
@@ -202,7 +198,7 @@ impl Boms {
     pub(crate) fn has_line(&self, line: Id) -> bool
         ensures { result ≡ has_row (bills_of self.now).lines line }
     {
-        match self.lines.get(&line) {
+        match self.line(line) {
             Some(_) => true,
             None => false,
         }

@@ -15,7 +15,7 @@ returns c =
     let parts : map (λ x. x.now) c.deref.result.now ≡ part_rows (parts_of c.args.catalogue.now) =
     ap (map (λ x. x.now)) c.deref.ensures.value ∙ c.in_ok-parts.ensures (λ (_ : Part). true) (search rules) ∙ filter_all _ ∙ ap (λ s. table.values (now_of s)) c.parts.ensures in
     let lines : map (λ x. x.now) c.deref-2.result.now ≡ line_rows (bills_of c.args.self.now) =
-    ap (map (λ x. x.now)) c.deref-2.ensures.value ∙ c.in_ok-lines.ensures (λ (_ : Line). true) (search rules) ∙ filter_all _ in
+    ap (map (λ x. x.now)) c.deref-2.ensures.value ∙ c.in_ok-lines.ensures (λ (_ : Line). true) (search rules) ∙ filter_all _ ∙ ap (λ s. table.values (now_of s)) c.lines.ensures in
     let substitutes : map (λ x. x.now) c.deref-3.result.now ≡ substitute_rows (bills_of c.args.self.now) =
-    ap (map (λ x. x.now)) c.deref-3.ensures.value ∙ c.in_ok-substitutes.ensures (λ (_ : Substitute). true) (search rules) ∙ filter_all _ in
+    ap (map (λ x. x.now)) c.deref-3.ensures.value ∙ c.in_ok-substitutes.ensures (λ (_ : Substitute). true) (search rules) ∙ filter_all _ ∙ ap (λ s. table.values (now_of s)) c.substitutes.ensures in
     rw (← parts, ← lines, ← substitutes) c.search.ensures
