@@ -1,5 +1,5 @@
 -- Which lines name a part, as their assembly or as their component.
-use Rattle.std.specs.Prelude.{◌≡◌, ℕ, Bool, ◌&&◌, ◌==◌, not, cond, List, [], ◌∷◌, Option, Some, nat_lt}
+use Rattle.std.specs.Prelude.{◌≡◌, ℕ, Bool, ◌&&◌, not, cond, List, [], ◌∷◌, Option, Some, nat_lt}
 use Rattle.std.specs.FinMap as table
 use Rattle.part_core.specs.Catalogue.{is_number}
 use Rattle.part_core.specs.Sheet.{Table}

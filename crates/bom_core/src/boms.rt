@@ -1,18 +1,17 @@
 //! The bills of all assemblies. The commands on lines and on substitutes have files of their own below this one.
-ghost use Rattle.std.specs.Prelude.{◌≡◌, ◌==◌, ◌∷◌, [], ℕ, true, ◌↔◌, IsTrue, IfOk, filter, map, option_copied};
-ghost use Rattle.std.specs.List.{list_any};
+ghost use Rattle.std.specs.Prelude.{◌≡◌, ◌∷◌, [], ℕ, true, ◌↔◌, IsTrue, IfOk, map, option_copied};
 ghost use Rattle.std.specs.FinMap as table;
 ghost use Rattle.part_core.specs.Catalogues.{parts_of};
-ghost use Rattle.bom_core.specs.Bills.{covers, effective, fits, fits_in, line_rows, no_bills, part_rows, substitute_rows};
+ghost use Rattle.bom_core.specs.Bills.{covers, effective, fits, fits_in, no_bills, part_rows};
 ghost use Rattle.bom_core.specs.Changes.{has_row, is_line_open};
-ghost use Rattle.bom_core.specs.Search.{is_among, is_next};
 ghost use Rattle.bom_core.specs.Sides.{AreNumbered};
-ghost use Rattle.bom_core.specs.Walks.{HasWalk, IsWhereUsed, StepsFrom};
+ghost use Rattle.bom_core.specs.Walks.{HasWalk, IsWhereUsed};
 
 use crate::checks::is_open;
 use crate::line::{Line, Side};
 use crate::search::{Direction, is_seen, push_covered, search};
 use crate::substitute::Substitute;
+use indexmap::IndexSet;
 use part_core::{Catalogue, Id, IndexedSheet, Part, Sheet};
 use std::alloc::{AllocError, Global};
 
@@ -121,30 +120,13 @@ impl Boms {
             })
     }
 
-    // The parts that a walk leads to from the part, or from which one leads to it.
-    fn walk(
-        &self,
-        catalogue: &Catalogue,
-        direction: Direction,
-        start: Id,
-    ) -> Result<Vec<Id>, AllocError>
-        ensures { IfOk result (λ seen. (p : ℕ) → (is_among seen.items p ≡ true)
-            ↔ ((n : ℕ) × StepsFrom (is_next direction (part_rows (parts_of catalogue.now))
-            (line_rows (bills_of self.now)) (substitute_rows (bills_of self.now))) n start p)) }
-    {
-        let parts = catalogue.parts().select(|_| true)?;
-        let lines = self.lines().select(|_| true)?;
-        let substitutes = self.substitutes().select(|_| true)?;
-        search(self.alloc, direction, &parts, &lines, &substitutes, start)
-    }
-
     /// Whether a walk leads from the part to the other: at least one step, each to a part that fits a line that holds
-    /// for the one before. It looks at the lines once for each part that it comes to. An error is one of memory.
+    /// for the one before. It looks at the lines of the parts that it comes to alone. An error is one of memory.
     pub fn reaches(&self, catalogue: &Catalogue, from: Id, to: Id) -> Result<bool, AllocError>
         ensures { IfOk result (λ answer.
             IsTrue answer ↔ HasWalk (parts_of catalogue.now) (bills_of self.now) from to) }
     {
-        let seen = self.walk(catalogue, Direction::Down, from)?;
+        let seen = search(self.alloc, self, catalogue, Direction::Down, from)?;
         Ok(is_seen(&seen, to))
     }
 
@@ -157,7 +139,7 @@ impl Boms {
         ensures { IfOk result (λ used. IsWhereUsed
             (parts_of catalogue.now) (bills_of self.now) part (map (λ p. p.now) used.items)) }
     {
-        let seen = self.walk(catalogue, Direction::Up, part)?;
+        let seen = search(self.alloc, self, catalogue, Direction::Up, part)?;
         catalogue.parts().select(|row| is_seen(&seen, row.number))
     }
 
@@ -172,10 +154,9 @@ impl Boms {
             ↔ ((a : ℕ) × (covers (part_rows (parts_of catalogue.now)) number variants a ≡ true)
             × HasWalk (parts_of catalogue.now) (bills_of self.now) a a)) }
     {
-        let rows = catalogue.parts().select(|_| true)?;
-        let mut covered = Vec::new(self.alloc);
-        push_covered(&rows, number, variants, &mut covered)?;
-        for part in &covered {
+        let mut covered = IndexSet::new(self.alloc);
+        push_covered(catalogue, number, variants, &mut covered)?;
+        for part in covered.as_slice() {
             if self.reaches(catalogue, *part, *part)? {
                 return Ok(true);
             }
