@@ -1,5 +1,5 @@
 -- Bills beside a catalogue that changes and names nothing else: more numbers drawn, another table of categories, a part retired.
-use Rattle.std.proofs.Common.{◌+◌, ◌≡◌, ◌⊎◌, inl, inr, ◌≤◌, ◌<◌, ℕ, Bool, true, false, cond, List, [], ◌∷◌, Option, Some, None, is_some, refl, sym, ap, ◌∙◌, subst, arith}
+use Rattle.std.proofs.Common.{◌+◌, ◌≡◌, ◌⊎◌, inl, inr, ◌≤◌, ℕ, Bool, true, false, List, [], ◌∷◌, Option, Some, None, refl, sym, ap, ◌∙◌, subst, arith}
 use Rattle.std.specs.FinMap as table
 use Rattle.part_core.specs.Sheet.{Table}
 use Rattle.part_core.specs.declared.category.Category.{Category}
@@ -12,7 +12,6 @@ use Rattle.part_core.specs.PartMachine.{checks, effect}
 use Rattle.part_core.specs.RetirePart.{retire_part, retired_part}
 use Rattle.part_core.specs.declared.part_command.PartCommand.{PartCommand}
 use Rattle.part_core.specs.declared.part_command.PartCommand.TheVariants.{AddCategory, AddPart, RetirePart}
-use Rattle.part_core.proofs.Keys.{key_eq, keys_total}
 use Rattle.bom_core.specs.declared.substitute.Substitute.{Substitute}
 use Rattle.bom_core.specs.declared.line.Line.{Line}
 use Rattle.bom_core.specs.Bills.{Bills, contains, covers, is_variant, part_rows}

@@ -1,5 +1,5 @@
 -- What a catalogue and bills are after a part or a line came and everything was kept.
-use Rattle.std.proofs.Common.{◌≡◌, ℕ, List, None, refl, sym, ap, ◌∙◌, subst}
+use Rattle.std.proofs.Common.{◌≡◌, ℕ, List, ap, subst}
 use Rattle.std.specs.Prelude.{Ok}
 use Rattle.part_core.specs.Acts.{Acts}
 use Rattle.part_core.specs.AddPart.{add_part, add_part_checks}

@@ -11,3 +11,5 @@ pub mod Variants
 pub mod Beside
 pub mod SoundChanges
 pub mod Grown
+pub mod Merging
+pub mod LookUps

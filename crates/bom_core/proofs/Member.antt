@@ -1,9 +1,9 @@
 -- What stands in a list, and tests over lists.
-use Rattle.std.proofs.Common.{◌≡◌, ℕ, Bool, true, false, ◌||◌, ◌⊎◌, inl, inr, List, [], ◌∷◌, ◌++◌, map, refl, sym, ap, ◌∙◌, eqb-true, eq-eqb}
-use Rattle.std.specs.Prelude.{◌==◌, ◌&&◌}
+use Rattle.std.proofs.Common.{◌≡◌, ◌≢◌, ℕ, Bool, true, false, ◌||◌, inl, inr, List, [], ◌∷◌, ◌++◌, map, refl, sym, ap, ◌∙◌, eqb, eqb-true}
+use Rattle.std.specs.Prelude.{◌==◌}
 use Rattle.std.specs.List.{list_any}
 use Rattle.std.proofs.lemmas.List.Folds.{list_any-append}
-use Rattle.part_core.proofs.Conditions.{or_cases, and_parts, and_both, not_true}
+use Rattle.part_core.proofs.Conditions.{or_cases}
 use Rattle.part_core.proofs.Standing.{Stands}
 use Rattle.bom_core.specs.Search.{is_among}
 
@@ -76,6 +76,9 @@ module _ {X : Type 0} where
       ]
 
 -- numbers
+pub eqb-other : (a b : ℕ) → a ≢ b → eqb a b ≡ false
+eqb-other a b other = elim (eqb a b) as (λ r. eqb a b ≡ r → r ≡ false) [ true ↦ λ e. absurd (other (eqb-true a b e)) | false ↦ λ e. refl ] refl
+
 pub among-Stands : (xs : List ℕ) (p : ℕ) → is_among xs p ≡ true → Stands p xs
 among-Stands [] p e = cc
 among-Stands (x ∷ xs) p e =

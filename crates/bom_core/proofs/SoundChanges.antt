@@ -1,19 +1,18 @@
 -- What passes its checks leaves sound bills sound.
-use Rattle.std.proofs.Common.{◌≡◌, ◌≤◌, ◌+◌, ℕ, Bool, true, false, ◌||◌, List, [], ◌∷◌, ◌++◌, Option, Some, None, refl, arith}
-use Rattle.std.specs.Prelude.{◌==◌, ◌&&◌, not, nat_lt}
+use Rattle.std.proofs.Common.{◌≡◌, ◌≤◌, ℕ, false, List, None, refl, arith}
+use Rattle.std.specs.Prelude.{◌==◌, nat_lt}
 use Rattle.std.proofs.lemmas.Grind.{common_steps}
 use Rattle.part_core.specs.Catalogue.{Parts}
-use Rattle.part_core.specs.Checks.{Check, NoneHolds, first}
+use Rattle.part_core.specs.Checks.{first}
 use Rattle.part_core.specs.Quantity.{is_bad_quantity, largest}
 use Rattle.part_core.proofs.Conditions.{none-holds, or_none}
 use Rattle.bom_core.specs.BomMachine.{checks, effect}
-use Rattle.bom_core.specs.Changes.{BillBooks, has_row, is_line_open}
-use Rattle.bom_core.specs.Lines.{add_line, add_line_checks, line_row_checks, new_line}
+use Rattle.bom_core.specs.Changes.{BillBooks, is_line_open}
+use Rattle.bom_core.specs.Lines.{add_line_checks, new_line}
 use Rattle.bom_core.specs.Sound.{IsSoundBill}
 use Rattle.bom_core.specs.Substitutes.{add_substitute_checks, is_fitting, new_substitute}
 use Rattle.bom_core.specs.declared.bom_command.BomCommand.{BomCommand}
 use Rattle.bom_core.specs.declared.bom_command.BomCommand.TheVariants.{AddLine, DropLine, AddSubstitute, DropSubstitute}
-use Rattle.bom_core.specs.declared.line.NewLine.{NewLine}
 use Rattle.bom_core.proofs.Kept.{both_there, sound-with_line, sound-with_substitute, sound-without_line, sound-without_substitute}
 
 good_quantity : (q : ℕ) → is_bad_quantity q ≡ false → (1 ≤ q) × (q ≤ largest)

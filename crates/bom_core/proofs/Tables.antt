@@ -1,8 +1,8 @@
 -- Rows of a table after one is put or goes.
-use Rattle.std.proofs.Common.{◌≡◌, ◌≢◌, ◌⊎◌, inl, inr, ◌<◌, ℕ, Bool, true, false, cond, List, [], ◌∷◌, Option, Some, None, refl, sym, ap, ◌∙◌, arith, get_or, is_some}
+use Rattle.std.proofs.Common.{◌≡◌, ◌≢◌, ℕ, Bool, true, cond, List, [], ◌∷◌, Some, None, refl, sym, ap, ◌∙◌}
 use Rattle.std.specs.FinMap as table
 use Rattle.part_core.specs.Sheet.{Table}
-use Rattle.part_core.proofs.Keys.{key_eq, keys_total, key_eq-self, key_eq-true, key_eq-other}
+use Rattle.part_core.proofs.Keys.{keys_total, key_eq-other}
 use Rattle.bom_core.specs.Changes.{passes, row_is}
 use Rattle.bom_core.specs.Lines.{removed_all}
 use Rattle.part_core.proofs.RowLemmas.{get-remove_cases}

@@ -13,8 +13,7 @@ use Rattle.part_core.specs.Rows.{IsThere}
 use Rattle.part_core.specs.SoundCatalogue.{IsSoundCatalogue}
 use Rattle.bom_core.specs.Sound.{IsSoundBill, IsNewPart, with_row}
 use Rattle.part_core.proofs.Conditions.{or_cases, and_parts, and_both, not_true}
-use Rattle.bom_core.proofs.Member.{or_left, or_right, any-found, any-from}
-use Rattle.bom_core.proofs.Pushes.{eqb-other}
+use Rattle.bom_core.proofs.Member.{or_left, or_right, any-found, any-from, eqb-other}
 use Rattle.part_core.proofs.Standing.{Stands-get, get-Stands}
 use Rattle.part_core.proofs.RowLemmas.{get-insert_cases, get-insert_new, right-later, right-none, row_there, same_digit, there}
 use Rattle.part_core.proofs.SoundRows as catalogue

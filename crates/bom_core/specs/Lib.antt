@@ -1,9 +1,11 @@
+pub mod BillKeys
 pub mod Bills
 pub mod BomMachine
 pub mod Boms
 pub mod Changes
 pub mod Lines
 pub mod Search
+pub mod Sides
 pub mod Sound
 pub mod Substitutes
 pub mod Walks

@@ -2,46 +2,44 @@
 ghost use Rattle.std.specs.Prelude.{◌≡◌, ◌∷◌, [], ℕ, true, ◌↔◌, IsTrue, IfOk, map, option_copied};
 ghost use Rattle.std.specs.FinMap as table;
 ghost use Rattle.part_core.specs.Catalogues.{parts_of};
-ghost use Rattle.bom_core.specs.Bills.{covers, effective, fits, fits_in, is_effective, line_rows, no_bills, part_rows, substitute_rows};
-ghost use Rattle.bom_core.specs.Boms.{bills_of, kept_bills};
+ghost use Rattle.bom_core.specs.Bills.{covers, effective, fits, fits_in, no_bills, part_rows};
 ghost use Rattle.bom_core.specs.Changes.{has_row, is_line_open};
-ghost use Rattle.bom_core.specs.Search.{is_among, is_next};
-ghost use Rattle.bom_core.specs.Walks.{HasWalk, IsWhereUsed, StepsFrom};
+ghost use Rattle.bom_core.specs.Sides.{AreNumbered};
+ghost use Rattle.bom_core.specs.Walks.{HasWalk, IsWhereUsed};
 
-use crate::checks::{is_open, is_variant};
-use crate::line::Line;
+use crate::checks::is_open;
+use crate::line::{Line, Side};
 use crate::search::{Direction, is_seen, push_covered, search};
 use crate::substitute::Substitute;
-use part_core::{Catalogue, Id, Part, Sheet};
+use indexmap::IndexSet;
+use part_core::{Catalogue, Id, IndexedSheet, Part, Sheet};
 use std::alloc::{AllocError, Global};
 
 mod lines;
+mod look_ups;
 mod substitutes;
 
 /// The lines of all bills, and their substitutes.
 #[derive(Drop)]
 pub struct Boms {
-    lines: Sheet<Line>,
-    substitutes: Sheet<Substitute>,
+    lines: IndexedSheet<Line>,
+    substitutes: IndexedSheet<Substitute>,
     alloc: Global,
-}
-
-/// Whether the line holds for the part: it is the part's own, or an inherited one of its template.
-fn is_effective(catalogue: &Catalogue, line: &Line, part: Id) -> bool
-    ensures { result ≡ is_effective (part_rows (parts_of catalogue.now)) part line.now }
-{
-    line.assembly == part || (line.flags.inherited && is_variant(catalogue, part, line.assembly))
+    ghost numbered: { AreNumbered lines.rows },
+    ghost kept_numbered: { AreNumbered lines.kept },
 }
 
 impl Boms {
+    ghost use Rattle.bom_core.specs.Boms.{bills_of, kept_bills};
+
     /// Bills with no line.
     pub fn new(alloc: Global) -> Self
         ensures now { bills_of result ≡ no_bills }
         ensures kept { kept_bills result ≡ no_bills }
     {
         Boms {
-            lines: Sheet::new(alloc),
-            substitutes: Sheet::new(alloc),
+            lines: IndexedSheet::new(alloc),
+            substitutes: IndexedSheet::new(alloc),
             alloc,
         }
     }
@@ -50,28 +48,28 @@ impl Boms {
     pub fn lines(&self) -> &Sheet<Line>
         ensures { result.now ≡ self.now.lines }
     {
-        &self.lines
+        self.lines.rows()
     }
 
     /// The substitutes, as a sheet.
     pub fn substitutes(&self) -> &Sheet<Substitute>
         ensures { result.now ≡ self.now.substitutes }
     {
-        &self.substitutes
+        self.substitutes.rows()
     }
 
     /// The line of that number.
     pub fn line(&self, number: Id) -> Option<&Line>
         ensures { option_copied result ≡ table.get (bills_of self.now).lines (number ∷ []) }
     {
-        self.lines.get(&number)
+        self.lines.rows().get(&number)
     }
 
     /// The substitute of that number.
     pub fn substitute(&self, number: Id) -> Option<&Substitute>
         ensures { option_copied result ≡ table.get (bills_of self.now).substitutes (number ∷ []) }
     {
-        self.substitutes.get(&number)
+        self.substitutes.rows().get(&number)
     }
 
     /// The rows now are those that are kept from here on.
@@ -92,14 +90,13 @@ impl Boms {
         self.substitutes.back();
     }
 
-    /// The lines that hold for the part: its own and the inherited ones of its template, in order of number. An error
-    /// is one of memory.
+    /// The lines that hold for the part: its own and the inherited ones of its template, in order of number. It looks
+    /// at no others. An error is one of memory.
     pub fn effective(&self, catalogue: &Catalogue, part: Id) -> Result<Vec<&Line>, AllocError>
         ensures { IfOk result (λ lines. map (λ l. l.now) lines.items
             ≡ effective (parts_of catalogue.now) (bills_of self.now) part) }
     {
-        self.lines
-            .select(|line| is_effective(catalogue, line, part))
+        self.covering(catalogue, Side::Assembly, part)
     }
 
     /// Whether the part fits the line: it is its component, a variant of it where the line allows variants, or a
@@ -108,9 +105,8 @@ impl Boms {
         ensures { result ≡ fits (parts_of catalogue.now) (bills_of self.now) line.now part }
     {
         line.component == part
-            || (line.flags.variants && is_variant(catalogue, part, line.component))
-            || self.substitutes.any(|substitute| substitute.line == line.number
-                && substitute.part == part)
+            || (line.flags.variants && catalogue.is_variant(part, line.component))
+            || self.is_substitute(line.number, part)
     }
 
     /// Whether the part may be installed in the assembly: a line that holds for that and isn't consumable fits it. It
@@ -118,37 +114,19 @@ impl Boms {
     pub fn fits_in(&self, catalogue: &Catalogue, assembly: Id, part: Id) -> bool
         ensures { result ≡ fits_in (parts_of catalogue.now) (bills_of self.now) assembly part }
     {
-        self.lines.any(|line| {
-            is_effective(catalogue, line, assembly)
-                && !line.flags.consumable
-                && self.fits(catalogue, line, part)
-        })
-    }
-
-    // The parts that a walk leads to from the part, or from which one leads to it.
-    fn walk(
-        &self,
-        catalogue: &Catalogue,
-        direction: Direction,
-        start: Id,
-    ) -> Result<Vec<Id>, AllocError>
-        ensures { IfOk result (λ seen. (p : ℕ) → (is_among seen.items p ≡ true)
-            ↔ ((n : ℕ) × StepsFrom (is_next direction (part_rows (parts_of catalogue.now))
-            (line_rows (bills_of self.now)) (substitute_rows (bills_of self.now))) n start p)) }
-    {
-        let parts = catalogue.parts().select(|_| true)?;
-        let lines = self.lines.select(|_| true)?;
-        let substitutes = self.substitutes.select(|_| true)?;
-        search(self.alloc, direction, &parts, &lines, &substitutes, start)
+        self.fits_in_own(catalogue, assembly, part)
+            || catalogue.any_at(assembly, |row| {
+                row.number == assembly && self.fits_in_template(catalogue, row.template, part)
+            })
     }
 
     /// Whether a walk leads from the part to the other: at least one step, each to a part that fits a line that holds
-    /// for the one before. It looks at the lines once for each part that it comes to. An error is one of memory.
+    /// for the one before. It looks at the lines of the parts that it comes to alone. An error is one of memory.
     pub fn reaches(&self, catalogue: &Catalogue, from: Id, to: Id) -> Result<bool, AllocError>
         ensures { IfOk result (λ answer.
             IsTrue answer ↔ HasWalk (parts_of catalogue.now) (bills_of self.now) from to) }
     {
-        let seen = self.walk(catalogue, Direction::Down, from)?;
+        let seen = search(self.alloc, self, catalogue, Direction::Down, from)?;
         Ok(is_seen(&seen, to))
     }
 
@@ -161,7 +139,7 @@ impl Boms {
         ensures { IfOk result (λ used. IsWhereUsed
             (parts_of catalogue.now) (bills_of self.now) part (map (λ p. p.now) used.items)) }
     {
-        let seen = self.walk(catalogue, Direction::Up, part)?;
+        let seen = search(self.alloc, self, catalogue, Direction::Up, part)?;
         catalogue.parts().select(|row| is_seen(&seen, row.number))
     }
 
@@ -176,10 +154,9 @@ impl Boms {
             ↔ ((a : ℕ) × (covers (part_rows (parts_of catalogue.now)) number variants a ≡ true)
             × HasWalk (parts_of catalogue.now) (bills_of self.now) a a)) }
     {
-        let rows = catalogue.parts().select(|_| true)?;
-        let mut covered = Vec::new(self.alloc);
-        push_covered(&rows, number, variants, &mut covered)?;
-        for part in &covered {
+        let mut covered = IndexSet::new(self.alloc);
+        push_covered(catalogue, number, variants, &mut covered)?;
+        for part in covered.as_slice() {
             if self.reaches(catalogue, *part, *part)? {
                 return Ok(true);
             }
@@ -192,7 +169,7 @@ impl Boms {
         ensures { result
             ≡ is_line_open (parts_of catalogue.now) (bills_of self.now) open_parts.now line }
     {
-        match self.lines.get(&line) {
+        match self.line(line) {
             Some(line) => is_open(catalogue, open_parts, line.assembly),
             None => false,
         }
@@ -202,7 +179,7 @@ impl Boms {
     pub(crate) fn has_line(&self, line: Id) -> bool
         ensures { result ≡ has_row (bills_of self.now).lines line }
     {
-        match self.lines.get(&line) {
+        match self.line(line) {
             Some(_) => true,
             None => false,
         }

@@ -2,21 +2,11 @@
 ghost use Rattle.std.specs.Prelude.{◌≡◌, ◌↔◌, ℕ};
 ghost use Rattle.part_core.specs.Catalogues.{parts_of};
 ghost use Rattle.part_core.specs.Checks.{first};
-ghost use Rattle.bom_core.specs.Bills.{is_variant, part_rows};
 ghost use Rattle.bom_core.specs.Lines.{line_row_checks};
 ghost use Rattle.bom_core.specs.Changes.{has_row, is_assembly, is_component, is_open};
 
 use crate::line::NewLine;
 use part_core::{Catalogue, Id, Refusal, is_bad_quantity};
-
-/// Whether the part is a variant of the template. It looks at every part.
-pub fn is_variant(catalogue: &Catalogue, part: Id, template: Id) -> bool
-    ensures { result ≡ is_variant (part_rows (parts_of catalogue.now)) part template }
-{
-    catalogue
-        .parts()
-        .any(|row| row.number == part && row.template == Some(template))
-}
 
 /// Whether the catalogue has the part.
 pub fn has_part(catalogue: &Catalogue, number: Id) -> bool
@@ -50,7 +40,7 @@ pub fn is_component(catalogue: &Catalogue, number: Id) -> bool
 pub fn is_open(catalogue: &Catalogue, open_parts: &[Id], part: Id) -> bool
     ensures { result ≡ is_open (parts_of catalogue.now) open_parts.now part }
 {
-    open_parts.iter().any(|other| part == *other || is_variant(catalogue, *other, part))
+    open_parts.iter().any(|other| part == *other || catalogue.is_variant(*other, part))
 }
 
 /// Why a new line is refused, whatever the other lines are.

@@ -6,6 +6,7 @@ mod boms;
 mod checks;
 mod laws;
 mod line;
+mod merge;
 mod search;
 mod substitute;
 #[cfg(test)]

@@ -1,8 +1,9 @@
 //! Lines of bills.
-ghost use Rattle.std.specs.Prelude.{◌≡◌, ◌↔◌, ◌∷◌, [], IsTrue, IfOk};
+ghost use Rattle.std.specs.Prelude.{◌≡◌, ◌↔◌, ◌∷◌, [], IsTrue, IfOk, refl};
 ghost use Rattle.part_core.specs.Numbered.{number_digits, number_exact};
+ghost use Rattle.bom_core.specs.BillKeys.{line_key, line_keys};
 
-use part_core::{Id, Quantity, Row, compare_numbers};
+use part_core::{Id, Indexed, Quantity, Row, compare_numbers, index_key_of};
 use std::alloc::{AllocError, Global};
 use std::cmp::Ordering;
 
@@ -48,6 +49,20 @@ pub struct Line {
     pub flags: LineFlags,
 }
 
+/// A side of a line, which names a part.
+#[derive(Clone, Copy, Debug)]
+pub enum Side {
+    Assembly,
+    Component,
+}
+
+/// What a line is looked up by, besides its number.
+#[derive(Clone, Copy, Debug, PartialEq, Eq, Hash)]
+pub enum LineLookup {
+    Assembly(Id),
+    Component(Id),
+}
+
 /// What is said of a new line.
 #[derive(Clone, Copy, Debug)]
 pub struct NewLine {
@@ -71,6 +86,30 @@ impl NewLine {
             component: self.component,
             quantity: self.quantity,
             flags: self.flags,
+        }
+    }
+}
+
+impl Line {
+    ghost use Rattle.bom_core.specs.Sides.{named, takes_variants};
+
+    /// The part on that side.
+    pub fn named(&self, side: Side) -> Id
+        ensures { result ≡ named side self.now }
+    {
+        match side {
+            Side::Assembly => self.assembly,
+            Side::Component => self.component,
+        }
+    }
+
+    /// Whether the line means the variants of that part too.
+    pub fn takes_variants(&self, side: Side) -> bool
+        ensures { result ≡ takes_variants side self.now }
+    {
+        match side {
+            Side::Assembly => self.flags.inherited,
+            Side::Component => self.flags.variants,
         }
     }
 }
@@ -116,5 +155,29 @@ impl Row for Line {
             quantity: self.quantity,
             flags: self.flags,
         })
+    }
+}
+
+/// The index key of the lines that name the part on that side.
+pub fn line_key(side: Side, number: Id) -> u64
+    ensures { result ≡ line_key side number }
+{
+    match side {
+        Side::Assembly => index_key_of(LineLookup::Assembly(number)),
+        Side::Component => index_key_of(LineLookup::Component(number)),
+    }
+}
+
+impl Indexed for Line {
+    ghost index_keys = { line_keys };
+
+    ghost numbered = { λ _. refl };
+
+    fn index_key(&self, place: usize) -> Option<u64> {
+        match place {
+            0 => Some(line_key(Side::Assembly, self.assembly)),
+            1 => Some(line_key(Side::Component, self.component)),
+            _ => None,
+        }
     }
 }

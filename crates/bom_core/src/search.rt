@@ -1,11 +1,17 @@
-//! Searches up and down the bills.
-ghost use Rattle.std.specs.Prelude.{◌≡◌, ◌↔◌, ◌^◌, ◌<◌, ℕ, true, length, IfOk, OnOk, map};
-ghost use Rattle.bom_core.specs.Search.{is_among, push_new, push_all, variants_in, templates_in, covered_by, covered, substitutes_in, fitting, contained, assemblies_of, by_component, by_substitute, next_parts, is_next};
+//! Searches up and down the bills. Each looks up the lines, the substitutes and the variants of the parts that it comes
+//! to, and at no others.
+ghost use Rattle.std.specs.Prelude.{◌≡◌, ◌↔◌, ◌∷◌, [], ℕ, true, IfOk, OnOk};
+ghost use Rattle.std.specs.FinMap as table;
+ghost use Rattle.part_core.specs.Catalogues.{parts_of};
+ghost use Rattle.bom_core.specs.Bills.{part_rows, substitute_rows};
+ghost use Rattle.bom_core.specs.Boms.{bills_of};
+ghost use Rattle.bom_core.specs.Search.{is_among, push_new, push_all, variants_in, covered, substitutes_in, fitting, contained, assemblies_of, by_component, by_substitute, next_parts, is_next};
 ghost use Rattle.bom_core.specs.Walks.{StepsFrom};
 
-use crate::line::Line;
-use crate::substitute::Substitute;
-use part_core::{Id, Part};
+use crate::boms::Boms;
+use crate::line::{Line, Side};
+use indexmap::IndexSet;
+use part_core::{Catalogue, Id};
 use std::alloc::{AllocError, Global};
 
 /// Which way a search goes: from a part to those that it contains, or to those that contain it.
@@ -16,32 +22,31 @@ pub enum Direction {
 }
 
 /// Whether the part is among those seen.
-pub fn is_seen(seen: &[Id], part: Id) -> bool
-    ensures { result ≡ is_among seen.now part }
+pub fn is_seen(seen: &IndexSet<Id>, part: Id) -> bool
+    ensures { result ≡ is_among seen.now.keys part }
 {
-    seen.iter().any(|other| *other == part)
+    seen.contains(&part)
 }
 
 // Adds the part, unless it is seen already.
-fn push_new(seen: &mut Vec<Id>, part: Id) -> Result<(), AllocError>
-    ensures { OnOk result (seen.new.items ≡ push_new seen.old.items part) }
+fn push_new(seen: &mut IndexSet<Id>, part: Id) -> Result<(), AllocError>
+    ensures { OnOk result (seen.new.keys ≡ push_new seen.old.keys part) }
 {
-    if is_seen(seen, part) {
-        return Ok(());
-    }
-    seen.push(part)?;
+    seen.insert(part)?;
     Ok(())
 }
 
 // Adds the variants of the template.
-fn push_variants(parts: &[&Part], template: Id, seen: &mut Vec<Id>) -> Result<(), AllocError>
-    ensures { OnOk result (seen.new.items
-        ≡ push_all seen.old.items (variants_in (map (λ x. x.now) parts.now) template)) }
+fn push_variants(
+    catalogue: &Catalogue,
+    template: Id,
+    seen: &mut IndexSet<Id>,
+) -> Result<(), AllocError>
+    ensures { OnOk result (seen.new.keys ≡ push_all
+        seen.old.keys (variants_in (part_rows (parts_of catalogue.now)) template)) }
 {
-    for row in parts {
-        if row.template == Some(template) {
-            push_new(seen, row.number)?;
-        }
+    for row in &catalogue.variants(template)? {
+        push_new(seen, row.number)?;
     }
     Ok(())
 }
@@ -49,57 +54,28 @@ fn push_variants(parts: &[&Part], template: Id, seen: &mut Vec<Id>) -> Result<()
 /// Adds the part of that number, and, where variants count too, its variants.
 #[tactic(auto, using(crate::proofs::Pushes::push_all_append))]
 pub fn push_covered(
-    parts: &[&Part],
+    catalogue: &Catalogue,
     number: Id,
     variants: bool,
-    seen: &mut Vec<Id>,
+    seen: &mut IndexSet<Id>,
 ) -> Result<(), AllocError>
-    ensures { OnOk result (seen.new.items
-        ≡ push_all seen.old.items (covered (map (λ x. x.now) parts.now) number variants)) }
+    ensures { OnOk result (seen.new.keys ≡ push_all
+        seen.old.keys (covered (part_rows (parts_of catalogue.now)) number variants)) }
 {
     push_new(seen, number)?;
     if variants {
-        push_variants(parts, number, seen)?;
+        push_variants(catalogue, number, seen)?;
     }
     Ok(())
 }
 
-// The templates of the part: of a part in the catalogue at most one.
-fn templates_of(alloc: Global, parts: &[&Part], part: Id) -> Result<Vec<Id>, AllocError>
-    ensures { IfOk result (λ templates.
-        templates.items ≡ templates_in (map (λ x. x.now) parts.now) part) }
-{
-    let mut templates = Vec::new(alloc);
-    for row in parts {
-        if row.number == part {
-            if let Some(template) = row.template {
-                templates.push(template)?;
-            }
-        }
-    }
-    Ok(templates)
-}
-
-// Whether the part with these templates is that of the number, or, where variants count too, a variant of it.
-fn is_covered(number: Id, variants: bool, part: Id, templates: &[Id]) -> bool
-    ensures { result ≡ covered_by templates.now number variants part }
-{
-    number == part || (variants && is_seen(templates, number))
-}
-
 // Adds the substitutes of the line.
-fn push_substitutes(
-    substitutes: &[&Substitute],
-    line: Id,
-    seen: &mut Vec<Id>,
-) -> Result<(), AllocError>
-    ensures { OnOk result (seen.new.items
-        ≡ push_all seen.old.items (substitutes_in (map (λ x. x.now) substitutes.now) line)) }
+fn push_substitutes(boms: &Boms, line: Id, seen: &mut IndexSet<Id>) -> Result<(), AllocError>
+    ensures { OnOk result (seen.new.keys ≡ push_all
+        seen.old.keys (substitutes_in (substitute_rows (bills_of boms.now)) line)) }
 {
-    for row in substitutes {
-        if row.line == line {
-            push_new(seen, row.part)?;
-        }
+    for row in &boms.substitutes_on(line)? {
+        push_new(seen, row.part)?;
     }
     Ok(())
 }
@@ -107,98 +83,84 @@ fn push_substitutes(
 // Adds what fits the line.
 #[tactic(auto, using(crate::proofs::Pushes::push_all_append))]
 fn push_fitting(
-    parts: &[&Part],
-    substitutes: &[&Substitute],
+    boms: &Boms,
+    catalogue: &Catalogue,
     line: &Line,
-    seen: &mut Vec<Id>,
+    seen: &mut IndexSet<Id>,
 ) -> Result<(), AllocError>
-    ensures { OnOk result (seen.new.items ≡ push_all seen.old.items
-        (fitting (map (λ x. x.now) parts.now) (map (λ x. x.now) substitutes.now) line.now)) }
+    ensures { OnOk result (seen.new.keys ≡ push_all
+        seen.old.keys (fitting (part_rows (parts_of catalogue.now))
+        (substitute_rows (bills_of boms.now)) line.now)) }
 {
-    push_covered(parts, line.component, line.flags.variants, seen)?;
-    push_substitutes(substitutes, line.number, seen)?;
+    push_covered(catalogue, line.component, line.flags.variants, seen)?;
+    push_substitutes(boms, line.number, seen)?;
     Ok(())
 }
 
-// Adds what fits the lines that hold for the part with these templates.
+// Adds what fits the lines that hold for the part.
 #[tactic(auto, using(crate::proofs::Pushes::push_all_append))]
 fn push_contained(
-    parts: &[&Part],
-    lines: &[&Line],
-    substitutes: &[&Substitute],
-    templates: &[Id],
+    boms: &Boms,
+    catalogue: &Catalogue,
     part: Id,
-    seen: &mut Vec<Id>,
+    seen: &mut IndexSet<Id>,
 ) -> Result<(), AllocError>
-    ensures { OnOk result (seen.new.items
-        ≡ push_all seen.old.items (contained templates.now (map (λ x. x.now) parts.now)
-        (map (λ x. x.now) lines.now) (map (λ x. x.now) substitutes.now) part)) }
+    ensures { OnOk result (seen.new.keys ≡ push_all
+        seen.old.keys (contained (parts_of catalogue.now) (bills_of boms.now) part)) }
 {
-    for line in lines {
-        if is_covered(line.assembly, line.flags.inherited, part, templates) {
-            push_fitting(parts, substitutes, line, seen)?;
-        }
+    for line in &boms.covering(catalogue, Side::Assembly, part)? {
+        push_fitting(boms, catalogue, line, seen)?;
     }
     Ok(())
 }
 
-// Adds the parts that the lines of the number hold for.
-#[tactic(auto, using(crate::proofs::Pushes::push_all_append))]
-fn push_assemblies_of(
-    parts: &[&Part],
-    lines: &[&Line],
-    number: Id,
-    seen: &mut Vec<Id>,
-) -> Result<(), AllocError>
-    ensures { OnOk result (seen.new.items ≡ push_all seen.old.items
-        (assemblies_of (map (λ x. x.now) parts.now) (map (λ x. x.now) lines.now) number)) }
-{
-    for line in lines {
-        if line.number == number {
-            push_covered(parts, line.assembly, line.flags.inherited, seen)?;
-        }
-    }
-    Ok(())
-}
-
-// Adds the parts with a line whose component, or a variant that the line allows, is the part with these templates.
+// Adds the parts with a line whose component, or a variant that the line allows, is the part.
 #[tactic(auto, using(crate::proofs::Pushes::push_all_append))]
 fn push_by_component(
-    parts: &[&Part],
-    lines: &[&Line],
-    templates: &[Id],
+    boms: &Boms,
+    catalogue: &Catalogue,
     part: Id,
-    seen: &mut Vec<Id>,
+    seen: &mut IndexSet<Id>,
 ) -> Result<(), AllocError>
-    ensures { OnOk result (seen.new.items
-        ≡ push_all seen.old.items (by_component templates.now
-        (map (λ x. x.now) parts.now) (map (λ x. x.now) lines.now) part)) }
+    ensures { OnOk result (seen.new.keys ≡ push_all
+        seen.old.keys (by_component (parts_of catalogue.now) (bills_of boms.now) part)) }
 {
-    for line in lines {
-        if is_covered(line.component, line.flags.variants, part, templates) {
-            push_covered(parts, line.assembly, line.flags.inherited, seen)?;
-        }
+    for line in &boms.covering(catalogue, Side::Component, part)? {
+        push_covered(catalogue, line.assembly, line.flags.inherited, seen)?;
     }
     Ok(())
+}
+
+// Adds the parts that the line of that number holds for.
+fn push_assemblies_of(
+    boms: &Boms,
+    catalogue: &Catalogue,
+    number: Id,
+    seen: &mut IndexSet<Id>,
+) -> Result<(), AllocError>
+    ensures { OnOk result (seen.new.keys ≡ push_all
+        seen.old.keys (assemblies_of (part_rows (parts_of catalogue.now))
+        (table.get (bills_of boms.now).lines (number ∷ [])))) }
+{
+    match boms.line(number) {
+        Some(line) => push_covered(catalogue, line.assembly, line.flags.inherited, seen),
+        None => Ok(()),
+    }
 }
 
 // Adds the parts with a line that the part is a substitute of.
 #[tactic(auto, using(crate::proofs::Pushes::push_all_append))]
 fn push_by_substitute(
-    parts: &[&Part],
-    lines: &[&Line],
-    substitutes: &[&Substitute],
+    boms: &Boms,
+    catalogue: &Catalogue,
     part: Id,
-    seen: &mut Vec<Id>,
+    seen: &mut IndexSet<Id>,
 ) -> Result<(), AllocError>
-    ensures { OnOk result (seen.new.items
-        ≡ push_all seen.old.items (by_substitute (map (λ x. x.now) parts.now)
-        (map (λ x. x.now) lines.now) (map (λ x. x.now) substitutes.now) part)) }
+    ensures { OnOk result (seen.new.keys ≡ push_all
+        seen.old.keys (by_substitute (parts_of catalogue.now) (bills_of boms.now) part)) }
 {
-    for row in substitutes {
-        if row.part == part {
-            push_assemblies_of(parts, lines, row.line, seen)?;
-        }
+    for row in &boms.substitutes_by(part)? {
+        push_assemblies_of(boms, catalogue, row.line, seen)?;
     }
     Ok(())
 }
@@ -206,57 +168,44 @@ fn push_by_substitute(
 // Adds the parts that are one step away.
 #[tactic(auto, using(crate::proofs::Pushes::push_all_append))]
 fn push_next(
+    boms: &Boms,
+    catalogue: &Catalogue,
     direction: Direction,
-    parts: &[&Part],
-    lines: &[&Line],
-    substitutes: &[&Substitute],
     part: Id,
-    seen: &mut Vec<Id>,
-    alloc: Global,
+    seen: &mut IndexSet<Id>,
 ) -> Result<(), AllocError>
-    ensures { OnOk result (seen.new.items
-        ≡ push_all seen.old.items (next_parts direction (map (λ x. x.now) parts.now)
-        (map (λ x. x.now) lines.now) (map (λ x. x.now) substitutes.now) part)) }
+    ensures { OnOk result (seen.new.keys ≡ push_all seen.old.keys
+        (next_parts direction (parts_of catalogue.now) (bills_of boms.now) part)) }
 {
-    let templates = templates_of(alloc, parts, part)?;
     match direction {
-        Direction::Down => push_contained(parts, lines, substitutes, &templates, part, seen),
+        Direction::Down => push_contained(boms, catalogue, part, seen),
         Direction::Up => {
-            push_by_component(parts, lines, &templates, part, seen)?;
-            push_by_substitute(parts, lines, substitutes, part, seen)
+            push_by_component(boms, catalogue, part, seen)?;
+            push_by_substitute(boms, catalogue, part, seen)
         }
     }
 }
 
-/// The parts that a walk leads to, each once. It looks at the lines once for each of them.
+/// The parts that a walk leads to from the part, or from which one leads to it, each once.
 pub fn search(
     alloc: Global,
+    boms: &Boms,
+    catalogue: &Catalogue,
     direction: Direction,
-    parts: &[&Part],
-    lines: &[&Line],
-    substitutes: &[&Substitute],
     start: Id,
-) -> Result<Vec<Id>, AllocError>
-    ensures { IfOk result (λ seen. (p : ℕ) → (is_among seen.items p ≡ true)
-        ↔ ((n : ℕ) × StepsFrom (is_next direction (map (λ x. x.now) parts.now)
-        (map (λ x. x.now) lines.now) (map (λ x. x.now) substitutes.now)) n start p)) }
+) -> Result<IndexSet<Id>, AllocError>
+    ensures { IfOk result (λ seen. (p : ℕ) → (is_among seen.keys p ≡ true)
+        ↔ ((n : ℕ) × StepsFrom
+        (is_next direction (parts_of catalogue.now) (bills_of boms.now)) n start p)) }
 {
-    let mut seen = Vec::new(alloc);
-    push_next(
-        direction,
-        parts,
-        lines,
-        substitutes,
-        start,
-        &mut seen,
-        alloc,
-    )?;
+    let mut seen = IndexSet::new(alloc);
+    push_next(boms, catalogue, direction, start, &mut seen)?;
     for at in 0..usize::MAX {
         if at >= seen.len() {
             break;
         }
-        let part = seen[at];
-        push_next(direction, parts, lines, substitutes, part, &mut seen, alloc)?;
+        let part = seen.as_slice()[at];
+        push_next(boms, catalogue, direction, part, &mut seen)?;
     }
     Ok(seen)
 }

@@ -1,8 +1,9 @@
 //! Substitutes on lines of bills.
-ghost use Rattle.std.specs.Prelude.{◌≡◌, ◌↔◌, ◌∷◌, [], IsTrue, IfOk};
+ghost use Rattle.std.specs.Prelude.{◌≡◌, ◌↔◌, ◌∷◌, [], IsTrue, IfOk, refl};
 ghost use Rattle.part_core.specs.Numbered.{number_digits, number_exact};
+ghost use Rattle.bom_core.specs.BillKeys.{of_part_key, on_line_key, substitute_keys};
 
-use part_core::{Id, Row, compare_numbers};
+use part_core::{Id, Indexed, Row, compare_numbers, index_key_of};
 use std::alloc::{AllocError, Global};
 use std::cmp::Ordering;
 
@@ -12,6 +13,14 @@ pub struct Substitute {
     pub number: Id,
     pub line: Id,
     pub part: Id,
+}
+
+/// What a substitute is looked up by, besides its number.
+#[derive(Clone, Copy, Debug, PartialEq, Eq, Hash)]
+pub enum SubstituteLookup {
+    /// The line that it is on.
+    Line(Id),
+    Part(Id),
 }
 
 impl Row for Substitute {
@@ -47,5 +56,33 @@ impl Row for Substitute {
             line: self.line,
             part: self.part,
         })
+    }
+}
+
+/// The index key of the substitutes on that line.
+pub fn on_line_key(number: Id) -> u64
+    ensures { result ≡ on_line_key number }
+{
+    index_key_of(SubstituteLookup::Line(number))
+}
+
+/// The index key of the substitutes that are that part.
+pub fn of_part_key(number: Id) -> u64
+    ensures { result ≡ of_part_key number }
+{
+    index_key_of(SubstituteLookup::Part(number))
+}
+
+impl Indexed for Substitute {
+    ghost index_keys = { substitute_keys };
+
+    ghost numbered = { λ _. refl };
+
+    fn index_key(&self, place: usize) -> Option<u64> {
+        match place {
+            0 => Some(on_line_key(self.line)),
+            1 => Some(of_part_key(self.part)),
+            _ => None,
+        }
     }
 }

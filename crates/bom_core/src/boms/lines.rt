@@ -14,7 +14,7 @@ use crate::boms::Boms;
 use crate::checks::line_refusal;
 use crate::line::{Line, NewLine};
 use crate::substitute::Substitute;
-use part_core::{Catalogue, CoreFault, Counter, Id, Refusal, Sheet};
+use part_core::{Catalogue, CoreFault, Counter, Id, IndexedSheet, Refusal};
 use std::alloc::{AllocError, Global};
 
 // The numbers of the substitutes.
@@ -25,13 +25,13 @@ fn numbers_of(alloc: Global, substitutes: &[&Substitute]) -> Result<Vec<Id>, All
 }
 
 // Removes the rows of these numbers.
-fn remove_all(substitutes: &mut Sheet<Substitute>, numbers: &[Id]) -> Result<(), AllocError>
+fn remove_all(substitutes: &mut IndexedSheet<Substitute>, numbers: &[Id]) -> Result<(), AllocError>
     ensures removed { OnOk result (now_of substitutes.new
         ≡ removed_all numbers.now (now_of substitutes.old)) }
     ensures kept { substitutes.new.kept ≡ substitutes.old.kept }
 {
     for number in numbers {
-        substitutes.remove(number)?;
+        substitutes.remove(*number)?;
     }
     Ok(())
 }
@@ -98,7 +98,7 @@ impl Boms {
     fn substitutes_of(&self, line: Id) -> Result<Vec<Id>, AllocError>
         ensures { IfOk result (λ numbers. numbers.items ≡ substitutes_of line (bills_of self.now)) }
     {
-        let rows = self.substitutes.select(|row| row.line == line)?;
+        let rows = self.substitutes_on(line)?;
         numbers_of(self.alloc, &rows)
     }
 
@@ -109,7 +109,7 @@ impl Boms {
         ensures kept { kept_bills self.new ≡ kept_bills self.old }
     {
         let numbers = self.substitutes_of(line)?;
-        self.lines.remove(&line)?;
+        self.lines.remove(line)?;
         remove_all(&mut self.substitutes, &numbers)?;
         Ok(())
     }

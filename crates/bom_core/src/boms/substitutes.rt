@@ -21,7 +21,7 @@ impl Boms {
     fn is_fitting(&self, catalogue: &Catalogue, line: Id, part: Id) -> bool
         ensures { result ≡ is_fitting (parts_of catalogue.now) (bills_of self.now) line part }
     {
-        match self.lines.get(&line) {
+        match self.line(line) {
             Some(line) => self.fits(catalogue, line, part),
             None => false,
         }
@@ -31,7 +31,7 @@ impl Boms {
     fn has_substitute(&self, substitute: Id) -> bool
         ensures { result ≡ has_row (bills_of self.now).substitutes substitute }
     {
-        match self.substitutes.get(&substitute) {
+        match self.substitute(substitute) {
             Some(_) => true,
             None => false,
         }
@@ -86,7 +86,7 @@ impl Boms {
     {
         let of_line = substitute.line;
         self.substitutes.put(substitute)?;
-        let Some(line) = self.lines.get(&of_line) else {
+        let Some(line) = self.line(of_line) else {
             return Ok(());
         };
         if self.is_in_cycle(catalogue, line.assembly, line.flags.inherited)? {
@@ -141,7 +141,7 @@ impl Boms {
         ensures { result ≡ row_is (λ s. is_line_open (parts_of catalogue.now)
             (bills_of self.now) open_parts.now s.line) (bills_of self.now).substitutes substitute }
     {
-        match self.substitutes.get(&substitute) {
+        match self.substitute(substitute) {
             Some(substitute) => self.is_line_open(catalogue, open_parts, substitute.line),
             None => false,
         }
@@ -167,7 +167,7 @@ impl Boms {
         if self.is_substitute_open(catalogue, open_parts, substitute) {
             return Err(CoreFault::Refused(Refusal::InUse));
         }
-        self.substitutes.remove(&substitute)?;
+        self.substitutes.remove(substitute)?;
         Ok(())
     }
 }

@@ -1,8 +1,13 @@
-use Rattle.std.proofs.Common.{◌≡◌, drop, map}
-use Rattle.bom_core.specs.Search.{push_all, by_substitute}
+use Rattle.std.proofs.Common.{◌≡◌, [], ◌∷◌, drop, map}
+use Rattle.std.specs.Prelude.{flat_map}
+use Rattle.std.specs.FinMap as table
+use Rattle.part_core.specs.Catalogues.{parts_of}
+use Rattle.bom_core.specs.Bills.{part_rows}
+use Rattle.bom_core.specs.Boms.{bills_of}
+use Rattle.bom_core.specs.Search.{push_all, assemblies_of}
 use Rattle.bom_core.proofs.search.push_by_substitute.Given as goal
 
 abbrev pub invariant-loop-row : goal.invariant-loop-row
 invariant-loop-row l =
-    push_all l.seen.items (by_substitute (map (λ x. x.now) l.parts) (map (λ x. x.now) l.lines) (map (λ x. x.now) (drop l.row-index l.substitutes)) l.part)
-    ≡ push_all l.initial.seen.items (by_substitute (map (λ x. x.now) l.parts) (map (λ x. x.now) l.lines) (map (λ x. x.now) l.substitutes) l.part)
+    push_all l.seen.keys (flat_map (λ s. assemblies_of (part_rows (parts_of l.fn.catalogue)) (table.get (bills_of l.fn.boms).lines (s.line ∷ []))) (map (λ x. x.now) (drop l.row-index l.row-items)))
+    ≡ push_all l.initial.seen.keys (flat_map (λ s. assemblies_of (part_rows (parts_of l.fn.catalogue)) (table.get (bills_of l.fn.boms).lines (s.line ∷ []))) (map (λ x. x.now) l.row-items))

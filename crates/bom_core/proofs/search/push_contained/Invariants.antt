@@ -1,8 +1,12 @@
 use Rattle.std.proofs.Common.{◌≡◌, drop, map}
-use Rattle.bom_core.specs.Search.{push_all, contained}
+use Rattle.std.specs.Prelude.{flat_map}
+use Rattle.part_core.specs.Catalogues.{parts_of}
+use Rattle.bom_core.specs.Bills.{part_rows, substitute_rows}
+use Rattle.bom_core.specs.Boms.{bills_of}
+use Rattle.bom_core.specs.Search.{push_all, fitting}
 use Rattle.bom_core.proofs.search.push_contained.Given as goal
 
 abbrev pub invariant-loop-line : goal.invariant-loop-line
 invariant-loop-line l =
-    push_all l.seen.items (contained l.templates (map (λ x. x.now) l.parts) (map (λ x. x.now) (drop l.line-index l.lines)) (map (λ x. x.now) l.substitutes) l.part)
-    ≡ push_all l.initial.seen.items (contained l.templates (map (λ x. x.now) l.parts) (map (λ x. x.now) l.lines) (map (λ x. x.now) l.substitutes) l.part)
+    push_all l.seen.keys (flat_map (fitting (part_rows (parts_of l.fn.catalogue)) (substitute_rows (bills_of l.fn.boms))) (map (λ x. x.now) (drop l.line-index l.line-items)))
+    ≡ push_all l.initial.seen.keys (flat_map (fitting (part_rows (parts_of l.fn.catalogue)) (substitute_rows (bills_of l.fn.boms))) (map (λ x. x.now) l.line-items))

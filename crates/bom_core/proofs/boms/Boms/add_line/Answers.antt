@@ -1,4 +1,4 @@
-use Rattle.std.proofs.Common.{refl, sym, ◌∙◌, [], ◌∷◌}
+use Rattle.std.proofs.Common.{refl, sym, [], ◌∷◌}
 use Rattle.part_core.specs.Catalogues.{parts_of}
 use Rattle.part_core.specs.Counter.{passes_limit}
 use Rattle.part_core.specs.declared.refusal.Refusal.TheVariants.{Cycle, Full}

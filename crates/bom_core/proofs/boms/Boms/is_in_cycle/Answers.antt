@@ -1,25 +1,19 @@
-use Rattle.std.proofs.Common.{◌≡◌, ◌<◌, true, false, map, length, get_or, refl, sym, ap, ◌∙◌, subst, arith, below_more, rules}
-use Rattle.std.specs.FinMap as table
-use Rattle.part_core.specs.declared.part.Part.{Part}
+use Rattle.std.proofs.Common.{◌≡◌, ◌<◌, true, false, length, get_or, refl, sym, ◌∙◌, subst, arith, below_more}
 use Rattle.part_core.specs.Catalogues.{parts_of}
-use Rattle.part_core.specs.Sheet.{now_of}
 use Rattle.bom_core.specs.Bills.{covers, part_rows}
 use Rattle.bom_core.specs.Boms.{bills_of}
 use Rattle.bom_core.specs.Search.{is_among}
 use Rattle.bom_core.specs.Walks.{HasWalk}
 use Rattle.bom_core.proofs.Closed.{place, among-at}
 use Rattle.bom_core.proofs.Reached.{among-pushed}
-use Rattle.part_core.proofs.Standing.{filter_all}
 use Rattle.bom_core.proofs.boms.Boms.is_in_cycle.Goals as goal
 
 pub returns-then-branch : goal.returns-then-branch
 returns-then-branch c =
-    let items = c.deref-part-items.result.now in
-    let read : map (λ x. x.now) c.deref.result.now ≡ part_rows (parts_of c.args.catalogue.now) =
-    ap (map (λ x. x.now)) c.deref.ensures.value ∙ c.in_ok-rows.ensures (λ (_ : Part). true) (search rules) ∙ filter_all _ ∙ ap (λ s. table.values (now_of s)) c.parts.ensures in
+    let items = c.as_slice-part-items.result.now in
     let p = get_or items c.loop-part.part-index 0 in
     let covers_it : is_among items p ≡ covers (part_rows (parts_of c.args.catalogue.now)) c.args.number c.args.variants p =
-    among-pushed _ _ c.args.number c.args.variants _ _ items c.deref-part-items.ensures.value c.in_ok-push_covered.ensures c.new-covered.ensures.items read p in
+    among-pushed _ c.args.number c.args.variants _ _ items c.as_slice-part-items.ensures.keys c.in_ok-push_covered.ensures c.new-covered.ensures.empty p in
     (λ _. (p, sym covers_it ∙ among-at items c.loop-part.part-index c.loop-part-test.true, c.in_ok-reaches.ensures.0 c.if-branch.true), λ _. refl)
 
 pub loop-part-preserved : goal.loop-part-preserved
@@ -27,13 +21,11 @@ loop-part-preserved c = below_more _ _ c.loop-part.invariant (λ w. let no : c.i
 
 pub returns : goal.returns
 returns c =
-    let items = c.deref-part-items.result.now in
-    let read : map (λ x. x.now) c.deref.result.now ≡ part_rows (parts_of c.args.catalogue.now) =
-    ap (map (λ x. x.now)) c.deref.ensures.value ∙ c.in_ok-rows.ensures (λ (_ : Part). true) (search rules) ∙ filter_all _ ∙ ap (λ s. table.values (now_of s)) c.parts.ensures in (
+    let items = c.as_slice-part-items.result.now in (
       λ e. absurd (let f : false ≡ true = e in cc),
       λ w.
           let covers_it : is_among items w.0 ≡ covers (part_rows (parts_of c.args.catalogue.now)) c.args.number c.args.variants w.0 =
-          among-pushed _ _ c.args.number c.args.variants _ _ items c.deref-part-items.ensures.value c.in_ok-push_covered.ensures c.new-covered.ensures.items read w.0 in
+          among-pushed _ c.args.number c.args.variants _ _ items c.as_slice-part-items.ensures.keys c.in_ok-push_covered.ensures c.new-covered.ensures.empty w.0 in
           let k = place items w.0 (covers_it ∙ w.1) in
           let below : k.0 < length items = k.1 in
           let end = c.loop-part-test.false in

@@ -3,7 +3,15 @@ use Rattle.part_core.specs.Catalogues.{parts_of}
 use Rattle.bom_core.specs.Boms.{bills_of}
 use Rattle.bom_core.proofs.Edges.{line-cycles}
 use Rattle.part_core.proofs.Conditions.{not_true}
+use Rattle.bom_core.proofs.LookUps.{numbered-put, numbered-same}
 use Rattle.bom_core.proofs.boms.Boms.put_line.Goals as goal
+
+pub invariant_of-self : goal.invariant_of-self
+invariant_of-self c =
+    record {
+      numbered = numbered-put c.put.result c.args.self.now.lines _ c.args.line c.put.ensures.ok c.put.ensures.err c.args.self.now.numbered;
+      kept_numbered = numbered-same c.args.self.now.lines.kept _ c.args.self.now.kept_numbered c.put.ensures.kept;
+    }
 
 pub returns-then-branch-clause-refused : goal.returns-then-branch-clause-refused
 returns-then-branch-clause-refused c refusal e =

@@ -1,5 +1,4 @@
-use Rattle.std.proofs.Common.{◌≡◌, List, [], ◌∷◌, map, refl, ap, ◌∙◌, rules, Bor}
-use Rattle.std.specs.Prelude.{◌==◌}
+use Rattle.std.proofs.Common.{◌≡◌, List, [], ◌∷◌, map, refl, ap, ◌∙◌, Bor}
 use Rattle.part_core.proofs.SlotLemmas.{IfOk-map}
 use Rattle.bom_core.specs.declared.substitute.Substitute.{Substitute}
 use Rattle.bom_core.proofs.boms.Boms.substitutes_of.Goals as goal
@@ -12,4 +11,4 @@ pub returns : goal.returns
 returns c =
     IfOk-map c.numbers_of.result c.numbers_of.ensures (λ numbers e.
     e ∙ ap (λ (l : List (Bor Substitute)). map (λ r. r.now.number) l) c.deref.ensures.value ∙ numbers-now c.in_ok-rows.rows.items
-    ∙ ap (map (λ (s : Substitute). s.number)) (c.in_ok-rows.ensures (λ (s : Substitute). s.line == c.args.line) (search rules)))
+    ∙ ap (map (λ (s : Substitute). s.number)) c.in_ok-rows.ensures)

@@ -13,7 +13,7 @@ use Rattle.bom_core.proofs.boms.Boms.where_used.Goals as goal
 
 pub returns : goal.returns
 returns c =
-    let seen : Part → Bool = λ x. is_among c.in_ok-seen.seen.items x.number in
+    let seen : Part → Bool = λ x. is_among c.in_ok-seen.seen.keys x.number in
     let step : ℕ → ℕ → Bool = contains (parts_of c.args.catalogue.now) (bills_of c.args.self.now) in
     IfOk-map c.select.result c.select.ensures (λ rows e. (
       seen,

@@ -1,0 +1,10 @@
+use Rattle.std.proofs.Common.{[], ◌∷◌}
+use Rattle.bom_core.proofs.LookUps.{numbered-remove, numbered-same}
+use Rattle.bom_core.proofs.boms.Boms.take_line.Goals as goal
+
+pub invariant_of-self-2 : goal.invariant_of-self-2
+invariant_of-self-2 c =
+    record {
+      numbered = numbered-remove c.args.self.now.lines.rows _ (c.args.line ∷ []) c.args.self.now.numbered c.in_ok-remove.ensures.ok;
+      kept_numbered = numbered-same c.args.self.now.lines.kept _ c.args.self.now.kept_numbered c.in_ok-remove.ensures.kept;
+    }
