@@ -1,0 +1,123 @@
+-- The columns from which a row was read are the row's.
+use Rattle.std.proofs.Common.{◌≡◌, ℕ, zero, suc, ◌<◌, ◌≤◌, ◌/◌, ◌%◌, Bool, true, false, List, [], ◌∷◌, length, Option, Some, None, refl, sym, ap, ◌∙◌, arith}
+use Rattle.std.specs.Prelude.{slice_get, ◌==◌, ◌&&◌, nat_lt, if◌then◌else◌}
+use Rattle.std.proofs.lemmas.Bool.{eqb-true, eqb-false, ltb-true, lt-ltb}
+use Rattle.part_core.specs.declared.category.Category.{Category}
+use Rattle.part_core.specs.declared.part.Part.{Part}
+use Rattle.part_core.specs.declared.flags.Flags.{Flags}
+use Rattle.part_core.specs.declared.column.Column.{Column}
+use Rattle.part_core.specs.declared.column.Column.TheVariants.{Whole, Text}
+use Rattle.part_core.specs.Columns.{has, is_bit, whole_or_none_of, yes_of, number_or_absent, yes_number, number_at, number_or_none_at, row_text_at, yes_at}
+use Rattle.part_core.specs.CategoryColumns.{category_columns, category_from}
+use Rattle.part_core.specs.PartColumns.{part_columns, part_from, flags_at, flags_number, flags_of, flags_of_bits}
+use Rattle.part_core.specs.Text.{is_text}
+use Rattle.part_core.proofs.ColumnLemmas.{bound, found, has-is, number_at-is, number_or_none_at-is, row_text_at-is, yes_at-is, same_columns}
+
+pub category_told : (cs : List Column) (number : ℕ) (name : List ℕ) (parent : Option ℕ)
+    → has 3 cs ≡ Some tt → number_at 0 cs ≡ Some number → row_text_at 1 cs ≡ Some name → number_or_none_at 2 cs ≡ Some parent
+    → category_columns (record { number = number; name = name; parent = parent }) ≡ cs
+category_told cs number name parent all c0 c1 c2 =
+    same_columns cs (Whole number ∷ Text name ∷ number_or_absent parent ∷ []) (has-is 3 cs tt all)
+    (number_at-is 0 cs number c0, (row_text_at-is 1 cs name c1, (number_or_none_at-is 2 cs parent c2, tt)))
+
+-- what holds of all numbers below one
+abbrev holds_below : ℕ → (ℕ → Bool) → Bool
+holds_below zero p = true
+holds_below (suc m) p = p m && holds_below m p
+
+both_are : (a b : Bool) → (a && b) ≡ true → (a ≡ true) × (b ≡ true)
+both_are true b h = (refl, h)
+both_are false b h = cc
+
+below : (m : ℕ) (p : ℕ → Bool) → holds_below m p ≡ true → (n : ℕ) → n < m → p n ≡ true
+below zero p h n less = absurd (omega arith)
+below (suc m) p h n less =
+    let both = both_are (p m) (holds_below m p) h in
+    here (n == m) refl both.0 (λ lower. below m p both.1 n lower)
+  where
+    here : (b : Bool) → (n == m) ≡ b → p m ≡ true → (n < m → p n ≡ true) → p n ≡ true
+    here true e last rest = ap p (eqb-true n m e) ∙ last
+    here false e last rest = rest (omega (arith, eqb-false n m e))
+
+-- each number of flags is that of its flags
+flags-tell : (n : ℕ) (f : Flags) → flags_of n ≡ Some f → n ≡ flags_number f
+flags-tell n f = told (nat_lt n 128) refl
+  where
+    told : (b : Bool) → nat_lt n 128 ≡ b → (if b then Some (flags_of_bits n) else None) ≡ Some f → n ≡ flags_number f
+    told true less e =
+        sym (eqb-true (flags_number (flags_of_bits n)) n (below 128 (λ k. flags_number (flags_of_bits k) == k) refl n (ltb-true n 128 less)))
+        ∙ sym (found flags_number (flags_of_bits n) f e)
+    told false less e = cc
+
+yes-small : (b : Bool) → yes_number b ≤ 1
+yes-small true = omega arith
+yes-small false = omega arith
+
+bit-is : (weight n : ℕ) (b : Bool) → n / weight % 2 ≡ yes_number b → is_bit weight n ≡ b
+bit-is weight n b e = ap (λ (k : ℕ). k == 1) e ∙ one_is b
+  where
+    one_is : (b : Bool) → (yes_number b == 1) ≡ b
+    one_is true = refl
+    one_is false = refl
+
+-- flags are those of their number
+flags_read : (f : Flags) → flags_of (flags_number f) ≡ Some f
+flags_read f =
+    let n = flags_number f in
+    let t = yes-small f.template in
+    let a = yes-small f.assembly in
+    let c = yes-small f.component in
+    let k = yes-small f.trackable in
+    let p = yes-small f.purchaseable in
+    let s = yes-small f.salable in
+    let v = yes-small f.is_virtual in
+    let template = bit-is 1 n f.template (omega (arith, t, a, c, k, p, s, v)) in
+    let assembly = bit-is 2 n f.assembly (omega (arith, t, a, c, k, p, s, v)) in
+    let component = bit-is 4 n f.component (omega (arith, t, a, c, k, p, s, v)) in
+    let trackable = bit-is 8 n f.trackable (omega (arith, t, a, c, k, p, s, v)) in
+    let purchaseable = bit-is 16 n f.purchaseable (omega (arith, t, a, c, k, p, s, v)) in
+    let salable = bit-is 32 n f.salable (omega (arith, t, a, c, k, p, s, v)) in
+    let is_virtual = bit-is 64 n f.is_virtual (omega (arith, t, a, c, k, p, s, v)) in
+    ap (λ b. if b then Some (flags_of_bits n) else None) (lt-ltb n 128 (omega (arith, t, a, c, k, p, s, v)))
+    ∙ ap (λ b. Some (record (flags_of_bits n) { template = b })) template
+    ∙ ap (λ b. Some (record (flags_of_bits n) { template = f.template; assembly = b })) assembly
+    ∙ ap (λ b. Some (record (flags_of_bits n) { template = f.template; assembly = f.assembly; component = b })) component
+    ∙ ap (λ b. Some (record f { trackable = b; purchaseable = is_bit 16 n; salable = is_bit 32 n; is_virtual = is_bit 64 n })) trackable
+    ∙ ap (λ b. Some (record f { purchaseable = b; salable = is_bit 32 n; is_virtual = is_bit 64 n })) purchaseable
+    ∙ ap (λ b. Some (record f { salable = b; is_virtual = is_bit 64 n })) salable
+    ∙ ap (λ b. Some (record f { is_virtual = b })) is_virtual
+
+flags_at-is : (i : ℕ) (cs : List Column) (f : Flags) → flags_at i cs ≡ Some f → slice_get cs i ≡ Some (Whole (flags_number f))
+flags_at-is i cs f e =
+    let code = bound (number_at i cs) flags_of f e in
+    number_at-is i cs code.0 code.1 ∙ ap (λ (n : ℕ). Some (Whole n)) (flags-tell code.0 f code.2)
+
+pub part_told : (cs : List Column) (number : ℕ) (name : List ℕ) (category template : Option ℕ) (flags : Flags) (retired : Bool)
+    → has 6 cs ≡ Some tt → number_at 0 cs ≡ Some number → row_text_at 1 cs ≡ Some name
+    → number_or_none_at 2 cs ≡ Some category → number_or_none_at 3 cs ≡ Some template
+    → flags_at 4 cs ≡ Some flags → yes_at 5 cs ≡ Some retired
+    → part_columns (record { number = number; name = name; category = category; template = template; flags = flags; retired = retired }) ≡ cs
+part_told cs number name category template flags retired all c0 c1 c2 c3 c4 c5 =
+    let one : Part = record { number = number; name = name; category = category; template = template; flags = flags; retired = retired } in
+    same_columns cs (part_columns one) (has-is 6 cs tt all) (
+      number_at-is 0 cs number c0,
+      (
+        row_text_at-is 1 cs name c1,
+        (
+          number_or_none_at-is 2 cs category c2,
+          (number_or_none_at-is 3 cs template c3, (flags_at-is 4 cs flags c4, (yes_at-is 5 cs retired c5, tt))),
+        ),
+      ),
+    )
+
+yes_of-number : (b : Bool) → yes_of (yes_number b) ≡ Some b
+yes_of-number true = refl
+yes_of-number false = refl
+
+absent-read : (n : Option ℕ) → whole_or_none_of (Some (number_or_absent n)) ≡ Some n
+absent-read None = refl
+absent-read (Some n) = refl
+
+pub part_read : (row : Part) → is_text row.name ≡ true → part_from (part_columns row) ≡ Some row
+part_read row fits =
+    rw (fits, absent-read row.category, absent-read row.template, flags_read row.flags, yes_of-number row.retired) refl
