@@ -1,11 +1,19 @@
 -- What is read from columns stands in them.
-use Rattle.std.proofs.Common.{◌≡◌, ℕ, suc, Bool, true, false, cond, List, [], ◌∷◌, length, Option, Some, None, refl, sym, ap, ◌∙◌, arith}
-use Rattle.std.specs.Prelude.{slice_get, ◌==◌, if◌then◌else◌}
-use Rattle.std.proofs.lemmas.Bool.{eqb-true}
+use Rattle.std.proofs.Common.{◌≡◌, ℕ, zero, suc, ◌<◌, ◌≤◌, ◌/◌, ◌%◌, Bool, true, false, cond, List, [], ◌∷◌, length, Option, Some, None, refl, sym, ap, ◌∙◌, arith}
+use Rattle.std.specs.Prelude.{slice_get, ◌==◌, ◌&&◌, if◌then◌else◌}
+use Rattle.std.specs.List.{find}
+use Rattle.std.specs.Str.{bytes_eq}
+use Rattle.std.proofs.lemmas.Slice.Eq.{bytes_eq-Decides}
+use Rattle.std.proofs.lemmas.Bool.{eqb-true, eqb-false}
 use Rattle.part_core.specs.declared.column.Column.{Column}
 use Rattle.part_core.specs.declared.column.Column.TheVariants.{Whole, Text, Absent}
-use Rattle.part_core.specs.Columns.{◌>>=◌, must, has, number_at, text_at, text_or_none_at, number_or_none_at, row_text_at, yes_at, yes_of, yes_number, whole_of, whole_or_none_of, words_of, words_or_none_of, fitting, number_or_absent, text_or_absent}
+use Rattle.part_core.specs.Columns.{◌>>=◌, must, has, is_bit, day_as_written, day_at, status_at, row_text_or_none_at, serial_or_none_at, fitting_or_none, number_at, text_at, text_or_none_at, number_or_none_at, row_text_at, yes_at, yes_of, yes_number, whole_of, whole_or_none_of, words_of, words_or_none_of, fitting, number_or_absent, text_or_absent}
 use Rattle.part_core.specs.Text.{is_text}
+use Rattle.part_core.specs.Serial.{is_serial}
+use Rattle.part_core.specs.Day.{CivilDay, day_of, day_text}
+use Rattle.part_core.specs.Status.{status_of, status_code, all_statuses}
+use Rattle.part_core.specs.declared.status.Status.{Status}
+use Rattle.part_core.specs.declared.status.Status.TheVariants.{Okay, Attention, Damaged, Destroyed, Rejected, Lost, Quarantined, Returned}
 
 -- what a step found, and what was found after it
 pub bound : {A B : Type 0} (o : Option A) (f : A → Option B) (y : B) → (o >>= f) ≡ Some y → (x : A) × (o ≡ Some x) × (f x ≡ Some y)
@@ -58,6 +66,24 @@ fitting-is test t u = kept (test t)
     kept true e = found (λ (k : List ℕ). k) u t (sym e)
     kept false e = cc
 
+-- the code of what is found by its code is that code
+pub code-found : {X : Type 0} (code : X → ℕ) (n : ℕ) (xs : List X) (x : X) → find (λ y. code y == n) xs ≡ Some x → n ≡ code x
+code-found code n [] x e = cc
+code-found code n (y ∷ ys) x e = told (code y == n) refl (λ later. code-found code n ys x later) e
+  where
+    told : (b : Bool) → (code y == n) ≡ b → (find (λ y. code y == n) ys ≡ Some x → n ≡ code x)
+        → (if b then Some y else find (λ y. code y == n) ys) ≡ Some x → n ≡ code x
+    told true p rest e = sym (eqb-true (code y) n p) ∙ sym (found code y x e)
+    told false p rest e = rest e
+
+pub fitting_or_none-is : (test : List ℕ → Bool) (t u : Option (List ℕ)) → fitting_or_none test t ≡ Some u → t ≡ u
+fitting_or_none-is test None u e = found (λ (k : Option (List ℕ)). k) u None (sym e)
+fitting_or_none-is test (Some t) u e = kept (test t) e
+  where
+    kept : (b : Bool) → cond b (Some (Some t)) None ≡ Some u → Some t ≡ u
+    kept true e = found (λ (k : Option (List ℕ)). k) u (Some t) (sym e)
+    kept false e = cc
+
 module _ (i : ℕ) (cs : List Column) where
   pub number_at-is : (n : ℕ) → number_at i cs ≡ Some n → slice_get cs i ≡ Some (Whole n)
   number_at-is n e = whole-is (slice_get cs i) n e
@@ -75,6 +101,35 @@ module _ (i : ℕ) (cs : List Column) where
   row_text_at-is t e =
       let b = bound (text_at i cs) (fitting is_text) t e in
       text_at-is b.0 b.1 ∙ ap (λ (k : List ℕ). Some (Text k)) (fitting-is is_text b.0 t b.2)
+
+  pub row_text_or_none_at-is : (v : Option (List ℕ)) → row_text_or_none_at i cs ≡ Some v → slice_get cs i ≡ Some (text_or_absent v)
+  row_text_or_none_at-is v e =
+      let b = bound (text_or_none_at i cs) (fitting_or_none is_text) v e in
+      text_or_none_at-is b.0 b.1 ∙ ap (λ (k : Option (List ℕ)). Some (text_or_absent k)) (fitting_or_none-is is_text b.0 v b.2)
+
+  pub serial_or_none_at-is : (v : Option (List ℕ)) → serial_or_none_at i cs ≡ Some v → slice_get cs i ≡ Some (text_or_absent v)
+  serial_or_none_at-is v e =
+      let b = bound (text_or_none_at i cs) (fitting_or_none is_serial) v e in
+      text_or_none_at-is b.0 b.1 ∙ ap (λ (k : Option (List ℕ)). Some (text_or_absent k)) (fitting_or_none-is is_serial b.0 v b.2)
+
+  pub status_at-is : (s : Status) → status_at i cs ≡ Some s → slice_get cs i ≡ Some (Whole (status_code s))
+  status_at-is s e =
+      let b = bound (number_at i cs) status_of s e in
+      number_at-is b.0 b.1 ∙ ap (λ (k : ℕ). Some (Whole k)) (code-found status_code b.0 all_statuses s b.2)
+
+  pub day_at-is : (d : CivilDay) → day_at i cs ≡ Some d → slice_get cs i ≡ Some (Text (day_text d))
+  day_at-is d e =
+      let text = bound (text_at i cs) day_as_written d e in
+      let day = bound (day_of text.0) _ d text.2 in
+      let same = bound (must (bytes_eq (day_text day.0) text.0)) _ d day.2 in
+      text_at-is text.0 text.1 ∙ ap (λ (k : List ℕ). Some (Text k)) (sym (written day.0 text.0 same.0 same.1) ∙ sym (found day_text day.0 d same.2))
+    where
+      written : (day : CivilDay) (text : List ℕ) (u : Unit {0}) → must (bytes_eq (day_text day) text) ≡ Some u → day_text day ≡ text
+      written day text u = held (bytes_eq (day_text day) text) refl
+        where
+          held : (b : Bool) → bytes_eq (day_text day) text ≡ b → must b ≡ Some u → day_text day ≡ text
+          held true p e = (bytes_eq-Decides (day_text day) text).0 p
+          held false p e = cc
 
   pub yes_at-is : (b : Bool) → yes_at i cs ≡ Some b → slice_get cs i ≡ Some (Whole (yes_number b))
   yes_at-is b e =
@@ -109,3 +164,51 @@ same_columns (c ∷ cs) [] e s = absurd (omega arith)
 same_columns (c ∷ cs) (d ∷ ds) e s =
     let rest = same_columns cs ds (omega arith) (later 0 c cs ds s.1) in
     found (λ (k : Column). k ∷ ds) c d s.0 ∙ ap (λ l. c ∷ l) rest
+
+-- ---- what is written is read
+
+pub yes_of-number : (b : Bool) → yes_of (yes_number b) ≡ Some b
+yes_of-number true = refl
+yes_of-number false = refl
+
+pub absent-read : (n : Option ℕ) → whole_or_none_of (Some (number_or_absent n)) ≡ Some n
+absent-read None = refl
+absent-read (Some n) = refl
+
+pub absent_text-read : (t : Option (List ℕ)) → words_or_none_of (Some (text_or_absent t)) ≡ Some t
+absent_text-read None = refl
+absent_text-read (Some t) = refl
+
+pub status-read : (s : Status) → status_of (status_code s) ≡ Some s
+status-read s =
+    elim s as (λ s. status_of (status_code s) ≡ Some s) [ Okay ↦ refl | Attention ↦ refl | Damaged ↦ refl | Destroyed ↦ refl | Rejected ↦ refl | Lost ↦ refl | Quarantined ↦ refl | Returned ↦ refl ]
+
+pub yes-small : (b : Bool) → yes_number b ≤ 1
+yes-small true = omega arith
+yes-small false = omega arith
+
+pub bit-is : (weight n : ℕ) (b : Bool) → n / weight % 2 ≡ yes_number b → is_bit weight n ≡ b
+bit-is weight n b e = ap (λ (k : ℕ). k == 1) e ∙ one_is b
+  where
+    one_is : (b : Bool) → (yes_number b == 1) ≡ b
+    one_is true = refl
+    one_is false = refl
+
+-- what holds of all numbers below one
+abbrev pub holds_below : ℕ → (ℕ → Bool) → Bool
+holds_below zero p = true
+holds_below (suc m) p = p m && holds_below m p
+
+both_are : (a b : Bool) → (a && b) ≡ true → (a ≡ true) × (b ≡ true)
+both_are true b h = (refl, h)
+both_are false b h = cc
+
+pub below : (m : ℕ) (p : ℕ → Bool) → holds_below m p ≡ true → (n : ℕ) → n < m → p n ≡ true
+below zero p h n less = absurd (omega arith)
+below (suc m) p h n less =
+    let both = both_are (p m) (holds_below m p) h in
+    here (n == m) refl both.0 (λ lower. below m p both.1 n lower)
+  where
+    here : (b : Bool) → (n == m) ≡ b → p m ≡ true → (n < m → p n ≡ true) → p n ≡ true
+    here true e last rest = ap p (eqb-true n m e) ∙ last
+    here false e last rest = rest (omega (arith, eqb-false n m e))

@@ -11,7 +11,7 @@ use Rattle.part_core.specs.Columns.{has, is_bit, whole_or_none_of, yes_of, numbe
 use Rattle.part_core.specs.CategoryColumns.{category_columns, category_from}
 use Rattle.part_core.specs.PartColumns.{part_columns, part_from, flags_at, flags_number, flags_of, flags_of_bits}
 use Rattle.part_core.specs.Text.{is_text}
-use Rattle.part_core.proofs.ColumnLemmas.{bound, found, has-is, number_at-is, number_or_none_at-is, row_text_at-is, yes_at-is, same_columns}
+use Rattle.part_core.proofs.ColumnLemmas.{absent-read, below, bit-is, bound, found, has-is, number_at-is, number_or_none_at-is, row_text_at-is, yes_at-is, same_columns, yes-small, yes_of-number}
 
 pub category_told : (cs : List Column) (number : ℕ) (name : List ℕ) (parent : Option ℕ)
     → has 3 cs ≡ Some tt → number_at 0 cs ≡ Some number → row_text_at 1 cs ≡ Some name → number_or_none_at 2 cs ≡ Some parent
@@ -19,25 +19,6 @@ pub category_told : (cs : List Column) (number : ℕ) (name : List ℕ) (parent 
 category_told cs number name parent all c0 c1 c2 =
     same_columns cs (Whole number ∷ Text name ∷ number_or_absent parent ∷ []) (has-is 3 cs tt all)
     (number_at-is 0 cs number c0, (row_text_at-is 1 cs name c1, (number_or_none_at-is 2 cs parent c2, tt)))
-
--- what holds of all numbers below one
-abbrev holds_below : ℕ → (ℕ → Bool) → Bool
-holds_below zero p = true
-holds_below (suc m) p = p m && holds_below m p
-
-both_are : (a b : Bool) → (a && b) ≡ true → (a ≡ true) × (b ≡ true)
-both_are true b h = (refl, h)
-both_are false b h = cc
-
-below : (m : ℕ) (p : ℕ → Bool) → holds_below m p ≡ true → (n : ℕ) → n < m → p n ≡ true
-below zero p h n less = absurd (omega arith)
-below (suc m) p h n less =
-    let both = both_are (p m) (holds_below m p) h in
-    here (n == m) refl both.0 (λ lower. below m p both.1 n lower)
-  where
-    here : (b : Bool) → (n == m) ≡ b → p m ≡ true → (n < m → p n ≡ true) → p n ≡ true
-    here true e last rest = ap p (eqb-true n m e) ∙ last
-    here false e last rest = rest (omega (arith, eqb-false n m e))
 
 -- each number of flags is that of its flags
 flags-tell : (n : ℕ) (f : Flags) → flags_of n ≡ Some f → n ≡ flags_number f
@@ -48,17 +29,6 @@ flags-tell n f = told (nat_lt n 128) refl
         sym (eqb-true (flags_number (flags_of_bits n)) n (below 128 (λ k. flags_number (flags_of_bits k) == k) refl n (ltb-true n 128 less)))
         ∙ sym (found flags_number (flags_of_bits n) f e)
     told false less e = cc
-
-yes-small : (b : Bool) → yes_number b ≤ 1
-yes-small true = omega arith
-yes-small false = omega arith
-
-bit-is : (weight n : ℕ) (b : Bool) → n / weight % 2 ≡ yes_number b → is_bit weight n ≡ b
-bit-is weight n b e = ap (λ (k : ℕ). k == 1) e ∙ one_is b
-  where
-    one_is : (b : Bool) → (yes_number b == 1) ≡ b
-    one_is true = refl
-    one_is false = refl
 
 -- flags are those of their number
 flags_read : (f : Flags) → flags_of (flags_number f) ≡ Some f
@@ -109,14 +79,6 @@ part_told cs number name category template flags retired all c0 c1 c2 c3 c4 c5 =
         ),
       ),
     )
-
-yes_of-number : (b : Bool) → yes_of (yes_number b) ≡ Some b
-yes_of-number true = refl
-yes_of-number false = refl
-
-absent-read : (n : Option ℕ) → whole_or_none_of (Some (number_or_absent n)) ≡ Some n
-absent-read None = refl
-absent-read (Some n) = refl
 
 pub part_read : (row : Part) → is_text row.name ≡ true → part_from (part_columns row) ≡ Some row
 part_read row fits =

@@ -1,6 +1,11 @@
 -- Rows as columns: what a file has of a row, and which row columns are.
 use Rattle.std.specs.Prelude.{◌≡◌, ℕ, ◌==◌, ◌/◌, ◌%◌, Bool, true, false, cond, if◌then◌else◌, List, length, slice_get, Option, Some, None, Result, Ok, Err}
+use Rattle.std.specs.Str.{bytes_eq}
+use Rattle.part_core.specs.Day.{CivilDay, day_of, day_text}
+use Rattle.part_core.specs.Serial.{is_serial}
+use Rattle.part_core.specs.Status.{status_of}
 use Rattle.part_core.specs.Text.{is_text}
+use Rattle.part_core.specs.declared.status.Status.{Status}
 use Rattle.part_core.specs.declared.column.Column.{Column}
 use Rattle.part_core.specs.declared.column.Column.TheVariants.{Whole, Text, Absent}
 use Rattle.part_core.specs.declared.column.ColumnFault.{ColumnFault}
@@ -70,6 +75,38 @@ abbrev pub row_text_at : ℕ → List Column → Option (List ℕ)
 row_text_at i columns = do
   text ← text_at i columns
   fitting is_text text
+
+-- a text that passes the test, or none
+abbrev pub fitting_or_none : (List ℕ → Bool) → Option (List ℕ) → Option (Option (List ℕ))
+fitting_or_none test None = Some None
+fitting_or_none test (Some text) = cond (test text) (Some (Some text)) None
+
+abbrev pub row_text_or_none_at : ℕ → List Column → Option (Option (List ℕ))
+row_text_or_none_at i columns = do
+  text ← text_or_none_at i columns
+  fitting_or_none is_text text
+
+abbrev pub serial_or_none_at : ℕ → List Column → Option (Option (List ℕ))
+serial_or_none_at i columns = do
+  text ← text_or_none_at i columns
+  fitting_or_none is_serial text
+
+abbrev pub status_at : ℕ → List Column → Option Status
+status_at i columns = do
+  code ← number_at i columns
+  status_of code
+
+-- the day of a text that is as days are written
+abbrev pub day_as_written : List ℕ → Option CivilDay
+day_as_written text = do
+  day ← day_of text
+  same ← must (bytes_eq (day_text day) text)
+  Some day
+
+abbrev pub day_at : ℕ → List Column → Option CivilDay
+day_at i columns = do
+  text ← text_at i columns
+  day_as_written text
 
 -- ---- tests
 

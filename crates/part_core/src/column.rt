@@ -1,8 +1,11 @@
 //! What a row is in a table of a file: its columns, written and read one by one.
-ghost use Rattle.std.specs.Prelude.{◌≡◌, ◌<◌, IfOk, MatchResult, Some, None};
+ghost use Rattle.std.specs.Prelude.{◌≡◌, ◌<◌, IfOk, MatchResult, Some, None, option_copied};
 ghost use Rattle.std.specs.String.{string_bytes};
-ghost use Rattle.part_core.specs.Columns.{Finds, is_bit, number_at, number_or_none_at, text_at, has, row_text_at, yes_at, yes_number, number_or_absent};
+ghost use Rattle.part_core.specs.Columns.{Finds, is_bit, number_at, number_or_none_at, text_at, text_or_none_at, has, row_text_at, row_text_or_none_at, serial_or_none_at, status_at, day_at, yes_at, yes_number, number_or_absent};
 
+use crate::day::Day;
+use crate::serial::Serial;
+use crate::status::Status;
 use crate::text::Text;
 use std::alloc::{AllocError, Global};
 use std::marker::Model;
@@ -155,10 +158,74 @@ pub fn text_at(columns: &[Column], at: usize) -> Result<&str, ColumnFault>
     }
 }
 
+/// The text in the column, or none where it is absent.
+fn text_or_none_at(columns: &[Column], at: usize) -> Result<Option<&str>, ColumnFault>
+    ensures { MatchResult result
+        (λ text. text_or_none_at at columns.now ≡ Some (option_copied text))
+        (λ fault. (fault ≡ ColumnFault.NoRow) × (text_or_none_at at columns.now ≡ None)) }
+{
+    match columns.get(at) {
+        Some(Column::Text(text)) => Ok(Some(text.as_str())),
+        Some(Column::Absent) => Ok(None),
+        _ => Err(ColumnFault::NoRow),
+    }
+}
+
 /// The text in the column, where it may stand in a row.
 pub fn row_text_at(alloc: Global, columns: &[Column], at: usize) -> Result<Text, ColumnFault>
     ensures { Finds result (row_text_at at columns.now) }
 {
     let text = String::from_str(alloc, text_at(columns, at)?)?;
     Text::new(text).ok_or(ColumnFault::NoRow)
+}
+
+/// The text in the column, where it may stand in a row, or none where it is absent.
+pub fn row_text_or_none_at(
+    alloc: Global,
+    columns: &[Column],
+    at: usize,
+) -> Result<Option<Text>, ColumnFault>
+    ensures { Finds result (row_text_or_none_at at columns.now) }
+{
+    let Some(text) = text_or_none_at(columns, at)? else {
+        return Ok(None);
+    };
+    let text = Text::new(String::from_str(alloc, text)?).ok_or(ColumnFault::NoRow)?;
+    Ok(Some(text))
+}
+
+/// The serial number in the column, or none where it is absent.
+pub fn serial_or_none_at(
+    alloc: Global,
+    columns: &[Column],
+    at: usize,
+) -> Result<Option<Serial>, ColumnFault>
+    ensures { Finds result (serial_or_none_at at columns.now) }
+{
+    let Some(text) = text_or_none_at(columns, at)? else {
+        return Ok(None);
+    };
+    let serial = Serial::new(String::from_str(alloc, text)?).ok_or(ColumnFault::NoRow)?;
+    Ok(Some(serial))
+}
+
+/// The status in the column.
+pub fn status_at(columns: &[Column], at: usize) -> Result<Status, ColumnFault>
+    ensures { Finds result (status_at at columns.now) }
+{
+    let code = number_at(columns, at)?;
+    Status::from_code(code).ok_or(ColumnFault::NoRow)
+}
+
+/// The day in the column, where it is as days are written.
+pub fn day_at(alloc: Global, columns: &[Column], at: usize) -> Result<Day, ColumnFault>
+    ensures { Finds result (day_at at columns.now) }
+{
+    let text = text_at(columns, at)?;
+    let day = Day::parse(text).ok_or(ColumnFault::NoRow)?;
+    if day.text(alloc)?.as_str() == text {
+        Ok(day)
+    } else {
+        Err(ColumnFault::NoRow)
+    }
 }
