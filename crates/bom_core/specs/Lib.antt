@@ -1,3 +1,4 @@
+pub mod BillColumns
 pub mod Bills
 pub mod BomMachine
 pub mod Boms

@@ -1,8 +1,11 @@
 //! Lines of bills.
 ghost use Rattle.std.specs.Prelude.{◌≡◌, ◌↔◌, ◌∷◌, [], IsTrue, IfOk};
+ghost use Rattle.bom_core.specs.BillColumns.{line_columns, line_flags_at, line_flags_number, line_flags_of, line_from};
+ghost use Rattle.part_core.specs.Columns.{Finds};
 ghost use Rattle.part_core.specs.Numbered.{number_digits, number_exact};
 
-use part_core::{Id, Quantity, Row, compare_numbers};
+use part_core::column::{has, is_bit, number_at};
+use part_core::{Column, ColumnFault, Id, Quantity, Row, compare_numbers};
 use std::alloc::{AllocError, Global};
 use std::cmp::Ordering;
 
@@ -20,6 +23,31 @@ pub struct LineFlags {
 }
 
 impl LineFlags {
+    /// The flags as a number, as a file has it: the first is 1, the second 2, the third 4, the last 8.
+    pub fn number(&self) -> u64
+        ensures { result ≡ line_flags_number self.now }
+    {
+        self.optional as u64
+            + 2 * self.consumable as u64
+            + 4 * self.inherited as u64
+            + 8 * self.variants as u64
+    }
+
+    /// The flags of a number, none for one of 16 or more.
+    pub fn from_number(number: u64) -> Option<LineFlags>
+        ensures { result ≡ line_flags_of number }
+    {
+        if number >= 16 {
+            return None;
+        }
+        Some(LineFlags {
+            optional: is_bit(1, number),
+            consumable: is_bit(2, number),
+            inherited: is_bit(4, number),
+            variants: is_bit(8, number),
+        })
+    }
+
     /// Whether the flags are the same.
     pub fn equals(&self, other: &LineFlags) -> bool
         ensures { IsTrue result ↔ (self.now ≡ other.now) }
@@ -75,6 +103,14 @@ impl NewLine {
     }
 }
 
+/// The flags in the column.
+fn flags_at(columns: &[Column], at: usize) -> Result<LineFlags, ColumnFault>
+    ensures { Finds result (line_flags_at at columns.now) }
+{
+    let number = number_at(columns, at)?;
+    LineFlags::from_number(number).ok_or(ColumnFault::NoRow)
+}
+
 impl Row for Line {
     type Key = u64;
 
@@ -90,6 +126,37 @@ impl Row for Line {
 
     fn compare(key: &u64, other: &u64) -> Ordering {
         compare_numbers(*key, *other)
+    }
+
+    ghost columns_of = { line_columns };
+
+    ghost row_from = { line_from };
+
+    #[tactic(auto, using(crate::proofs::BillColumns::line_read))]
+    fn columns(&self, alloc: Global) -> Result<Vec<Column>, AllocError> {
+        Ok(vec![in alloc;
+            Column::Whole(self.number),
+            Column::Whole(self.assembly),
+            Column::Whole(self.component),
+            Column::Whole(self.quantity),
+            Column::Whole(self.flags.number()),
+        ]?)
+    }
+
+    fn from_columns(_alloc: Global, columns: &[Column]) -> Result<Self, ColumnFault> {
+        has(columns, 5)?;
+        let number = number_at(columns, 0)?;
+        let assembly = number_at(columns, 1)?;
+        let component = number_at(columns, 2)?;
+        let quantity = number_at(columns, 3)?;
+        let flags = flags_at(columns, 4)?;
+        Ok(Line {
+            number,
+            assembly,
+            component,
+            quantity,
+            flags,
+        })
     }
 
     fn equals(&self, other: &Self) -> bool {

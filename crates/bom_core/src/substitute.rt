@@ -1,8 +1,10 @@
 //! Substitutes on lines of bills.
 ghost use Rattle.std.specs.Prelude.{◌≡◌, ◌↔◌, ◌∷◌, [], IsTrue, IfOk};
+ghost use Rattle.bom_core.specs.BillColumns.{substitute_columns, substitute_from};
 ghost use Rattle.part_core.specs.Numbered.{number_digits, number_exact};
 
-use part_core::{Id, Row, compare_numbers};
+use part_core::column::{has, number_at};
+use part_core::{Column, ColumnFault, Id, Row, compare_numbers};
 use std::alloc::{AllocError, Global};
 use std::cmp::Ordering;
 
@@ -29,6 +31,27 @@ impl Row for Substitute {
 
     fn compare(key: &u64, other: &u64) -> Ordering {
         compare_numbers(*key, *other)
+    }
+
+    ghost columns_of = { substitute_columns };
+
+    ghost row_from = { substitute_from };
+
+    fn columns(&self, alloc: Global) -> Result<Vec<Column>, AllocError> {
+        Ok(vec![in alloc;
+            Column::Whole(self.number),
+            Column::Whole(self.line),
+            Column::Whole(self.part),
+        ]?)
+    }
+
+    #[tactic(auto, using(crate::proofs::BillColumns::substitute_told))]
+    fn from_columns(_alloc: Global, columns: &[Column]) -> Result<Self, ColumnFault> {
+        has(columns, 3)?;
+        let number = number_at(columns, 0)?;
+        let line = number_at(columns, 1)?;
+        let part = number_at(columns, 2)?;
+        Ok(Substitute { number, line, part })
     }
 
     fn equals(&self, other: &Self) -> bool {

@@ -1,12 +1,11 @@
 -- A category as a row of a file: id, name, parent.
-use Rattle.std.specs.Prelude.{List, [], ◌∷◌, Option, Some}
+use Rattle.std.specs.Prelude.{List, Option, Some}
 use Rattle.part_core.specs.declared.category.Category.{Category}
 use Rattle.part_core.specs.declared.column.Column.{Column}
-use Rattle.part_core.specs.declared.column.Column.TheVariants.{Whole, Text}
-use Rattle.part_core.specs.Columns.{◌>>=◌, has, number_at, number_or_none_at, row_text_at, number_or_absent}
+use Rattle.part_core.specs.Columns.{◌>>=◌, has, number_at, number_or_none_at, row_text_at, named_columns}
 
 abbrev pub category_columns : Category → List Column
-category_columns row = Whole row.number ∷ Text row.name ∷ number_or_absent row.parent ∷ []
+category_columns row = named_columns row.number row.name row.parent
 
 abbrev pub category_from : List Column → Option Category
 category_from columns = do

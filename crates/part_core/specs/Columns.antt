@@ -1,5 +1,5 @@
 -- Rows as columns: what a file has of a row, and which row columns are.
-use Rattle.std.specs.Prelude.{◌≡◌, ℕ, ◌==◌, ◌/◌, ◌%◌, Bool, true, false, cond, if◌then◌else◌, List, length, slice_get, Option, Some, None, Result, Ok, Err}
+use Rattle.std.specs.Prelude.{◌≡◌, ℕ, ◌==◌, ◌/◌, ◌%◌, Bool, true, false, cond, if◌then◌else◌, List, [], ◌∷◌, length, slice_get, Option, Some, None, Result, Ok, Err}
 use Rattle.std.specs.Str.{bytes_eq}
 use Rattle.part_core.specs.Day.{CivilDay, day_of, day_text}
 use Rattle.part_core.specs.Serial.{is_serial}
@@ -134,3 +134,8 @@ text_or_absent (Some text) = Text text
 -- whether the number has the bit of that weight
 abbrev pub is_bit : ℕ → ℕ → Bool
 is_bit weight n = n / weight % 2 == 1
+
+-- ---- rows under a number, with a name and a parent
+
+abbrev pub named_columns : ℕ → List ℕ → Option ℕ → List Column
+named_columns number name parent = Whole number ∷ Text name ∷ number_or_absent parent ∷ []
