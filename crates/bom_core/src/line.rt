@@ -5,7 +5,7 @@ ghost use Rattle.part_core.specs.Columns.{Finds};
 ghost use Rattle.part_core.specs.Numbered.{number_digits, number_exact};
 
 use part_core::column::{has, is_bit, number_at};
-use part_core::{Column, ColumnFault, Id, Quantity, Row, compare_numbers};
+use part_core::{Column, ColumnFault, Id, Quantity, Row, Stored, compare_numbers};
 use std::alloc::{AllocError, Global};
 use std::cmp::Ordering;
 
@@ -128,6 +128,34 @@ impl Row for Line {
         compare_numbers(*key, *other)
     }
 
+    fn equals(&self, other: &Self) -> bool {
+        if self.number != other.number {
+            return false;
+        }
+        if self.assembly != other.assembly {
+            return false;
+        }
+        if self.component != other.component {
+            return false;
+        }
+        if self.quantity != other.quantity {
+            return false;
+        }
+        self.flags.equals(&other.flags)
+    }
+
+    fn copy(&self, _alloc: Global) -> Result<Self, AllocError> {
+        Ok(Line {
+            number: self.number,
+            assembly: self.assembly,
+            component: self.component,
+            quantity: self.quantity,
+            flags: self.flags,
+        })
+    }
+}
+
+impl Stored for Line {
     ghost columns_of = { line_columns };
 
     ghost row_from = { line_from };
@@ -156,32 +184,6 @@ impl Row for Line {
             component,
             quantity,
             flags,
-        })
-    }
-
-    fn equals(&self, other: &Self) -> bool {
-        if self.number != other.number {
-            return false;
-        }
-        if self.assembly != other.assembly {
-            return false;
-        }
-        if self.component != other.component {
-            return false;
-        }
-        if self.quantity != other.quantity {
-            return false;
-        }
-        self.flags.equals(&other.flags)
-    }
-
-    fn copy(&self, _alloc: Global) -> Result<Self, AllocError> {
-        Ok(Line {
-            number: self.number,
-            assembly: self.assembly,
-            component: self.component,
-            quantity: self.quantity,
-            flags: self.flags,
         })
     }
 }

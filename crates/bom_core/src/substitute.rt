@@ -4,7 +4,7 @@ ghost use Rattle.bom_core.specs.BillColumns.{substitute_columns, substitute_from
 ghost use Rattle.part_core.specs.Numbered.{number_digits, number_exact};
 
 use part_core::column::{has, number_at};
-use part_core::{Column, ColumnFault, Id, Row, compare_numbers};
+use part_core::{Column, ColumnFault, Id, Row, Stored, compare_numbers};
 use std::alloc::{AllocError, Global};
 use std::cmp::Ordering;
 
@@ -33,6 +33,26 @@ impl Row for Substitute {
         compare_numbers(*key, *other)
     }
 
+    fn equals(&self, other: &Self) -> bool {
+        if self.number != other.number {
+            return false;
+        }
+        if self.line != other.line {
+            return false;
+        }
+        self.part == other.part
+    }
+
+    fn copy(&self, _alloc: Global) -> Result<Self, AllocError> {
+        Ok(Substitute {
+            number: self.number,
+            line: self.line,
+            part: self.part,
+        })
+    }
+}
+
+impl Stored for Substitute {
     ghost columns_of = { substitute_columns };
 
     ghost row_from = { substitute_from };
@@ -52,23 +72,5 @@ impl Row for Substitute {
         let line = number_at(columns, 1)?;
         let part = number_at(columns, 2)?;
         Ok(Substitute { number, line, part })
-    }
-
-    fn equals(&self, other: &Self) -> bool {
-        if self.number != other.number {
-            return false;
-        }
-        if self.line != other.line {
-            return false;
-        }
-        self.part == other.part
-    }
-
-    fn copy(&self, _alloc: Global) -> Result<Self, AllocError> {
-        Ok(Substitute {
-            number: self.number,
-            line: self.line,
-            part: self.part,
-        })
     }
 }

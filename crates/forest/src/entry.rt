@@ -8,7 +8,7 @@ ghost use Rattle.part_core.specs.Numbered.{number_digits, number_exact};
 
 use crate::place::{Place, place_at};
 use part_core::column::{day_at, has, number_at};
-use part_core::{Column, ColumnFault, Day, Id, Quantity, Row, compare_numbers};
+use part_core::{Column, ColumnFault, Day, Id, Quantity, Row, Stored, compare_numbers};
 use std::alloc::{AllocError, Global};
 use std::cmp::Ordering;
 
@@ -164,6 +164,22 @@ impl Row for Entry {
         compare_numbers(*key, *other)
     }
 
+    fn equals(&self, other: &Self) -> bool {
+        if self.number != other.number {
+            return false;
+        }
+        if !self.day.equals(&other.day) {
+            return false;
+        }
+        self.note.equals(&other.note)
+    }
+
+    fn copy(&self, _alloc: Global) -> Result<Self, AllocError> {
+        Ok(*self)
+    }
+}
+
+impl Stored for Entry {
     ghost columns_of = { entry_columns };
 
     ghost row_from = { entry_from };
@@ -190,19 +206,5 @@ impl Row for Entry {
         let day = day_at(alloc, columns, 1)?;
         let note = note_at(columns)?;
         Ok(Entry { number, day, note })
-    }
-
-    fn equals(&self, other: &Self) -> bool {
-        if self.number != other.number {
-            return false;
-        }
-        if !self.day.equals(&other.day) {
-            return false;
-        }
-        self.note.equals(&other.note)
-    }
-
-    fn copy(&self, _alloc: Global) -> Result<Self, AllocError> {
-        Ok(*self)
     }
 }

@@ -1,9 +1,11 @@
 //! What a row is in a table of a file: its columns, written and read one by one.
-ghost use Rattle.std.specs.Prelude.{◌≡◌, ◌<◌, IfOk, MatchResult, Some, None, option_copied};
+ghost use Rattle.std.specs.Prelude.{◌≡◌, ◌<◌, IfOk, MatchResult, List, Option, Some, None, option_copied};
 ghost use Rattle.std.specs.String.{string_bytes};
+ghost use Rattle.part_core.specs.declared.column.Column.{Column};
 ghost use Rattle.part_core.specs.Columns.{Finds, is_bit, number_at, number_or_none_at, text_at, text_or_none_at, has, row_text_at, row_text_or_none_at, serial_or_none_at, status_at, day_at, yes_at, yes_number, number_or_absent};
 
 use crate::day::Day;
+use crate::row::Row;
 use crate::serial::Serial;
 use crate::status::Status;
 use crate::text::Text;
@@ -67,6 +69,25 @@ impl From<AllocError> for ColumnFault {
     fn from(_: AllocError) -> Self {
         ColumnFault::Memory
     }
+}
+
+/// A row that a table of a file has, as a list of columns.
+pub trait Stored: Row {
+    /// What the row is in a table of a file, the key first.
+    ghost columns_of: { Self → List Column };
+
+    /// The row that the columns are, or none.
+    ghost row_from: { List Column → Option Self };
+
+    /// The row's columns, which are read as the row.
+    fn columns(&self, alloc: Global) -> Result<Vec<Column>, AllocError>
+        ensures columns { IfOk result (λ columns. columns.items ≡ columns_of self.now) }
+        ensures read { IfOk result (λ columns. row_from columns.items ≡ Some self.now) };
+
+    /// The row that these columns are. `NoRow` where they are those of none.
+    fn from_columns(alloc: Global, columns: &[Column]) -> Result<Self, ColumnFault>
+        ensures found { Finds result (row_from columns.now) }
+        ensures told { IfOk result (λ row. columns_of row ≡ columns.now) };
 }
 
 impl Column {

@@ -4,7 +4,7 @@ ghost use Rattle.yard_core.specs.LocationColumns.{location_columns, location_fro
 ghost use Rattle.part_core.specs.Numbered.{number_digits, number_exact};
 
 use part_core::column::{has, number_at, number_or_none_at, row_text_at};
-use part_core::{Column, ColumnFault, Id, Name, Row, compare_numbers};
+use part_core::{Column, ColumnFault, Id, Name, Row, Stored, compare_numbers};
 use std::alloc::{AllocError, Global};
 use std::cmp::Ordering;
 
@@ -34,6 +34,27 @@ impl Row for Location {
         compare_numbers(*key, *other)
     }
 
+    fn equals(&self, other: &Self) -> bool {
+        if self.number != other.number {
+            return false;
+        }
+        if !self.name.equals(&other.name) {
+            return false;
+        }
+        self.parent == other.parent
+    }
+
+    fn copy(&self, alloc: Global) -> Result<Self, AllocError> {
+        let name = self.name.copy(alloc)?;
+        Ok(Location {
+            number: self.number,
+            name,
+            parent: self.parent,
+        })
+    }
+}
+
+impl Stored for Location {
     ghost columns_of = { location_columns };
 
     ghost row_from = { location_from };
@@ -54,25 +75,6 @@ impl Row for Location {
             number,
             name,
             parent,
-        })
-    }
-
-    fn equals(&self, other: &Self) -> bool {
-        if self.number != other.number {
-            return false;
-        }
-        if !self.name.equals(&other.name) {
-            return false;
-        }
-        self.parent == other.parent
-    }
-
-    fn copy(&self, alloc: Global) -> Result<Self, AllocError> {
-        let name = self.name.copy(alloc)?;
-        Ok(Location {
-            number: self.number,
-            name,
-            parent: self.parent,
         })
     }
 }

@@ -1,5 +1,5 @@
 use Rattle.bom_core.proofs.BillColumns.{line_told}
-use Rattle.bom_core.proofs.line.LineRow.from_columns.Goals as goal
+use Rattle.bom_core.proofs.line.LineStored.from_columns.Goals as goal
 
 pub returns-clause-told : goal.returns-clause-told
 returns-clause-told c =

@@ -5,7 +5,7 @@ use Rattle.forest.specs.PlaceColumns.{kind_at, kind_of}
 use Rattle.part_core.specs.Columns.{Finds}
 use Rattle.part_core.specs.Numbered.{number_digits, number_exact}
 use Rattle.forest.proofs.RowColumns.{entry_told}
-use Rattle.forest.proofs.entry.EntryRow.from_columns.Goals as goal
+use Rattle.forest.proofs.entry.EntryStored.from_columns.Goals as goal
 
 -- src/entry.rt:187:5
 pub returns-clause-told : goal.returns-clause-told
