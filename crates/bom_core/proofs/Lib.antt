@@ -1,3 +1,4 @@
+pub mod BillColumns
 pub mod Pushes
 pub mod Member
 pub mod Reached

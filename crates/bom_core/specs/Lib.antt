@@ -1,3 +1,4 @@
+pub mod BillColumns
 pub mod BillKeys
 pub mod Bills
 pub mod BomMachine

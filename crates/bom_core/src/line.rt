@@ -1,9 +1,14 @@
 //! Lines of bills.
 ghost use Rattle.std.specs.Prelude.{◌≡◌, ◌↔◌, ◌∷◌, [], IsTrue, IfOk, refl};
+ghost use Rattle.bom_core.specs.BillColumns.{line_columns, line_flags_at, line_flags_number, line_flags_of, line_from};
+ghost use Rattle.part_core.specs.Columns.{Finds};
 ghost use Rattle.part_core.specs.Numbered.{number_digits, number_exact};
 ghost use Rattle.bom_core.specs.BillKeys.{line_key, line_keys};
 
-use part_core::{Id, Indexed, Quantity, Row, compare_numbers, index_key_of};
+use part_core::column::{has, is_bit, number_at};
+use part_core::{
+    Column, ColumnFault, Id, Indexed, Quantity, Row, Stored, compare_numbers, index_key_of,
+};
 use std::alloc::{AllocError, Global};
 use std::cmp::Ordering;
 
@@ -21,6 +26,31 @@ pub struct LineFlags {
 }
 
 impl LineFlags {
+    /// The flags as a number, as a file has it: the first is 1, the second 2, the third 4, the last 8.
+    pub fn number(&self) -> u64
+        ensures { result ≡ line_flags_number self.now }
+    {
+        self.optional as u64
+            + 2 * self.consumable as u64
+            + 4 * self.inherited as u64
+            + 8 * self.variants as u64
+    }
+
+    /// The flags of a number, none for one of 16 or more.
+    pub fn from_number(number: u64) -> Option<LineFlags>
+        ensures { result ≡ line_flags_of number }
+    {
+        if number >= 16 {
+            return None;
+        }
+        Some(LineFlags {
+            optional: is_bit(1, number),
+            consumable: is_bit(2, number),
+            inherited: is_bit(4, number),
+            variants: is_bit(8, number),
+        })
+    }
+
     /// Whether the flags are the same.
     pub fn equals(&self, other: &LineFlags) -> bool
         ensures { IsTrue result ↔ (self.now ≡ other.now) }
@@ -114,6 +144,14 @@ impl Line {
     }
 }
 
+/// The flags in the column.
+fn flags_at(columns: &[Column], at: usize) -> Result<LineFlags, ColumnFault>
+    ensures { Finds result (line_flags_at at columns.now) }
+{
+    let number = number_at(columns, at)?;
+    LineFlags::from_number(number).ok_or(ColumnFault::NoRow)
+}
+
 impl Row for Line {
     type Key = u64;
 
@@ -179,5 +217,38 @@ impl Indexed for Line {
             1 => Some(line_key(Side::Component, self.component)),
             _ => None,
         }
+    }
+}
+
+impl Stored for Line {
+    ghost columns_of = { line_columns };
+
+    ghost row_from = { line_from };
+
+    #[tactic(auto, using(crate::proofs::BillColumns::line_read))]
+    fn columns(&self, alloc: Global) -> Result<Vec<Column>, AllocError> {
+        Ok(vec![in alloc;
+            Column::Whole(self.number),
+            Column::Whole(self.assembly),
+            Column::Whole(self.component),
+            Column::Whole(self.quantity),
+            Column::Whole(self.flags.number()),
+        ]?)
+    }
+
+    fn from_columns(_alloc: Global, columns: &[Column]) -> Result<Self, ColumnFault> {
+        has(columns, 5)?;
+        let number = number_at(columns, 0)?;
+        let assembly = number_at(columns, 1)?;
+        let component = number_at(columns, 2)?;
+        let quantity = number_at(columns, 3)?;
+        let flags = flags_at(columns, 4)?;
+        Ok(Line {
+            number,
+            assembly,
+            component,
+            quantity,
+            flags,
+        })
     }
 }

@@ -1,9 +1,11 @@
 //! Substitutes on lines of bills.
 ghost use Rattle.std.specs.Prelude.{◌≡◌, ◌↔◌, ◌∷◌, [], IsTrue, IfOk, refl};
+ghost use Rattle.bom_core.specs.BillColumns.{substitute_columns, substitute_from};
 ghost use Rattle.part_core.specs.Numbered.{number_digits, number_exact};
 ghost use Rattle.bom_core.specs.BillKeys.{of_part_key, on_line_key, substitute_keys};
 
-use part_core::{Id, Indexed, Row, compare_numbers, index_key_of};
+use part_core::column::{has, number_at};
+use part_core::{Column, ColumnFault, Id, Indexed, Row, Stored, compare_numbers, index_key_of};
 use std::alloc::{AllocError, Global};
 use std::cmp::Ordering;
 
@@ -84,5 +86,28 @@ impl Indexed for Substitute {
             1 => Some(of_part_key(self.part)),
             _ => None,
         }
+    }
+}
+
+impl Stored for Substitute {
+    ghost columns_of = { substitute_columns };
+
+    ghost row_from = { substitute_from };
+
+    fn columns(&self, alloc: Global) -> Result<Vec<Column>, AllocError> {
+        Ok(vec![in alloc;
+            Column::Whole(self.number),
+            Column::Whole(self.line),
+            Column::Whole(self.part),
+        ]?)
+    }
+
+    #[tactic(auto, using(crate::proofs::BillColumns::substitute_told))]
+    fn from_columns(_alloc: Global, columns: &[Column]) -> Result<Self, ColumnFault> {
+        has(columns, 3)?;
+        let number = number_at(columns, 0)?;
+        let line = number_at(columns, 1)?;
+        let part = number_at(columns, 2)?;
+        Ok(Substitute { number, line, part })
     }
 }

@@ -9,4 +9,5 @@ pub mod Grafts
 pub mod Depths
 pub mod Grafted
 pub mod Prunes
+pub mod RowColumns
 pub mod Pruned

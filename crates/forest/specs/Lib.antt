@@ -1,6 +1,9 @@
+pub mod EntryColumns
 pub mod Forest
+pub mod ItemColumns
 pub mod ItemKeys
 pub mod Moves
+pub mod PlaceColumns
 pub mod Rows
 pub mod Sound
 pub mod Tables

@@ -1,10 +1,14 @@
 //! The history of the stock.
-ghost use Rattle.std.specs.Prelude.{◌≡◌, ◌↔◌, ◌∷◌, [], IsTrue};
+ghost use Rattle.std.specs.Prelude.{◌≡◌, ◌↔◌, ◌∷◌, [], IsTrue, IfOk, Some};
+ghost use Rattle.forest.specs.EntryColumns.{entry_columns, entry_from, note_at};
 ghost use Rattle.forest.specs.Forest.{kind_code};
+ghost use Rattle.forest.specs.PlaceColumns.{kind_at, kind_of};
+ghost use Rattle.part_core.specs.Columns.{Finds};
 ghost use Rattle.part_core.specs.Numbered.{number_digits, number_exact};
 
-use crate::place::Place;
-use part_core::{Day, Id, Quantity, Row, compare_numbers};
+use crate::place::{Place, place_at};
+use part_core::column::{day_at, has, number_at};
+use part_core::{Column, ColumnFault, Day, Id, Quantity, Row, Stored, compare_numbers};
 use std::alloc::{AllocError, Global};
 use std::cmp::Ordering;
 
@@ -66,6 +70,28 @@ impl Kind {
         }
     }
 
+    /// The kind of that number, none where there is none.
+    pub fn from_code(code: u64) -> Option<Kind>
+        ensures { result ≡ kind_of code }
+    {
+        match code {
+            0 => Some(Kind::Received),
+            1 => Some(Kind::Found),
+            2 => Some(Kind::Built),
+            3 => Some(Kind::Consumed),
+            4 => Some(Kind::Shipped),
+            5 => Some(Kind::Returned),
+            6 => Some(Kind::Written),
+            7 => Some(Kind::Moved),
+            8 => Some(Kind::Cut),
+            9 => Some(Kind::Poured),
+            10 => Some(Kind::Installed),
+            11 => Some(Kind::TakenOut),
+            12 => Some(Kind::Marked),
+            _ => None,
+        }
+    }
+
     /// Whether the kinds are the same.
     pub fn equals(self, other: Kind) -> bool
         ensures { IsTrue result ↔ (self ≡ other) }
@@ -93,6 +119,32 @@ impl Note {
         }
         self.place.equals(&other.place)
     }
+}
+
+/// The kind in the column.
+fn kind_at(columns: &[Column], at: usize) -> Result<Kind, ColumnFault>
+    ensures { Finds result (kind_at at columns.now) }
+{
+    let code = number_at(columns, at)?;
+    Kind::from_code(code).ok_or(ColumnFault::NoRow)
+}
+
+/// What an entry's columns say behind its number and its day.
+fn note_at(columns: &[Column]) -> Result<Note, ColumnFault>
+    ensures { Finds result (note_at columns.now) }
+{
+    let kind = kind_at(columns, 2)?;
+    let item = number_at(columns, 3)?;
+    let part = number_at(columns, 4)?;
+    let quantity = number_at(columns, 5)?;
+    let place = place_at(columns, 6)?;
+    Ok(Note {
+        kind,
+        item,
+        part,
+        quantity,
+        place,
+    })
 }
 
 impl Row for Entry {
@@ -124,5 +176,35 @@ impl Row for Entry {
 
     fn copy(&self, _alloc: Global) -> Result<Self, AllocError> {
         Ok(*self)
+    }
+}
+
+impl Stored for Entry {
+    ghost columns_of = { entry_columns };
+
+    ghost row_from = { entry_from };
+
+    #[tactic(auto, using(crate::proofs::RowColumns::entry_read))]
+    fn columns(&self, alloc: Global) -> Result<Vec<Column>, AllocError> {
+        let day = self.day.column(alloc)?;
+        let note = self.note;
+        Ok(vec![in alloc;
+            Column::Whole(self.number),
+            day,
+            Column::Whole(note.kind.code()),
+            Column::Whole(note.item),
+            Column::Whole(note.part),
+            Column::Whole(note.quantity),
+            Column::Whole(note.place.code()),
+            Column::Whole(note.place.reference()),
+        ]?)
+    }
+
+    fn from_columns(alloc: Global, columns: &[Column]) -> Result<Self, ColumnFault> {
+        has(columns, 8)?;
+        let number = number_at(columns, 0)?;
+        let day = day_at(alloc, columns, 1)?;
+        let note = note_at(columns)?;
+        Ok(Entry { number, day, note })
     }
 }

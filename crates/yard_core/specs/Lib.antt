@@ -1,6 +1,7 @@
 pub mod AddLocation
 pub mod Books
 pub mod Contents
+pub mod LocationColumns
 pub mod LocationKeys
 pub mod SoundLocations
 pub mod Stock

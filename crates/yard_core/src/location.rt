@@ -1,9 +1,13 @@
 //! Locations.
 ghost use Rattle.std.specs.Prelude.{◌≡◌, ◌↔◌, ◌∷◌, [], IsTrue, IfOk, refl};
+ghost use Rattle.yard_core.specs.LocationColumns.{location_columns, location_from};
 ghost use Rattle.part_core.specs.Numbered.{number_digits, number_exact};
 ghost use Rattle.yard_core.specs.LocationKeys.{location_keys, name_key};
 
-use part_core::{Id, Indexed, Name, Row, compare_numbers, index_key_of};
+use part_core::column::{has, number_at, number_or_none_at, row_text_at};
+use part_core::{
+    Column, ColumnFault, Id, Indexed, Name, Row, Stored, compare_numbers, index_key_of,
+};
 use std::alloc::{AllocError, Global};
 use std::cmp::Ordering;
 
@@ -82,5 +86,30 @@ impl Indexed for Location {
             0 => Some(name_key(self.parent, &self.name)),
             _ => None,
         }
+    }
+}
+
+impl Stored for Location {
+    ghost columns_of = { location_columns };
+
+    ghost row_from = { location_from };
+
+    fn columns(&self, alloc: Global) -> Result<Vec<Column>, AllocError> {
+        let name = Column::text(alloc, self.name.as_str())?;
+        let parent = Column::number_or_absent(self.parent);
+        Ok(vec![in alloc; Column::Whole(self.number), name, parent]?)
+    }
+
+    #[tactic(auto, using(part_core::proofs::RowColumns::named_told))]
+    fn from_columns(alloc: Global, columns: &[Column]) -> Result<Self, ColumnFault> {
+        has(columns, 3)?;
+        let number = number_at(columns, 0)?;
+        let name = row_text_at(alloc, columns, 1)?;
+        let parent = number_or_none_at(columns, 2)?;
+        Ok(Location {
+            number,
+            name,
+            parent,
+        })
     }
 }

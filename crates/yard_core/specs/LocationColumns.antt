@@ -1,0 +1,16 @@
+-- A location as a row of a file: id, name, parent.
+use Rattle.std.specs.Prelude.{List, Option, Some}
+use Rattle.yard_core.specs.declared.location.Location.{Location}
+use Rattle.part_core.specs.declared.column.Column.{Column}
+use Rattle.part_core.specs.Columns.{◌>>=◌, has, number_at, number_or_none_at, row_text_at, named_columns}
+
+abbrev pub location_columns : Location → List Column
+location_columns row = named_columns row.number row.name row.parent
+
+abbrev pub location_from : List Column → Option Location
+location_from columns = do
+  whole ← has 3 columns
+  number ← number_at 0 columns
+  name ← row_text_at 1 columns
+  parent ← number_or_none_at 2 columns
+  Some (record { number = number; name = name; parent = parent })
