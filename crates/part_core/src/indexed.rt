@@ -37,6 +37,24 @@ pub fn index_key_of<L: Hash + Drop>(lookup: L) -> u64
     hasher.hash_one(lookup)
 }
 
+// The row, where it passes the test. An error is one of memory.
+fn passing<'a, R: Indexed, F: Fn(&R) -> bool>(
+    alloc: Global,
+    row: &'a R,
+    test: F,
+) -> Result<Vec<&'a R>, AllocError>
+    requires { F.IsAlwaysCallable test }
+    ensures { IfOk result (λ rows. (p : R → Bool)
+        → IsTest F.Fn test p → map (λ r. r.now) rows.items ≡ filter p (row.now ∷ [])) }
+{
+    let mut found = Vec::new(alloc);
+    if test(row) {
+        found.push(row)?;
+        return Ok(found);
+    }
+    Ok(found)
+}
+
 /// A table in memory, as `Sheet`, with an index: the numbers of the rows that have an index key are found without a
 /// look at the other rows.
 #[derive(Drop)]
@@ -107,6 +125,20 @@ impl<R: Indexed> IndexedSheet<R> {
         match self.sheet.get(&number) {
             Some(row) => test(row),
             None => false,
+        }
+    }
+
+    /// The rows that pass the test, of which there is one at most, where none does that has another number: one
+    /// look-up. An error is one of memory.
+    pub fn select_at<F: Fn(&R) -> bool>(&self, number: u64, test: F) -> Result<Vec<&R>, AllocError>
+        requires { F.IsAlwaysCallable test }
+        ensures { IfOk result (λ rows. (p : R → Bool)
+            → IsTest F.Fn test p → IsOfNumber R.key_of number p
+            → map (λ r. r.now) rows.items ≡ filter p (table.values (now_of self.now))) }
+    {
+        match self.sheet.get(&number) {
+            Some(row) => passing::<R, F>(self.alloc, row, test),
+            None => Ok(Vec::new(self.alloc)),
         }
     }
 
