@@ -1,8 +1,10 @@
 #!/usr/bin/env python3
-"""Runs the program on lines of each kind, twice: on 10,000 lines and on 20,000, or on as many lines among 1,000 items
-and among 2,000. Prints lines per second and peak memory of each run, and by what factor the time grows.
+"""Runs the program on lines of each kind, twice: on 10,000 lines and on 20,000, or on as many lines among 10,000 rows
+and among 20,000. Prints lines per second and peak memory of each run, and by what factor the time grows; among rows
+also by what factor the time of the lines alone grows, without that of the rows that they are among.
 
 usage: tools/bench.py PROGRAM"""
+import itertools
 import resource
 import subprocess
 import sys
@@ -10,7 +12,7 @@ import time
 
 DAY = '"day":"2030-01-02"'
 COUNTS = (10_000, 20_000)
-ITEMS = (1_000, 2_000)
+ROWS = (10_000, 20_000)
 LOCATION = f'{{{DAY},"do":"add_location","name":"A"}}'
 PART = f'{{{DAY},"do":"add_part","flags":["component","trackable"],"name":"Screw"}}'
 FOUND = '"do":"found","location":1,"part":2,"quantity"'
@@ -52,6 +54,12 @@ def add_line(count):
         yield f'{{{DAY},"do":"add_line","assembly":{i},"component":{i + 2},"quantity":1}}'
 
 
+def add_part(count):
+    """Parts of new names."""
+    for i in range(count):
+        yield f'{{{DAY},"do":"add_part","flags":["component"],"name":"Part {i}"}}'
+
+
 def keyed_found(count):
     """Finds with a key each."""
     yield LOCATION
@@ -71,22 +79,49 @@ def robot_with_motors(items):
         yield f'{{{DAY},"do":"found","location":1,"part":3,"quantity":1000,"serials":"{first}-{first + 999}"}}'
 
 
-def install_and_uninstall(items):
+def installs(items):
     """In turn a motor goes into the robot and comes out, among so many."""
-    yield from robot_with_motors(items)
-    for _ in range(1_000):
+    for _ in range(5_000):
         yield f'{{{DAY},"do":"install","item":6,"parent":5,"quantity":1}}'
         yield f'{{{DAY},"do":"uninstall","item":6,"location":1}}'
 
 
-def write_off_and_reinstate(items):
-    """In turn a robot with so many motors in it is counted as missing and comes back."""
+def robot_of_motors(items):
+    """The robot, with all the motors in it."""
     yield from robot_with_motors(items)
     for i in range(items):
         yield f'{{{DAY},"do":"install","item":{i + 6},"parent":5,"quantity":1}}'
-    for _ in range(20):
-        yield f'{{{DAY},"do":"count","item":5,"quantity":0}}'
-        yield f'{{{DAY},"do":"reinstate","item":5,"location":1}}'
+
+
+def write_offs(items):
+    """A robot with so many motors in it is counted as missing and comes back."""
+    yield f'{{{DAY},"do":"count","item":5,"quantity":0}}'
+    yield f'{{{DAY},"do":"reinstate","item":5,"location":1}}'
+
+
+def loose_items(items):
+    """So many items of one part, 1,000 pieces each."""
+    yield LOCATION
+    yield PART
+    for _ in range(items):
+        yield f'{{{DAY},{FOUND}:1000}}'
+
+
+def transfers(items):
+    """Single pieces of the items, each to the location where it lies."""
+    for i in range(10_000):
+        yield f'{{{DAY},"do":"transfer","item":{i % 1_000 + 3},"location":1,"quantity":1}}'
+
+
+def bill(parts):
+    """A bill of so many parts, each of which contains the two after it."""
+    yield from add_line(3 * parts)
+
+
+def where_used(parts):
+    """The parts that the last one is used in: all others."""
+    for _ in range(10):
+        yield f'{{"of":{parts + 2},"report":"where_used"}}'
 
 
 def reading_alone(count):
@@ -95,13 +130,13 @@ def reading_alone(count):
         yield f'{{{DAY},"do":"transfer","item":{i + 1},"location":1,"quantity":1}}'
 
 
-LINES = (found_and_remove, transfer, found_with_serial, add_line, keyed_found, reading_alone)
-AMONG = (install_and_uninstall, write_off_and_reinstate)
+LINES = (found_and_remove, transfer, found_with_serial, add_part, add_line, keyed_found, reading_alone)
+AMONG = ((loose_items, transfers), (robot_with_motors, installs), (robot_of_motors, write_offs), (bill, where_used))
 
 
-def run(kind, count):
-    """Gives the seconds that the kind's lines take at that count."""
-    text = "".join(line + "\n" for line in kind(count)).encode()
+def run(name, lines):
+    """Gives the seconds that the lines take."""
+    text = "".join(line + "\n" for line in lines).encode()
     begin = time.monotonic()
     done = subprocess.run([sys.argv[1]], input=text, stdout=subprocess.PIPE, check=False)
     seconds = time.monotonic() - begin
@@ -109,19 +144,23 @@ def run(kind, count):
     # The most of any run so far: the runs grow.
     peak = resource.getrusage(resource.RUSAGE_CHILDREN).ru_maxrss
     print(
-        f"{kind.__name__}({count}): {answers} answers, status {done.returncode}, {seconds:.2f} s,"
+        f"{name}: {answers} answers, status {done.returncode}, {seconds:.2f} s,"
         f" {answers / seconds:.0f} lines per second, {peak} KiB at most",
         flush=True,
     )
     return seconds
 
 
-def compare(kinds, counts, what):
-    """Prints how each kind's time grows from the one count to the other."""
-    for kind in kinds:
-        small, large = (run(kind, count) for count in counts)
-        print(f"{kind.__name__}: {large / small:.2f} times the time for {counts[1] / counts[0]:.0f} times the {what}", flush=True)
+def tell(name, small, large, what):
+    print(f"{name}: {large / small:.2f} times the time for twice the {what}", flush=True)
 
 
-compare(LINES, COUNTS, "lines")
-compare(AMONG, ITEMS, "items")
+for kind in LINES:
+    times = [run(f"{kind.__name__}({count})", kind(count)) for count in COUNTS]
+    tell(kind.__name__, *times, "lines")
+for rows, lines in AMONG:
+    name = f"{lines.__name__} among {rows.__name__}"
+    before = [run(f"{rows.__name__}({count})", rows(count)) for count in ROWS]
+    whole = [run(f"{name}({count})", itertools.chain(rows(count), lines(count))) for count in ROWS]
+    tell(name, *whole, "rows, with the rows")
+    tell(name, *(w - b for w, b in zip(whole, before)), "rows, without them")
