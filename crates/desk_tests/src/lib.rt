@@ -18,4 +18,6 @@ mod play;
 #[cfg(test)]
 mod requests;
 #[cfg(test)]
+mod rows;
+#[cfg(test)]
 mod sheets;

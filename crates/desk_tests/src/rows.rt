@@ -1,0 +1,129 @@
+//! Rows as the columns of a file: each is written, and read back as it was.
+use crate::outcomes::holds;
+use crate::requests::name;
+use bom_core::{Line, LineFlags, Substitute};
+use part_core::{Category, Column, Day, Flags, Part, Serial, Status, Stored};
+use std::alloc::Global;
+use std::test::Fail;
+use yard_core::{Entry, Item, Kind, Location, Lot, Note, Place, Reason};
+
+/// The columns as a text, each ended by a bar.
+fn shown(alloc: Global, columns: &[Column]) -> Result<String, Fail> {
+    let mut text = String::new(alloc);
+    for column in columns {
+        match column {
+            Column::Whole(number) => write!(text, "{number}")?,
+            Column::Text(words) => text.push_str(words.as_str())?,
+            Column::Absent => {}
+        }
+        text.push_str("|")?;
+    }
+    Ok(text)
+}
+
+/// That the row is written so, and read back, and that fewer columns are no row.
+fn is_stored<R: Stored>(alloc: Global, row: &R, wanted: &str) -> Result<(), Fail> {
+    let mut columns = row.columns(alloc)?;
+    holds(
+        shown(alloc, &columns)?.as_str() == wanted,
+        "columns as wanted",
+    )?;
+    let read = R::from_columns(alloc, &columns).map_err(|_| "a row")?;
+    holds(read.equals(row), "the row again")?;
+    columns.pop();
+    holds(
+        R::from_columns(alloc, &columns).is_err(),
+        "no row without its last column",
+    )
+}
+
+fn stored_part(alloc: Global) -> Result<(), Fail> {
+    let part = Part {
+        number: 7,
+        name: name(alloc, "Motor")?,
+        category: Some(3),
+        template: None,
+        flags: Flags {
+            assembly: true,
+            component: true,
+            is_virtual: true,
+            ..Flags::default()
+        },
+        retired: true,
+    };
+    is_stored(alloc, &part, "7|Motor|3||70|1|")
+}
+
+fn stored_item(alloc: Global) -> Result<(), Fail> {
+    let item = Item {
+        number: 14,
+        part: 7,
+        lot: Lot {
+            batch: None,
+            serial: Serial::new(String::from_str(alloc, "A-1")?),
+            status: Status::Quarantined,
+        },
+        quantity: 1,
+        place: Place::In(9),
+    };
+    is_stored(alloc, &item, "14|7||A-1|6|1|1|9|")
+}
+
+fn stored_entry(alloc: Global) -> Result<(), Fail> {
+    let day = Day::parse("2030-02-03").ok_or("a day")?;
+    let note = Note {
+        kind: Kind::Written,
+        item: 14,
+        part: 7,
+        quantity: 30,
+        place: Place::Off(Reason::Counted),
+    };
+    let entry = Entry {
+        number: 5,
+        day,
+        note,
+    };
+    is_stored(alloc, &entry, "5|2030-02-03|6|14|7|30|5|1|")
+}
+
+fn stored_bill(alloc: Global) -> Result<(), Fail> {
+    let line = Line {
+        number: 16,
+        assembly: 4,
+        component: 7,
+        quantity: 2,
+        flags: LineFlags {
+            consumable: true,
+            variants: true,
+            ..LineFlags::default()
+        },
+    };
+    is_stored(alloc, &line, "16|4|7|2|10|")?;
+    let substitute = Substitute {
+        number: 17,
+        line: 16,
+        part: 8,
+    };
+    is_stored(alloc, &substitute, "17|16|8|")
+}
+
+#[test]
+fn stored_rows(rt: HostRuntime) -> Result<(), Fail> {
+    let alloc = rt.alloc();
+    let category = Category {
+        number: 3,
+        name: name(alloc, "Drives")?,
+        parent: None,
+    };
+    is_stored(alloc, &category, "3|Drives||")?;
+    let location = Location {
+        number: 2,
+        name: name(alloc, "Shelf")?,
+        parent: Some(1),
+    };
+    is_stored(alloc, &location, "2|Shelf|1|")?;
+    stored_part(alloc)?;
+    stored_item(alloc)?;
+    stored_entry(alloc)?;
+    stored_bill(alloc)
+}
