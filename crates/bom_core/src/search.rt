@@ -1,5 +1,5 @@
 //! Searches up and down the bills. Each looks up the lines, the substitutes and the variants of the parts that it comes
-//! to, and at no others.
+//! to, and looks at no others.
 ghost use Rattle.std.specs.Prelude.{◌≡◌, ◌↔◌, ◌∷◌, [], ℕ, true, IfOk, OnOk};
 ghost use Rattle.std.specs.FinMap as table;
 ghost use Rattle.part_core.specs.Catalogues.{parts_of};
