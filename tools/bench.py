@@ -119,9 +119,9 @@ def bill(parts):
 
 
 def where_used(parts):
-    """The parts that the last one is used in: all others."""
+    """The parts that the last but two is used in: all before it."""
     for _ in range(10):
-        yield f'{{"of":{parts + 2},"report":"where_used"}}'
+        yield f'{{"of":{parts},"report":"where_used"}}'
 
 
 def reading_alone(count):
