@@ -2,6 +2,7 @@
 ghost use Rattle.std.specs.Prelude.{◌≡◌, ◌∷◌, [], ℕ, Bool, List, slice_get, option_copied, IfOk, IfSome, OnOk, OnErr, map, filter};
 ghost use Rattle.std.specs.List.{list_any};
 ghost use Rattle.std.specs.FinMap as table;
+ghost use Rattle.part_core.specs.Filled.{filled, StandUnderKeys};
 ghost use Rattle.part_core.specs.Indexed.{IsFiledUnder, IsOfNumber, index_key_of};
 ghost use Rattle.part_core.specs.Select.{IsTest};
 ghost use Rattle.part_core.specs.Sheet.{now_of};
@@ -91,9 +92,23 @@ impl<R: Indexed> IndexedSheet<R> {
         }
     }
 
-    /// The rows, as a sheet.
+    /// A sheet of these rows, put in their order, which are those that are kept. An error is one of memory.
+    pub fn filled(alloc: Global, rows: Vec<R>) -> Result<Self, AllocError>
+        ensures rows { IfOk result (λ sheet. now_of sheet ≡ filled R.key_of rows.items) }
+        ensures kept { IfOk result (λ sheet. sheet.kept ≡ filled R.key_of rows.items) }
+    {
+        let mut sheet = IndexedSheet::new(alloc);
+        for row in rows {
+            sheet.put(row)?;
+        }
+        sheet.keep();
+        Ok(sheet)
+    }
+
+    /// The rows, as a sheet: each stands under its own number.
     pub fn rows(&self) -> &Sheet<R>
-        ensures { result.now ≡ self.now }
+        ensures value { result.now ≡ self.now }
+        ensures own { StandUnderKeys R.key_of (now_of self.now) }
     {
         &self.sheet
     }

@@ -15,6 +15,7 @@ ghost use Rattle.std.specs.Prelude.{◌≡◌, ◌↔◌, ◌<◌, ℕ, Bool, le
 ghost use Rattle.std.specs.List.{All, list_any};
 ghost use Rattle.std.specs.FinMap as table;
 ghost use Rattle.std.specs.Borrow.{sem};
+ghost use Rattle.part_core.specs.Filled.{filled};
 ghost use Rattle.part_core.specs.Sheet.{now_of, IsEachOnce, IsDifference};
 ghost use Rattle.part_core.specs.Select.{IsMeasure, IsTest};
 
@@ -87,6 +88,19 @@ impl<R: Row> Sheet<R> {
             kept_len: 0,
             alloc,
         }
+    }
+
+    /// A sheet of these rows, put in their order, which are those that are kept. An error is one of memory.
+    pub fn filled(alloc: Global, rows: Vec<R>) -> Result<Self, AllocError>
+        ensures rows { IfOk result (λ sheet. now_of sheet ≡ filled R.key_of rows.items) }
+        ensures kept { IfOk result (λ sheet. sheet.kept ≡ filled R.key_of rows.items) }
+    {
+        let mut sheet = Sheet::new(alloc);
+        for row in rows {
+            sheet.put(row)?;
+        }
+        sheet.keep();
+        Ok(sheet)
     }
 
     /// How many rows there are.
