@@ -2,10 +2,14 @@
 ghost use Rattle.std.specs.Prelude.{◌≡◌, ◌↔◌, IsTrue, IfOk};
 ghost use Rattle.std.specs.Str.{bytes_eq};
 ghost use Rattle.std.specs.String.{string_bytes};
+ghost use Rattle.part_core.specs.Columns.{Finds};
 ghost use Rattle.desk_core.specs.Key.{text_digits, text_exact};
+ghost use Rattle.desk_core.specs.KeptColumns.{answer_at, kept_columns, kept_from, key_at};
 
+use crate::answers::{answer_line, are_fit, read_answer};
 use crate::key::Key;
-use part_core::{Answer, Row};
+use part_core::column::{has, text_at};
+use part_core::{Answer, Column, ColumnFault, Row, Stored, Words};
 use std::alloc::{AllocError, Global};
 use std::cmp::Ordering;
 use std::marker::Model;
@@ -98,6 +102,49 @@ impl Row for Kept {
         Ok(Kept {
             word,
             command,
+            answer,
+        })
+    }
+}
+
+/// The key in the column.
+fn key_at(alloc: Global, columns: &[Column], at: usize) -> Result<Key, ColumnFault>
+    ensures { Finds result (key_at at columns.now) }
+{
+    let text = String::from_str(alloc, text_at(columns, at)?)?;
+    Key::new(text).ok_or(ColumnFault::NoRow)
+}
+
+/// The answer whose line stands in the column.
+fn answer_at(alloc: Global, columns: &[Column], at: usize) -> Result<Answer, ColumnFault>
+    ensures { Finds result (answer_at at columns.now) }
+{
+    let text = text_at(columns, at)?;
+    read_answer(alloc, text)
+}
+
+impl Stored for Kept {
+    ghost columns_of = { kept_columns };
+
+    ghost row_from = { kept_from };
+
+    fn columns(&self, alloc: Global) -> Result<Vec<Column>, AllocError> {
+        are_fit(self.answer.entries, self.answer.ids.as_slice());
+        let word = Column::text(alloc, self.word.as_str())?;
+        let command = Column::text(alloc, self.command.as_str())?;
+        let answer = answer_line(alloc, &self.answer)?;
+        Ok(vec![in alloc; word, command, Column::Text(Words::new(answer))]?)
+    }
+
+    fn from_columns(alloc: Global, columns: &[Column]) -> Result<Self, ColumnFault> {
+        has(columns, 3)?;
+        let word = key_at(alloc, columns, 0)?;
+        let text = text_at(columns, 1)?;
+        let command = String::from_str(alloc, text)?;
+        let answer = answer_at(alloc, columns, 2)?;
+        Ok(Kept {
+            word,
+            command: CommandText::new(command),
             answer,
         })
     }

@@ -10,7 +10,7 @@ mod repeats;
 mod shop;
 mod texts;
 
-pub use answers::answer_line;
+pub use answers::{answer_line, read_answer};
 pub use command::{Command, Request};
 pub use kept::{CommandText, Kept};
 pub use key::{Key, is_key};
