@@ -21,5 +21,5 @@ returns c =
         λ t. let w = found.0 t in (w.0, steps-turned step w.0 c.args.part x.number w.1),
         λ w. found.1 (w.0, steps-back step w.0 c.args.part x.number w.1),
       ),
-      e seen (search rules) ∙ ap (λ s. filter seen (table.values (now_of s))) c.parts.ensures,
+      e seen (search rules) ∙ ap (λ s. filter seen (table.values (now_of s))) c.parts.ensures.value,
     ))
