@@ -17,7 +17,10 @@ use std::alloc::{AllocError, Global};
 
 mod lines;
 mod look_ups;
+mod sound;
 mod substitutes;
+#[cfg(test)]
+mod tests;
 
 /// The lines of all bills, and their substitutes.
 #[derive(Drop)]
