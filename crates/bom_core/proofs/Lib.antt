@@ -2,9 +2,12 @@ pub mod BillColumns
 pub mod Pushes
 pub mod Member
 pub mod Reached
+pub mod RowTests
 pub mod Closed
 pub mod Pigeonhole
 pub mod Cycles
+pub mod Acyclic
+pub mod Falling
 pub mod Tables
 pub mod Edges
 pub mod Kept

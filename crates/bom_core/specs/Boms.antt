@@ -1,19 +1,26 @@
 -- What the bills hold now, and what they held when they were last kept.
-use Rattle.std.specs.Prelude.{◌≡◌}
+use Rattle.std.specs.Prelude.{◌≡◌, List, [], ◌∷◌}
 use Rattle.part_core.specs.Catalogues.{kept_register, parts_of, register_of}
 use Rattle.part_core.specs.Counter.{Counting, kept_numbering, numbering_of}
+use Rattle.part_core.specs.Filled.{filled}
 use Rattle.part_core.specs.Sheet.{now_of}
 use Rattle.part_core.specs.declared.catalogue.Catalogue.{Catalogue}
 use Rattle.bom_core.specs.Bills.{Bills}
 use Rattle.bom_core.specs.Changes.{BillBooks}
 use Rattle.bom_core.specs.Sound.{IsSoundBill}
 use Rattle.bom_core.specs.declared.boms.Boms.{Boms}
+use Rattle.bom_core.specs.declared.line.Line.{Line}
+use Rattle.bom_core.specs.declared.substitute.Substitute.{Substitute}
 
 abbrev pub bills_of : Boms → Bills
 bills_of b = record { lines = now_of b.lines; substitutes = now_of b.substitutes }
 
 abbrev pub kept_bills : Boms → Bills
 kept_bills b = record { lines = b.lines.kept; substitutes = b.substitutes.kept }
+
+-- the tables of these rows
+abbrev pub bills_from : List Line → List Substitute → Bills
+bills_from lines substitutes = record { lines = filled (λ l. l.number ∷ []) lines; substitutes = filled (λ s. s.number ∷ []) substitutes }
 
 abbrev pub bill_books : Boms → Counting → BillBooks
 bill_books boms counter = record { bills = bills_of boms; counter = numbering_of counter }

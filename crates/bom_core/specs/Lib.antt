@@ -5,6 +5,8 @@ pub mod BomMachine
 pub mod Boms
 pub mod Changes
 pub mod Lines
+pub mod Ranks
+pub mod RowTests
 pub mod Search
 pub mod Sides
 pub mod Sound

@@ -17,7 +17,10 @@ use std::alloc::{AllocError, Global};
 
 mod lines;
 mod look_ups;
+mod sound;
 mod substitutes;
+#[cfg(test)]
+mod tests;
 
 /// The lines of all bills, and their substitutes.
 #[derive(Drop)]
@@ -30,7 +33,7 @@ pub struct Boms {
 }
 
 impl Boms {
-    ghost use Rattle.bom_core.specs.Boms.{bills_of, kept_bills};
+    ghost use Rattle.bom_core.specs.Boms.{bills_from, bills_of, kept_bills};
 
     /// Bills with no line.
     pub fn new(alloc: Global) -> Self
@@ -42,6 +45,26 @@ impl Boms {
             substitutes: IndexedSheet::new(alloc),
             alloc,
         }
+    }
+
+    /// The bills of these rows, which are those that are kept. An error is one of memory.
+    pub fn assemble(
+        alloc: Global,
+        lines: Vec<Line>,
+        substitutes: Vec<Substitute>,
+    ) -> Result<Self, AllocError>
+        ensures now { IfOk result (λ boms.
+            bills_of boms ≡ bills_from lines.items substitutes.items) }
+        ensures kept { IfOk result (λ boms.
+            kept_bills boms ≡ bills_from lines.items substitutes.items) }
+    {
+        let lines = IndexedSheet::filled(alloc, lines)?;
+        let substitutes = IndexedSheet::filled(alloc, substitutes)?;
+        Ok(Boms {
+            lines,
+            substitutes,
+            alloc,
+        })
     }
 
     /// The lines of all bills, as a sheet.

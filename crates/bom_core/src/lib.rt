@@ -7,6 +7,8 @@ mod checks;
 mod laws;
 mod line;
 mod merge;
+mod order;
+mod ranks;
 mod search;
 mod substitute;
 #[cfg(test)]
