@@ -3,6 +3,7 @@
 
 mod change;
 mod location;
+mod opening;
 mod sums;
 mod walks;
 mod yard;
