@@ -3,6 +3,7 @@
 //! Each answers exactly, on rows in order of number. None compares each row with each: an item is found by halving, or
 //! by the hash of its number, and what is summed is summed part by part.
 ghost use Rattle.std.specs.Prelude.{◌≡◌, ◌↔◌, IsTrue, IfOk, map};
+ghost use Rattle.std.specs.FinMap as table;
 ghost use Rattle.part_core.specs.Sheet.{now_of};
 ghost use Rattle.yard_core.specs.Climbs.{IsByNumber};
 ghost use Rattle.yard_core.specs.Opening.{AreSoundRows};
@@ -10,7 +11,7 @@ ghost use Rattle.yard_core.specs.Opening.{AreSoundRows};
 use equations::is_balanced;
 use forest::{Entry, Item};
 use holders::are_held;
-use part_core::Sheet;
+use part_core::{Row, Sheet};
 use quantities::are_items;
 use runs::is_run;
 use std::alloc::{AllocError, Global};
@@ -22,6 +23,14 @@ mod quantities;
 mod runs;
 mod shares;
 mod trees;
+
+/// The rows of a sheet, in order of key. An error is one of memory.
+pub fn rows_in_order<R: Row>(sheet: &Sheet<R>) -> Result<Vec<&R>, AllocError>
+    ensures { IfOk result (λ rows.
+        map (λ x. x.now) rows.items ≡ table.values (now_of sheet.now)) }
+{
+    sheet.select(|_row| true)
+}
 
 /// Whether items and entries, in order of number, are those of a sound yard. `items` has the same items, to look
 /// them up. An error is one of memory.

@@ -1,43 +1,17 @@
 //! A yard of rows that were read from a file, and whether it is sound.
 ghost use Rattle.std.specs.Prelude.{◌≡◌, ◌↔◌, ◌∷◌, [], IsTrue, IfOk, map};
-ghost use Rattle.std.specs.FinMap as table;
 ghost use Rattle.std.specs.List.{All};
 ghost use Rattle.part_core.specs.Filled.{StandUnderKeys};
-ghost use Rattle.part_core.specs.Sheet.{now_of};
 ghost use Rattle.yard_core.specs.SoundLocations.{AreSoundLocations, HasParent, IsSoundLocation};
 ghost use Rattle.yard_core.specs.Stock.{IsSound};
 ghost use Rattle.yard_core.specs.Yards.{kept_of, stock_from, stock_of};
 
 use crate::location::Location;
-use crate::opening::are_sound_rows;
+use crate::opening::{are_sound_rows, rows_in_order};
 use crate::yard::Yard;
 use forest::{Entry, Item};
 use part_core::{Id, IndexedSheet, Sheet};
 use std::alloc::{AllocError, Global};
-
-/// The items in order of number. An error is one of memory.
-fn items_of(items: &Sheet<Item>) -> Result<Vec<&Item>, AllocError>
-    ensures { IfOk result (λ rows.
-        map (λ x. x.now) rows.items ≡ table.values (now_of items.now)) }
-{
-    items.select(|_item| true)
-}
-
-/// The entries in order of number. An error is one of memory.
-fn entries_of(history: &Sheet<Entry>) -> Result<Vec<&Entry>, AllocError>
-    ensures { IfOk result (λ rows.
-        map (λ x. x.now) rows.items ≡ table.values (now_of history.now)) }
-{
-    history.select(|_entry| true)
-}
-
-/// The locations in order of number. An error is one of memory.
-fn locations_of(locations: &Sheet<Location>) -> Result<Vec<&Location>, AllocError>
-    ensures { IfOk result (λ rows.
-        map (λ x. x.now) rows.items ≡ table.values (now_of locations.now)) }
-{
-    locations.select(|_location| true)
-}
 
 impl Yard {
     /// The yard of these rows, which are those that are kept. An error is one of memory.
@@ -103,7 +77,7 @@ impl Yard {
         if next == 0 {
             return Ok(false);
         }
-        let rows = locations_of(self.locations.rows())?;
+        let rows = rows_in_order(self.locations.rows())?;
         Ok(self.is_each_location_sound(next, rows.as_slice()))
     }
 
@@ -114,8 +88,8 @@ impl Yard {
         ensures { IfOk result (λ sound. IsTrue sound ↔ IsSound (stock_of self.now)) }
     {
         let items = self.items.rows();
-        let rows = items_of(items)?;
-        let entries = entries_of(&self.history)?;
+        let rows = rows_in_order(items)?;
+        let entries = rows_in_order(&self.history)?;
         let sound = are_sound_rows(self.alloc, items, rows.as_slice(), entries.as_slice())?;
         Ok(sound)
     }
