@@ -28,3 +28,5 @@ pub mod ReinstateSound
 pub mod DisassembleSound
 pub mod Effects
 pub mod Beside
+pub mod Repeats
+pub mod Opened

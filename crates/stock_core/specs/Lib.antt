@@ -6,6 +6,7 @@ pub mod Disassemble
 pub mod Found
 pub mod Install
 pub mod Merge
+pub mod Opening
 pub mod Pieces
 pub mod Reinstate
 pub mod Remove

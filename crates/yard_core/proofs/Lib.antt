@@ -14,3 +14,13 @@ pub mod Grafting
 pub mod Heights
 pub mod Within
 pub mod Showing
+pub mod Added
+pub mod Spread
+pub mod Tables
+pub mod Halving
+pub mod Sides
+pub mod Balances
+pub mod Numbering
+pub mod OwnKeys
+pub mod ByIndex
+pub mod Opened

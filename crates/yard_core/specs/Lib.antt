@@ -1,8 +1,12 @@
 pub mod AddLocation
 pub mod Books
+pub mod Climbs
 pub mod Contents
+pub mod Equations
 pub mod LocationColumns
 pub mod LocationKeys
+pub mod Opening
+pub mod Shares
 pub mod SoundLocations
 pub mod Stock
 pub mod Sums

@@ -13,3 +13,9 @@ pub record AreSoundLocations (next : ℕ) (s : Stock) : Type 0 where
   pub some : 1 ≤ next
   pub rows : StandRight (λ l. l.number) next s.locations
   pub parents : EachRow (HasParent s) s.locations
+
+-- what holds of each location, besides that it stands under its own number
+pub record IsSoundLocation (next : ℕ) (s : Stock) (l : Location) : Type 0 where
+  pub some : 1 ≤ l.number
+  pub drawn : l.number < next
+  pub parent : HasParent s l

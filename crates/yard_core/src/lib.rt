@@ -3,6 +3,7 @@
 
 mod change;
 mod location;
+mod opening;
 mod sums;
 mod walks;
 mod yard;
@@ -10,6 +11,7 @@ pub mod yard_command;
 
 pub use forest::{Entry, Item, Kind, Lot, Note, Place, Reason, copy_batch, is_same_batch};
 pub use location::Location;
+pub use opening::rows_in_order;
 pub use sums::Sums;
 pub use walks::{Inside, Tree};
 pub use yard::Yard;

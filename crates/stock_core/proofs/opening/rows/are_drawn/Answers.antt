@@ -1,0 +1,22 @@
+use Rattle.std.proofs.Common.{◌≡◌, true, false, refl, sym, ◌∙◌, arith, subst}
+use Rattle.std.specs.Borrow.{Bor}
+use Rattle.stock_core.specs.Opening.{IsDrawn}
+use Rattle.forest.specs.declared.item.Item.{Item}
+use Rattle.yard_core.proofs.ByIndex.{all-at, all-seen}
+use Rattle.stock_core.proofs.opening.rows.are_drawn.Goals as goal
+
+pub returns-then-not-is_drawn : goal.returns-then-not-is_drawn
+returns-then-not-is_drawn c =
+    let P = IsDrawn c.args.next in (
+      λ no. (let e : false ≡ true = no in cc),
+      λ all.
+          let here = all-at P c.args.items.now all c.loop-item.item-index c.item-item.result (omega arith) in
+          let good : P c.item-item.result.now = subst (λ (r : Bor Item). P r.now) (sym c.item-item.is) here in
+          let no : false ≡ true = sym c.if-not-is_drawn.true ∙ c.is_drawn.ensures.1 good in
+          cc,
+    )
+
+pub returns : goal.returns
+returns c =
+    let P = IsDrawn c.args.next in
+    (λ _. all-seen P c.args.items.now (λ k r lt. c.loop-item.invariant k r (omega arith)), λ _. refl)

@@ -1,0 +1,10 @@
+use Rattle.std.proofs.Common.{ℕ, ◌<◌, get_or}
+use Rattle.std.specs.Borrow.{Bor}
+use Rattle.part_core.specs.Catalogues.{parts_of}
+use Rattle.stock_core.specs.Sound.{IsSoundEntry}
+use Rattle.yard_core.specs.Yards.{stock_of}
+use Rattle.forest.specs.declared.entry.Entry.{Entry}
+use Rattle.stock_core.proofs.opening.rows.are_sound_entries.Given as goal
+
+abbrev pub invariant-loop-entry : goal.invariant-loop-entry
+invariant-loop-entry l = (k : ℕ) (r : Bor Entry) → k < l.entry-index → IsSoundEntry (parts_of l.catalogue) (stock_of l.yard) (get_or l.entries k r).now

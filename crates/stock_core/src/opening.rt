@@ -1,0 +1,116 @@
+//! Whether stock that was read from a file is sound, beside the catalogue, the numbers that were drawn and the limits.
+//!
+//! Each check answers exactly, and none compares each row with each: what a row names is looked up, and a serial is
+//! looked for in a set of those before it.
+ghost use Rattle.std.specs.Prelude.{◌≡◌, ◌↔◌, ◌∷◌, [], IsTrue, IfOk, map};
+ghost use Rattle.part_core.specs.Catalogues.{parts_of};
+ghost use Rattle.part_core.specs.Filled.{StandUnderKeys};
+ghost use Rattle.part_core.specs.Rows.{StandRight};
+ghost use Rattle.stock_core.specs.Opening.{AreSoundRows};
+ghost use Rattle.stock_core.specs.Sound.{AreSoundItems, IsSoundStock};
+ghost use Rattle.yard_core.specs.Books.{books_of};
+ghost use Rattle.yard_core.specs.Climbs.{IsByNumber};
+ghost use Rattle.yard_core.specs.Stock.{IsSound};
+ghost use Rattle.yard_core.specs.Yards.{stock_of};
+
+use part_core::{Catalogue, Counter, Id};
+use rows::{are_drawn, are_sound_entries, are_sound_items};
+use serials::serials_stand_once;
+use std::alloc::{AllocError, Global};
+use yard_core::{Entry, Item, Yard, rows_in_order};
+
+mod rows;
+mod serials;
+
+/// Whether each item has a number below `next`, from 1 on. An error is one of memory.
+fn are_items_drawn(yard: &Yard, next: Id) -> Result<bool, AllocError>
+    requires { IsSound (stock_of yard.now) }
+    ensures { IfOk result (λ drawn.
+        IsTrue drawn ↔ StandRight (λ i. i.number) next (stock_of yard.now).items) }
+{
+    let items = rows_in_order(yard.items())?;
+    Ok(are_drawn(next, items.as_slice()))
+}
+
+/// Whether the stock is sound, but for what the catalogue says of it: also the history is within its limit, and numbers
+/// were drawn. An error is one of memory.
+fn is_sound_alone(yard: &Yard, counter: &Counter) -> Result<bool, AllocError>
+    requires { StandUnderKeys (λ e. e.number ∷ []) (stock_of yard.now).history }
+    ensures { IfOk result (λ sound. IsTrue sound
+        ↔ AreSoundItems (books_of yard.now counter.now)) }
+{
+    if yard.entries() > counter.limits().entries {
+        return Ok(false);
+    }
+    let located = yard.are_locations_sound(counter.next())?;
+    if !located {
+        return Ok(false);
+    }
+    let sound = yard.is_sound()?;
+    if !sound {
+        return Ok(false);
+    }
+    let drawn = are_items_drawn(yard, counter.next())?;
+    Ok(drawn)
+}
+
+/// Whether items and entries, in order of number, are right beside the catalogue. An error is one of memory.
+fn are_sound_rows(
+    alloc: Global,
+    catalogue: &Catalogue,
+    yard: &Yard,
+    items: &[&Item],
+    entries: &[&Entry],
+) -> Result<bool, AllocError>
+    requires { IsByNumber (map (λ x. x.now) items.now) }
+    ensures { IfOk result (λ sound. IsTrue sound
+        ↔ AreSoundRows (parts_of catalogue.now) (stock_of yard.now)
+        (map (λ x. x.now) items.now) (map (λ x. x.now) entries.now)) }
+{
+    if !are_sound_items(catalogue, yard, items) {
+        return Ok(false);
+    }
+    if !are_sound_entries(catalogue, yard, entries) {
+        return Ok(false);
+    }
+    let once = serials_stand_once(alloc, catalogue, items)?;
+    Ok(once)
+}
+
+/// Whether sound items and their history are right beside the catalogue. An error is one of memory.
+fn is_sound_beside(
+    alloc: Global,
+    catalogue: &Catalogue,
+    yard: &Yard,
+    counter: &Counter,
+) -> Result<bool, AllocError>
+    requires { AreSoundItems (books_of yard.now counter.now) }
+    ensures { IfOk result (λ sound. IsTrue sound
+        ↔ IsSoundStock (parts_of catalogue.now) (books_of yard.now counter.now)) }
+{
+    let _ = counter;
+    let items = rows_in_order(yard.items())?;
+    let entries = rows_in_order(yard.journal())?;
+    let sound = are_sound_rows(alloc, catalogue, yard, items.as_slice(), entries.as_slice())?;
+    Ok(sound)
+}
+
+/// Whether items, locations and history are sound beside the catalogue, the numbers that were drawn and the limits. It
+/// keeps what it sums of each part, and the serials, while it looks. An error is one of memory.
+pub fn is_sound_stock(
+    alloc: Global,
+    catalogue: &Catalogue,
+    yard: &Yard,
+    counter: &Counter,
+) -> Result<bool, AllocError>
+    requires { StandUnderKeys (λ e. e.number ∷ []) (stock_of yard.now).history }
+    ensures { IfOk result (λ sound. IsTrue sound
+        ↔ IsSoundStock (parts_of catalogue.now) (books_of yard.now counter.now)) }
+{
+    let alone = is_sound_alone(yard, counter)?;
+    if !alone {
+        return Ok(false);
+    }
+    let sound = is_sound_beside(alloc, catalogue, yard, counter)?;
+    Ok(sound)
+}

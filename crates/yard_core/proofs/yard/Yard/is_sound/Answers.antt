@@ -1,0 +1,25 @@
+use Rattle.std.proofs.Common.{◌≡◌, map, sym, ap, ◌∙◌, subst}
+use Rattle.std.specs.FinMap as table
+use Rattle.std.specs.Borrow.{Bor}
+use Rattle.part_core.specs.Sheet.{now_of}
+use Rattle.forest.specs.declared.item.Item.{Item}
+use Rattle.forest.specs.declared.entry.Entry.{Entry}
+use Rattle.yard_core.specs.Climbs.{IsByNumber}
+use Rattle.yard_core.specs.Yards.{stock_of}
+use Rattle.yard_core.proofs.Opened.{own_by_number, sound_from}
+use Rattle.yard_core.proofs.yard.Yard.is_sound.Goals as goal
+
+pub are_sound_rows-requires : goal.are_sound_rows-requires
+are_sound_rows-requires c =
+    let s = stock_of c.args.self.now in
+    let rows : map (λ (x : Bor Item). x.now) c.as_slice.result.now ≡ table.values s.items =
+    ap (map (λ (x : Bor Item). x.now)) c.as_slice.ensures.value ∙ c.in_ok-rows.ensures ∙ ap (λ t. table.values (now_of t)) c.rows-items.ensures.value in
+    subst IsByNumber (sym rows) (own_by_number s.items c.rows-items.ensures.own)
+
+pub returns : goal.returns
+returns c =
+    let s = stock_of c.args.self.now in
+    let rows : map (λ (x : Bor Item). x.now) c.as_slice.result.now ≡ table.values s.items =
+    ap (map (λ (x : Bor Item). x.now)) c.as_slice.ensures.value ∙ c.in_ok-rows.ensures ∙ ap (λ t. table.values (now_of t)) c.rows-items.ensures.value in
+    let entries : map (λ (x : Bor Entry). x.now) c.as_slice-2.result.now ≡ table.values s.history = ap (map (λ (x : Bor Entry). x.now)) c.as_slice-2.ensures.value ∙ c.in_ok-entries.ensures in
+    sound_from s c.rows-items.ensures.own c.requires _ _ _ _ (ap now_of c.rows-items.ensures.value) rows entries c.in_ok-sound.ensures

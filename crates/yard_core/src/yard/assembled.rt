@@ -1,0 +1,99 @@
+//! A yard of rows that were read from a file, and whether it is sound.
+ghost use Rattle.std.specs.Prelude.{◌≡◌, ◌↔◌, ◌∷◌, [], IsTrue, IfOk, map};
+ghost use Rattle.std.specs.List.{All};
+ghost use Rattle.part_core.specs.Filled.{StandUnderKeys};
+ghost use Rattle.yard_core.specs.SoundLocations.{AreSoundLocations, HasParent, IsSoundLocation};
+ghost use Rattle.yard_core.specs.Stock.{IsSound};
+ghost use Rattle.yard_core.specs.Yards.{kept_of, stock_from, stock_of};
+
+use crate::location::Location;
+use crate::opening::{are_sound_rows, rows_in_order};
+use crate::yard::Yard;
+use forest::{Entry, Item};
+use part_core::{Id, IndexedSheet, Sheet};
+use std::alloc::{AllocError, Global};
+
+#[cfg(test)]
+mod tests;
+
+impl Yard {
+    /// The yard of these rows, which are those that are kept. An error is one of memory.
+    pub fn assemble(
+        alloc: Global,
+        locations: Vec<Location>,
+        items: Vec<Item>,
+        history: Vec<Entry>,
+    ) -> Result<Self, AllocError>
+        ensures now { IfOk result (λ yard.
+            stock_of yard ≡ stock_from locations.items items.items history.items) }
+        ensures kept { IfOk result (λ yard.
+            kept_of yard ≡ stock_from locations.items items.items history.items) }
+    {
+        let locations = IndexedSheet::filled(alloc, locations)?;
+        let items = IndexedSheet::filled(alloc, items)?;
+        let history = Sheet::filled(alloc, history)?;
+        Ok(Yard {
+            locations,
+            items,
+            history,
+            alloc,
+        })
+    }
+
+    /// Whether the location has no parent, or one that is there and has a smaller number.
+    fn has_parent(&self, location: &Location) -> bool
+        ensures { IsTrue result ↔ HasParent (stock_of self.now) location.now }
+    {
+        match location.parent {
+            None => true,
+            Some(parent) => parent < location.number && self.location(parent).is_some(),
+        }
+    }
+
+    /// Whether the location is sound, where the numbers below `next` were drawn.
+    fn is_location_sound(&self, next: Id, location: &Location) -> bool
+        ensures { IsTrue result ↔ IsSoundLocation next (stock_of self.now) location.now }
+    {
+        location.number >= 1 && location.number < next && self.has_parent(location)
+    }
+
+    /// Whether each of the locations is sound, where the numbers below `next` were drawn.
+    fn is_each_location_sound(&self, next: Id, rows: &[&Location]) -> bool
+        ensures { IsTrue result ↔ All (IsSoundLocation next (stock_of self.now))
+            (map (λ x. x.now) rows.now) }
+    {
+        for location in rows {
+            if !self.is_location_sound(next, location) {
+                return false;
+            }
+        }
+        true
+    }
+
+    /// Whether the locations are sound, where the numbers below `next` were drawn: each has a number of those, and a
+    /// parent that is there and has a smaller one, or none. It looks up one location for each. An error is one of
+    /// memory.
+    pub fn are_locations_sound(&self, next: Id) -> Result<bool, AllocError>
+        ensures { IfOk result (λ sound.
+            IsTrue sound ↔ AreSoundLocations next (stock_of self.now)) }
+    {
+        if next == 0 {
+            return Ok(false);
+        }
+        let rows = rows_in_order(self.locations.rows())?;
+        Ok(self.is_each_location_sound(next, rows.as_slice()))
+    }
+
+    /// Whether the items are the flat table of a sound forest, and the history agrees with it. It climbs from each item
+    /// at most 16 steps, four times, and keeps what it sums of each part. An error is one of memory.
+    pub fn is_sound(&self) -> Result<bool, AllocError>
+        requires { StandUnderKeys (λ e. e.number ∷ []) (stock_of self.now).history }
+        ensures { IfOk result (λ sound. IsTrue sound ↔ IsSound (stock_of self.now)) }
+    {
+        let items = self.items.rows();
+        let rows = rows_in_order(items)?;
+        let entries = rows_in_order(&self.history)?;
+        let sound = are_sound_rows(self.alloc, items, rows.as_slice(), entries.as_slice())?;
+        Ok(sound)
+    }
+}
