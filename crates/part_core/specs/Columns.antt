@@ -1,8 +1,10 @@
 -- Rows as columns: what a file has of a row, and which row columns are.
-use Rattle.std.specs.Prelude.{◌≡◌, ℕ, ◌==◌, ◌/◌, ◌%◌, Bool, true, false, cond, if◌then◌else◌, List, [], ◌∷◌, length, slice_get, Option, Some, None, Result, Ok, Err}
+use Rattle.std.specs.Prelude.{◌≡◌, ℕ, ◌==◌, ◌/◌, ◌%◌, ◌<◌, ◌^◌, All, Bool, true, false, cond, if◌then◌else◌, List, [], ◌∷◌, length, slice_get, Option, Some, None, Result, Ok, Err}
 use Rattle.std.specs.Str.{bytes_eq}
 use Rattle.part_core.specs.Day.{CivilDay, day_of, day_text}
+use Rattle.part_core.specs.Rows.{EachRow}
 use Rattle.part_core.specs.Serial.{is_serial}
+use Rattle.part_core.specs.Sheet.{Table}
 use Rattle.part_core.specs.Status.{status_of}
 use Rattle.part_core.specs.Text.{is_text}
 use Rattle.part_core.specs.declared.status.Status.{Status}
@@ -134,6 +136,17 @@ text_or_absent (Some text) = Text text
 -- whether the number has the bit of that weight
 abbrev pub is_bit : ℕ → ℕ → Bool
 is_bit weight n = n / weight % 2 == 1
+
+-- ---- what fits a file
+
+-- the column fits a file, whose numbers are signed
+abbrev pub IsSmall : Column → Type 0
+IsSmall (Whole n) = n < 2 ^ 63
+IsSmall _ = Unit {0}
+
+-- no number of a row is too large for a file
+abbrev pub AreSmall : {R : Type 0} → (R → List Column) → Table R → Type 0
+AreSmall columns rows = EachRow (λ row. All IsSmall (columns row)) rows
 
 -- ---- rows under a number, with a name and a parent
 

@@ -21,3 +21,7 @@ module _ {X : Type 0} where
   -- each row does
   abbrev pub StandRight : (X → ℕ) → ℕ → Table X → Type 0
   StandRight number next t = (k : List ℕ) (x : X) → table.get t k ≡ Some x → StandsRight number next k x
+
+  -- each key that had a row has one
+  abbrev pub StayThere : Table X → Table X → Type 0
+  StayThere old new = (k : List ℕ) → IsSome (table.get old k) → IsSome (table.get new k)
