@@ -16,5 +16,5 @@ pub use kept::{CommandText, Kept};
 pub use key::{Key, is_key};
 pub use order::checks_are_in_order;
 pub use repeats::{later_repeats_change_nothing, repeats_change_nothing, sending_again_ends_alike};
-pub use shop::Shop;
+pub use shop::{AssembleFault, Shop, Tables};
 pub use texts::{command_text, texts_tell_commands};

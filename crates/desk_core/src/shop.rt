@@ -23,6 +23,10 @@ use std::alloc::{AllocError, Global};
 use stock_core::stock_command;
 use yard_core::{Yard, yard_command};
 
+mod assemble;
+
+pub use assemble::{AssembleFault, Tables};
+
 /// All that a desk holds: the catalogue, the bills, the yard, the counter and the answers that are kept.
 #[derive(Drop)]
 pub struct Shop {

@@ -1,0 +1,48 @@
+-- Tables are those of a sound state where their rows are sound.
+use Rattle.std.proofs.Common.{◌≡◌, ℕ, zero, suc, ◌<◌, true, List, [], ◌∷◌, length, get_or, Some, arith, refl}
+use Rattle.std.specs.Borrow.{Bor}
+use Rattle.std.specs.FinMap as table
+use Rattle.part_core.specs.Counter.{IsNext}
+use Rattle.part_core.specs.Filled.{StandUnderKeys, filled, filled_onto}
+use Rattle.part_core.specs.Rows.{EachRow}
+use Rattle.part_core.specs.Sheet.{Table}
+use Rattle.part_core.proofs.FilledTables.{filled-own}
+use Rattle.part_core.proofs.RowLemmas.{each-empty, each-insert}
+use Rattle.forest.specs.declared.entry.Entry.{Entry}
+use Rattle.desk_core.specs.Assembled.{AreKeys, AreSoundTables, HasSoundBooks, state_from}
+use Rattle.desk_core.specs.Key.{is_key}
+use Rattle.desk_core.specs.Machine.{StandsKept}
+use Rattle.desk_core.specs.declared.kept.Kept.{Kept}
+use Rattle.desk_core.specs.declared.shop.assemble.Tables.{Tables}
+
+-- the word of a row is a key
+abbrev HasKey : Kept → Type 0
+HasKey row = is_key row.word ≡ true
+
+keys-onto : (t : Table Kept) (rows : List Kept) → AreKeys rows → EachRow HasKey t → EachRow HasKey (filled_onto (λ row. row.word) t rows)
+keys-onto t [] keys each = each
+keys-onto t (row ∷ rows) keys each = keys-onto (table.insert t row.word row) rows keys.1 (each-insert HasKey t row.word row keys.0 each)
+
+-- kept answers that are read stand under their own keys
+stand-kept : (rows : List Kept) → AreKeys rows → (k : List ℕ) (row : Kept) → table.get (filled (λ (r : Kept). r.word) rows) k ≡ Some row → StandsKept k row
+stand-kept rows keys k row e = record {
+  own = filled-own (λ (r : Kept). r.word) rows k row e;
+  key = keys-onto table.empty rows keys (each-empty HasKey) k row e;
+}
+
+pub sound_tables : (t : Tables) → IsNext t.limits t.next → t.entries ≡ length t.history.items → AreKeys t.answers.items → HasSoundBooks (state_from t) → AreSoundTables t
+sound_tables t next entries keys books = record {
+  next = next;
+  entries = entries;
+  state = record { bills = books.0; stock = books.1; answers = stand-kept t.answers.items keys };
+}
+
+pub sound_books : (t : Tables) → AreSoundTables t → HasSoundBooks (state_from t)
+sound_books t sound = (sound.state.bills, sound.state.stock)
+
+pub history_own : (t : Tables) → StandUnderKeys (λ (e : Entry). e.number ∷ []) (state_from t).stock.history
+history_own t = filled-own (λ (e : Entry). e.number ∷ []) t.history.items
+
+pub keys_from : (rows : List Kept) → ((k : ℕ) (d : Kept) → k < length rows → HasKey (get_or rows k d)) → AreKeys rows
+keys_from [] each = tt
+keys_from (row ∷ rows) each = (each zero row (omega arith), keys_from rows (λ k d lt. each (suc k) d (omega (arith, lt))))

@@ -1,0 +1,40 @@
+-- The state that a file's tables are, and whether they are those of a sound state.
+use Rattle.std.specs.Prelude.{◌≡◌, true, List, [], ◌∷◌, length}
+use Rattle.part_core.specs.Catalogues.{parts_from}
+use Rattle.part_core.specs.Counter.{IsNext, resumed}
+use Rattle.part_core.specs.Filled.{filled}
+use Rattle.bom_core.specs.Boms.{bills_from}
+use Rattle.bom_core.specs.Sound.{IsSoundBill}
+use Rattle.yard_core.specs.Yards.{stock_from}
+use Rattle.stock_core.specs.Sound.{IsSoundStock}
+use Rattle.desk_core.specs.Key.{is_key}
+use Rattle.desk_core.specs.Machine.{IsSoundState, State, books_in}
+use Rattle.desk_core.specs.declared.shop.assemble.Tables.{Tables}
+use Rattle.desk_core.specs.declared.kept.Kept.{Kept}
+
+-- the bills and the stock are sound
+abbrev pub HasSoundBooks : State → Type 0
+HasSoundBooks s = IsSoundBill s.parts s.bills s.counter.next × IsSoundStock s.parts (books_in s)
+
+-- the words of these rows are keys
+abbrev pub AreKeys : List Kept → Type 0
+AreKeys [] = Unit {0}
+AreKeys (row ∷ rows) = (is_key row.word ≡ true) × AreKeys rows
+
+-- the state with these rows, each under its own key
+abbrev pub state_from : Tables → State
+state_from t =
+    record {
+      parts = parts_from t.categories.items t.parts.items;
+      bills = bills_from t.lines.items t.substitutes.items;
+      stock = stock_from t.locations.items t.items.items t.history.items;
+      counter = resumed t.limits t.next;
+      answers = filled (λ (row : Kept). row.word) t.answers.items;
+    }
+
+-- the tables are those of a sound state: the number that is drawn next is within the limits, so many entries are told
+-- as there are, and the rows are sound
+pub record AreSoundTables (t : Tables) : Type 0 where
+  pub next : IsNext t.limits t.next
+  pub entries : t.entries ≡ length t.history.items
+  pub state : IsSoundState (state_from t)

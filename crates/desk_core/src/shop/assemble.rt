@@ -1,0 +1,137 @@
+//! A shop from the rows of a file's tables, where they are those of a sound state.
+//!
+//! What no row can be was refused when the row was read. Here the rows are looked at together: each clause of a sound
+//! state has a function in the crate that it speaks of, whose yes and no are proved, and none of them compares each row
+//! with each. So a file that no run could have left is refused, and each that a run left is taken.
+ghost use Rattle.std.specs.Prelude.{◌≡◌, ◌↔◌, ◌∷◌, [], IsTrue, IfErr, IfOk};
+ghost use Rattle.part_core.specs.Counter.{kept_numbering, numbering_of, resumed};
+ghost use Rattle.part_core.specs.Filled.{StandUnderKeys, filled};
+ghost use Rattle.part_core.specs.Sheet.{now_of};
+ghost use Rattle.desk_core.specs.Assembled.{AreKeys, AreSoundTables, HasSoundBooks, state_from};
+ghost use Rattle.desk_core.specs.Shops.{kept_state, state_of};
+
+use crate::kept::Kept;
+use crate::shop::Shop;
+use bom_core::{Boms, Line, Substitute};
+use part_core::{Catalogue, Category, Counter, Id, Limits, Part, Sheet};
+use std::alloc::{AllocError, Global};
+use stock_core::is_sound_stock;
+use yard_core::{Entry, Item, Location, Yard};
+
+/// What a file's tables tell: the rows of each, in the order of the key, and the row of the counter.
+#[derive(Drop)]
+pub struct Tables {
+    pub categories: Vec<Category>,
+    pub parts: Vec<Part>,
+    pub lines: Vec<Line>,
+    pub substitutes: Vec<Substitute>,
+    pub locations: Vec<Location>,
+    pub items: Vec<Item>,
+    pub history: Vec<Entry>,
+    pub answers: Vec<Kept>,
+    /// The number that is drawn next.
+    pub next: Id,
+    /// How many entries the history has.
+    pub entries: u64,
+    pub limits: Limits,
+}
+
+/// Why tables gave no shop.
+#[derive(Clone, Copy, Debug, PartialEq, Eq)]
+pub enum AssembleFault {
+    /// There was no memory for it.
+    Memory,
+    /// The rows are the tables of no sound state.
+    Unsound,
+}
+
+impl From<AllocError> for AssembleFault {
+    ghost use Rattle.std.specs.Prelude.{◌≡◌};
+    ghost use Rattle.desk_core.specs.declared.shop.assemble.AssembleFault.TheVariants.{Memory};
+
+    ghost from_gives = { λ _ fault. fault ≡ Memory };
+
+    fn from(_: AllocError) -> Self {
+        AssembleFault::Memory
+    }
+}
+
+/// That the answers of these rows stand under keys.
+fn are_keys(rows: &[Kept])
+    ensures { AreKeys rows.now }
+{
+    for row in rows {
+        let _ = row.word.as_str();
+    }
+}
+
+/// The answers that are kept, of these rows. An error is one of memory.
+fn answers_from(alloc: Global, rows: Vec<Kept>) -> Result<Sheet<Kept>, AllocError>
+    ensures now { IfOk result (λ answers.
+        now_of answers ≡ filled (λ row. row.word) rows.items) }
+    ensures kept { IfOk result (λ answers.
+        answers.kept ≡ filled (λ row. row.word) rows.items) }
+    ensures keys { AreKeys rows.items }
+{
+    are_keys(rows.as_slice());
+    Sheet::filled(alloc, rows)
+}
+
+impl Shop {
+    /// The shop of these rows. An error is one of memory.
+    fn of_rows(alloc: Global, tables: Tables, counter: Counter) -> Result<Shop, AllocError>
+        requires now { numbering_of counter ≡ resumed tables.limits tables.next }
+        requires kept { kept_numbering counter ≡ resumed tables.limits tables.next }
+        ensures now { IfOk result (λ shop. state_of shop ≡ state_from tables) }
+        ensures kept { IfOk result (λ shop. kept_state shop ≡ state_from tables) }
+        ensures keys { AreKeys tables.answers.items }
+    {
+        let answers = answers_from(alloc, tables.answers)?;
+        let catalogue = Catalogue::assemble(alloc, tables.categories, tables.parts)?;
+        let boms = Boms::assemble(alloc, tables.lines, tables.substitutes)?;
+        let yard = Yard::assemble(alloc, tables.locations, tables.items, tables.history)?;
+        Ok(Shop {
+            catalogue,
+            boms,
+            yard,
+            counter,
+            answers,
+            alloc,
+        })
+    }
+
+    /// Whether the bills and the stock are sound. An error is one of memory.
+    fn is_sound(&self) -> Result<bool, AllocError>
+        requires { StandUnderKeys (λ e. e.number ∷ []) (state_of self.now).stock.history }
+        ensures { IfOk result (λ sound. IsTrue sound ↔ HasSoundBooks (state_of self.now)) }
+    {
+        let bills = self.boms.is_sound(&self.catalogue, self.counter.next())?;
+        if !bills {
+            return Ok(false);
+        }
+        let stock = is_sound_stock(self.alloc, &self.catalogue, &self.yard, &self.counter)?;
+        Ok(stock)
+    }
+
+    /// The shop of these rows, which are those that are kept, where they are the tables of a sound state.
+    pub fn assemble(alloc: Global, tables: Tables) -> Result<Shop, AssembleFault>
+        ensures state { IfOk result (λ shop. state_of shop ≡ state_from tables) }
+        ensures kept { IfOk result (λ shop. kept_state shop ≡ state_from tables) }
+        ensures sound { IfOk result (λ _. AreSoundTables tables) }
+        ensures unsound { IfErr result (λ fault. fault ≡ AssembleFault.Unsound
+            → ¬ AreSoundTables tables) }
+    {
+        let Some(counter) = Counter::resume(tables.limits, tables.next) else {
+            return Err(AssembleFault::Unsound);
+        };
+        if tables.entries != tables.history.len() as u64 {
+            return Err(AssembleFault::Unsound);
+        }
+        let shop = Shop::of_rows(alloc, tables, counter)?;
+        match shop.is_sound() {
+            Ok(true) => Ok(shop),
+            Ok(false) => Err(AssembleFault::Unsound),
+            Err(_) => Err(AssembleFault::Memory),
+        }
+    }
+}
