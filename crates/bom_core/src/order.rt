@@ -1,5 +1,5 @@
-//! An order of the parts, each above those that it contains, as ranks. It is found in one pass, as far as there is one:
-//! nothing is proved of it, and whoever takes it tests it.
+//! An order of the parts, each above those that it contains, as ranks; or a part that contains itself, where there is no
+//! such order. Either is found in one pass. Nothing is proved of it, and whoever takes it tests it.
 //!
 //! Each part has three points: its rank, one below the ranks of its variants and its own, and one above them. A point is
 //! settled once each that has to be below it is.
@@ -10,6 +10,15 @@ use crate::substitute::Substitute;
 use part_core::{Catalogue, Id, Part};
 use std::alloc::{AllocError, Global};
 use std::collections::HashMap;
+
+/// What one pass over the bills finds.
+#[derive(Drop)]
+pub struct Ranking {
+    /// Ranks of the parts, which fall from each to what it contains, if there are such.
+    pub ranks: HashMap<Id, Ranks>,
+    /// Else a part that contains itself.
+    pub looped: Option<Id>,
+}
 
 // What has a place in the order.
 #[derive(Clone, Copy, Debug, PartialEq, Eq, Hash)]
@@ -183,6 +192,55 @@ impl Order {
         Ok(())
     }
 
+    // Notes the point, which isn't settled, as one below each that has to be above it.
+    fn note_below(
+        &self,
+        point: Point,
+        below: &mut HashMap<Point, Point>,
+    ) -> Result<(), AllocError> {
+        let mut place = self.state(point).edge;
+        for _ in 0..self.edges.len() {
+            let Some(i) = place else {
+                break;
+            };
+            let Some(edge) = self.edges.as_slice().get(i) else {
+                break;
+            };
+            below.insert(edge.to, point)?;
+            place = edge.before;
+        }
+        Ok(())
+    }
+
+    // A part that contains itself, where some point isn't settled: below each of these there is another, so that going
+    // down long enough comes round.
+    fn looped(&self, alloc: Global, parts: &[&Part]) -> Result<Option<Id>, AllocError> {
+        let mut below = HashMap::new(alloc);
+        let mut at = None;
+        for part in parts {
+            let number = part.number;
+            for point in [Point::Low(number), Point::Rank(number), Point::High(number)] {
+                if self.state(point).open > 0 {
+                    self.note_below(point, &mut below)?;
+                    at = Some(point);
+                }
+            }
+        }
+        for _ in 0..below.len() {
+            at = next_below(&below, at);
+        }
+        // Below a low point there is a rank, or a high point, and below that there is a rank.
+        for _ in 0..2 {
+            if !matches!(at, Some(Point::Rank(_))) {
+                at = next_below(&below, at);
+            }
+        }
+        match at {
+            Some(Point::Rank(part)) => Ok(Some(part)),
+            _ => Ok(None),
+        }
+    }
+
     fn ranks(&self, part: Id) -> Ranks {
         Ranks {
             rank: self.state(Point::Rank(part)).rank,
@@ -190,6 +248,12 @@ impl Order {
             high: self.state(Point::High(part)).rank,
         }
     }
+}
+
+fn next_below(below: &HashMap<Point, Point>, at: Option<Point>) -> Option<Point> {
+    let point = at?;
+    let next = below.get(&point)?;
+    Some(*next)
 }
 
 // The point that has to be above all that fits the line.
@@ -201,13 +265,12 @@ fn floor_point(line: &Line) -> Point {
     }
 }
 
-/// Ranks of the parts of the catalogue, which fall from each to what it contains, if there are such. An error is one of
-/// memory.
-pub fn ranks_in_order(
+/// Ranks of the parts of the catalogue, or a part that contains itself. An error is one of memory.
+pub fn rank_parts(
     alloc: Global,
     boms: &Boms,
     catalogue: &Catalogue,
-) -> Result<HashMap<Id, Ranks>, AllocError> {
+) -> Result<Ranking, AllocError> {
     let parts = catalogue.parts().select(|_| true)?;
     let mut order = Order::new(alloc);
     for part in &parts {
@@ -224,5 +287,6 @@ pub fn ranks_in_order(
     for part in &parts {
         ranks.insert(part.number, order.ranks(part.number))?;
     }
-    Ok(ranks)
+    let looped = order.looped(alloc, &parts)?;
+    Ok(Ranking { ranks, looped })
 }

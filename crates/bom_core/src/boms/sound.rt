@@ -14,7 +14,7 @@ ghost use Rattle.bom_core.specs.Walks.{HasWalk, IsAcyclic};
 use crate::boms::Boms;
 use crate::checks::has_part;
 use crate::line::Line;
-use crate::order::ranks_in_order;
+use crate::order::rank_parts;
 use crate::ranks::{Ranks, floor, is_bounded, is_falling, ranks_of};
 use crate::substitute::Substitute;
 use part_core::{Catalogue, Id, is_bad_quantity, is_drawn};
@@ -198,16 +198,23 @@ impl Boms {
             .any(|row| !self.is_below(ranks, row))
     }
 
-    // Whether no part contains itself: where it is so, ranks show it in one pass. An error is one of memory.
+    // Whether no part contains itself. One pass finds ranks that show that none does, or a part that does; a search from
+    // each part decides where it found neither. An error is one of memory.
     fn is_acyclic(&self, catalogue: &Catalogue) -> Result<bool, AllocError>
         requires { EachRow (λ l. IsThere (parts_of catalogue.now).parts l.assembly)
             (bills_of self.now).lines }
         ensures { IfOk result (λ acyclic. IsTrue acyclic
             ↔ IsAcyclic (parts_of catalogue.now) (bills_of self.now)) }
     {
-        let ranks = ranks_in_order(self.alloc, self, catalogue)?;
-        if self.do_ranks_fall(catalogue, &ranks) {
+        let ranking = rank_parts(self.alloc, self, catalogue)?;
+        if self.do_ranks_fall(catalogue, &ranking.ranks) {
             return Ok(true);
+        }
+        if let Some(part) = ranking.looped {
+            let is_looped = self.reaches(catalogue, part, part)?;
+            if is_looped {
+                return Ok(false);
+            }
         }
         self.is_acyclic_by_search(catalogue)
     }

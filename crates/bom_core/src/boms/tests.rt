@@ -127,12 +127,11 @@ fn refuses_a_part_that_contains_itself(rt: HostRuntime) -> Result<(), Fail> {
     Ok(())
 }
 
-// How many parts stand each in the next.
-const LENGTH: u64 = 5000;
+// How many parts a chain has, and one more.
+const LENGTH: u64 = 2000;
 
-#[test]
-fn takes_a_long_chain(rt: HostRuntime) -> Result<(), Fail> {
-    let alloc = rt.alloc();
+// Whether bills are sound in which each part stands in the next, and the last in the middle one where `is_closed`.
+fn is_sound_chain(alloc: Global, is_closed: bool) -> Result<bool, Fail> {
     let mut parts = Vec::new(alloc);
     let mut lines = Vec::new(alloc);
     for number in 1..LENGTH {
@@ -141,8 +140,17 @@ fn takes_a_long_chain(rt: HostRuntime) -> Result<(), Fail> {
             lines.push(line(LENGTH + number, number, number - 1))?;
         }
     }
+    if is_closed {
+        lines.push(line(2 * LENGTH, LENGTH / 2, LENGTH - 1))?;
+    }
     let catalogue = Catalogue::assemble(alloc, Vec::new(alloc), parts)?;
     let boms = Boms::assemble(alloc, lines, Vec::new(alloc))?;
-    assert!(rt; boms.is_sound(&catalogue, 2 * LENGTH)?);
+    Ok(boms.is_sound(&catalogue, 3 * LENGTH)?)
+}
+
+#[test]
+fn decides_long_chains(rt: HostRuntime) -> Result<(), Fail> {
+    assert!(rt; is_sound_chain(rt.alloc(), false)?);
+    assert!(rt; !is_sound_chain(rt.alloc(), true)?);
     Ok(())
 }
