@@ -2,7 +2,8 @@
 use crate::outcomes::holds;
 use crate::requests::name;
 use bom_core::{Line, LineFlags, Substitute};
-use part_core::{Category, Column, Day, Flags, Part, Serial, Status, Stored};
+use desk_core::{CommandText, Kept, Key, read_answer};
+use part_core::{Answer, Category, Column, Day, Flags, Ids, Part, Serial, Status, Stored};
 use std::alloc::Global;
 use std::test::Fail;
 use yard_core::{Entry, Item, Kind, Location, Lot, Note, Place, Reason};
@@ -107,6 +108,28 @@ fn stored_bill(alloc: Global) -> Result<(), Fail> {
     is_stored(alloc, &substitute, "17|16|8|")
 }
 
+fn is_no_answer(alloc: Global, text: &str) -> Result<(), Fail> {
+    holds(read_answer(alloc, text).is_err(), "no line of an answer")
+}
+
+fn stored_answer(alloc: Global) -> Result<(), Fail> {
+    let kept = Kept {
+        word: Key::new(String::from_str(alloc, "k")?).ok_or("a key")?,
+        command: CommandText::new(String::from_str(alloc, "{}")?),
+        answer: Answer {
+            ids: Ids::range(alloc, 12, 2)?,
+            entries: 305,
+        },
+    };
+    is_stored(alloc, &kept, r#"k|{}|{"entries":305,"ids":[12,13]}|"#)?;
+    is_no_answer(alloc, "")?;
+    is_no_answer(alloc, r#"{"entries":05,"ids":[]}"#)?;
+    is_no_answer(alloc, r#"{"entries":5,"ids":[1,]}"#)?;
+    is_no_answer(alloc, r#"{"entries":5,"ids":[1] }"#)?;
+    is_no_answer(alloc, r#"{"ids":[1],"entries":5}"#)?;
+    is_no_answer(alloc, r#"{"entries":18446744073709551616,"ids":[]}"#)
+}
+
 #[test]
 fn stored_rows(rt: HostRuntime) -> Result<(), Fail> {
     let alloc = rt.alloc();
@@ -125,5 +148,6 @@ fn stored_rows(rt: HostRuntime) -> Result<(), Fail> {
     stored_part(alloc)?;
     stored_item(alloc)?;
     stored_entry(alloc)?;
-    stored_bill(alloc)
+    stored_bill(alloc)?;
+    stored_answer(alloc)
 }
