@@ -10,3 +10,4 @@ pub mod Ordered
 pub mod Loading
 pub mod Deleting
 pub mod Dropping
+pub mod Columns

@@ -3,3 +3,4 @@ pub mod Texts
 pub mod Transactions
 pub mod Making
 pub mod Values
+pub mod Stored
