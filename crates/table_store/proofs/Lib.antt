@@ -11,3 +11,5 @@ pub mod Loading
 pub mod Deleting
 pub mod Dropping
 pub mod Columns
+pub mod Holding
+pub mod Changes

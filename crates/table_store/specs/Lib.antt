@@ -4,3 +4,4 @@ pub mod Transactions
 pub mod Making
 pub mod Values
 pub mod Stored
+pub mod Written

@@ -1,13 +1,11 @@
 -- Rows of the machine as the tables have them.
-use Rattle.std.specs.Prelude.{◌≡◌, ◌⊎◌, pos, negsuc, cond, ◌<◌, ◌^◌, List, [], ◌∷◌, map, Contains, Option, Some, None}
+use Rattle.std.specs.Prelude.{◌≡◌, ◌⊎◌, pos, negsuc, cond, List, [], ◌∷◌, map, Contains, Option, Some, None}
 use Rattle.std.specs.Str.{is_utf8}
-use Rattle.std.specs.FinMap as table
 use Rattle.sqlite.specs.declared.types.Value.{Value}
 use Rattle.sqlite.specs.declared.types.Value.TheVariants.{Null, Int, Text as Words}
 use Rattle.sqlite.specs.Order.{Row}
 use Rattle.sqlite.specs.State.{State, IsUnchanged, IsRolledBack}
 use Rattle.part_core.specs.Columns.{◌>>=◌}
-use Rattle.part_core.specs.Sheet.{Table}
 use Rattle.part_core.specs.declared.column.Column.{Column}
 use Rattle.part_core.specs.declared.column.Column.TheVariants.{Whole, Text, Absent}
 use Rattle.table_store.specs.Schema.{position}

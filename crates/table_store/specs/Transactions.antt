@@ -4,7 +4,7 @@ use Rattle.sqlite.specs.State.{State, Fails, Shows}
 use Rattle.table_store.specs.declared.fault.Cause.{Cause}
 use Rattle.table_store.specs.declared.fault.Cause.TheVariants as cause
 use Rattle.table_store.specs.declared.fault.TableFault.{TableFault}
-use Rattle.table_store.specs.declared.fault.TableFault.TheVariants.{Memory, Store, NoTable, BadRow}
+use Rattle.table_store.specs.declared.fault.TableFault.TheVariants.{Store}
 
 -- it is the database's error, with which it failed and undid the transaction
 abbrev pub StopsBy : State → State → Cause → Type 0
