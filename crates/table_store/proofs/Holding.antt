@@ -12,7 +12,7 @@ use Rattle.std.proofs.lemmas.Bool.Decides.{nat_tests}
 use Rattle.sqlite.specs.declared.types.Value.{Value}
 use Rattle.sqlite.specs.declared.types.Value.TheVariants.{Null, Int}
 use Rattle.sqlite.specs.Order.{Row, column, value_cmp}
-use Rattle.sqlite.specs.Tree.{rowid, IsTable, has_rowid, put_row, without_rowid}
+use Rattle.sqlite.specs.Tree.{rowid, IsAscending, IsTable, has_rowid, put_row, without_rowid}
 use Rattle.sqlite_value.proofs.OrderLemmas.{value_cmp_total, value_cmp-Int, then-Equal}
 use Rattle.sqlite_trees.proofs.ListLemmas.{all_weaker, filter_all}
 use Rattle.sqlite_trees.proofs.TreeLemmas.{later_rowids}
@@ -58,7 +58,7 @@ keyed-dropped Allocations h = tt
 keyed-dropped _ h = absurd h
 
 -- what is shown of a row begins with its number
-shown-first : (table : TableName) → IsKeyed table → (r : Row) → column (shown_row table r) 0 ≡ rowid r
+pub shown-first : (table : TableName) → IsKeyed table → (r : Row) → column (shown_row table r) 0 ≡ rowid r
 shown-first Kept h r = absurd h
 shown-first Meta h r = refl
 shown-first Categories h r = refl
@@ -73,7 +73,7 @@ shown-first OrderLines h r = refl
 shown-first Builds h r = refl
 shown-first Allocations h r = refl
 
-shown-loaded : (table : TableName) (tree shown : List Row) → IsKeyed table → IsLoaded table tree shown → map (shown_row table) tree ≡ shown
+pub shown-loaded : (table : TableName) (tree shown : List Row) → IsKeyed table → IsLoaded table tree shown → map (shown_row table) tree ≡ shown
 shown-loaded Kept tree shown h l = absurd h
 shown-loaded Meta tree shown h l = sym l
 shown-loaded Categories tree shown h l = sym l
@@ -88,7 +88,7 @@ shown-loaded OrderLines tree shown h l = sym l
 shown-loaded Builds tree shown h l = sym l
 shown-loaded Allocations tree shown h l = sym l
 
-loaded-shown : (table : TableName) (tree shown : List Row) → IsKeyed table → map (shown_row table) tree ≡ shown → IsLoaded table tree shown
+pub loaded-shown : (table : TableName) (tree shown : List Row) → IsKeyed table → map (shown_row table) tree ≡ shown → IsLoaded table tree shown
 loaded-shown Kept tree shown h e = absurd h
 loaded-shown Meta tree shown h e = sym e
 loaded-shown Categories tree shown h e = sym e
@@ -160,7 +160,7 @@ reversed-eq Equal = refl
 reversed-eq Greater = refl
 
 -- keys of one digit compare as it does
-key_cmp-is : (a b : ℕ) → key_cmp (a ∷ []) (b ∷ []) ≡ nat_cmp a b
+pub key_cmp-is : (a b : ℕ) → key_cmp (a ∷ []) (b ∷ []) ≡ nat_cmp a b
 key_cmp-is a b = then-Equal (nat_cmp a b)
 
 -- the rows that come before each of these stand first
@@ -264,6 +264,26 @@ module _ {X : Type 0} (shows : Row → Row) (tells : X → Row) (number : X → 
       go false true p ih = cc
       go false false p ih = ap (λ (v : Row). v ∷ map shows (without_rowid (pos n) rs)) same ∙ ap (λ (vs : List Row). tells f.1 ∷ vs) ih
 
+  -- the rows that a tree shows rise by their numbers
+  pub rows-rise : (xs : List X) (rows : List Row) → IsTable rows → map shows rows ≡ map tells xs → IsAscending (λ x y. nat_cmp (number x) (number y) ≡ Less) xs
+  rows-rise [] rows t s = tt
+  rows-rise (x ∷ xs) [] t s = cc
+  rows-rise (x ∷ xs) (r ∷ rs) t s = (later xs rs rest t.0, rows-rise xs rs t.1 rest)
+    where
+      same : shows r ≡ tells x
+      same = cc
+
+      rest : map shows rs ≡ map tells xs
+      rest = cc
+
+      later : (ys : List X) (qs : List Row) → map shows qs ≡ map tells ys → AllByRecursion (λ q. value_cmp (rowid r) (rowid q) ≡ Less) qs → AllByRecursion (λ y. nat_cmp (number x) (number y) ≡ Less) ys
+      later [] qs s h = tt
+      later (y ∷ ys) [] s h = cc
+      later (y ∷ ys) (q ∷ qs) s h =
+          let first-is : shows q ≡ tells y = cc in
+          let more : map shows qs ≡ map tells ys = cc in
+          (sym (row_cmp r x (number y) same) ∙ ap (value_cmp (rowid r)) (sym (numbered q y first-is)) ∙ h.0, later ys qs more h.1)
+
 -- ---- the entries of a map
 
 is-T : (b : Bool) → T b → b ≡ true
@@ -317,7 +337,7 @@ module _ {X : Type 0} where
 -- ---- one change
 
 module _ {X : Type 0} (columns : X → List Column) (key_of : X → List ℕ) where
-  own-put : (rows : Table X) (x : X) → StandUnderKeys key_of rows → StandUnderKeys key_of (insert rows (key_of x) x)
+  pub own-put : (rows : Table X) (x : X) → StandUnderKeys key_of rows → StandUnderKeys key_of (insert rows (key_of x) x)
   own-put rows x own k y e = elim (get-insert_cases rows (key_of x) x k y e) [ inl i ↦ i.0 ∙ ap key_of i.1 | inr i ↦ own k y i ]
 
   -- rows stand under their own keys after a change that the table takes
@@ -325,42 +345,43 @@ module _ {X : Type 0} (columns : X → List Column) (key_of : X → List ℕ) wh
   own-given table rows k None own takes = λ q y e. own q y (get-remove_cases rows k q y e).1
   own-given table rows k (Some x) own takes = subst (λ q. StandUnderKeys key_of (insert rows q x)) (sym takes.0) (own-put rows x own)
 
-  module _ (digits : ℕ → List ℕ) (table : TableName) (suits : Suits columns key_of digits table) (rows : Table X) (own : StandUnderKeys key_of rows) (tree : List Row) (holds : Holds columns table tree rows) where
-    abbrev number : X → ℕ
+  module _ (digits : ℕ → List ℕ) (table : TableName) (suits : Suits columns key_of digits table) where
+    abbrev pub number : X → ℕ
     number x = (suits.numbered x).0
 
-    head : (x : X) → column (values_of columns x) 0 ≡ Int (pos (number x))
+    pub head : (x : X) → column (values_of columns x) 0 ≡ Int (pos (number x))
     head x = ap (λ (cs : List Column). column (map value_of cs) 0) (suits.numbered x).2
 
-    row-is : (x : X) → values_of columns x ≡ Int (pos (number x)) ∷ map value_of (suits.numbered x).1
+    pub row-is : (x : X) → values_of columns x ≡ Int (pos (number x)) ∷ map value_of (suits.numbered x).1
     row-is x = ap (map value_of) (suits.numbered x).2
 
-    under : AllByRecursion (λ e. e.0 ≡ number e.1 ∷ []) (entries rows)
-    under = all_weaker _ (λ e. e.0 ≡ number e.1 ∷ []) (λ e h. h ∙ (suits.numbered e.1).3) (entries rows) (entries-own key_of rows own)
+    module _ (rows : Table X) (own : StandUnderKeys key_of rows) (tree : List Row) (holds : Holds columns table tree rows) where
+      under : AllByRecursion (λ e. e.0 ≡ number e.1 ∷ []) (entries rows)
+      under = all_weaker _ (λ e. e.0 ≡ number e.1 ∷ []) (λ e h. h ∙ (suits.numbered e.1).3) (entries rows) (entries-own key_of rows own)
 
-    -- a row that is put
-    pub holds-put : (x : X) → IsTable tree → Holds columns table (with_row table (values_of columns x) tree) (insert rows (key_of x) x)
-    holds-put x rising =
-        let id = pos (number x) in
-        let rest = map value_of (suits.numbered x).1 in
-        let fits : IsRow table (Int id ∷ rest) = subst (IsRow table) (row-is x) (suits.fits x) in
-        let keyed : IsKeyed table = keyed-row table id rest fits in
-        let new : Row = Int id ∷ Null ∷ rest in
-        let tree-is : with_row table (values_of columns x) tree ≡ put_row new tree =
-        ap (λ (vs : Row). with_row table vs tree) (row-is x) ∙ with_row-is table id rest tree keyed ∙ put-over new id tree refl rising in
-        let entries-are : entries (insert rows (key_of x) x) ≡ put key_cmp (number x ∷ []) x (entries rows) =
-        entries-insert keys_total rows (key_of x) x ∙ ap (λ k. put key_cmp k x (entries rows)) (suits.numbered x).3 in
-        loaded-shown table (with_row table (values_of columns x) tree) (map (values_of columns) (values (insert rows (key_of x) x))) keyed
-        (ap (map (shown_row table)) tree-is
-        ∙ put-shown (shown_row table) (values_of columns) number (shown-first table keyed) head new x (entries rows) tree (shown-put table id rest fits ∙ sym (row-is x)) under (shown-loaded table tree _ keyed holds)
-        ∙ ap (λ (es : List (List ℕ × X)). map (values_of columns) (map (λ e. e.1) es)) (sym entries-are))
+      -- a row that is put
+      pub holds-put : (x : X) → IsTable tree → Holds columns table (with_row table (values_of columns x) tree) (insert rows (key_of x) x)
+      holds-put x rising =
+          let id = pos (number x) in
+          let rest = map value_of (suits.numbered x).1 in
+          let fits : IsRow table (Int id ∷ rest) = subst (IsRow table) (row-is x) (suits.fits x) in
+          let keyed : IsKeyed table = keyed-row table id rest fits in
+          let new : Row = Int id ∷ Null ∷ rest in
+          let tree-is : with_row table (values_of columns x) tree ≡ put_row new tree =
+          ap (λ (vs : Row). with_row table vs tree) (row-is x) ∙ with_row-is table id rest tree keyed ∙ put-over new id tree refl rising in
+          let entries-are : entries (insert rows (key_of x) x) ≡ put key_cmp (number x ∷ []) x (entries rows) =
+          entries-insert keys_total rows (key_of x) x ∙ ap (λ k. put key_cmp k x (entries rows)) (suits.numbered x).3 in
+          loaded-shown table (with_row table (values_of columns x) tree) (map (values_of columns) (values (insert rows (key_of x) x))) keyed
+          (ap (map (shown_row table)) tree-is
+          ∙ put-shown (shown_row table) (values_of columns) number (shown-first table keyed) head new x (entries rows) tree (shown-put table id rest fits ∙ sym (row-is x)) under (shown-loaded table tree _ keyed holds)
+          ∙ ap (λ (es : List (List ℕ × X)). map (values_of columns) (map (λ e. e.1) es)) (sym entries-are))
 
-    -- a row that is dropped
-    pub holds-removed : (n : ℕ) → IsKeyed table → Holds columns table (without_rowid (pos n) tree) (remove rows (n ∷ []))
-    holds-removed n keyed =
-        loaded-shown table (without_rowid (pos n) tree) (map (values_of columns) (values (remove rows (n ∷ [])))) keyed
-        (without-shown (shown_row table) (values_of columns) number (shown-first table keyed) head n (entries rows) tree under (shown-loaded table tree _ keyed holds)
-        ∙ ap (λ (es : List (List ℕ × X)). map (values_of columns) (map (λ e. e.1) es)) (sym (entries-removed rows (n ∷ []))))
+      -- a row that is dropped
+      pub holds-removed : (n : ℕ) → IsKeyed table → Holds columns table (without_rowid (pos n) tree) (remove rows (n ∷ []))
+      holds-removed n keyed =
+          loaded-shown table (without_rowid (pos n) tree) (map (values_of columns) (values (remove rows (n ∷ [])))) keyed
+          (without-shown (shown_row table) (values_of columns) number (shown-first table keyed) head n (entries rows) tree under (shown-loaded table tree _ keyed holds)
+          ∙ ap (λ (es : List (List ℕ × X)). map (values_of columns) (map (λ e. e.1) es)) (sym (entries-removed rows (n ∷ []))))
 
 -- ---- all changes
 

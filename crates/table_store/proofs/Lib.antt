@@ -12,4 +12,5 @@ pub mod Deleting
 pub mod Dropping
 pub mod Columns
 pub mod Holding
+pub mod Fillings
 pub mod Changes

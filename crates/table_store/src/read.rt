@@ -1,13 +1,14 @@
 //! Rows of the machine are read from the tables.
-ghost use Rattle.std.specs.Prelude.{◌≡◌, ◌∷◌, ◌++◌, [], IfOk, IfErr, OnOk, MatchResult, Some, map};
+ghost use Rattle.std.specs.Prelude.{◌≡◌, ◌∷◌, ◌++◌, [], IfOk, IfErr, OnOk, MatchResult, ℕ, List, Some, map};
 ghost use Rattle.sqlite.specs.Held.{state};
 ghost use Rattle.sqlite.specs.State.{HasCleanDisk, IsUnchanged, Survives};
 ghost use Rattle.sqlite_value.specs.Value.{owned};
 ghost use Rattle.sqlite_value.specs.declared.value.Value.TheVariants.{Int, Text};
 ghost use Rattle.part_core.specs.Columns.{Finds, Misses};
-ghost use Rattle.table_store.specs.Schema.{position};
+ghost use Rattle.part_core.specs.Filled.{filled};
 ghost use Rattle.table_store.specs.Stored.{column_of, columns_in, row_of, values_of, AreLoaded, FailsToLoad, FailsToRead};
 ghost use Rattle.table_store.specs.Values.{HasTables};
+ghost use Rattle.table_store.specs.Written.{tree_of, Holds, Suits};
 
 use crate::fault::{Failed, TableFault};
 use crate::name::TableName;
@@ -99,7 +100,8 @@ fn rows_of<R: Stored>(alloc: Global, table: TableName, rows: &[Row]) -> Result<V
 
 /// All rows of a table, as rows of the machine, in the order of the key.
 ///
-/// `BadRow` where one of them is none. `NoTable` is never answered: whether the tables are there is asked before.
+/// `BadRow` where one of them is none. `NoTable` is never answered: whether the tables are there is asked before. A
+/// sheet that these rows fill is the one whose changes `write_pending` takes.
 pub fn load_sheet<S: Alter, R: Stored>(
     alloc: Global,
     conn: &mut Connection<S>,
@@ -108,7 +110,11 @@ pub fn load_sheet<S: Alter, R: Stored>(
     requires { HasCleanDisk (state S.Store conn.old) → HasTables (state S.Store conn.old) }
     ensures loaded { HasCleanDisk (state S.Store conn.new)
         → IfOk result (λ rows. AreLoaded R.row_from R.columns_of table
-        ((state S.Store conn.old).now.trees (position table)) rows.items) }
+        (tree_of table (state S.Store conn.old)) rows.items) }
+    ensures held { HasCleanDisk (state S.Store conn.new)
+        → IfOk result (λ rows. (digits : ℕ → List ℕ) → Suits R.columns_of R.key_of digits table
+        → Holds R.columns_of table (tree_of table (state S.Store conn.old))
+        (filled R.key_of rows.items)) }
     ensures same { HasCleanDisk (state S.Store conn.new)
         → OnOk result (IsUnchanged (state S.Store conn.old) (state S.Store conn.new)) }
     ensures failed { HasCleanDisk (state S.Store conn.new)
