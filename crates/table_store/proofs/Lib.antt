@@ -10,3 +10,7 @@ pub mod Ordered
 pub mod Loading
 pub mod Deleting
 pub mod Dropping
+pub mod Columns
+pub mod Holding
+pub mod Fillings
+pub mod Changes

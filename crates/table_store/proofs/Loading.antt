@@ -1,5 +1,5 @@
 -- What the statement that loads a table means, and what it shows.
-use Rattle.std.proofs.Common.{◌≡◌, ℕ, pos, negsuc, List, [], ◌∷◌, map, codes, false, None, refl, sym, ap, subst, ◌∙◌, arith}
+use Rattle.std.proofs.Common.{◌≡◌, ◌⊎◌, inl, inr, ℕ, pos, negsuc, List, [], ◌∷◌, map, codes, false, None, refl, sym, ap, subst, ◌∙◌, arith}
 use Rattle.std.specs.List.{flat_map}
 use Rattle.std.specs.List.Sorted.{IsPermutation}
 use Rattle.sqlite.specs.declared.types.Value.TheVariants.{Null, Int}
@@ -11,7 +11,8 @@ use Rattle.sqlite.specs.Collation.TheVariants.{Binary}
 use Rattle.sqlite_value.specs.Keys.{ascending}
 use Rattle.sqlite.specs.Command.TheVariants.{Select}
 use Rattle.sqlite.specs.Listing.{understood, reads_listing}
-use Rattle.sqlite.specs.State.{State, Shown, ShowsRows, IsUnchanged, CommitsShowing, Survives, HasCleanDisk}
+use Rattle.sqlite.specs.State.{State, Shown, ShowsRows, FailsToQuery, FailsToShow, IsNotRun, IsUnchanged, IsRolledBack, CommitsShowing, Survives, HasCleanDisk}
+use Rattle.sqlite.specs.declared.error.Error.{Error}
 use Rattle.sqlite.specs.Clock.{timed}
 use Rattle.sqlite.proofs.Callers.{IsPlain, reads_as, never_commits}
 use Rattle.sqlite.proofs.StateLemmas.{survives_weaker}
@@ -139,3 +140,10 @@ loading_changes_nothing table old new rows has h =
 pub loading_commits_nothing : (table : TableName) (old new : State) → (HasCleanDisk old → HasTables old) → Survives old new (CommitsShowing (load_text table) [] old) → Survives old new (λ _. ⊥)
 loading_commits_nothing table old new has s =
     survives_weaker old new _ _ (λ clean db h. never_commits (load_text table) [] old db (plain table old (has (omega (arith, clean, s.clean))).schema) h) s
+
+pub loading_fails : (table : TableName) (old new : State) (e : Error) → HasTables old → FailsToQuery (load_text table) [] old new e → IsUnchanged old new ⊎ IsRolledBack old new
+unfolding FailsToQuery IsNotRun
+loading_fails table old new e has (inl h) = elim h [ inl none ↦ inl none.1 | inr fails ↦ inr fails.3 ]
+loading_fails table old new e has (inr h) =
+    let bare = subst IsPlain h.1.is (plain table old has.schema) in
+    inl (subst (FailsToShow old new (load_text table) h.0 (timed [] h.0.formats h.1.now) e) bare.0 h.2).3

@@ -3,3 +3,5 @@ pub mod Texts
 pub mod Transactions
 pub mod Making
 pub mod Values
+pub mod Stored
+pub mod Written

@@ -1,16 +1,32 @@
 -- What ends a transaction, and what it leaves.
-use Rattle.std.specs.Prelude.{◌≡◌, false, IsTrue}
-use Rattle.sqlite.specs.State.{State, Fails}
+use Rattle.std.specs.Prelude.{◌≡◌, true, false, IsTrue}
+use Rattle.sqlite.specs.State.{State, Fails, Shows}
+use Rattle.table_store.specs.declared.fault.Cause.{Cause}
+use Rattle.table_store.specs.declared.fault.Cause.TheVariants as cause
 use Rattle.table_store.specs.declared.fault.TableFault.{TableFault}
-use Rattle.table_store.specs.declared.fault.TableFault.TheVariants.{Memory, Store}
+use Rattle.table_store.specs.declared.fault.TableFault.TheVariants.{Store}
+
+-- it is the database's error, with which it failed and undid the transaction
+abbrev pub StopsBy : State → State → Cause → Type 0
+StopsBy old new (cause.Database error) = Fails old new ⊥ error
+StopsBy old new _ = ⊥
 
 -- the database failed with this error, and the transaction is undone
 abbrev pub Stops : State → State → TableFault → Type 0
-Stops old new Memory = ⊥
-Stops old new (Store failed) = Fails old new ⊥ failed.error
+Stops old new (Store failed) = StopsBy old new failed.cause
+Stops old new _ = ⊥
 
 -- no transaction is open, and the tables are those of the last commit
 pub record IsBack (old new : State) : Type 0 where
   pub was_open : IsTrue new.is_open → IsTrue old.is_open
   pub undone : IsTrue new.is_open → (new.now ≡ old.committed) × (new.committed ≡ old.committed)
   pub autocommit : new.in_transaction ≡ false
+
+-- the transaction is still open, and its tables may have changed
+abbrev pub StaysInside : State → State → Type 0
+StaysInside old new = Shows old new new.now old.committed true
+
+-- the fault is one of the database
+abbrev pub IsOfStore : TableFault → Type 0
+IsOfStore (Store failed) = Unit {0}
+IsOfStore _ = ⊥

@@ -1,20 +1,65 @@
 //! Why a call on the tables didn't do what it says.
 ghost use Rattle.std.specs.Prelude.{◌≡◌};
+ghost use Rattle.table_store.specs.declared.fault.Cause.{Cause};
 
+use crate::name::TableName;
 use sqlite::Error;
+use std::alloc::AllocError;
+use std::fmt;
 
-/// What a call of the database answered in place of a value.
+/// What is known of a fault.
+#[derive(Debug, Drop)]
+enum Cause {
+    /// What a call of the database answered in place of a value.
+    Database(Error),
+    /// The file has no such table, or another one under its name.
+    NoTable(TableName),
+    /// A row of the table is none that the program writes.
+    BadRow(TableName),
+}
+
+/// What is known of a fault. As text it is one line, for a person.
 #[derive(Debug, Drop)]
 pub struct Failed {
-    error: Error,
+    cause: Cause,
 }
 
 impl Failed {
     /// Keeps the error to this crate.
     pub(crate) fn new(error: Error) -> Failed
-        ensures { result.error ≡ error }
+        ensures { result.cause ≡ Cause.Database error }
     {
-        Failed { error }
+        Failed {
+            cause: Cause::Database(error),
+        }
+    }
+
+    /// Of a table that isn't as it should be.
+    pub(crate) fn no_table(table: TableName) -> Failed
+        ensures { result.cause ≡ Cause.NoTable table }
+    {
+        Failed {
+            cause: Cause::NoTable(table),
+        }
+    }
+
+    /// Of a row that isn't one of the table.
+    pub(crate) fn bad_row(table: TableName) -> Failed
+        ensures { result.cause ≡ Cause.BadRow table }
+    {
+        Failed {
+            cause: Cause::BadRow(table),
+        }
+    }
+}
+
+impl fmt::Display for Failed {
+    fn fmt<W: fmt::Write>(&self, f: &mut fmt::Formatter<W>) -> fmt::Result {
+        match &self.cause {
+            Cause::Database(error) => write!(f, "the database answered: {error}"),
+            Cause::NoTable(table) => write!(f, "the table {} is not as it should be", table.name()),
+            Cause::BadRow(table) => write!(f, "a row of the table {} makes no sense", table.name()),
+        }
     }
 }
 
@@ -25,4 +70,19 @@ pub enum TableFault {
     Memory,
     /// The database failed: want of memory inside it too, since it ends the transaction.
     Store(Failed),
+    /// The file's tables aren't the desk's.
+    NoTable(Failed),
+    /// A table has a row that is none of the program's.
+    BadRow(Failed),
+}
+
+impl From<AllocError> for TableFault {
+    ghost use Rattle.std.specs.Prelude.{◌≡◌};
+    ghost use Rattle.table_store.specs.declared.fault.TableFault.TheVariants.{Memory};
+
+    ghost from_gives = { λ _ fault. fault ≡ Memory };
+
+    fn from(_: AllocError) -> Self {
+        TableFault::Memory
+    }
 }

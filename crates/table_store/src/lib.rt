@@ -4,14 +4,18 @@
 mod create;
 mod fault;
 mod name;
+mod read;
 mod rows;
 mod transaction;
+mod write;
 
 pub use create::create_tables;
 pub use fault::{Failed, TableFault};
 pub use name::TableName;
+pub use read::load_sheet;
 pub use rows::{drop_row, load_rows, put_row};
 pub use transaction::{begin, commit, rollback};
+pub use write::write_pending;
 
 #[cfg(test)]
 mod tests;

@@ -1,10 +1,11 @@
 //! The rows of the tables.
-ghost use Rattle.std.specs.Prelude.{◌≡◌, ◌⊎◌, IfOk, OnOk, OnErr};
+ghost use Rattle.std.specs.Prelude.{◌≡◌, ◌⊎◌, IfOk, IfErr, OnOk, OnErr};
 ghost use Rattle.sqlite.specs.Held.{state};
 ghost use Rattle.sqlite.specs.State.{HasCleanDisk, IsUnchanged, IsRolledBack, Survives};
 ghost use Rattle.sqlite.specs.Tree.{without_rowid};
 ghost use Rattle.sqlite.specs.Values.{bound};
 ghost use Rattle.table_store.specs.Schema.{position};
+ghost use Rattle.table_store.specs.Transactions.{IsOfStore};
 ghost use Rattle.table_store.specs.Values.{IsRow, AreDropped, with_row, HasTables, IsInside, IsLoaded, HasSet};
 
 use crate::fault::{Failed, TableFault};
@@ -72,6 +73,10 @@ pub fn load_rows<S: Alter>(
         IsLoaded table ((state S.Store conn.old).now.trees (position table)) rows.items) }
     ensures same { HasCleanDisk (state S.Store conn.new)
         → OnOk result (IsUnchanged (state S.Store conn.old) (state S.Store conn.new)) }
+    ensures failed { HasCleanDisk (state S.Store conn.new)
+        → OnErr result (IsUnchanged (state S.Store conn.old) (state S.Store conn.new)
+        ⊎ IsRolledBack (state S.Store conn.old) (state S.Store conn.new)) }
+    ensures store { IfErr result IsOfStore }
     ensures crash { Survives (state S.Store conn.old) (state S.Store conn.new) (λ _. ⊥) }
 {
     match conn.query_all(table.load_text(), &[]) {

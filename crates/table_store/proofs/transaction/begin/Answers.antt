@@ -1,5 +1,5 @@
 use Rattle.std.proofs.Common.{Ok, Err, arith, subst, sym}
-use Rattle.sqlite.specs.State.{Fails}
+use Rattle.table_store.specs.Transactions.{StopsBy}
 use Rattle.sqlite.specs.Held.{state}
 use Rattle.sqlite.proofs.StateLemmas.{survives_weaker}
 use Rattle.table_store.proofs.Inside.{same_tables, begins, begins_nothing}
@@ -19,7 +19,7 @@ returns-in-Ok-clause-crash g c =
 
 pub returns-in-Err-clause-stopped : goal.returns-in-Err-clause-stopped
 returns-in-Err-clause-stopped g c clean =
-    subst (Fails (state g.S.Store c.args.conn.now) (state g.S.Store c.execute.new.self) ⊥) (sym c.new.ensures)
+    subst (StopsBy (state g.S.Store c.args.conn.now) (state g.S.Store c.execute.new.self)) (sym c.new.ensures)
     (begins (state g.S.Store c.args.conn.now) (state g.S.Store c.execute.new.self) (Err c.in-Err.error) (c.requires (omega (arith, c.execute.ensures.survives.clean))) (c.in-Err.ensures.runs clean)).1
 
 pub returns-in-Err-clause-crash : goal.returns-in-Err-clause-crash

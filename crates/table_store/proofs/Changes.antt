@@ -1,0 +1,183 @@
+-- The changes of a sheet, one by one, in the table and in the transaction.
+use Rattle.std.proofs.Common.{◌≡◌, ◌≢◌, ◌⊎◌, inl, inr, ℕ, ◌+◌, ◌<◌, ◌^◌, ℤ, pos, List, [], ◌∷◌, map, drop, length, get_or, Option, Some, None, Result, Ok, Err, OnOk, Bool, true, false, IsSome, refl, sym, ap, subst, ◌∙◌}
+use Rattle.std.specs.Prelude.{◌||◌, All, option_copied}
+use Rattle.std.specs.List.{AllByRecursion}
+use Rattle.std.specs.Ordering.{is_eq}
+use Rattle.std.specs.FinMap.{get, insert, remove}
+use Rattle.std.proofs.lemmas.List.{drop_more}
+use Rattle.std.proofs.lemmas.List.Elements.{recursion_from_All, All-from_recursion}
+use Rattle.sqlite.specs.Order.{Row}
+use Rattle.sqlite.specs.State.{State, IsUnchanged, IsRolledBack, KeepsCommit}
+use Rattle.sqlite.specs.Tree.{without_rowid}
+use Rattle.part_core.specs.Filled.{StandUnderKeys}
+use Rattle.part_core.specs.Sheet.{Table, key_cmp, given, is_listed, IsDifference}
+use Rattle.part_core.specs.declared.column.Column.{Column}
+use Rattle.part_core.specs.declared.column.Column.TheVariants.{Whole}
+use Rattle.part_core.specs.declared.sheet.Pending.{Pending}
+use Rattle.part_core.proofs.Keys.{key_eq-self}
+use Rattle.table_store.specs.declared.name.TableName.{TableName}
+use Rattle.table_store.specs.Stored.{values_of}
+use Rattle.table_store.specs.Transactions.{StaysInside}
+use Rattle.table_store.specs.Values.{HasTables, AreDropped, HasSet, with_row}
+use Rattle.table_store.specs.Written.{tree_of, IsReady, IsStopped, Holds, Writes, Suits, Takes, IsSmall, AreSmall, StayThere, changes_of, given_all}
+use Rattle.table_store.proofs.Holding.{keyed-dropped, holds-put, holds-removed, own-given, given-difference}
+
+-- ---- one change
+
+-- what a call set, by another name
+pub writes : {E : Type 0} (r : Result (Unit {0}) E) (table : TableName) (wanted : List Row) (old new : State) → OnOk r (HasSet table wanted old new) → OnOk r (Writes table old new)
+writes (Ok u) table wanted old new set = record { rows = refl; others = set.others; tables = set.tables; shown = set.shown }
+writes (Err e) table wanted old new set = tt
+
+module _ {X E : Type 0} (columns : X → List Column) (key_of : X → List ℕ) (digits : ℕ → List ℕ) (table : TableName) (suits : Suits columns key_of digits table) (old new : State) (r : Result (Unit {0}) E) where
+  pub row-put : (x : X) (values : Row) → HasTables old → values ≡ values_of columns x → OnOk r (HasSet table (with_row table values (tree_of table old)) old new)
+      → (rows : Table X) → StandUnderKeys key_of rows → Holds columns table (tree_of table old) rows → OnOk r (Holds columns table (tree_of table new) (insert rows (key_of x) x))
+  row-put x values has is set rows own holds = go r set
+    where
+      go : (r : Result (Unit {0}) E) → OnOk r (HasSet table (with_row table values (tree_of table old)) old new) → OnOk r (Holds columns table (tree_of table new) (insert rows (key_of x) x))
+      go (Ok u) set =
+          subst (λ tree. Holds columns table tree (insert rows (key_of x) x)) (ap (λ (vs : Row). with_row table vs (tree_of table old)) (sym is) ∙ sym set.rows)
+          (holds-put columns key_of digits table suits rows own (tree_of table old) holds x (has.shaped table).0)
+      go (Err e) set = tt
+
+  pub row-removed : (n : ℕ) (key : ℤ) → key ≡ pos n → AreDropped table → OnOk r (HasSet table (without_rowid key (tree_of table old)) old new)
+      → (rows : Table X) → StandUnderKeys key_of rows → Holds columns table (tree_of table old) rows → OnOk r (Holds columns table (tree_of table new) (remove rows (n ∷ [])))
+  row-removed n key is dropped set rows own holds = go r set
+    where
+      go : (r : Result (Unit {0}) E) → OnOk r (HasSet table (without_rowid key (tree_of table old)) old new) → OnOk r (Holds columns table (tree_of table new) (remove rows (n ∷ [])))
+      go (Ok u) set =
+          subst (λ tree. Holds columns table tree (remove rows (n ∷ []))) (ap (λ (k : ℤ). without_rowid k (tree_of table old)) (sym is) ∙ sym set.rows)
+          (holds-removed columns key_of digits table suits rows own (tree_of table old) holds n (keyed-dropped table dropped))
+      go (Err e) set = tt
+
+-- ---- some changes are made, and these are left of all
+
+pub record IsMidway {X : Type 0} (columns : X → List Column) (key_of : X → List ℕ) (table : TableName) (left all : List (List ℕ × Option X)) (old now : State) : Type 0 where
+  pub ready : IsReady now
+  pub stays : StaysInside old now
+  pub others : (other : TableName) → other ≢ table → tree_of other now ≡ tree_of other old
+  pub rows : (rows : Table X) → StandUnderKeys key_of rows → Holds columns table (tree_of table old) rows
+      → (mid : Table X) × StandUnderKeys key_of mid × Holds columns table (tree_of table now) mid × (given_all left mid ≡ given_all all rows)
+
+stays-on : (old now new : State) → StaysInside old now → StaysInside now new → StaysInside old new
+stays-on old now new a b = record { was_open = a.was_open; is_open = b.is_open; now_is = refl; committed_is = b.committed_is ∙ a.committed_is; mode = b.mode }
+
+pub stopped-after : (old now new : State) → StaysInside old now → IsUnchanged now new ⊎ IsRolledBack now new → IsStopped old new
+stopped-after old now new a (inl same) = inr (record { was_open = a.was_open; is_open = same.0.is_open; now_is = refl; committed_is = same.0.committed_is ∙ a.committed_is; mode = same.0.mode ∙ a.mode })
+stopped-after old now new a (inr back) =
+    inl (record { was_open = λ up. a.was_open; undone = λ up. let u = back.undone up in (u.0 ∙ a.committed_is, u.1 ∙ a.committed_is); autocommit = back.autocommit })
+
+pub stays-here : (s : State) → IsReady s → StaysInside s s
+stays-here s ready = record { was_open = ready.1; is_open = ready.1; now_is = refl; committed_is = refl; mode = ready.0.1 }
+
+pub stopped-commit : (old new : State) → IsStopped old new → KeepsCommit old new
+stopped-commit old new (inl back) = record { was_open = back.was_open; committed = λ up. (back.undone up).1 }
+stopped-commit old new (inr stays) = record { was_open = λ up. stays.was_open; committed = λ up. stays.committed_is }
+
+module _ {X : Type 0} (columns : X → List Column) (key_of : X → List ℕ) (digits : ℕ → List ℕ) (table : TableName) where
+  pub midway-start : (all : List (List ℕ × Option X)) (s : State) → IsReady s → IsMidway columns key_of table all all s s
+  midway-start all s ready = record { ready = ready; stays = stays-here s ready; others = λ other differs. refl; rows = λ rows own holds. (rows, own, holds, refl) }
+
+  pub midway-more : (c : List ℕ × Option X) (left all : List (List ℕ × Option X)) (old now new : State) → Takes columns key_of table c.0 c.1 → IsMidway columns key_of table (c ∷ left) all old now → Writes table now new
+      → ((rows : Table X) → StandUnderKeys key_of rows → Holds columns table (tree_of table now) rows → Holds columns table (tree_of table new) (given c.0 c.1 rows))
+      → IsMidway columns key_of table left all old new
+  midway-more c left all old now new takes m set made = record {
+    ready = ((set.tables, set.shown.mode), set.shown.is_open);
+    stays = stays-on old now new m.stays set.shown;
+    others = λ other differs. set.others other differs ∙ m.others other differs;
+    rows = λ rows own holds. let mid = m.rows rows own holds in (given c.0 c.1 mid.0, own-given columns key_of table mid.0 c.0 c.1 mid.1 takes, made mid.0 mid.1 mid.2, mid.3);
+  }
+
+  pub midway-writes : (left all : List (List ℕ × Option X)) (old now : State) → IsMidway columns key_of table left all old now → Writes table old now
+  midway-writes left all old now m = record { rows = refl; others = m.others; tables = m.ready.0.0; shown = m.stays }
+
+  pub midway-holds : (all : List (List ℕ × Option X)) (old now : State) → IsMidway columns key_of table [] all old now
+      → (rows : Table X) → StandUnderKeys key_of rows → Holds columns table (tree_of table old) rows → Holds columns table (tree_of table now) (given_all all rows)
+  midway-holds all old now m rows own holds = let mid = m.rows rows own holds in subst (Holds columns table (tree_of table now)) mid.3 mid.2
+
+  -- ---- the changes of a sheet are such as the table takes
+
+  module _ (suits : Suits columns key_of digits table) (now kept : Table X) (own-now : StandUnderKeys key_of now) (own-kept : StandUnderKeys key_of kept) (small-now : AreSmall columns now) (small-kept : AreSmall columns kept) (stays : AreDropped table ⊎ StayThere kept now) where
+    abbrev key_in : Pending X ℕ → List ℕ
+    key_in p = digits p.key.now
+
+    small-key : (k : List ℕ) (x : X) → get kept k ≡ Some x → (n : ℕ) × (k ≡ n ∷ []) × (n < 2 ^ 63)
+    small-key k x e =
+        let numbered = suits.numbered x in
+        let first = recursion_from_All IsSmall (Whole numbered.0 ∷ numbered.1) (subst (All IsSmall) numbered.2 (small-kept k x e)) in
+        (numbered.0, own-kept k x e ∙ numbered.3, first.0)
+
+    dropped : (k : List ℕ) (x : X) → get kept k ≡ Some x → get now k ≡ None → AreDropped table
+    dropped k x e none = elim stays [ inl d ↦ d | inr there ↦ absurd (gone (get now k) none (there k (found (get kept k) e))) ]
+      where
+        gone : (o : Option X) → o ≡ None → IsSome o → ⊥
+        gone None e some = cc
+        gone (Some y) e some = cc
+
+        found : (o : Option X) → o ≡ Some x → IsSome o
+        found None e = cc
+        found (Some y) e = refl
+
+    takes-one : (keys : List (List ℕ)) → IsDifference keys now kept → (k : List ℕ) (o : Option X) → is_listed k keys ≡ true → o ≡ get now k → Takes columns key_of table k o
+    takes-one keys exact k (Some x) listed is = (own-now k x (sym is), small-now k x (sym is))
+    takes-one keys exact k None listed is = go (get kept k) refl
+      where
+        go : (o : Option X) → get kept k ≡ o → AreDropped table × ((n : ℕ) × (k ≡ n ∷ []) × (n < 2 ^ 63))
+        go None e = let not : is_listed k keys ≡ false = (exact k).1 (sym is ∙ sym e) in cc
+        go (Some x) e = (dropped k x e (sym is), small-key k x e)
+
+    either : (b : Bool) → (b || true) ≡ true
+    either true = refl
+    either false = refl
+
+    takes-each : (keys : List (List ℕ)) → IsDifference keys now kept → (ps : List (Pending X ℕ)) → ((k : List ℕ) → is_listed k (map key_in ps) ≡ true → is_listed k keys ≡ true)
+        → AllByRecursion (λ p. option_copied p.row ≡ get now (digits p.key.now)) ps → AllByRecursion (λ c. Takes columns key_of table c.0 c.1) (changes_of digits ps)
+    takes-each keys exact [] within is = tt
+    takes-each keys exact (p ∷ ps) within is = (
+      takes-one keys exact (digits p.key.now) (option_copied p.row) (within (key_in p) (ap (λ b. b || is_listed (key_in p) (map key_in ps)) (key_eq-self (key_in p)))) is.0,
+      takes-each keys exact ps (λ k h. within k (later k p.key.now h)) is.1,
+    )
+      where
+        later : (k : List ℕ) (n : ℕ) → is_listed k (map key_in ps) ≡ true → is_listed k (digits n ∷ map key_in ps) ≡ true
+        later k n h = ap (λ b. is_eq (key_cmp (digits n) k) || b) h ∙ either (is_eq (key_cmp (digits n) k))
+
+    pub takes-all : (ps : List (Pending X ℕ)) → IsDifference (map (λ p. digits p.key.now) ps) now kept → All (λ p. option_copied p.row ≡ get now (digits p.key.now)) ps
+        → All (λ c. Takes columns key_of table c.0 c.1) (changes_of digits ps)
+    takes-all ps exact is = All-from_recursion _ _ (takes-each (map key_in ps) exact ps (λ k h. h) (recursion_from_All _ ps is))
+
+  -- the changes that are left, the first of them apart
+  pub left-more : (ps : List (Pending X ℕ)) (i : ℕ) (p : Pending X ℕ) → i < length ps → p ≡ get_or ps i p
+      → changes_of digits (drop i ps) ≡ (digits p.key.now, option_copied p.row) ∷ changes_of digits (drop (i + 1) ps)
+  left-more ps i p within is =
+      ap (changes_of digits) (drop_more ps i p within) ∙ ap (λ (q : Pending X ℕ). (digits q.key.now, option_copied q.row) ∷ changes_of digits (drop (i + 1) ps)) (sym is)
+
+  pub takes-at : (ps : List (Pending X ℕ)) (i : ℕ) (p : Pending X ℕ) → i < length ps → p ≡ get_or ps i p → All (λ c. Takes columns key_of table c.0 c.1) (changes_of digits ps)
+      → Takes columns key_of table (digits p.key.now) (option_copied p.row)
+  takes-at ps i p within is all =
+      subst (λ (q : Pending X ℕ). Takes columns key_of table (digits q.key.now) (option_copied q.row)) (sym is)
+      (All-from_recursion (λ (q : Pending X ℕ). Takes columns key_of table (digits q.key.now) (option_copied q.row)) ps (each ps (recursion_from_All _ (changes_of digits ps) all)) i p within)
+    where
+      each : (ps : List (Pending X ℕ)) → AllByRecursion (λ c. Takes columns key_of table c.0 c.1) (changes_of digits ps) → AllByRecursion (λ q. Takes columns key_of table (digits q.key.now) (option_copied q.row)) ps
+      each [] h = tt
+      each (q ∷ qs) h = (h.0, each qs h.1)
+
+module _ {X : Type 0} (digits : ℕ → List ℕ) (now kept : Table X) where
+  keys-of : (ps : List (Pending X ℕ)) → map (λ c. c.0) (changes_of digits ps) ≡ map (λ p. digits p.key.now) ps
+  keys-of [] = refl
+  keys-of (p ∷ ps) = ap (λ (ks : List (List ℕ)). digits p.key.now ∷ ks) (keys-of ps)
+
+  rows-of : (ps : List (Pending X ℕ)) → AllByRecursion (λ p. option_copied p.row ≡ get now (digits p.key.now)) ps → AllByRecursion (λ c. c.1 ≡ get now c.0) (changes_of digits ps)
+  rows-of [] is = tt
+  rows-of (p ∷ ps) is = (is.0, rows-of ps is.1)
+
+  -- what is pending makes the rows that were kept those that there are
+  pub pending-all : (ps : List (Pending X ℕ)) → All (λ p. option_copied p.row ≡ get now (digits p.key.now)) ps → IsDifference (map (λ p. digits p.key.now) ps) now kept → given_all (changes_of digits ps) kept ≡ now
+  pending-all ps is exact =
+      given-difference now kept (changes_of digits ps) (rows-of ps (recursion_from_All (λ p. option_copied p.row ≡ get now (digits p.key.now)) ps is)) (subst (λ ks. IsDifference ks now kept) (sym (keys-of ps)) exact)
+
+  pub now-held : {E : Type 0} (columns : X → List Column) (table : TableName) (tree : List Row) (r : Result (Unit {0}) E) (ps given : List (Pending X ℕ)) → given ≡ ps
+      → All (λ p. option_copied p.row ≡ get now (digits p.key.now)) ps → IsDifference (map (λ p. digits p.key.now) ps) now kept
+      → OnOk r (Holds columns table tree (given_all (changes_of digits given) kept)) → OnOk r (Holds columns table tree now)
+  now-held columns table tree (Ok u) ps given same is exact h =
+      subst (Holds columns table tree) (ap (λ (qs : List (Pending X ℕ)). given_all (changes_of digits qs) kept) same ∙ pending-all ps is exact) h
+  now-held columns table tree (Err e) ps given same is exact h = tt

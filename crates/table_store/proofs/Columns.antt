@@ -1,0 +1,81 @@
+-- The columns of a row are read one by one, and the rows of a table likewise.
+use Rattle.std.proofs.Common.{◌≡◌, Result, Ok, Err, IfOk, ℕ, pos, negsuc, Bool, true, false, cond, ◌+◌, ◌<◌, ◌≤◌, List, [], ◌∷◌, ◌++◌, map, drop, length, Option, Some, None, append_assoc, append-nil, refl, sym, ap, ◌∙◌}
+use Rattle.std.specs.Str.{is_utf8}
+use Rattle.std.proofs.lemmas.List.{drop_more, drop_all}
+use Rattle.sqlite.specs.declared.types.Value.TheVariants.{Null, Int, Real, Text as Words, Blob}
+use Rattle.sqlite.specs.declared.types.Value.{Value}
+use Rattle.sqlite.specs.Order.{Row, column}
+use Rattle.part_core.specs.Columns.{◌>>=◌, Misses}
+use Rattle.part_core.specs.declared.column.Column.{Column}
+use Rattle.part_core.specs.declared.column.Column.TheVariants.{Whole, Text, Absent}
+use Rattle.part_core.specs.declared.column.ColumnFault.{ColumnFault}
+use Rattle.part_core.specs.declared.column.ColumnFault.TheVariants.{Memory, NoRow}
+use Rattle.table_store.specs.Stored.{value_of, values_of, column_of, columns_in}
+
+-- these columns, before those
+abbrev pub onto : List Column → Option (List Column) → Option (List Column)
+onto columns None = None
+onto columns (Some more) = Some (columns ++ more)
+
+onto-pushed : (columns : List Column) (c : Column) (more : Option (List Column)) → onto columns (more >>= λ cs. Some (c ∷ cs)) ≡ onto (columns ++ c ∷ []) more
+onto-pushed columns c None = refl
+onto-pushed columns c (Some cs) = ap (λ (l : List Column). Some l) (sym (append_assoc columns (c ∷ []) cs))
+
+none-found : (v : Value) (vs : Row) → column_of v ≡ None → columns_in (v ∷ vs) ≡ None
+none-found v vs e = ap (λ (o : Option Column). o >>= λ c. columns_in vs >>= λ cs. Some (c ∷ cs)) e
+
+one-found : (v : Value) (vs : Row) (c : Column) → column_of v ≡ Some c → columns_in (v ∷ vs) ≡ (columns_in vs >>= λ cs. Some (c ∷ cs))
+one-found v vs c e = ap (λ (o : Option Column). o >>= λ c. columns_in vs >>= λ cs. Some (c ∷ cs)) e
+
+module _ (row : Row) (columns : List Column) (at : ℕ) (all : onto columns (columns_in (drop at row)) ≡ columns_in row) where
+  -- one more column
+  pub column_read : (c : Column) → at < length row → column_of (column row at) ≡ Some c → onto (columns ++ c ∷ []) (columns_in (drop (at + 1) row)) ≡ columns_in row
+  column_read c within e =
+      sym (onto-pushed columns c (columns_in (drop (at + 1) row))) ∙ ap (onto columns) (sym (one-found (column row at) (drop (at + 1) row) c e))
+      ∙ ap (λ (vs : Row). onto columns (columns_in vs)) (sym (drop_more row at Null within)) ∙ all
+
+  none_read : at < length row → column_of (column row at) ≡ None → columns_in row ≡ None
+  none_read within e =
+      sym all ∙ ap (λ (vs : Row). onto columns (columns_in vs)) (drop_more row at Null within)
+      ∙ ap (onto columns) (none-found (column row at) (drop (at + 1) row) e)
+
+  -- a value that is no column
+  pub column_missed : (fault : ColumnFault) → at < length row → Misses fault (column_of (column row at)) → Misses fault (columns_in row)
+  column_missed Memory within e = tt
+  column_missed NoRow within e = none_read within e
+
+  pub columns_read : length row ≤ at → columns_in row ≡ Some columns
+  columns_read over = sym all ∙ ap (λ (vs : Row). onto columns (columns_in vs)) (drop_all at row over) ∙ ap (λ (l : List Column). Some l) (append-nil columns)
+
+-- ---- columns are the values that they were read from
+
+same_some : {X : Type 0} (a b : X) → Some a ≡ Some b → a ≡ b
+same_some a b e = cc
+
+value_told : (v : Value) (c : Column) → column_of v ≡ Some c → value_of c ≡ v
+value_told Null c e = ap value_of (sym (same_some Absent c e))
+value_told (Int (pos n)) c e = ap value_of (sym (same_some (Whole n) c e))
+value_told (Int (negsuc n)) c e = cc
+value_told (Words text) c e = go (is_utf8 text) e
+  where
+    go : (b : Bool) → cond b (Some (Text text)) None ≡ Some c → value_of c ≡ Words text
+    go true e = ap value_of (sym (same_some (Text text) c e))
+    go false e = cc
+value_told (Real x) c e = cc
+value_told (Blob b) c e = cc
+
+pub values_told : (row : Row) (columns : List Column) → columns_in row ≡ Some columns → map value_of columns ≡ row
+values_told [] columns e = ap (map value_of) (sym (same_some [] columns e))
+values_told (v ∷ vs) columns e = go (column_of v) (columns_in vs) refl refl e (λ cs. values_told vs cs)
+  where
+    go : (o : Option Column) (more : Option (List Column)) → column_of v ≡ o → columns_in vs ≡ more → (o >>= λ c. more >>= λ cs. Some (c ∷ cs)) ≡ Some columns
+        → ((cs : List Column) → columns_in vs ≡ Some cs → map value_of cs ≡ vs) → map value_of columns ≡ v ∷ vs
+    go None more first rest e ih = cc
+    go (Some c) None first rest e ih = cc
+    go (Some c) (Some cs) first rest e ih = ap (map value_of) (sym (same_some (c ∷ cs) columns e)) ∙ ap (λ (w : Value). w ∷ map value_of cs) (value_told v c first) ∙ ap (λ (ws : Row). v ∷ ws) (ih cs rest)
+
+-- a row that was read from columns is the row that they were read from
+pub row_told : {R E : Type 0} (columns_of : R → List Column) (r : Result R E) (row : Row) (columns given : List Column) → columns_in row ≡ Some columns → given ≡ columns
+    → IfOk r (λ x. columns_of x ≡ given) → IfOk r (λ x. values_of columns_of x ≡ row)
+row_told columns_of (Ok x) row columns given read same told = ap (map value_of) (told ∙ same) ∙ values_told row columns read
+row_told columns_of (Err e) row columns given read same told = tt

@@ -1,0 +1,8 @@
+use Rattle.std.proofs.Common.{◌≡◌, ◌++◌, map, drop}
+use Rattle.sqlite.specs.Values.{bound}
+use Rattle.table_store.specs.Stored.{value_of}
+use Rattle.table_store.proofs.write.values_of.Given as goal
+
+-- the values so far, and those of the columns that are left
+abbrev pub invariant-loop-column : goal.invariant-loop-column
+invariant-loop-column l = bound l.values.items ++ map value_of (drop l.column-index l.columns) ≡ map value_of l.columns

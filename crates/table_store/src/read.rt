@@ -1,0 +1,127 @@
+//! Rows of the machine are read from the tables.
+ghost use Rattle.std.specs.Prelude.{◌≡◌, ◌∷◌, ◌++◌, [], IfOk, IfErr, OnOk, MatchResult, ℕ, List, Some, map};
+ghost use Rattle.sqlite.specs.Held.{state};
+ghost use Rattle.sqlite.specs.State.{HasCleanDisk, IsUnchanged, Survives};
+ghost use Rattle.sqlite_value.specs.Value.{owned};
+ghost use Rattle.sqlite_value.specs.declared.value.Value.TheVariants.{Int, Text};
+ghost use Rattle.part_core.specs.Columns.{Finds, Misses};
+ghost use Rattle.part_core.specs.Filled.{filled};
+ghost use Rattle.table_store.specs.Stored.{column_of, columns_in, row_of, values_of, AreLoaded, FailsToLoad, FailsToRead};
+ghost use Rattle.table_store.specs.Values.{HasTables};
+ghost use Rattle.table_store.specs.Written.{tree_of, Holds, Suits};
+
+use crate::fault::{Failed, TableFault};
+use crate::name::TableName;
+use crate::rows::load_rows;
+use part_core::{Column, ColumnFault, Stored};
+use sqlite::{Alter, Connection, Row};
+use sqlite_value::value::ValueRef;
+use std::alloc::{AllocError, Global};
+
+/// The item behind the others.
+pub(crate) fn push<T: Drop>(items: &mut Vec<T>, item: T) -> Result<(), AllocError>
+    ensures { OnOk result (items.new.items ≡ items.old.items ++ item ∷ []) }
+{
+    Ok(items.push(item)?)
+}
+
+/// The column of a number: none where it is below 0.
+fn whole_of(number: i64) -> Result<Column, ColumnFault>
+    ensures { Finds result (column_of (Int number)) }
+{
+    match u64::try_from(number) {
+        Ok(number) => Ok(Column::Whole(number)),
+        Err(_) => Err(ColumnFault::NoRow),
+    }
+}
+
+/// The column of a text: none where it isn't UTF-8.
+fn text_of(alloc: Global, text: &[u8]) -> Result<Column, ColumnFault>
+    ensures { Finds result (column_of (Text text.now)) }
+{
+    match std::str::from_utf8(text) {
+        Ok(text) => Ok(Column::text(alloc, text)?),
+        Err(_) => Err(ColumnFault::NoRow),
+    }
+}
+
+/// The column that the value is.
+fn column_of(alloc: Global, value: ValueRef<'_>) -> Result<Column, ColumnFault>
+    ensures { Finds result (column_of (owned value.entry)) }
+{
+    match value {
+        ValueRef::Null => Ok(Column::Absent),
+        ValueRef::Int(number) => whole_of(number),
+        ValueRef::Text(text) => text_of(alloc, text),
+        _ => Err(ColumnFault::NoRow),
+    }
+}
+
+/// The columns that the row's values are.
+fn columns_of(alloc: Global, row: &Row) -> Result<Vec<Column>, ColumnFault>
+    ensures { MatchResult result (λ columns. columns_in row.now ≡ Some columns.items)
+        (λ fault. Misses fault (columns_in row.now)) }
+{
+    let mut columns = Vec::new(alloc);
+    for at in 0..row.column_count() {
+        match row.get_ref(at) {
+            Ok(value) => push(&mut columns, column_of(alloc, value)?)?,
+            Err(_) => unreachable!(),
+        }
+    }
+    Ok(columns)
+}
+
+/// The row of the machine that the row of the table is.
+fn row_of<R: Stored>(alloc: Global, row: &Row) -> Result<R, ColumnFault>
+    ensures found { Finds result (row_of R.row_from row.now) }
+    ensures told { IfOk result (λ read. values_of R.columns_of read ≡ row.now) }
+{
+    let columns = columns_of(alloc, row)?;
+    R::from_columns(alloc, columns.as_slice())
+}
+
+/// The rows of the machine that the rows of the table are.
+fn rows_of<R: Stored>(alloc: Global, table: TableName, rows: &[Row]) -> Result<Vec<R>, TableFault>
+    ensures read { IfOk result (λ read. map (row_of R.row_from) rows.now ≡ map Some read.items) }
+    ensures told { IfOk result (λ read. rows.now ≡ map (values_of R.columns_of) read.items) }
+    ensures failed { IfErr result (FailsToRead R.row_from rows.now) }
+{
+    let mut read = Vec::new(alloc);
+    for row in rows {
+        match row_of::<R>(alloc, row) {
+            Ok(row) => push(&mut read, row)?,
+            Err(ColumnFault::Memory) => return Err(TableFault::Memory),
+            Err(ColumnFault::NoRow) => return Err(TableFault::BadRow(Failed::bad_row(table))),
+        }
+    }
+    Ok(read)
+}
+
+/// All rows of a table, as rows of the machine, in the order of the key.
+///
+/// `BadRow` where one of them is none. `NoTable` is never answered: whether the tables are there is asked before. A
+/// sheet that these rows fill is the one whose changes `write_pending` takes.
+pub fn load_sheet<S: Alter, R: Stored>(
+    alloc: Global,
+    conn: &mut Connection<S>,
+    table: TableName,
+) -> Result<Vec<R>, TableFault>
+    requires { HasCleanDisk (state S.Store conn.old) → HasTables (state S.Store conn.old) }
+    ensures loaded { HasCleanDisk (state S.Store conn.new)
+        → IfOk result (λ rows. AreLoaded R.row_from R.columns_of table
+        (tree_of table (state S.Store conn.old)) rows.items) }
+    ensures held { HasCleanDisk (state S.Store conn.new)
+        → IfOk result (λ rows. (digits : ℕ → List ℕ) → Suits R.columns_of R.key_of digits table
+        → Holds R.columns_of table (tree_of table (state S.Store conn.old))
+        (filled R.key_of rows.items)) }
+    ensures same { HasCleanDisk (state S.Store conn.new)
+        → OnOk result (IsUnchanged (state S.Store conn.old) (state S.Store conn.new)) }
+    ensures failed { HasCleanDisk (state S.Store conn.new)
+        → IfErr result (FailsToLoad R.row_from table
+        (state S.Store conn.old) (state S.Store conn.new)) }
+    ensures crash { Survives (state S.Store conn.old) (state S.Store conn.new) (λ _. ⊥) }
+{
+    let rows = load_rows(conn, table)?;
+    rows_of(alloc, table, rows.as_slice())
+}

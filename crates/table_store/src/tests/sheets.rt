@@ -1,0 +1,135 @@
+//! Sheets go into their tables and come back.
+ghost use Rattle.std.specs.Prelude.{◌≡◌, ◌∷◌, ◌<◌, ◌^◌, [], false, IfOk, All};
+ghost use Rattle.std.specs.FinMap.{empty};
+ghost use Rattle.sqlite.specs.Held.{state};
+ghost use Rattle.sqlite.specs.State.{HasCleanDisk};
+ghost use Rattle.part_core.specs.CategoryColumns.{category_columns};
+ghost use Rattle.part_core.specs.Filled.{StandUnderKeys};
+ghost use Rattle.part_core.specs.Sheet.{now_of};
+ghost use Rattle.table_store.specs.Making.{IsFresh};
+ghost use Rattle.table_store.specs.Schema.{schema_up_to};
+ghost use Rattle.table_store.specs.Values.{HasTables};
+ghost use Rattle.table_store.specs.Written.{IsReady, IsSmall, AreSmall};
+
+use super::{committed, holds, made};
+use crate::{
+    TableFault, TableName, begin, commit, create_tables, load_sheet, put_row, write_pending,
+};
+use part_core::{Category, Name, Sheet};
+use sqlite::{Alter, Connection};
+use sqlite_value::value::ValueRef;
+use std::alloc::Global;
+use std::test::Fail;
+
+/// Makes the tables, and begins the next transaction.
+fn fresh<S: Alter>(conn: &mut Connection<S>) -> Result<(), Fail>
+    requires bare { HasCleanDisk (state S.Store conn.old)
+        → (state S.Store conn.old).now.schema ≡ schema_up_to 0 }
+    requires free { HasCleanDisk (state S.Store conn.old)
+        → (state S.Store conn.old).in_transaction ≡ false }
+    ensures ready { IfOk result (λ _. HasCleanDisk (state S.Store conn.new)
+        → IsReady (state S.Store conn.new)) }
+    ensures fresh { IfOk result (λ _. HasCleanDisk (state S.Store conn.new)
+        → IsFresh (state S.Store conn.new)) }
+{
+    begin(conn)?;
+    create_tables(conn)?;
+    commit(conn)?;
+    Ok(begin(conn)?)
+}
+
+fn category(alloc: Global, number: u64) -> Result<Category, Fail>
+    requires { number < 2 ^ 63 }
+    ensures { IfOk result (λ row. All IsSmall (category_columns row)) }
+{
+    let text = String::from_str(alloc, "Screws")?;
+    let name = Name::new(text).ok_or("a name")?;
+    Ok(Category {
+        number,
+        name,
+        parent: None,
+    })
+}
+
+/// Two categories, put and not kept.
+fn categories(alloc: Global) -> Result<Sheet<Category>, Fail>
+    ensures own { IfOk result (λ sheet. StandUnderKeys (λ row. row.number ∷ []) (now_of sheet)) }
+    ensures small { IfOk result (λ sheet. AreSmall category_columns (now_of sheet)) }
+    ensures kept { IfOk result (λ sheet. sheet.kept ≡ empty) }
+{
+    let mut sheet = Sheet::new(alloc);
+    let later = category(alloc, 20)?;
+    let first = category(alloc, 10)?;
+    sheet.put(later)?;
+    sheet.put(first)?;
+    Ok(sheet)
+}
+
+fn writes<S: Alter>(alloc: Global, conn: &mut Connection<S>) -> Result<(), Fail>
+    requires bare { HasCleanDisk (state S.Store conn.old)
+        → (state S.Store conn.old).now.schema ≡ schema_up_to 0 }
+    requires free { HasCleanDisk (state S.Store conn.old)
+        → (state S.Store conn.old).in_transaction ≡ false }
+{
+    fresh(conn)?;
+    let sheet = categories(alloc)?;
+    write_pending::<S, Category>(alloc, conn, TableName::Categories, &sheet)?;
+    let rows = load_sheet::<S, Category>(alloc, conn, TableName::Categories)?;
+    let numbers: Vec<u64> = rows.iter().map(|row| row.number).collect(alloc)?;
+    holds(numbers.as_slice() == [10, 20].as_slice(), "both categories")
+}
+
+/// A location whose parent is this number is loaded as this fault, or as none.
+fn loads<S: Alter>(
+    alloc: Global,
+    conn: &mut Connection<S>,
+    name: &'static [u8],
+    parent: i64,
+) -> Result<bool, Fail>
+    requires bare { HasCleanDisk (state S.Store conn.old)
+        → (state S.Store conn.old).now.schema ≡ schema_up_to 0 }
+    requires free { HasCleanDisk (state S.Store conn.old)
+        → (state S.Store conn.old).in_transaction ≡ false }
+{
+    made(conn)?;
+    let values = [
+        ValueRef::Int(1),
+        ValueRef::Text(name),
+        ValueRef::Int(parent),
+    ];
+    put_row(conn, TableName::Locations, &values)?;
+    committed(conn)?;
+    match load_sheet::<S, Category>(alloc, conn, TableName::Locations) {
+        Ok(rows) => Ok(rows.len() == 1),
+        Err(TableFault::BadRow(_)) => Ok(false),
+        Err(fault) => Err(Fail::from(fault)),
+    }
+}
+
+#[test]
+fn a_sheet_is_written_and_loaded(rt: HostRuntime) -> Result<(), Fail> {
+    let alloc = rt.alloc();
+    let mut conn = Connection::open_in_memory(alloc)?;
+    writes(alloc, &mut conn)
+}
+
+#[test]
+fn a_row_is_loaded(rt: HostRuntime) -> Result<(), Fail> {
+    let alloc = rt.alloc();
+    let mut conn = Connection::open_in_memory(alloc)?;
+    holds(loads(alloc, &mut conn, b"A shelf", 2)?, "a row")
+}
+
+#[test]
+fn a_negative_number_is_a_bad_row(rt: HostRuntime) -> Result<(), Fail> {
+    let alloc = rt.alloc();
+    let mut conn = Connection::open_in_memory(alloc)?;
+    holds(!loads(alloc, &mut conn, b"A shelf", -2)?, "a bad row")
+}
+
+#[test]
+fn an_empty_name_is_a_bad_row(rt: HostRuntime) -> Result<(), Fail> {
+    let alloc = rt.alloc();
+    let mut conn = Connection::open_in_memory(alloc)?;
+    holds(!loads(alloc, &mut conn, b"", 2)?, "a bad row")
+}

@@ -1,0 +1,186 @@
+//! The changes of a sheet go into its table.
+ghost use Rattle.std.specs.Prelude.{◌≡◌, ◌⊎◌, ◌∷◌, ◌<◌, ◌^◌, [], ℕ, map, IfOk, OnOk, OnErr, All, option_copied};
+ghost use Rattle.std.specs.FinMap.{insert, remove};
+ghost use Rattle.sqlite.specs.Held.{state};
+ghost use Rattle.sqlite.specs.State.{HasCleanDisk, IsUnchanged, IsRolledBack, KeepsCommit, Survives};
+ghost use Rattle.sqlite.specs.Values.{bound, bound_value};
+ghost use Rattle.sqlite_value.specs.Value.{owned};
+ghost use Rattle.part_core.specs.Filled.{StandUnderKeys};
+ghost use Rattle.part_core.specs.Sheet.{Table, given, now_of};
+ghost use Rattle.table_store.specs.Stored.{value_of};
+ghost use Rattle.table_store.specs.Values.{AreDropped};
+ghost use Rattle.table_store.specs.Written.{tree_of, IsReady, IsStopped, IsSmall, AreSmall, Holds, Writes, Suits, Takes, StayThere, changes_of, given_all};
+
+use crate::fault::TableFault;
+use crate::name::TableName;
+use crate::rows::{drop_row, put_row};
+use part_core::{Column, Pending, Row, Sheet, Stored};
+use sqlite::{Alter, Connection};
+use sqlite_value::value::ValueRef;
+use std::alloc::{AllocError, Global};
+
+/// The value of a column.
+fn value_of(column: &Column) -> ValueRef<'_>
+    requires { IsSmall column.now }
+    ensures { bound_value (owned result) ≡ value_of column.now }
+{
+    match column {
+        Column::Whole(number) => ValueRef::Int(*number as i64),
+        Column::Text(text) => ValueRef::Text(text.as_str().as_bytes()),
+        Column::Absent => ValueRef::Null,
+    }
+}
+
+/// The values of the columns.
+fn values_of(alloc: Global, columns: &[Column]) -> Result<Vec<ValueRef<'_>>, AllocError>
+    requires { All IsSmall columns.now }
+    ensures { IfOk result (λ values. bound values.items ≡ map value_of columns.now) }
+{
+    let mut values = Vec::new(alloc);
+    for column in columns {
+        values.push(value_of(column))?;
+    }
+    Ok(values)
+}
+
+/// Puts a row of the machine under its number.
+fn write_row<S: Alter, R: Stored + Row<Key = u64>>(
+    alloc: Global,
+    conn: &mut Connection<S>,
+    table: TableName,
+    row: &R,
+) -> Result<(), TableFault>
+    requires ready { HasCleanDisk (state S.Store conn.old) → IsReady (state S.Store conn.old) }
+    requires suits { Suits R.columns_of R.key_of R.digits table }
+    requires small { All IsSmall (R.columns_of row.now) }
+    ensures set { HasCleanDisk (state S.Store conn.new)
+        → OnOk result (Writes table (state S.Store conn.old) (state S.Store conn.new)) }
+    ensures put { HasCleanDisk (state S.Store conn.new) → (rows : Table R)
+        → StandUnderKeys R.key_of rows
+        → Holds R.columns_of table (tree_of table (state S.Store conn.old)) rows
+        → OnOk result (Holds R.columns_of table (tree_of table (state S.Store conn.new))
+        (insert rows (R.key_of row.now) row.now)) }
+    ensures failed { HasCleanDisk (state S.Store conn.new)
+        → OnErr result (IsUnchanged (state S.Store conn.old) (state S.Store conn.new)
+        ⊎ IsRolledBack (state S.Store conn.old) (state S.Store conn.new)) }
+    ensures crash { Survives (state S.Store conn.old) (state S.Store conn.new) (λ _. ⊥) }
+{
+    let columns = row.columns(alloc)?;
+    let values = values_of(alloc, columns.as_slice())?;
+    put_row(conn, table, values.as_slice())
+}
+
+/// Drops the row of a number.
+fn remove_row<S: Alter, R: Stored + Row<Key = u64>>(
+    conn: &mut Connection<S>,
+    table: TableName,
+    number: u64,
+) -> Result<(), TableFault>
+    requires ready { HasCleanDisk (state S.Store conn.old) → IsReady (state S.Store conn.old) }
+    requires suits { Suits R.columns_of R.key_of R.digits table }
+    requires dropped { AreDropped table }
+    requires small { number < 2 ^ 63 }
+    ensures set { HasCleanDisk (state S.Store conn.new)
+        → OnOk result (Writes table (state S.Store conn.old) (state S.Store conn.new)) }
+    ensures gone { HasCleanDisk (state S.Store conn.new) → (rows : Table R)
+        → StandUnderKeys R.key_of rows
+        → Holds R.columns_of table (tree_of table (state S.Store conn.old)) rows
+        → OnOk result (Holds R.columns_of table (tree_of table (state S.Store conn.new))
+        (remove rows (number ∷ []))) }
+    ensures failed { HasCleanDisk (state S.Store conn.new)
+        → OnErr result (IsUnchanged (state S.Store conn.old) (state S.Store conn.new)
+        ⊎ IsRolledBack (state S.Store conn.old) (state S.Store conn.new)) }
+    ensures crash { Survives (state S.Store conn.old) (state S.Store conn.new) (λ _. ⊥) }
+{
+    drop_row(conn, table, number as i64)
+}
+
+/// Makes one change in the table.
+fn write_change<S: Alter, R: Stored + Row<Key = u64>>(
+    alloc: Global,
+    conn: &mut Connection<S>,
+    table: TableName,
+    change: &Pending<'_, R>,
+) -> Result<(), TableFault>
+    requires ready { HasCleanDisk (state S.Store conn.old) → IsReady (state S.Store conn.old) }
+    requires suits { Suits R.columns_of R.key_of R.digits table }
+    requires takes { Takes R.columns_of R.key_of table
+        (R.digits change.now.key.now) (option_copied change.now.row) }
+    ensures set { HasCleanDisk (state S.Store conn.new)
+        → OnOk result (Writes table (state S.Store conn.old) (state S.Store conn.new)) }
+    ensures made { HasCleanDisk (state S.Store conn.new) → (rows : Table R)
+        → StandUnderKeys R.key_of rows
+        → Holds R.columns_of table (tree_of table (state S.Store conn.old)) rows
+        → OnOk result (Holds R.columns_of table (tree_of table (state S.Store conn.new))
+        (given (R.digits change.now.key.now) (option_copied change.now.row) rows)) }
+    ensures failed { HasCleanDisk (state S.Store conn.new)
+        → OnErr result (IsUnchanged (state S.Store conn.old) (state S.Store conn.new)
+        ⊎ IsRolledBack (state S.Store conn.old) (state S.Store conn.new)) }
+    ensures crash { Survives (state S.Store conn.old) (state S.Store conn.new) (λ _. ⊥) }
+{
+    match change.row {
+        Some(row) => write_row::<S, R>(alloc, conn, table, row),
+        None => remove_row::<S, R>(conn, table, *change.key),
+    }
+}
+
+/// Makes the changes in the table, in their order.
+fn write_changes<S: Alter, R: Stored + Row<Key = u64>>(
+    alloc: Global,
+    conn: &mut Connection<S>,
+    table: TableName,
+    changes: &[Pending<'_, R>],
+) -> Result<(), TableFault>
+    requires ready { HasCleanDisk (state S.Store conn.old) → IsReady (state S.Store conn.old) }
+    requires suits { Suits R.columns_of R.key_of R.digits table }
+    requires takes { All (λ c. Takes R.columns_of R.key_of table c.0 c.1)
+        (changes_of R.digits changes.now) }
+    ensures set { HasCleanDisk (state S.Store conn.new)
+        → OnOk result (Writes table (state S.Store conn.old) (state S.Store conn.new)) }
+    ensures made { HasCleanDisk (state S.Store conn.new) → (rows : Table R)
+        → StandUnderKeys R.key_of rows
+        → Holds R.columns_of table (tree_of table (state S.Store conn.old)) rows
+        → OnOk result (Holds R.columns_of table (tree_of table (state S.Store conn.new))
+        (given_all (changes_of R.digits changes.now) rows)) }
+    ensures failed { HasCleanDisk (state S.Store conn.new)
+        → OnErr result (IsStopped (state S.Store conn.old) (state S.Store conn.new)) }
+    ensures crash { Survives (state S.Store conn.old) (state S.Store conn.new) (λ _. ⊥) }
+{
+    for change in changes {
+        write_change::<S, R>(alloc, conn, table, change)?;
+    }
+    Ok(())
+}
+
+/// The changes of a sheet since its rows were last kept go into its table, within the transaction that the caller
+/// began: each row that there is now is put, and each that there was is dropped. After a fault the transaction is
+/// undone or still open, and the caller's `rollback` ends it.
+pub fn write_pending<S: Alter, R: Stored + Row<Key = u64>>(
+    alloc: Global,
+    conn: &mut Connection<S>,
+    table: TableName,
+    sheet: &Sheet<R>,
+) -> Result<(), TableFault>
+    requires ready { HasCleanDisk (state S.Store conn.old) → IsReady (state S.Store conn.old) }
+    requires suits { Suits R.columns_of R.key_of R.digits table }
+    requires own { StandUnderKeys R.key_of (now_of sheet.now)
+        × StandUnderKeys R.key_of sheet.now.kept }
+    requires small { AreSmall R.columns_of (now_of sheet.now)
+        × AreSmall R.columns_of sheet.now.kept }
+    requires stays { AreDropped table ⊎ StayThere sheet.now.kept (now_of sheet.now) }
+    requires kept { HasCleanDisk (state S.Store conn.old)
+        → Holds R.columns_of table (tree_of table (state S.Store conn.old)) sheet.now.kept }
+    ensures written { HasCleanDisk (state S.Store conn.new)
+        → OnOk result (Holds R.columns_of table (tree_of table (state S.Store conn.new))
+        (now_of sheet.now)) }
+    ensures set { HasCleanDisk (state S.Store conn.new)
+        → OnOk result (Writes table (state S.Store conn.old) (state S.Store conn.new)) }
+    ensures failed { HasCleanDisk (state S.Store conn.new)
+        → OnErr result (IsStopped (state S.Store conn.old) (state S.Store conn.new)) }
+    ensures commit { HasCleanDisk (state S.Store conn.new)
+        → KeepsCommit (state S.Store conn.old) (state S.Store conn.new) }
+    ensures crash { Survives (state S.Store conn.old) (state S.Store conn.new) (λ _. ⊥) }
+{
+    let changes = sheet.pending()?;
+    write_changes::<S, R>(alloc, conn, table, changes.as_slice())
+}
