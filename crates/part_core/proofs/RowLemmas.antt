@@ -2,7 +2,7 @@
 use Rattle.std.proofs.Common.{◌≡◌, ◌≢◌, ◌⊎◌, inl, inr, ◌<◌, ◌≤◌, ◌+◌, ℕ, Bool, true, false, cond, List, [], ◌∷◌, Option, Some, None, refl, sym, ap, ◌∙◌, subst, arith, get_or, is_some}
 use Rattle.std.specs.FinMap as table
 use Rattle.part_core.specs.Sheet.{Table, key_cmp}
-use Rattle.part_core.specs.Rows.{EachRow, IsThere, StandRight, StandsRight}
+use Rattle.part_core.specs.Rows.{EachRow, IsThere, StandRight, StandsRight, StayThere}
 use Rattle.part_core.proofs.Keys.{key_eq, keys_total, key_eq-self, key_eq-true, key_eq-other}
 
 pub same_digit : (a b : ℕ) → a ∷ [] ≡ b ∷ [] → a ≡ b
@@ -46,15 +46,18 @@ module _ {X : Type 0} where
         | Some x ↦ λ p e. (x, p)
       ] refl h
 
-  -- a row that was there is there after one was put
-  pub there-insert : (t : Table X) (q : List ℕ) (v : X) (n : ℕ) → IsThere t n → IsThere (table.insert t q v) n
-  there-insert t q v n h =
-      subst (λ (o : Option X). is_some o ≡ true) (sym (table.get-insert keys_total t q v (n ∷ [])))
-      (go (key_eq (n ∷ []) q))
+  -- the rows that were there are there after one was put
+  pub stay-insert : (t : Table X) (q : List ℕ) (v : X) → StayThere t (table.insert t q v)
+  stay-insert t q v k h =
+      subst (λ (o : Option X). is_some o ≡ true) (sym (table.get-insert keys_total t q v k))
+      (go (key_eq k q))
     where
-      go : (b : Bool) → is_some (cond b (Some v) (table.get t (n ∷ []))) ≡ true
+      go : (b : Bool) → is_some (cond b (Some v) (table.get t k)) ≡ true
       go true = refl
       go false = h
+
+  pub there-insert : (t : Table X) (q : List ℕ) (v : X) (n : ℕ) → IsThere t n → IsThere (table.insert t q v) n
+  there-insert t q v n h = stay-insert t q v (n ∷ []) h
 
   pub there-new : (t : Table X) (n : ℕ) (v : X) → IsThere (table.insert t (n ∷ []) v) n
   there-new t n v = there (table.insert t (n ∷ []) v) n v (get-insert_new t (n ∷ []) v)

@@ -3,7 +3,7 @@ use Rattle.std.specs.Prelude.{◌≡◌, ◌≤◌, ℕ, List, None}
 use Rattle.part_core.specs.AddCategory.{add_category, add_category_checks}
 use Rattle.part_core.specs.AddPart.{add_part, add_part_checks}
 use Rattle.part_core.specs.RetirePart.{retire_part, retire_part_checks}
-use Rattle.part_core.specs.Catalogue.{Register}
+use Rattle.part_core.specs.Catalogue.{AllStay, Register}
 use Rattle.part_core.specs.Checks.{AreInOrder, Check, first}
 use Rattle.part_core.specs.Counter.{numbers_between}
 use Rattle.part_core.specs.SoundCatalogue.{IsSoundCatalogue}
@@ -36,3 +36,7 @@ abbrev pub EffectsAreSound : Type 0
 EffectsAreSound =
     (c : PartCommand) (r : Register) → IsSoundCatalogue r.counter.next r.parts → first (checks c r) ≡ None
     → IsSoundCatalogue (effect c r).counter.next (effect c r).parts × (r.counter.next ≤ (effect c r).counter.next)
+
+-- no row of the catalogue goes, whatever a command is asked of
+abbrev pub RowsStay : Type 0
+RowsStay = (c : PartCommand) (r : Register) → AllStay r.parts (effect c r).parts

@@ -2,7 +2,7 @@
 ghost use Rattle.std.specs.Prelude.{◌≡◌};
 ghost use Rattle.part_core.specs.Acts.{Acts};
 ghost use Rattle.part_core.specs.Catalogues.{kept_register, register_of};
-ghost use Rattle.part_core.specs.PartMachine.{ChecksAreInOrder, EffectsAreSound, answer_of, checks, effect};
+ghost use Rattle.part_core.specs.PartMachine.{ChecksAreInOrder, EffectsAreSound, RowsStay, answer_of, checks, effect};
 
 use crate::part::NewPart;
 use crate::{Answer, Catalogue, CoreFault, Counter, Id, Ids, Name};
@@ -64,4 +64,9 @@ pub fn checks_are_in_order()
 /// The law that what passes its checks leaves a sound catalogue sound.
 pub fn effects_are_sound()
     ensures { EffectsAreSound }
+{}
+
+/// The law that no command of the catalogue takes a row away.
+pub fn rows_stay()
+    ensures { RowsStay }
 {}

@@ -27,6 +27,7 @@ pub mod UninstallSound
 pub mod ReinstateSound
 pub mod DisassembleSound
 pub mod Effects
+pub mod Staying
 pub mod Beside
 pub mod Repeats
 pub mod Opened

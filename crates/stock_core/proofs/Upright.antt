@@ -6,7 +6,7 @@ use Rattle.part_core.specs.Counter.{Numbering}
 use Rattle.part_core.specs.Day.{CivilDay}
 use Rattle.part_core.specs.Rows.{EachRow, IsThere, StandRight}
 use Rattle.part_core.specs.Sheet.{Table}
-use Rattle.part_core.proofs.RowLemmas.{each-insert, each-so, there-insert}
+use Rattle.part_core.proofs.RowLemmas.{each-insert, each-so}
 use Rattle.forest.specs.declared.entry.Entry.{Entry}
 use Rattle.forest.specs.declared.entry.Note.{Note}
 use Rattle.forest.specs.declared.item.Item.{Item}
@@ -17,6 +17,7 @@ use Rattle.yard_core.specs.SoundLocations.{AreSoundLocations}
 use Rattle.yard_core.specs.Stock.{IsSound, Stock, moved, next_entry, numbered, put_all, put_rows}
 use Rattle.yard_core.proofs.Moved.{moved-len}
 use Rattle.yard_core.proofs.SoundRows.{locations-later}
+use Rattle.yard_core.proofs.Staying.{stay-put_rows}
 use Rattle.stock_core.specs.Sound.{IsPlace, IsSoundEntry, IsSoundItem, IsSoundStock, SerialsStandOnce}
 use Rattle.stock_core.specs.StockMachine.{Grows}
 
@@ -131,12 +132,8 @@ each-put_rows parts s [] t h each = each
 each-put_rows parts s (x ∷ xs) t h each =
     each-put_rows parts s xs (table.insert t (x.number ∷ []) x) h.1 (each-insert (IsSoundItem parts s) t (x.number ∷ []) x h.0 each)
 
-pub there-put_rows : (rows : List Item) (t : Table Item) (n : ℕ) → IsThere t n → IsThere (put_rows rows t) n
-there-put_rows [] t n h = h
-there-put_rows (x ∷ xs) t n h = there-put_rows xs (table.insert t (x.number ∷ []) x) n (there-insert t (x.number ∷ []) x n h)
-
 pub keeps-moved : (rows : List Item) (notes : List Note) (day : CivilDay) (s : Stock) → Keeps s (moved rows notes day s)
-keeps-moved rows notes day s = record { locations = λ n h. h; items = there-put_rows rows s.items }
+keeps-moved rows notes day s = record { locations = λ n h. h; items = λ n h. stay-put_rows rows s.items (n ∷ []) h }
 
 -- ---- a move
 

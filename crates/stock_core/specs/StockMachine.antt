@@ -19,6 +19,7 @@ use Rattle.stock_core.specs.Sound.{IsSoundStock}
 use Rattle.stock_core.specs.Split.{split, split_checks}
 use Rattle.stock_core.specs.Transfer.{transfer, transfer_checks}
 use Rattle.stock_core.specs.Uninstall.{uninstall, uninstall_checks}
+use Rattle.yard_core.specs.Stock.{AllStay}
 use Rattle.stock_core.specs.declared.stock_command.StockCommand.{StockCommand}
 use Rattle.stock_core.specs.declared.stock_command.StockCommand.TheVariants.{Found, Add, Remove, Count, Transfer, Split, Merge, Serialise, SetStatus, Install, Uninstall, Disassemble, Reinstate}
 
@@ -69,3 +70,7 @@ abbrev pub EffectsAreSound : Type 0
 EffectsAreSound =
     (c : StockCommand) (day : CivilDay) (parts : Parts) (bills : Bills) (b : Books) → IsSoundStock parts b
     → first (checks c day parts bills b) ≡ None → IsSoundStock parts (effect c day b) × Grows b (effect c day b)
+
+-- no row of the stock goes, whatever a command is asked of
+abbrev pub RowsStay : Type 0
+RowsStay = (c : StockCommand) (day : CivilDay) (b : Books) → AllStay b.stock (effect c day b).stock

@@ -8,7 +8,7 @@ ghost use Rattle.bom_core.specs.Boms.{bills_of};
 ghost use Rattle.yard_core.specs.Books.{Does, books_of, kept_books};
 ghost use Rattle.yard_core.specs.Stock.{empty_stock};
 ghost use Rattle.stock_core.specs.Sound.{IsSoundStock};
-ghost use Rattle.stock_core.specs.StockMachine.{ChecksAreInOrder, EffectsAreSound, checks, effect};
+ghost use Rattle.stock_core.specs.StockMachine.{ChecksAreInOrder, EffectsAreSound, RowsStay, checks, effect};
 
 use crate::arrivals::NewStock;
 use crate::{
@@ -182,6 +182,11 @@ pub fn checks_are_in_order()
 /// The law that what passes its checks leaves sound stock sound, and only adds to numbers and history.
 pub fn effects_are_sound()
     ensures { EffectsAreSound }
+{}
+
+/// The law that no command on stock takes a row away: what is off the books keeps its row.
+pub fn rows_stay()
+    ensures { RowsStay }
 {}
 
 /// Where there is nothing yet, the stock is sound.

@@ -10,6 +10,7 @@ pub mod Totals
 pub mod Standing
 pub mod Moved
 pub mod SoundRows
+pub mod Staying
 pub mod Grafting
 pub mod Heights
 pub mod Within

@@ -4,6 +4,7 @@ use Rattle.part_core.specs.Checks.{AreInOrder, Check, first}
 use Rattle.yard_core.specs.AddLocation.{add_location, add_location_checks}
 use Rattle.yard_core.specs.Books.{Books}
 use Rattle.yard_core.specs.SoundLocations.{AreSoundLocations}
+use Rattle.yard_core.specs.Stock.{AllStay}
 use Rattle.yard_core.specs.declared.yard_command.YardCommand.{YardCommand}
 use Rattle.yard_core.specs.declared.yard_command.YardCommand.TheVariants.{AddLocation}
 
@@ -24,3 +25,7 @@ abbrev pub EffectsAreSound : Type 0
 EffectsAreSound =
     (c : YardCommand) (b : Books) → AreSoundLocations b.counter.next b.stock → first (checks c b) ≡ None
     → AreSoundLocations (effect c b).counter.next (effect c b).stock × (b.counter.next ≤ (effect c b).counter.next)
+
+-- no row of the stock goes, whatever a command is asked of
+abbrev pub RowsStay : Type 0
+RowsStay = (c : YardCommand) (b : Books) → AllStay b.stock (effect c b).stock

@@ -1,7 +1,7 @@
 //! The commands of the yard, as a machine: one call that does any of them, and its laws.
 ghost use Rattle.std.specs.Prelude.{◌≡◌};
 ghost use Rattle.yard_core.specs.Books.{Does, books_of, kept_books};
-ghost use Rattle.yard_core.specs.YardMachine.{ChecksAreInOrder, EffectsAreSound, checks, effect};
+ghost use Rattle.yard_core.specs.YardMachine.{ChecksAreInOrder, EffectsAreSound, RowsStay, checks, effect};
 
 use crate::yard::Yard;
 use part_core::{Answer, CoreFault, Counter, Id, Ids, Name};
@@ -46,4 +46,9 @@ pub fn checks_are_in_order()
 /// The law that what passes its checks leaves sound locations sound.
 pub fn effects_are_sound()
     ensures { EffectsAreSound }
+{}
+
+/// The law that no command of the yard takes a row away.
+pub fn rows_stay()
+    ensures { RowsStay }
 {}
