@@ -8,6 +8,7 @@ mod key;
 mod order;
 mod repeats;
 mod shop;
+mod staying;
 mod texts;
 
 pub use answers::{answer_line, read_answer};
@@ -17,4 +18,5 @@ pub use key::{Key, is_key};
 pub use order::checks_are_in_order;
 pub use repeats::{later_repeats_change_nothing, repeats_change_nothing, sending_again_ends_alike};
 pub use shop::{AssembleFault, Shop, Tables};
+pub use staying::rows_stay;
 pub use texts::{command_text, texts_tell_commands};
