@@ -64,7 +64,7 @@ module _ (old new : Parts) (b : Books) (locations : Table Location) (counter : N
         once = λ serial kin n m x y ex ey hx hy. sound.once serial kin n m x y ex ey (held serial kin n x ex hx) (held serial kin m y ey hy);
         each_item = λ k x e. let h = sound.each_item k x e in record { part = (stay x.part h.part).0; place = place-kept b.stock after keeps x.place h.place };
         each_entry = λ k x e.
-            let h = sound.each_entry k x e in record { item = h.item; part = (stay x.note.part h.part).0; place = place-kept b.stock after keeps x.note.place h.place };
+            let h = sound.each_entry k x e in record { item = h.item; part = (stay x.note.part h.part).0; place = place-kept b.stock after keeps x.note.place h.place; quantity = h.quantity };
       }
 
 -- the same locations

@@ -5,6 +5,7 @@ use Rattle.std.specs.FinMap as table
 use Rattle.std.specs.Str.{bytes_eq}
 use Rattle.std.proofs.lemmas.Slice.Eq.{bytes_eq-Decides}
 use Rattle.part_core.specs.Catalogue.{Parts, family}
+use Rattle.part_core.specs.Quantity.{largest}
 use Rattle.part_core.specs.Rows.{StandRight}
 use Rattle.part_core.specs.Sheet.{Table}
 use Rattle.part_core.specs.declared.status.Status.{Status}
@@ -14,7 +15,7 @@ use Rattle.forest.specs.declared.item.Item.{Item}
 use Rattle.forest.specs.declared.place.Place.{Place}
 use Rattle.forest.specs.declared.place.Place.TheVariants.{At, In, Output, Sent, Used, Off, Gone}
 use Rattle.forest.specs.Forest.{is_at}
-use Rattle.yard_core.specs.Stock.{has_serial, holds_serial, is_gone}
+use Rattle.yard_core.specs.Stock.{IsItem, has_serial, holds_serial, is_gone}
 
 -- no serial stands twice in a family, on items of the table that aren't gone
 abbrev pub StandOnce : Parts → Table Item → Type 0
@@ -49,6 +50,19 @@ stays-loose (Sent l) e = cc
 stays-loose (Used l) e = cc
 stays-loose (Off l) e = cc
 stays-loose Gone e = cc
+
+-- what isn't gone has 1 to the largest quantity
+pub bounds-there : (x : Item) → is_gone x.place ≡ false → IsItem x → (1 ≤ x.quantity) × (x.quantity ≤ largest)
+bounds-there x in_use = by_place x.place in_use
+  where
+    by_place : (l : Place) → is_gone l ≡ false → IsItem (changed_to x.lot.status x.quantity l x) → (1 ≤ x.quantity) × (x.quantity ≤ largest)
+    by_place (At l) e h = (h.0, h.1)
+    by_place (In l) e h = (h.0, h.1)
+    by_place (Output l) e h = (h.0, h.1)
+    by_place (Sent l) e h = (h.0, h.1)
+    by_place (Used l) e h = (h.0, h.1)
+    by_place (Off l) e h = (h.0, h.1)
+    by_place Gone e h = cc
 
 -- an item without serial holds none
 pub plain-holds : (parts : Parts) (s : List ℕ) (kin : ℕ) (x : Item) → x.lot.serial ≡ None → holds_serial s kin parts x ≡ false

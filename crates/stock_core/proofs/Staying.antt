@@ -14,7 +14,7 @@ use Rattle.forest.specs.Moves.{cut_change, grow_change, lift_change, make_change
 use Rattle.forest.specs.Rows.{entry_to}
 use Rattle.forest.specs.Tables.{node_of}
 use Rattle.yard_core.specs.Books.{Books}
-use Rattle.yard_core.specs.Stock.{AllStay, Stock, at_place, children_of, cut, graft, grow, item_at, lift, make, mark, pour, prune, relocated, shrink, tree_of}
+use Rattle.yard_core.specs.Stock.{AllStay, Stock, at_place, children_of, graft, grow, item_at, lift, make, mark, pour, prune, relocated, shrink, tree_of}
 use Rattle.yard_core.proofs.Staying.{stay-change, stay-more, stay-moved, stay-none}
 use Rattle.stock_core.specs.Asked.{has_less, has_more, is_serialised, quantity_at}
 use Rattle.stock_core.specs.Count.{counted}

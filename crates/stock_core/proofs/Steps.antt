@@ -26,7 +26,7 @@ use Rattle.stock_core.specs.Arrives.{IsArrival}
 use Rattle.stock_core.specs.Sound.{IsPlace, IsSoundItem}
 use Rattle.stock_core.specs.Steps.{cut_off, make_one, new_item}
 use Rattle.stock_core.specs.declared.arrivals.Arrival.{Arrival}
-use Rattle.stock_core.proofs.Kept.{IsFree, Tidy, changed_to, free-changed, free-new, stays-loose, tidy-changed, tidy-new}
+use Rattle.stock_core.proofs.Kept.{IsFree, Tidy, bounds-there, changed_to, free-changed, free-new, stays-loose, tidy-changed, tidy-new}
 use Rattle.stock_core.proofs.Plain.{IsPlain, refilled}
 use Rattle.stock_core.proofs.TreeNotes.{notes-below}
 use Rattle.stock_core.proofs.Upright.{AreSoundNotes, IsSoundNote, Keeps, Leads, Upright, keeps-moved, leads-moved, notes-kept, place-kept}
@@ -102,13 +102,22 @@ module _ (parts : Parts) (b : Books) (up : Upright parts b) where
     known : IsSoundItem parts s x
     known = up.each_item (n ∷ []) x is_there
 
+    -- what isn't gone has 1 to the largest quantity
+    bounds : is_gone x.place ≡ false → (1 ≤ x.quantity) × (x.quantity ≤ largest)
+    bounds in_use = bounds-there x in_use (good_at s.items up.stock.items n x is_there)
+
     -- a note of some quantity of the item
-    note : (e : Note) → e.item ≡ x.number → e.part ≡ x.part → IsPlace s e.place → IsSoundNote parts s e
-    note e item part place = record {
+    note : (e : Note) → e.item ≡ x.number → e.part ≡ x.part → IsPlace s e.place → (1 ≤ e.quantity) × (e.quantity ≤ largest) → IsSoundNote parts s e
+    note e item part place quantity = record {
       item = subst (IsThere s.items) (sym item) number_there;
       part = subst (IsThere parts.parts) (sym part) known.part;
       place = place;
+      quantity = quantity;
     }
+
+    -- a part of what the item has
+    some_of : is_gone x.place ≡ false → (q : ℕ) → 1 ≤ q → q ≤ x.quantity → (1 ≤ q) × (q ≤ largest)
+    some_of in_use q some enough = (some, omega (arith, enough, (bounds in_use).1))
 
     -- another row in its place
     leads-changed : is_gone x.place ≡ false → (status : Status) (q : ℕ) (l : Place) (notes : List Note) (day : CivilDay)
@@ -126,37 +135,37 @@ module _ (parts : Parts) (b : Books) (up : Upright parts b) where
     pub leads-shrink : (reason : Reason) (q : ℕ) (day : CivilDay) → CanShrinkItem n q s → Leads parts b (with_stock (shrink reason n q day s) b)
     leads-shrink reason q day can =
         leads-changed (stays-loose x.place can.loose) x.lot.status (x.quantity - q) (place_left (x.quantity - q) x.place) (shrink_change reason q (tree_of n s)).notes day (shrunk reason n q day s up.stock can).0
-        (left-place s (x.quantity - q) x.place known.place) (note _ refl refl tt, tt)
+        (left-place s (x.quantity - q) x.place known.place) (note _ refl refl tt (some_of (stays-loose x.place can.loose) q can.some can.enough), tt)
 
     pub leads-grow : (q : ℕ) (day : CivilDay) → CanGrowItem n q s → Leads parts b (with_stock (grow n q day s) b)
     leads-grow q day can =
         leads-changed (stays-loose x.place can.loose) x.lot.status (x.quantity + q) (place_left (x.quantity + q) x.place) (grow_change q (tree_of n s)).notes day (grown n q day s up.stock can).0
-        (left-place s (x.quantity + q) x.place known.place) (note _ refl refl known.place, tt)
+        (left-place s (x.quantity + q) x.place known.place) (note _ refl refl known.place (can.some, omega (arith, can.fits)), tt)
 
     pub leads-mark : (status : Status) (day : CivilDay) → CanMarkItem n s → Leads parts b (with_stock (mark n status day s) b)
     leads-mark status day can =
         leads-changed (stays-loose x.place can.loose) status x.quantity x.place (mark_change status (tree_of n s)).notes day (marked n status day s up.stock can).0
-        known.place (note _ refl refl known.place, tt)
+        known.place (note _ refl refl known.place (bounds (stays-loose x.place can.loose)), tt)
 
     pub leads-prune : (l : ℕ) → IsThere s.locations l → (day : CivilDay) → CanPruneItem n s → Leads parts b (with_stock (prune n l day s) b)
     leads-prune l h day can =
         leads-changed (stays-inside x.place can.inside) x.lot.status x.quantity (At l) (entry_to TakenOut (At l) x ∷ []) day (pruned n l s up.stock can day).0
-        h (note _ refl refl h, tt)
+        h (note _ refl refl h (bounds (stays-inside x.place can.inside)), tt)
 
     -- an item that was off the books comes back, with an entry for each that lies in it
-    notes-back : (from : Place) → is_off from ≡ true → (l : ℕ) → IsThere s.locations l → AreSoundNotes parts s (lift_entries from (At l) (tree_of n s))
-    notes-back (At k) e l h = cc
-    notes-back (In k) e l h = cc
-    notes-back (Output k) e l h = cc
-    notes-back (Sent k) e l h = cc
-    notes-back (Used k) e l h = cc
-    notes-back (Off k) e l h = (note _ refl refl h, notes-below parts s b.counter.next up.rows up.each_item Found 16 x.number)
-    notes-back Gone e l h = cc
+    notes-back : is_gone x.place ≡ false → (from : Place) → is_off from ≡ true → (l : ℕ) → IsThere s.locations l → AreSoundNotes parts s (lift_entries from (At l) (tree_of n s))
+    notes-back in_use (At k) e l h = cc
+    notes-back in_use (In k) e l h = cc
+    notes-back in_use (Output k) e l h = cc
+    notes-back in_use (Sent k) e l h = cc
+    notes-back in_use (Used k) e l h = cc
+    notes-back in_use (Off k) e l h = (note _ refl refl h (bounds in_use), notes-below parts s b.counter.next up.rows up.each_item up.stock.items Found 16 x.number)
+    notes-back in_use Gone e l h = cc
 
     pub leads-back : (l : ℕ) → IsThere s.locations l → (day : CivilDay) → is_off x.place ≡ true → CanLiftItem n (At l) s → Leads parts b (with_stock (lift n (At l) day s) b)
     leads-back l h day off can =
         leads-changed (stays-off x.place off) x.lot.status x.quantity (At l) (lift_notes n (At l) s) day (lifted n (At l) day s up.stock can).0
-        h (notes-back x.place off l h)
+        h (notes-back (stays-off x.place off) x.place off l h)
 
     -- ---- an item goes elsewhere
 
@@ -178,41 +187,41 @@ module _ (parts : Parts) (b : Books) (up : Upright parts b) where
     loose-off (Off k) e r = cc
     loose-off Gone e r = cc
 
-    notes-at : (from : Place) → is_at from ≡ true → (l : ℕ) → IsThere s.locations l → AreSoundNotes parts s (lift_entries from (At l) (tree_of n s))
-    notes-at (At k) e l h = (note _ refl refl h, tt)
-    notes-at (In k) e l h = cc
-    notes-at (Output k) e l h = cc
-    notes-at (Sent k) e l h = cc
-    notes-at (Used k) e l h = cc
-    notes-at (Off k) e l h = cc
-    notes-at Gone e l h = cc
+    notes-at : is_gone x.place ≡ false → (from : Place) → is_at from ≡ true → (l : ℕ) → IsThere s.locations l → AreSoundNotes parts s (lift_entries from (At l) (tree_of n s))
+    notes-at in_use (At k) e l h = (note _ refl refl h (bounds in_use), tt)
+    notes-at in_use (In k) e l h = cc
+    notes-at in_use (Output k) e l h = cc
+    notes-at in_use (Sent k) e l h = cc
+    notes-at in_use (Used k) e l h = cc
+    notes-at in_use (Off k) e l h = cc
+    notes-at in_use Gone e l h = cc
 
-    notes-off : (from : Place) → is_at from ≡ true → (r : Reason) → AreSoundNotes parts s (lift_entries from (Off r) (tree_of n s))
-    notes-off (At k) e r = (note _ refl refl tt, notes-below parts s b.counter.next up.rows up.each_item Written 16 x.number)
-    notes-off (In k) e r = cc
-    notes-off (Output k) e r = cc
-    notes-off (Sent k) e r = cc
-    notes-off (Used k) e r = cc
-    notes-off (Off k) e r = cc
-    notes-off Gone e r = cc
+    notes-off : is_gone x.place ≡ false → (from : Place) → is_at from ≡ true → (r : Reason) → AreSoundNotes parts s (lift_entries from (Off r) (tree_of n s))
+    notes-off in_use (At k) e r = (note _ refl refl tt (bounds in_use), notes-below parts s b.counter.next up.rows up.each_item up.stock.items Written 16 x.number)
+    notes-off in_use (In k) e r = cc
+    notes-off in_use (Output k) e r = cc
+    notes-off in_use (Sent k) e r = cc
+    notes-off in_use (Used k) e r = cc
+    notes-off in_use (Off k) e r = cc
+    notes-off in_use Gone e r = cc
 
     module _ (day : CivilDay) (loose : is_at x.place ≡ true) where
       pub leads-lift : (l : ℕ) → IsThere s.locations l → Leads parts b (with_stock (lift n (At l) day s) b)
       leads-lift l h =
           leads-changed (stays-loose x.place loose) x.lot.status x.quantity (At l) (lift_notes n (At l) s) day
-          (lifted n (At l) day s up.stock (record { there = is_there; in_table = loose-lift x.place loose l })).0 h (notes-at x.place loose l h)
+          (lifted n (At l) day s up.stock (record { there = is_there; in_table = loose-lift x.place loose l })).0 h (notes-at (stays-loose x.place loose) x.place loose l h)
 
       pub leads-off : (reason : Reason) → Leads parts b (with_stock (lift n (Off reason) day s) b)
       leads-off reason =
           leads-changed (stays-loose x.place loose) x.lot.status x.quantity (Off reason) (lift_notes n (Off reason) s) day
-          (lifted n (Off reason) day s up.stock (record { there = is_there; in_table = loose-off x.place loose reason })).0 tt (notes-off x.place loose reason)
+          (lifted n (Off reason) day s up.stock (record { there = is_there; in_table = loose-off x.place loose reason })).0 tt (notes-off (stays-loose x.place loose) x.place loose reason)
 
       -- the other item is there, so it is a place
       pub leads-graft : (m : ℕ) → CanGraftItem n m s → Leads parts b (with_stock (graft n m day s) b)
       leads-graft m can =
           let place = there s.items m (item_at m s) can.into_there in
           leads-changed (stays-loose x.place loose) x.lot.status x.quantity (In m) (entry_to Installed (In m) x ∷ []) day
-          (grafted n m s up.stock can day).0 place (note _ refl refl place, tt)
+          (grafted n m s up.stock can day).0 place (note _ refl refl place (bounds (stays-loose x.place loose)), tt)
 
     -- ---- an amount is cut off an item
 
@@ -252,8 +261,15 @@ module _ (parts : Parts) (b : Books) (up : Upright parts b) where
           let place = place-kept s after keeps x.place known.place in
           leads-moved parts b up (smaller ∷ piece ∷ []) notes day (with_drawn after b).counter (omega arith) refl
           (is_cut_off n q b.counter.next serial day s up.stock can).0 new.rows new.once
-          (record { part = known.part; place = left-place after (x.quantity - q) x.place place }, (record { part = known.part; place = place }, tt))
-          (record { item = there-new (table.insert s.items (x.number ∷ []) smaller) b.counter.next piece; part = known.part; place = place }, tt)
+          (record { part = known.part; place = left-place after (x.quantity - q) x.place place }, (record { part = known.part; place = place }, tt)) (
+            record {
+              item = there-new (table.insert s.items (x.number ∷ []) smaller) b.counter.next piece;
+              part = known.part;
+              place = place;
+              quantity = some_of (stays-loose x.place can.loose) q can.some can.enough;
+            },
+            tt,
+          )
 
       -- the piece is there, and the item has so much less
       pub piece-cut : (day : CivilDay) → table.get (cut_off n q serial day b).stock.items (b.counter.next ∷ []) ≡ Some piece
@@ -306,7 +322,7 @@ module _ (parts : Parts) (b : Books) (up : Upright parts b) where
         leads-moved parts b up (arrived ∷ []) notes day (with_drawn after b).counter (omega arith) refl
         (made a.kind arrived day s up.stock can-make).0 new.rows new.once
         (record { part = part; place = new_place }, tt)
-        (rw arrival.loose (record { item = there-new s.items b.counter.next arrived; part = part; place = new_place }, tt))
+        (rw arrival.loose (record { item = there-new s.items b.counter.next arrived; part = part; place = new_place; quantity = (some, fits) }, tt))
 
     pub keeps-make : (day : CivilDay) → Keeps s (make_one a q batch serial day b).stock
     keeps-make day = keeps-moved (arrived ∷ []) (make_change a.kind a.place (node_of arrived)).notes day s
@@ -336,4 +352,4 @@ module _ (parts : Parts) (b : Books) (up : Upright parts b) where
       leads-moved parts b up (emptied ∷ fuller ∷ []) notes day b.counter (omega arith) refl
       (poured n m day s up.stock can).0 second.rows second.once
       (record { part = from_known.part; place = tt }, (record { part = into_known.part; place = left-place after (y.quantity + x.quantity) y.place into_place }, tt))
-      (notes-kept parts s after keeps notes (record { item = number_there n can.from_there; part = from_known.part; place = into_known.place }, tt))
+      (notes-kept parts s after keeps notes (record { item = number_there n can.from_there; part = from_known.part; place = into_known.place; quantity = bounds n can.from_there (stays-loose x.place can.from_loose) }, tt))

@@ -4,6 +4,7 @@ use Rattle.std.specs.FinMap as table
 use Rattle.part_core.specs.Catalogue.{Parts}
 use Rattle.part_core.specs.Counter.{Numbering}
 use Rattle.part_core.specs.Day.{CivilDay}
+use Rattle.part_core.specs.Quantity.{largest}
 use Rattle.part_core.specs.Rows.{EachRow, IsThere, StandRight}
 use Rattle.part_core.specs.Sheet.{Table}
 use Rattle.part_core.proofs.RowLemmas.{each-insert, each-so}
@@ -91,22 +92,23 @@ pub item-kept : (parts : Parts) (s t : Stock) → Keeps s t → (x : Item) → I
 item-kept parts s t keeps x h = record { part = h.part; place = place-kept s t keeps x.place h.place }
 
 pub entry-kept : (parts : Parts) (s t : Stock) → Keeps s t → (e : Entry) → IsSoundEntry parts s e → IsSoundEntry parts t e
-entry-kept parts s t keeps e h = record { item = keeps.items e.note.item h.item; part = h.part; place = place-kept s t keeps e.note.place h.place }
+entry-kept parts s t keeps e h = record { item = keeps.items e.note.item h.item; part = h.part; place = place-kept s t keeps e.note.place h.place; quantity = h.quantity }
 
 -- ---- notes
 
--- the item, the part and the place of a note are there
+-- the item, the part and the place of a note are there, and it is of 1 to the largest quantity
 pub record IsSoundNote (parts : Parts) (s : Stock) (e : Note) : Type 0 where
   pub item : IsThere s.items e.item
   pub part : IsThere parts.parts e.part
   pub place : IsPlace s e.place
+  pub quantity : (1 ≤ e.quantity) × (e.quantity ≤ largest)
 
 abbrev pub AreSoundNotes : Parts → Stock → List Note → Type 0
 AreSoundNotes parts s [] = Unit {0}
 AreSoundNotes parts s (e ∷ es) = IsSoundNote parts s e × AreSoundNotes parts s es
 
 note-kept : (parts : Parts) (s t : Stock) → Keeps s t → (e : Note) → IsSoundNote parts s e → IsSoundNote parts t e
-note-kept parts s t keeps e h = record { item = keeps.items e.item h.item; part = h.part; place = place-kept s t keeps e.place h.place }
+note-kept parts s t keeps e h = record { item = keeps.items e.item h.item; part = h.part; place = place-kept s t keeps e.place h.place; quantity = h.quantity }
 
 pub notes-kept : (parts : Parts) (s t : Stock) → Keeps s t → (es : List Note) → AreSoundNotes parts s es → AreSoundNotes parts t es
 notes-kept parts s t keeps [] h = tt
@@ -119,7 +121,7 @@ each-put_all parts s n day [] t h each = each
 each-put_all parts s n day (e ∷ es) t h each =
     let x : Entry = record { number = n; day = day; note = e } in
     each-put_all parts s (n + 1) day es (table.insert t (n ∷ []) x) h.1
-    (each-insert (IsSoundEntry parts s) t (n ∷ []) x (record { item = h.0.item; part = h.0.part; place = h.0.place }) each)
+    (each-insert (IsSoundEntry parts s) t (n ∷ []) x (record { item = h.0.item; part = h.0.part; place = h.0.place; quantity = h.0.quantity }) each)
 
 -- ---- rows
 

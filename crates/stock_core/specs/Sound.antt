@@ -2,6 +2,7 @@
 use Rattle.std.specs.Prelude.{◌≡◌, ℕ, ◌≤◌, true, List, [], ◌∷◌, Some}
 use Rattle.std.specs.FinMap as table
 use Rattle.part_core.specs.Catalogue.{Parts}
+use Rattle.part_core.specs.Quantity.{largest}
 use Rattle.part_core.specs.Rows.{EachRow, IsThere, StandRight}
 use Rattle.forest.specs.declared.entry.Entry.{Entry}
 use Rattle.forest.specs.declared.item.Item.{Item}
@@ -32,11 +33,12 @@ pub record IsSoundItem (parts : Parts) (s : Stock) (x : Item) : Type 0 where
   pub part : IsThere parts.parts x.part
   pub place : IsPlace s x.place
 
--- the item, the part and the place of an entry are there
+-- the item, the part and the place of an entry are there, and it is of 1 to the largest quantity
 pub record IsSoundEntry (parts : Parts) (s : Stock) (e : Entry) : Type 0 where
   pub item : IsThere s.items e.note.item
   pub part : IsThere parts.parts e.note.part
   pub place : IsPlace s e.note.place
+  pub quantity : (1 ≤ e.note.quantity) × (e.note.quantity ≤ largest)
 
 -- what holds without a look at the catalogue
 pub record AreSoundItems (b : Books) : Type 0 where

@@ -6,7 +6,7 @@ ghost use Rattle.stock_core.specs.Opening.{IsDrawn};
 ghost use Rattle.stock_core.specs.Sound.{IsPlace, IsSoundEntry, IsSoundItem};
 ghost use Rattle.yard_core.specs.Yards.{stock_of};
 
-use part_core::{Catalogue, Id};
+use part_core::{Catalogue, Id, LARGEST};
 use yard_core::{Entry, Item, Place, Yard};
 
 /// Whether the row that a place names is there. There are no builds and no orders yet.
@@ -29,7 +29,7 @@ fn is_sound_item(catalogue: &Catalogue, yard: &Yard, item: &Item) -> bool
     catalogue.part(item.part).is_some() && is_place(yard, item.place)
 }
 
-/// Whether the item, the part and the place of an entry are there.
+/// Whether the item, the part and the place of an entry are there, and it is of 1 to 1,000,000,000 pieces.
 fn is_sound_entry(catalogue: &Catalogue, yard: &Yard, entry: &Entry) -> bool
     ensures { IsTrue result
         ↔ IsSoundEntry (parts_of catalogue.now) (stock_of yard.now) entry.now }
@@ -38,6 +38,8 @@ fn is_sound_entry(catalogue: &Catalogue, yard: &Yard, entry: &Entry) -> bool
     yard.item(note.item).is_some()
         && catalogue.part(note.part).is_some()
         && is_place(yard, note.place)
+        && note.quantity >= 1
+        && note.quantity <= LARGEST
 }
 
 /// Whether the part and the place of each of the items are there.
@@ -53,7 +55,7 @@ pub fn are_sound_items(catalogue: &Catalogue, yard: &Yard, items: &[&Item]) -> b
     true
 }
 
-/// Whether the item, the part and the place of each of the entries are there.
+/// Whether the item, the part and the place of each of the entries are there, and it is of 1 to 1,000,000,000 pieces.
 pub fn are_sound_entries(catalogue: &Catalogue, yard: &Yard, entries: &[&Entry]) -> bool
     ensures { IsTrue result ↔ All (IsSoundEntry (parts_of catalogue.now) (stock_of yard.now))
         (map (λ x. x.now) entries.now) }
