@@ -124,6 +124,7 @@ enum Damage {
     SerialTwice,
     EntryGone,
     EntryMisnumbered,
+    EntryOfNothing,
 }
 
 fn damage_counter(tables: &mut Tables, damage: Damage) {
@@ -185,14 +186,17 @@ fn damage_item(alloc: Global, tables: &mut Tables, damage: Damage) -> Result<(),
 
 fn damage_history(tables: &mut Tables, damage: Damage) -> Result<(), Fail> {
     let mut entry = tables.history.pop().ok_or("an entry")?;
-    if matches!(damage, Damage::EntryMisnumbered) {
-        entry.number = 7;
-        tables.history.push(entry)?;
-        return Ok(());
+    match damage {
+        Damage::EntryMisnumbered => entry.number = 7,
+        Damage::EntryOfNothing => entry.note.quantity = 0,
+        _ => {
+            // The entry before it tells that the motors were found.
+            tables.history.pop();
+            tables.entries = 3;
+            return Ok(());
+        }
     }
-    // The entry before it tells that the motors were found.
-    tables.history.pop();
-    tables.entries = 3;
+    tables.history.push(entry)?;
     Ok(())
 }
 
@@ -216,7 +220,9 @@ fn damaged(alloc: Global, damage: Damage) -> Result<Tables, Fail> {
             damage_bills(&mut tables, damage)?;
         }
         Damage::LocationInItself => damage_location(&mut tables)?,
-        Damage::EntryGone | Damage::EntryMisnumbered => damage_history(&mut tables, damage)?,
+        Damage::EntryGone | Damage::EntryMisnumbered | Damage::EntryOfNothing => {
+            damage_history(&mut tables, damage)?;
+        }
         _ => damage_item(alloc, &mut tables, damage)?,
     }
     Ok(tables)
@@ -249,6 +255,7 @@ fn refused_where_damaged(rt: HostRuntime) -> Result<(), Fail> {
         Damage::SerialTwice,
         Damage::EntryGone,
         Damage::EntryMisnumbered,
+        Damage::EntryOfNothing,
     ];
     for damage in damages {
         is_refused(alloc, damage)?;
