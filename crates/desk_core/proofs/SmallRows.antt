@@ -1,0 +1,299 @@
+-- The numbers of a sound state's rows fit a file.
+use Rattle.std.proofs.Common.{◌≡◌, ◌⊎◌, inl, inr, ℕ, zero, suc, ◌+◌, ◌*◌, ◌<◌, ◌≤◌, ◌^◌, Bool, true, false, List, [], ◌∷◌, length, map, Option, Some, None, is_some, refl, sym, ap, ◌∙◌, subst, arith}
+use Rattle.std.specs.List.{AllByRecursion}
+use Rattle.std.specs.FinMap as table
+use Rattle.std.proofs.lemmas.List.{length-map}
+use Rattle.std.proofs.lemmas.List.Elements.{All-from_recursion}
+use Rattle.part_core.specs.CategoryColumns.{category_columns}
+use Rattle.part_core.specs.Columns.{AreSmall, IsSmall, number_or_absent, text_or_absent, yes_number}
+use Rattle.part_core.specs.PartColumns.{flags_number, part_columns}
+use Rattle.part_core.specs.Quantity.{largest}
+use Rattle.part_core.specs.Rows.{EachRow, IsThere, StandRight}
+use Rattle.part_core.specs.SoundCatalogue.{IsSoundCatalogue}
+use Rattle.part_core.specs.Status.{status_code}
+use Rattle.part_core.specs.Sheet.{Table}
+use Rattle.part_core.specs.declared.category.Category.{Category}
+use Rattle.part_core.specs.declared.column.Column.{Column}
+use Rattle.part_core.specs.declared.column.Column.TheVariants.{Whole}
+use Rattle.part_core.specs.declared.flags.Flags.{Flags}
+use Rattle.part_core.specs.declared.part.Part.{Part}
+use Rattle.part_core.specs.declared.status.Status.{Status}
+use Rattle.part_core.specs.declared.status.Status.TheVariants as status
+use Rattle.part_core.proofs.RowLemmas.{row_there, same_digit}
+use Rattle.part_core.proofs.Standing.{Stands, get-Stands}
+use Rattle.bom_core.specs.BillColumns.{line_columns, line_flags_number, substitute_columns}
+use Rattle.bom_core.specs.Sound.{IsSoundBill}
+use Rattle.bom_core.specs.declared.line.Line.{Line}
+use Rattle.bom_core.specs.declared.line.LineFlags.{LineFlags}
+use Rattle.bom_core.specs.declared.substitute.Substitute.{Substitute}
+use Rattle.forest.specs.EntryColumns.{entry_columns}
+use Rattle.forest.specs.Forest.{kind_code}
+use Rattle.forest.specs.ItemColumns.{item_columns}
+use Rattle.forest.specs.PlaceColumns.{place_code, place_ref, reason_code}
+use Rattle.forest.specs.declared.entry.Entry.{Entry}
+use Rattle.forest.specs.declared.entry.Kind.{Kind}
+use Rattle.forest.specs.declared.entry.Kind.TheVariants as kind
+use Rattle.forest.specs.declared.item.Item.{Item}
+use Rattle.forest.specs.declared.place.Place.{Place}
+use Rattle.forest.specs.declared.place.Place.TheVariants.{At, In, Output, Sent, Used, Off, Gone}
+use Rattle.forest.specs.declared.place.Reason.{Reason}
+use Rattle.forest.specs.declared.place.Reason.TheVariants.{Removed, Counted, Disassembled, Scrapped}
+use Rattle.yard_core.specs.LocationColumns.{location_columns}
+use Rattle.yard_core.specs.Stock.{AreItems, IsItem, IsRun, Stock}
+use Rattle.yard_core.specs.declared.location.Location.{Location}
+use Rattle.stock_core.specs.Sound.{IsPlace, IsSoundEntry, IsSoundItem, IsSoundStock}
+use Rattle.desk_core.specs.Machine.{IsSoundState, State, books_in}
+use Rattle.desk_core.specs.Small.{HasSmallRows, RowsAreSmall}
+
+abbrev Fits : ℕ → Type 0
+Fits n = n < 2 ^ 63
+
+-- ---- one number
+
+-- a row that is there has a number that was drawn
+there-fits : {X : Type 0} (number : X → ℕ) (next : ℕ) (t : Table X) → StandRight number next t → Fits next → (n : ℕ) → IsThere t n → Fits n
+there-fits number next t right fits n there =
+    let row = row_there t n there in
+    let r = right (n ∷ []) row.0 row.1 in
+    let same = same_digit n (number row.0) r.own in
+    omega (arith, same, r.drawn, fits)
+
+own-fits : {X : Type 0} (number : X → ℕ) (next : ℕ) (t : Table X) → StandRight number next t → Fits next → (k : List ℕ) (x : X) → table.get t k ≡ Some x → Fits (number x)
+own-fits number next t right fits k x e = let r = right k x e in omega (arith, r.drawn, fits)
+
+maybe-fits : (o : Option ℕ) → ((n : ℕ) → o ≡ Some n → Fits n) → IsSmall (number_or_absent o)
+maybe-fits None each = tt
+maybe-fits (Some n) each = each n refl
+
+text-fits : (o : Option (List ℕ)) → IsSmall (text_or_absent o)
+text-fits None = tt
+text-fits (Some t) = tt
+
+yes-is : (b : Bool) → yes_number b ≤ 1
+yes-is true = omega arith
+yes-is false = omega arith
+
+yes-fits : (b : Bool) → Fits (yes_number b)
+yes-fits b = let one = yes-is b in omega (arith, one)
+
+flags-fit : (f : Flags) → Fits (flags_number f)
+flags-fit f =
+    let a = yes-is f.template in
+    let b = yes-is f.assembly in
+    let c = yes-is f.component in
+    let d = yes-is f.trackable in
+    let e = yes-is f.purchaseable in
+    let g = yes-is f.salable in
+    let h = yes-is f.is_virtual in
+    omega (arith, a, b, c, d, e, g, h)
+
+line_flags-fit : (f : LineFlags) → Fits (line_flags_number f)
+line_flags-fit f =
+    let a = yes-is f.optional in
+    let b = yes-is f.consumable in
+    let c = yes-is f.inherited in
+    let d = yes-is f.variants in
+    omega (arith, a, b, c, d)
+
+status-fits : (s : Status) → Fits (status_code s)
+status-fits status.Okay = omega arith
+status-fits status.Attention = omega arith
+status-fits status.Damaged = omega arith
+status-fits status.Destroyed = omega arith
+status-fits status.Rejected = omega arith
+status-fits status.Lost = omega arith
+status-fits status.Quarantined = omega arith
+status-fits status.Returned = omega arith
+
+kind-fits : (k : Kind) → Fits (kind_code k)
+kind-fits kind.Received = omega arith
+kind-fits kind.Found = omega arith
+kind-fits kind.Built = omega arith
+kind-fits kind.Consumed = omega arith
+kind-fits kind.Shipped = omega arith
+kind-fits kind.Returned = omega arith
+kind-fits kind.Written = omega arith
+kind-fits kind.Moved = omega arith
+kind-fits kind.Cut = omega arith
+kind-fits kind.Poured = omega arith
+kind-fits kind.Installed = omega arith
+kind-fits kind.TakenOut = omega arith
+kind-fits kind.Marked = omega arith
+
+reason-fits : (r : Reason) → Fits (reason_code r)
+reason-fits Removed = omega arith
+reason-fits Counted = omega arith
+reason-fits Disassembled = omega arith
+reason-fits Scrapped = omega arith
+
+place-fits : (q : Place) → Fits (place_code q)
+place-fits (At n) = omega arith
+place-fits (In n) = omega arith
+place-fits (Output n) = omega arith
+place-fits (Sent n) = omega arith
+place-fits (Used n) = omega arith
+place-fits (Off r) = omega arith
+place-fits Gone = omega arith
+
+-- what a place names
+module _ (s : Stock) (locations : (n : ℕ) → IsThere s.locations n → Fits n) (items : (n : ℕ) → IsThere s.items n → Fits n) where
+  ref-fits : (q : Place) → IsPlace s q → Fits (place_ref q)
+  ref-fits (At n) h = locations n h
+  ref-fits (In n) h = items n h
+  ref-fits (Output n) h = absurd h
+  ref-fits (Sent n) h = absurd h
+  ref-fits (Used n) h = absurd h
+  ref-fits (Off r) h = reason-fits r
+  ref-fits Gone h = omega arith
+
+-- ---- quantities and numbers of entries
+
+item-fits : (x : Item) → IsItem x → Fits x.quantity
+item-fits x good = by_place x.place good
+  where
+    by_place : (q : Place) → IsItem (record x { place = q }) → Fits x.quantity
+    by_place (At n) h = omega (arith, h.1)
+    by_place (In n) h = omega (arith, h.1)
+    by_place (Output n) h = omega (arith, h.1)
+    by_place (Sent n) h = omega (arith, h.1)
+    by_place (Used n) h = omega (arith, h.1)
+    by_place (Off r) h = omega (arith, h.1)
+    by_place Gone h = omega (arith, h)
+
+items-fit : (xs : List Item) → AreItems xs → (x : Item) → Stands x xs → Fits x.quantity
+items-fit [] good x s = absurd s
+items-fit (y ∷ ys) good x s = elim s [ inl is ↦ subst (λ (z : Item). Fits z.quantity) is (item-fits y good.0) | inr later ↦ items-fit ys good.1 x later ]
+
+run-fits : (n : ℕ) (es : List Entry) → IsRun n es → (e : Entry) → Stands e es → e.number < n + length es
+run-fits n [] run e s = absurd s
+run-fits n (x ∷ xs) run e s = elim s [
+  | inl is ↦ let same : e.number ≡ n = ap (λ (y : Entry). y.number) (sym is) ∙ run.0 in omega (arith, same)
+  | inr later ↦ let rest = run-fits (n + 1) xs run.1 e later in omega (arith, rest)
+]
+
+-- ---- rows
+
+module _ (s : State) (sound : IsSoundState s) (next : Fits s.counter.next) where
+  catalogue : IsSoundCatalogue s.counter.next s.parts
+  catalogue = sound.bills.catalogue
+
+  category : (n : ℕ) → IsThere s.parts.categories n → Fits n
+  category = there-fits (λ (c : Category). c.number) s.counter.next s.parts.categories catalogue.categories next
+
+  part : (n : ℕ) → IsThere s.parts.parts n → Fits n
+  part = there-fits (λ (p : Part). p.number) s.counter.next s.parts.parts catalogue.parts next
+
+  line : (n : ℕ) → IsThere s.bills.lines n → Fits n
+  line = there-fits (λ (l : Line). l.number) s.counter.next s.bills.lines sound.bills.line_rows next
+
+  location : (n : ℕ) → IsThere s.stock.locations n → Fits n
+  location = there-fits (λ (l : Location). l.number) s.counter.next s.stock.locations sound.stock.items.locations.rows next
+
+  item : (n : ℕ) → IsThere s.stock.items n → Fits n
+  item = there-fits (λ (i : Item). i.number) s.counter.next s.stock.items sound.stock.items.rows next
+
+  small-categories : AreSmall category_columns s.parts.categories
+  small-categories k row e =
+      All-from_recursion IsSmall (category_columns row) (
+        own-fits (λ (c : Category). c.number) s.counter.next s.parts.categories catalogue.categories next k row e,
+        (tt, (maybe-fits row.parent (λ n is. category n (catalogue.parents k row e n is).0), tt)),
+      )
+
+  small-parts : AreSmall part_columns s.parts.parts
+  small-parts k row e =
+      All-from_recursion IsSmall (part_columns row) (
+        own-fits (λ (p : Part). p.number) s.counter.next s.parts.parts catalogue.parts next k row e,
+        (
+          tt,
+          (
+            maybe-fits row.category (λ n is. category n (catalogue.in_categories k row e n is)),
+            (
+              maybe-fits row.template (λ n is. let t = catalogue.templates k row e n is in part n (ap (λ (o : Option Part). is_some o) t.1)),
+              (flags-fit row.flags, (yes-fits row.retired, tt)),
+            ),
+          ),
+        ),
+      )
+
+  small-lines : AreSmall line_columns s.bills.lines
+  small-lines k row e =
+      All-from_recursion IsSmall (line_columns row) (
+        own-fits (λ (l : Line). l.number) s.counter.next s.bills.lines sound.bills.line_rows next k row e,
+        (
+          part row.assembly (sound.bills.assemblies k row e),
+          (
+            part row.component (sound.bills.components k row e),
+            (let bounds = sound.bills.quantities k row e in omega (arith, bounds.1), (line_flags-fit row.flags, tt)),
+          ),
+        ),
+      )
+
+  small-substitutes : AreSmall substitute_columns s.bills.substitutes
+  small-substitutes k row e =
+      All-from_recursion IsSmall (substitute_columns row) (
+        own-fits (λ (x : Substitute). x.number) s.counter.next s.bills.substitutes sound.bills.substitute_rows next k row e,
+        (line row.line (sound.bills.lines k row e), (part row.part (sound.bills.substitutes k row e), tt)),
+      )
+
+  small-locations : AreSmall location_columns s.stock.locations
+  small-locations k row e =
+      All-from_recursion IsSmall (location_columns row) (
+        own-fits (λ (l : Location). l.number) s.counter.next s.stock.locations sound.stock.items.locations.rows next k row e,
+        (tt, (maybe-fits row.parent (λ n is. location n (sound.stock.items.locations.parents k row e n is).0), tt)),
+      )
+
+  small-items : AreSmall item_columns s.stock.items
+  small-items k row e =
+      let there = sound.stock.each_item k row e in
+      All-from_recursion IsSmall (item_columns row) (
+        own-fits (λ (i : Item). i.number) s.counter.next s.stock.items sound.stock.items.rows next k row e,
+        (
+          part row.part there.part,
+          (
+            text-fits row.lot.batch,
+            (
+              text-fits row.lot.serial,
+              (
+                status-fits row.lot.status,
+                (
+                  items-fit (table.values s.stock.items) sound.stock.items.stock.items.items row (get-Stands s.stock.items k row e),
+                  (place-fits row.place, (ref-fits s.stock location item row.place there.place, tt)),
+                ),
+              ),
+            ),
+          ),
+        ),
+      )
+
+  small-history : Fits s.counter.limits.entries → AreSmall entry_columns s.stock.history
+  small-history limit k row e =
+      let there = sound.stock.each_entry k row e in
+      let numbered = run-fits 1 (table.values s.stock.history) sound.stock.items.stock.history.run row (get-Stands s.stock.history k row e) in
+      let count : length (table.values s.stock.history) ≡ table.len s.stock.history = length-map (table.entries s.stock.history) (λ e. e.1) ∙ sym (table.len-entries s.stock.history) in
+      All-from_recursion IsSmall (entry_columns row) (
+        (let within = sound.stock.items.within in omega (arith, numbered, count, within, limit)),
+        (
+          tt,
+          (
+            kind-fits row.note.kind,
+            (
+              item row.note.item there.item,
+              (
+                part row.note.part there.part,
+                (let bounds = there.quantity in omega (arith, bounds.1), (place-fits row.note.place, (ref-fits s.stock location item row.note.place there.place, tt))),
+              ),
+            ),
+          ),
+        ),
+      )
+
+pub rows_are_small : RowsAreSmall
+rows_are_small s sound next limit = record {
+  categories = small-categories s sound next;
+  parts = small-parts s sound next;
+  lines = small-lines s sound next;
+  substitutes = small-substitutes s sound next;
+  locations = small-locations s sound next;
+  items = small-items s sound next;
+  history = small-history s sound next limit;
+}
