@@ -9,7 +9,9 @@ use Rattle.std.proofs.lemmas.List.Elements.{recursion_from_All, All-from_recursi
 use Rattle.sqlite.specs.Order.{Row}
 use Rattle.sqlite.specs.State.{State, IsUnchanged, IsRolledBack, KeepsCommit}
 use Rattle.sqlite.specs.Tree.{without_rowid}
+use Rattle.part_core.specs.Columns.{IsSmall, AreSmall}
 use Rattle.part_core.specs.Filled.{StandUnderKeys}
+use Rattle.part_core.specs.Rows.{StayThere}
 use Rattle.part_core.specs.Sheet.{Table, key_cmp, given, is_listed, IsDifference}
 use Rattle.part_core.specs.declared.column.Column.{Column}
 use Rattle.part_core.specs.declared.column.Column.TheVariants.{Whole}
@@ -19,7 +21,7 @@ use Rattle.table_store.specs.declared.name.TableName.{TableName}
 use Rattle.table_store.specs.Stored.{values_of}
 use Rattle.table_store.specs.Transactions.{StaysInside}
 use Rattle.table_store.specs.Values.{HasTables, AreDropped, HasSet, with_row}
-use Rattle.table_store.specs.Written.{tree_of, IsReady, IsStopped, Holds, Writes, Suits, Takes, IsSmall, AreSmall, StayThere, changes_of, given_all}
+use Rattle.table_store.specs.Written.{tree_of, IsReady, IsStopped, Holds, Writes, Suits, Takes, changes_of, given_all}
 use Rattle.table_store.proofs.Holding.{keyed-dropped, holds-put, holds-removed, own-given, given-difference}
 
 -- ---- one change

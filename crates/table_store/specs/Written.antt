@@ -1,8 +1,9 @@
 -- Tables that have the rows of a sheet, and the changes that keep them so.
-use Rattle.std.specs.Prelude.{◌≡◌, ◌<◌, ◌^◌, ◌⊎◌, ℕ, List, [], ◌∷◌, map, All, Option, Some, None, IsSome, IsTrue, option_copied}
-use Rattle.std.specs.FinMap.{values, get}
+use Rattle.std.specs.Prelude.{◌≡◌, ◌<◌, ◌^◌, ◌⊎◌, ℕ, List, [], ◌∷◌, map, All, Option, Some, None, IsTrue, option_copied}
+use Rattle.std.specs.FinMap.{values}
 use Rattle.sqlite.specs.Order.{Row}
 use Rattle.sqlite.specs.State.{State}
+use Rattle.part_core.specs.Columns.{IsSmall}
 use Rattle.part_core.specs.Sheet.{Table, given}
 use Rattle.part_core.specs.declared.column.Column.{Column}
 use Rattle.part_core.specs.declared.column.Column.TheVariants.{Whole}
@@ -29,19 +30,10 @@ tree_of table s = s.now.trees (position table)
 abbrev pub Writes : TableName → State → State → Type 0
 Writes table old new = HasSet table (tree_of table new) old new
 
--- the column fits a file
-abbrev pub IsSmall : Column → Type 0
-IsSmall (Whole n) = n < 2 ^ 63
-IsSmall _ = Unit {0}
-
 module _ {R : Type 0} (columns_of : R → List Column) where
   -- a load of the tree shows these rows of the machine, in the order of their keys
   abbrev pub Holds : TableName → List Row → Table R → Type 0
   Holds table tree rows = IsLoaded table tree (map (values_of columns_of) (values rows))
-
-  -- no number of a row is too large for a file
-  abbrev pub AreSmall : Table R → Type 0
-  AreSmall rows = (k : List ℕ) (r : R) → get rows k ≡ Some r → All IsSmall (columns_of r)
 
   module _ (key_of : R → List ℕ) where
     -- the first column of the row is its number, under which it stands
@@ -60,10 +52,6 @@ module _ {R : Type 0} (columns_of : R → List Column) where
     Takes table key (Some r) = (key ≡ key_of r) × All IsSmall (columns_of r)
 
 module _ {R : Type 0} where
-  -- each key that had a row has one
-  abbrev pub StayThere : Table R → Table R → Type 0
-  StayThere old new = (k : List ℕ) → IsSome (get old k) → IsSome (get new k)
-
   -- the keys of the changes, each with its row, or none
   abbrev pub changes_of : (ℕ → List ℕ) → List (Pending R ℕ) → List (List ℕ × Option R)
   changes_of digits = map (λ p. (digits p.key.now, option_copied p.row))
