@@ -34,7 +34,7 @@ fn value_of(column: &Column) -> ValueRef<'_>
 }
 
 /// The values of the columns.
-fn values_of(alloc: Global, columns: &[Column]) -> Result<Vec<ValueRef<'_>>, AllocError>
+pub(crate) fn values_of(alloc: Global, columns: &[Column]) -> Result<Vec<ValueRef<'_>>, AllocError>
     requires { All IsSmall columns.now }
     ensures { IfOk result (λ values. bound values.items ≡ map value_of columns.now) }
 {
