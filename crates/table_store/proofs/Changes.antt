@@ -9,7 +9,9 @@ use Rattle.std.proofs.lemmas.List.Elements.{recursion_from_All, All-from_recursi
 use Rattle.sqlite.specs.Order.{Row}
 use Rattle.sqlite.specs.State.{State, IsUnchanged, IsRolledBack, KeepsCommit}
 use Rattle.sqlite.specs.Tree.{without_rowid}
+use Rattle.part_core.specs.Columns.{IsSmall, AreSmall}
 use Rattle.part_core.specs.Filled.{StandUnderKeys}
+use Rattle.part_core.specs.Rows.{StayThere}
 use Rattle.part_core.specs.Sheet.{Table, key_cmp, given, is_listed, IsDifference}
 use Rattle.part_core.specs.declared.column.Column.{Column}
 use Rattle.part_core.specs.declared.column.Column.TheVariants.{Whole}
@@ -19,7 +21,7 @@ use Rattle.table_store.specs.declared.name.TableName.{TableName}
 use Rattle.table_store.specs.Stored.{values_of}
 use Rattle.table_store.specs.Transactions.{StaysInside}
 use Rattle.table_store.specs.Values.{HasTables, AreDropped, HasSet, with_row}
-use Rattle.table_store.specs.Written.{tree_of, IsReady, IsStopped, Holds, Writes, Suits, Takes, IsSmall, AreSmall, StayThere, changes_of, given_all}
+use Rattle.table_store.specs.Written.{tree_of, IsReady, IsStopped, Holds, Writes, Suits, Takes, changes_of, given_all}
 use Rattle.table_store.proofs.Holding.{keyed-dropped, holds-put, holds-removed, own-given, given-difference}
 
 -- ---- one change
@@ -59,7 +61,7 @@ pub record IsMidway {X : Type 0} (columns : X → List Column) (key_of : X → L
   pub rows : (rows : Table X) → StandUnderKeys key_of rows → Holds columns table (tree_of table old) rows
       → (mid : Table X) × StandUnderKeys key_of mid × Holds columns table (tree_of table now) mid × (given_all left mid ≡ given_all all rows)
 
-stays-on : (old now new : State) → StaysInside old now → StaysInside now new → StaysInside old new
+pub stays-on : (old now new : State) → StaysInside old now → StaysInside now new → StaysInside old new
 stays-on old now new a b = record { was_open = a.was_open; is_open = b.is_open; now_is = refl; committed_is = b.committed_is ∙ a.committed_is; mode = b.mode }
 
 pub stopped-after : (old now new : State) → StaysInside old now → IsUnchanged now new ⊎ IsRolledBack now new → IsStopped old new
@@ -73,6 +75,52 @@ stays-here s ready = record { was_open = ready.1; is_open = ready.1; now_is = re
 pub stopped-commit : (old new : State) → IsStopped old new → KeepsCommit old new
 stopped-commit old new (inl back) = record { was_open = back.was_open; committed = λ up. (back.undone up).1 }
 stopped-commit old new (inr stays) = record { was_open = λ up. stays.was_open; committed = λ up. stays.committed_is }
+
+-- ---- the changes that a sheet lists
+
+either : (b : Bool) → (b || true) ≡ true
+either true = refl
+either false = refl
+
+module _ {X K : Type 0} (digits : K → List ℕ) where
+  abbrev pub key_in : Pending X K → List ℕ
+  key_in p = digits p.key.now
+
+  pub listed-first : (p : Pending X K) (ps : List (Pending X K)) → is_listed (key_in p) (map key_in (p ∷ ps)) ≡ true
+  listed-first p ps = ap (λ b. b || is_listed (key_in p) (map key_in ps)) (key_eq-self (key_in p))
+
+  pub listed-later : (p : Pending X K) (ps : List (Pending X K)) (k : List ℕ) → is_listed k (map key_in ps) ≡ true → is_listed k (map key_in (p ∷ ps)) ≡ true
+  listed-later p ps k h = ap (λ b. is_eq (key_cmp (key_in p) k) || b) h ∙ either (is_eq (key_cmp (key_in p) k))
+
+  module _ (now : Table X) (P : List ℕ → Option X → Type 0) where
+    each-listed : (ps : List (Pending X K)) → ((k : List ℕ) (o : Option X) → is_listed k (map key_in ps) ≡ true → o ≡ get now k → P k o)
+        → AllByRecursion (λ p. option_copied p.row ≡ get now (digits p.key.now)) ps → AllByRecursion (λ c. P c.0 c.1) (changes_of digits ps)
+    each-listed [] has is = tt
+    each-listed (p ∷ ps) has is = (has (key_in p) (option_copied p.row) (listed-first p ps) is.0, each-listed ps (λ k o h. has k o (listed-later p ps k h)) is.1)
+
+    -- what holds of each row, or none, that there is now under a key that is listed
+    pub all-listed : (ps : List (Pending X K)) → ((k : List ℕ) (o : Option X) → is_listed k (map key_in ps) ≡ true → o ≡ get now k → P k o)
+        → All (λ p. option_copied p.row ≡ get now (digits p.key.now)) ps → All (λ c. P c.0 c.1) (changes_of digits ps)
+    all-listed ps has is = All-from_recursion _ _ (each-listed ps has (recursion_from_All _ ps is))
+
+  -- the changes that are left, the first of them apart
+  pub left-more : (ps : List (Pending X K)) (i : ℕ) (p : Pending X K) → i < length ps → p ≡ get_or ps i p
+      → changes_of digits (drop i ps) ≡ (digits p.key.now, option_copied p.row) ∷ changes_of digits (drop (i + 1) ps)
+  left-more ps i p within is =
+      ap (changes_of digits) (drop_more ps i p within) ∙ ap (λ (q : Pending X K). (digits q.key.now, option_copied q.row) ∷ changes_of digits (drop (i + 1) ps)) (sym is)
+
+  -- what holds of each change holds of the one at that place
+  pub holds-at : (P : List ℕ → Option X → Type 0) (ps : List (Pending X K)) (i : ℕ) (p : Pending X K) → i < length ps → p ≡ get_or ps i p → All (λ c. P c.0 c.1) (changes_of digits ps)
+      → P (digits p.key.now) (option_copied p.row)
+  holds-at P ps i p within is all =
+      subst (λ (q : Pending X K). P (digits q.key.now) (option_copied q.row)) (sym is)
+      (All-from_recursion (λ (q : Pending X K). P (digits q.key.now) (option_copied q.row)) ps (each ps (recursion_from_All _ (changes_of digits ps) all)) i p within)
+    where
+      each : (ps : List (Pending X K)) → AllByRecursion (λ c. P c.0 c.1) (changes_of digits ps) → AllByRecursion (λ q. P (digits q.key.now) (option_copied q.row)) ps
+      each [] h = tt
+      each (q ∷ qs) h = (h.0, each qs h.1)
+
+-- ---- the changes of a sheet, in their order
 
 module _ {X : Type 0} (columns : X → List Column) (key_of : X → List ℕ) (digits : ℕ → List ℕ) (table : TableName) where
   pub midway-start : (all : List (List ℕ × Option X)) (s : State) → IsReady s → IsMidway columns key_of table all all s s
@@ -98,9 +146,6 @@ module _ {X : Type 0} (columns : X → List Column) (key_of : X → List ℕ) (d
   -- ---- the changes of a sheet are such as the table takes
 
   module _ (suits : Suits columns key_of digits table) (now kept : Table X) (own-now : StandUnderKeys key_of now) (own-kept : StandUnderKeys key_of kept) (small-now : AreSmall columns now) (small-kept : AreSmall columns kept) (stays : AreDropped table ⊎ StayThere kept now) where
-    abbrev key_in : Pending X ℕ → List ℕ
-    key_in p = digits p.key.now
-
     small-key : (k : List ℕ) (x : X) → get kept k ≡ Some x → (n : ℕ) × (k ≡ n ∷ []) × (n < 2 ^ 63)
     small-key k x e =
         let numbered = suits.numbered x in
@@ -126,58 +171,27 @@ module _ {X : Type 0} (columns : X → List Column) (key_of : X → List ℕ) (d
         go None e = let not : is_listed k keys ≡ false = (exact k).1 (sym is ∙ sym e) in cc
         go (Some x) e = (dropped k x e (sym is), small-key k x e)
 
-    either : (b : Bool) → (b || true) ≡ true
-    either true = refl
-    either false = refl
-
-    takes-each : (keys : List (List ℕ)) → IsDifference keys now kept → (ps : List (Pending X ℕ)) → ((k : List ℕ) → is_listed k (map key_in ps) ≡ true → is_listed k keys ≡ true)
-        → AllByRecursion (λ p. option_copied p.row ≡ get now (digits p.key.now)) ps → AllByRecursion (λ c. Takes columns key_of table c.0 c.1) (changes_of digits ps)
-    takes-each keys exact [] within is = tt
-    takes-each keys exact (p ∷ ps) within is = (
-      takes-one keys exact (digits p.key.now) (option_copied p.row) (within (key_in p) (ap (λ b. b || is_listed (key_in p) (map key_in ps)) (key_eq-self (key_in p)))) is.0,
-      takes-each keys exact ps (λ k h. within k (later k p.key.now h)) is.1,
-    )
-      where
-        later : (k : List ℕ) (n : ℕ) → is_listed k (map key_in ps) ≡ true → is_listed k (digits n ∷ map key_in ps) ≡ true
-        later k n h = ap (λ b. is_eq (key_cmp (digits n) k) || b) h ∙ either (is_eq (key_cmp (digits n) k))
-
     pub takes-all : (ps : List (Pending X ℕ)) → IsDifference (map (λ p. digits p.key.now) ps) now kept → All (λ p. option_copied p.row ≡ get now (digits p.key.now)) ps
         → All (λ c. Takes columns key_of table c.0 c.1) (changes_of digits ps)
-    takes-all ps exact is = All-from_recursion _ _ (takes-each (map key_in ps) exact ps (λ k h. h) (recursion_from_All _ ps is))
+    takes-all ps exact is = all-listed digits now (Takes columns key_of table) ps (takes-one (map (key_in digits) ps) exact) is
 
-  -- the changes that are left, the first of them apart
-  pub left-more : (ps : List (Pending X ℕ)) (i : ℕ) (p : Pending X ℕ) → i < length ps → p ≡ get_or ps i p
-      → changes_of digits (drop i ps) ≡ (digits p.key.now, option_copied p.row) ∷ changes_of digits (drop (i + 1) ps)
-  left-more ps i p within is =
-      ap (changes_of digits) (drop_more ps i p within) ∙ ap (λ (q : Pending X ℕ). (digits q.key.now, option_copied q.row) ∷ changes_of digits (drop (i + 1) ps)) (sym is)
-
-  pub takes-at : (ps : List (Pending X ℕ)) (i : ℕ) (p : Pending X ℕ) → i < length ps → p ≡ get_or ps i p → All (λ c. Takes columns key_of table c.0 c.1) (changes_of digits ps)
-      → Takes columns key_of table (digits p.key.now) (option_copied p.row)
-  takes-at ps i p within is all =
-      subst (λ (q : Pending X ℕ). Takes columns key_of table (digits q.key.now) (option_copied q.row)) (sym is)
-      (All-from_recursion (λ (q : Pending X ℕ). Takes columns key_of table (digits q.key.now) (option_copied q.row)) ps (each ps (recursion_from_All _ (changes_of digits ps) all)) i p within)
-    where
-      each : (ps : List (Pending X ℕ)) → AllByRecursion (λ c. Takes columns key_of table c.0 c.1) (changes_of digits ps) → AllByRecursion (λ q. Takes columns key_of table (digits q.key.now) (option_copied q.row)) ps
-      each [] h = tt
-      each (q ∷ qs) h = (h.0, each qs h.1)
-
-module _ {X : Type 0} (digits : ℕ → List ℕ) (now kept : Table X) where
-  keys-of : (ps : List (Pending X ℕ)) → map (λ c. c.0) (changes_of digits ps) ≡ map (λ p. digits p.key.now) ps
+module _ {X K : Type 0} (digits : K → List ℕ) (now kept : Table X) where
+  keys-of : (ps : List (Pending X K)) → map (λ c. c.0) (changes_of digits ps) ≡ map (λ p. digits p.key.now) ps
   keys-of [] = refl
   keys-of (p ∷ ps) = ap (λ (ks : List (List ℕ)). digits p.key.now ∷ ks) (keys-of ps)
 
-  rows-of : (ps : List (Pending X ℕ)) → AllByRecursion (λ p. option_copied p.row ≡ get now (digits p.key.now)) ps → AllByRecursion (λ c. c.1 ≡ get now c.0) (changes_of digits ps)
+  rows-of : (ps : List (Pending X K)) → AllByRecursion (λ p. option_copied p.row ≡ get now (digits p.key.now)) ps → AllByRecursion (λ c. c.1 ≡ get now c.0) (changes_of digits ps)
   rows-of [] is = tt
   rows-of (p ∷ ps) is = (is.0, rows-of ps is.1)
 
   -- what is pending makes the rows that were kept those that there are
-  pub pending-all : (ps : List (Pending X ℕ)) → All (λ p. option_copied p.row ≡ get now (digits p.key.now)) ps → IsDifference (map (λ p. digits p.key.now) ps) now kept → given_all (changes_of digits ps) kept ≡ now
+  pub pending-all : (ps : List (Pending X K)) → All (λ p. option_copied p.row ≡ get now (digits p.key.now)) ps → IsDifference (map (λ p. digits p.key.now) ps) now kept → given_all (changes_of digits ps) kept ≡ now
   pending-all ps is exact =
       given-difference now kept (changes_of digits ps) (rows-of ps (recursion_from_All (λ p. option_copied p.row ≡ get now (digits p.key.now)) ps is)) (subst (λ ks. IsDifference ks now kept) (sym (keys-of ps)) exact)
 
-  pub now-held : {E : Type 0} (columns : X → List Column) (table : TableName) (tree : List Row) (r : Result (Unit {0}) E) (ps given : List (Pending X ℕ)) → given ≡ ps
+  pub now-held : {E : Type 0} (columns : X → List Column) (table : TableName) (tree : List Row) (r : Result (Unit {0}) E) (ps given : List (Pending X K)) → given ≡ ps
       → All (λ p. option_copied p.row ≡ get now (digits p.key.now)) ps → IsDifference (map (λ p. digits p.key.now) ps) now kept
       → OnOk r (Holds columns table tree (given_all (changes_of digits given) kept)) → OnOk r (Holds columns table tree now)
   now-held columns table tree (Ok u) ps given same is exact h =
-      subst (Holds columns table tree) (ap (λ (qs : List (Pending X ℕ)). given_all (changes_of digits qs) kept) same ∙ pending-all ps is exact) h
+      subst (Holds columns table tree) (ap (λ (qs : List (Pending X K)). given_all (changes_of digits qs) kept) same ∙ pending-all ps is exact) h
   now-held columns table tree (Err e) ps given same is exact h = tt

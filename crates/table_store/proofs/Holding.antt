@@ -10,7 +10,7 @@ use Rattle.std.specs.FinMap.{entries, entries_sorted, entries-insert, entries-fr
 use Rattle.std.specs.FinMap.Entries.{put, find, where_key, by_order, below_all, is_sorted, is_sorted-where_key, find-where_key}
 use Rattle.std.proofs.lemmas.Bool.Decides.{nat_tests}
 use Rattle.sqlite.specs.declared.types.Value.{Value}
-use Rattle.sqlite.specs.declared.types.Value.TheVariants.{Null, Int}
+use Rattle.sqlite.specs.declared.types.Value.TheVariants.{Null, Int, Real, Text as Words, Blob}
 use Rattle.sqlite.specs.Order.{Row, column, value_cmp}
 use Rattle.sqlite.specs.Tree.{rowid, IsAscending, IsTable, has_rowid, put_row, without_rowid}
 use Rattle.sqlite_value.proofs.OrderLemmas.{value_cmp_total, value_cmp-Int, then-Equal}
@@ -149,6 +149,15 @@ shown-put OrderLines id rest h = ap (λ (vs : Row). Int id ∷ vs) (sym (spread-
 shown-put Builds id rest h = ap (λ (vs : Row). Int id ∷ vs) (sym (spread-all (drop 1 (columns_of Builds)) rest h))
 shown-put Allocations id rest h = ap (λ (vs : Row). Int id ∷ vs) (sym (spread-all (drop 1 (columns_of Allocations)) rest h))
 
+-- and so is one of `kept`, which has a number of the database's besides
+pub shown-kept : (id : ℤ) (values : Row) → IsRow Kept values → shown_row Kept (Int id ∷ values) ≡ values
+shown-kept id [] h = absurd h
+shown-kept id (Null ∷ rest) h = absurd h
+shown-kept id (Int n ∷ rest) h = absurd h
+shown-kept id (Real x ∷ rest) h = absurd h
+shown-kept id (Blob b ∷ rest) h = absurd h
+shown-kept id (Words word ∷ rest) h = ap (λ (vs : Row). Words word ∷ vs) (sym (spread-all (drop 1 (columns_of Kept)) rest h))
+
 -- ---- rows in a tree, and entries in a map
 
 pos_cmp : (a b : ℕ) → int_cmp (pos a) (pos b) ≡ nat_cmp a b
@@ -286,7 +295,7 @@ module _ {X : Type 0} (shows : Row → Row) (tells : X → Row) (number : X → 
 
 -- ---- the entries of a map
 
-is-T : (b : Bool) → T b → b ≡ true
+pub is-T : (b : Bool) → T b → b ≡ true
 is-T true h = refl
 is-T false h = absurd h
 
@@ -331,7 +340,7 @@ module _ {X : Type 0} where
       let both = and_parts (below_all key_cmp e.0 es) (is_sorted key_cmp es) s in
       (own e.0 e.1 (ap (λ b. cond b (Some e.1) (find key_cmp e.0 es)) (key_eq-self e.0)), own-entries key_of es both.1 (λ k x f. own k x (found-later e es k x both.0 f)))
 
-  entries-own : (key_of : X → List ℕ) (t : Table X) → StandUnderKeys key_of t → AllByRecursion (λ e. e.0 ≡ key_of e.1) (entries t)
+  pub entries-own : (key_of : X → List ℕ) (t : Table X) → StandUnderKeys key_of t → AllByRecursion (λ e. e.0 ≡ key_of e.1) (entries t)
   entries-own key_of t own = own-entries key_of (entries t) (is-T _ (entries_sorted t)) (λ k x f. own k x (get-entries t k ∙ f))
 
 -- ---- one change

@@ -14,3 +14,5 @@ pub mod Columns
 pub mod Holding
 pub mod Fillings
 pub mod Changes
+pub mod KeptRows
+pub mod KeptChanges

@@ -1,17 +1,19 @@
 -- Tables that have the rows of a sheet, and the changes that keep them so.
-use Rattle.std.specs.Prelude.{◌≡◌, ◌<◌, ◌^◌, ◌⊎◌, ℕ, List, [], ◌∷◌, map, All, Option, Some, None, IsSome, IsTrue, option_copied}
+use Rattle.std.specs.Prelude.{◌≡◌, ◌<◌, ◌^◌, ◌⊎◌, ℕ, List, [], ◌∷◌, map, All, Option, Some, None, IsTrue, option_copied}
 use Rattle.std.specs.FinMap.{values, get}
 use Rattle.sqlite.specs.Order.{Row}
 use Rattle.sqlite.specs.State.{State}
+use Rattle.part_core.specs.Columns.{IsSmall}
 use Rattle.part_core.specs.Sheet.{Table, given}
 use Rattle.part_core.specs.declared.column.Column.{Column}
-use Rattle.part_core.specs.declared.column.Column.TheVariants.{Whole}
+use Rattle.part_core.specs.declared.column.Column.TheVariants.{Whole, Text}
 use Rattle.part_core.specs.declared.sheet.Pending.{Pending}
 use Rattle.table_store.specs.Schema.{position}
 use Rattle.table_store.specs.Stored.{values_of}
 use Rattle.table_store.specs.Transactions.{IsBack, StaysInside}
 use Rattle.table_store.specs.Values.{IsLoaded, IsRow, IsInside, HasSet, AreDropped}
 use Rattle.table_store.specs.declared.name.TableName.{TableName}
+use Rattle.table_store.specs.declared.name.TableName.TheVariants.{Kept}
 
 -- within a transaction, and the database answers
 abbrev pub IsReady : State → Type 0
@@ -29,19 +31,10 @@ tree_of table s = s.now.trees (position table)
 abbrev pub Writes : TableName → State → State → Type 0
 Writes table old new = HasSet table (tree_of table new) old new
 
--- the column fits a file
-abbrev pub IsSmall : Column → Type 0
-IsSmall (Whole n) = n < 2 ^ 63
-IsSmall _ = Unit {0}
-
 module _ {R : Type 0} (columns_of : R → List Column) where
   -- a load of the tree shows these rows of the machine, in the order of their keys
   abbrev pub Holds : TableName → List Row → Table R → Type 0
   Holds table tree rows = IsLoaded table tree (map (values_of columns_of) (values rows))
-
-  -- no number of a row is too large for a file
-  abbrev pub AreSmall : Table R → Type 0
-  AreSmall rows = (k : List ℕ) (r : R) → get rows k ≡ Some r → All IsSmall (columns_of r)
 
   module _ (key_of : R → List ℕ) where
     -- the first column of the row is its number, under which it stands
@@ -54,21 +47,40 @@ module _ {R : Type 0} (columns_of : R → List Column) where
       pub fits : (r : R) → IsRow table (values_of columns_of r)
       pub keys : (n : ℕ) → digits n ≡ n ∷ []
 
+    -- the first column of the row is the word under which it stands
+    abbrev pub HasWord : R → Type 0
+    HasWord r = (rest : List Column) × (columns_of r ≡ Text (key_of r) ∷ rest)
+
+    -- rows of this kind are rows of `kept`, which stand under their words
+    pub record SuitKept : Type 0 where
+      pub words : (r : R) → HasWord r
+      pub fits : (r : R) → IsRow Kept (values_of columns_of r)
+
+    -- `kept` takes this row under the key: it takes no row away
+    abbrev pub KeptTakes : List ℕ → Option R → Type 0
+    KeptTakes key None = ⊥
+    KeptTakes key (Some r) = (key ≡ key_of r) × All IsSmall (columns_of r)
+
     -- the table takes this row, or none, under the key
     abbrev pub Takes : TableName → List ℕ → Option R → Type 0
     Takes table key None = AreDropped table × ((n : ℕ) × (key ≡ n ∷ []) × (n < 2 ^ 63))
     Takes table key (Some r) = (key ≡ key_of r) × All IsSmall (columns_of r)
 
 module _ {R : Type 0} where
-  -- each key that had a row has one
-  abbrev pub StayThere : Table R → Table R → Type 0
-  StayThere old new = (k : List ℕ) → IsSome (get old k) → IsSome (get new k)
+  -- each row that there was is there
+  abbrev pub StayAsTheyAre : Table R → Table R → Type 0
+  StayAsTheyAre old new = (k : List ℕ) (r : R) → get old k ≡ Some r → get new k ≡ Some r
 
   -- the keys of the changes, each with its row, or none
-  abbrev pub changes_of : (ℕ → List ℕ) → List (Pending R ℕ) → List (List ℕ × Option R)
+  abbrev pub changes_of : {K : Type 0} → (K → List ℕ) → List (Pending R K) → List (List ℕ × Option R)
   changes_of digits = map (λ p. (digits p.key.now, option_copied p.row))
 
   -- the rows after the changes, in their order
   abbrev pub given_all : List (List ℕ × Option R) → Table R → Table R
   given_all [] rows = rows
   given_all (c ∷ cs) rows = given_all cs (given c.0 c.1 rows)
+
+  -- no row stands under the key of a change when it is made
+  abbrev pub AreNew : List (List ℕ × Option R) → Table R → Type 0
+  AreNew [] rows = Unit {0}
+  AreNew (c ∷ cs) rows = (get rows c.0 ≡ None) × AreNew cs (given c.0 c.1 rows)

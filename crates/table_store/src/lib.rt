@@ -3,6 +3,7 @@
 
 mod create;
 mod fault;
+mod kept;
 mod name;
 mod read;
 mod rows;
@@ -11,6 +12,7 @@ mod write;
 
 pub use create::create_tables;
 pub use fault::{Failed, TableFault};
+pub use kept::write_kept;
 pub use name::TableName;
 pub use read::load_sheet;
 pub use rows::{drop_row, load_rows, put_row};

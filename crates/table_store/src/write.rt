@@ -5,11 +5,13 @@ ghost use Rattle.sqlite.specs.Held.{state};
 ghost use Rattle.sqlite.specs.State.{HasCleanDisk, IsUnchanged, IsRolledBack, KeepsCommit, Survives};
 ghost use Rattle.sqlite.specs.Values.{bound, bound_value};
 ghost use Rattle.sqlite_value.specs.Value.{owned};
+ghost use Rattle.part_core.specs.Columns.{IsSmall, AreSmall};
 ghost use Rattle.part_core.specs.Filled.{StandUnderKeys};
+ghost use Rattle.part_core.specs.Rows.{StayThere};
 ghost use Rattle.part_core.specs.Sheet.{Table, given, now_of};
 ghost use Rattle.table_store.specs.Stored.{value_of};
 ghost use Rattle.table_store.specs.Values.{AreDropped};
-ghost use Rattle.table_store.specs.Written.{tree_of, IsReady, IsStopped, IsSmall, AreSmall, Holds, Writes, Suits, Takes, StayThere, changes_of, given_all};
+ghost use Rattle.table_store.specs.Written.{tree_of, IsReady, IsStopped, Holds, Writes, Suits, Takes, changes_of, given_all};
 
 use crate::fault::TableFault;
 use crate::name::TableName;
@@ -32,7 +34,7 @@ fn value_of(column: &Column) -> ValueRef<'_>
 }
 
 /// The values of the columns.
-fn values_of(alloc: Global, columns: &[Column]) -> Result<Vec<ValueRef<'_>>, AllocError>
+pub(crate) fn values_of(alloc: Global, columns: &[Column]) -> Result<Vec<ValueRef<'_>>, AllocError>
     requires { All IsSmall columns.now }
     ensures { IfOk result (λ values. bound values.items ≡ map value_of columns.now) }
 {

@@ -4,12 +4,13 @@ ghost use Rattle.std.specs.FinMap.{empty};
 ghost use Rattle.sqlite.specs.Held.{state};
 ghost use Rattle.sqlite.specs.State.{HasCleanDisk};
 ghost use Rattle.part_core.specs.CategoryColumns.{category_columns};
+ghost use Rattle.part_core.specs.Columns.{IsSmall, AreSmall};
 ghost use Rattle.part_core.specs.Filled.{StandUnderKeys};
 ghost use Rattle.part_core.specs.Sheet.{now_of};
 ghost use Rattle.table_store.specs.Making.{IsFresh};
 ghost use Rattle.table_store.specs.Schema.{schema_up_to};
 ghost use Rattle.table_store.specs.Values.{HasTables};
-ghost use Rattle.table_store.specs.Written.{IsReady, IsSmall, AreSmall};
+ghost use Rattle.table_store.specs.Written.{IsReady};
 
 use super::{committed, holds, made};
 use crate::{

@@ -2,8 +2,8 @@ use Rattle.std.proofs.Common.{◌+◌, drop, option_copied, subst, arith, rules}
 use Rattle.sqlite.specs.Held.{state}
 use Rattle.sqlite.specs.State.{HasCleanDisk}
 use Rattle.sqlite.proofs.StateLemmas.{survives_then}
-use Rattle.table_store.specs.Written.{changes_of}
-use Rattle.table_store.proofs.Changes.{IsMidway, midway-start, midway-more, left-more, takes-at}
+use Rattle.table_store.specs.Written.{Takes, changes_of}
+use Rattle.table_store.proofs.Changes.{IsMidway, midway-start, midway-more, left-more, holds-at}
 use Rattle.table_store.proofs.write.write_changes.Goals as goal
 
 pub loop-change-init : goal.loop-change-init
@@ -14,7 +14,7 @@ loop-change-init g c = record {
 
 pub write_change-requires-clause-takes : goal.write_change-requires-clause-takes
 write_change-requires-clause-takes g c =
-    takes-at g.R.Stored.columns_of g.R.Row.key_of g.R.Row.digits c.args.table c.args.changes.now c.loop-change.change-index c.change-item.result c.loop-change-test.true c.change-item.is c.requires.takes
+    holds-at g.R.Row.digits (Takes g.R.Stored.columns_of g.R.Row.key_of c.args.table) c.args.changes.now c.loop-change.change-index c.change-item.result c.loop-change-test.true c.change-item.is c.requires.takes
 
 pub loop-change-preserved : goal.loop-change-preserved
 loop-change-preserved g c =
@@ -28,8 +28,8 @@ loop-change-preserved g c =
           let before : HasCleanDisk now = omega (arith, clean, c.write_change.ensures.crash.clean) in
           midway-more g.R.Stored.columns_of g.R.Row.key_of g.R.Row.digits c.args.table (g.R.Row.digits p.key.now, option_copied p.row) (changes_of g.R.Row.digits (drop (c.loop-change.change-index + 1) c.args.changes.now))
           (changes_of g.R.Row.digits c.args.changes.now) old now new
-          (takes-at g.R.Stored.columns_of g.R.Row.key_of g.R.Row.digits c.args.table c.args.changes.now c.loop-change.change-index p c.loop-change-test.true c.change-item.is c.requires.takes)
+          (holds-at g.R.Row.digits (Takes g.R.Stored.columns_of g.R.Row.key_of c.args.table) c.args.changes.now c.loop-change.change-index p c.loop-change-test.true c.change-item.is c.requires.takes)
           (subst (λ left. IsMidway g.R.Stored.columns_of g.R.Row.key_of c.args.table left (changes_of g.R.Row.digits c.args.changes.now) old now)
-          (left-more g.R.Stored.columns_of g.R.Row.key_of g.R.Row.digits c.args.table c.args.changes.now c.loop-change.change-index p c.loop-change-test.true c.change-item.is) (c.loop-change.invariant.midway before))
+          (left-more g.R.Row.digits c.args.changes.now c.loop-change.change-index p c.loop-change-test.true c.change-item.is) (c.loop-change.invariant.midway before))
           (c.in_ok-write_change.ensures.set clean) (c.in_ok-write_change.ensures.made clean);
     }

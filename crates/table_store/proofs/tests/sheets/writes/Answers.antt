@@ -6,7 +6,7 @@ use Rattle.sqlite.specs.Kind.TheVariants.{Integer}
 use Rattle.part_core.specs.declared.category.Category.{Category}
 use Rattle.part_core.specs.declared.column.Column.TheVariants.{Text}
 use Rattle.part_core.specs.CategoryColumns.{category_columns}
-use Rattle.part_core.specs.Columns.{number_or_absent}
+use Rattle.part_core.specs.Columns.{IsSmall, number_or_absent}
 use Rattle.part_core.specs.Filled.{StandUnderKeys}
 use Rattle.part_core.specs.Rows.{EachRow}
 use Rattle.part_core.specs.Sheet.{Table, key_cmp}
@@ -14,7 +14,7 @@ use Rattle.part_core.proofs.FilledTables.{filled-own}
 use Rattle.part_core.proofs.RowLemmas.{each-empty}
 use Rattle.table_store.specs.Stored.{value_of}
 use Rattle.table_store.specs.Values.{Takes}
-use Rattle.table_store.specs.Written.{tree_of, IsSmall, Holds}
+use Rattle.table_store.specs.Written.{tree_of, Holds}
 use Rattle.table_store.specs.declared.name.TableName.TheVariants.{Categories}
 use Rattle.table_store.proofs.Fillings.{holds-empty}
 use Rattle.table_store.proofs.tests.sheets.writes.Goals as goal
