@@ -5,6 +5,7 @@ use Rattle.std.specs.declared.cmp.Ordering.TheVariants.{Less}
 use Rattle.std.specs.Ordering.{nat_cmp, ordering_reverse}
 use Rattle.std.specs.FinMap.{entries, empty, insert, values, entries-insert, len-entries, len-empty}
 use Rattle.std.specs.FinMap.Entries.{put, by_order}
+use Rattle.std.proofs.lemmas.List.Sorted.{IsPermutation-refl}
 use Rattle.sqlite.specs.Order.{Row}
 use Rattle.sqlite.specs.Tree.{IsTable, IsAscending}
 use Rattle.part_core.specs.Filled.{filled, filled_onto}
@@ -15,7 +16,8 @@ use Rattle.table_store.specs.Stored.{value_of, values_of}
 use Rattle.table_store.specs.Values.{IsLoaded, IsRow, shown_row}
 use Rattle.table_store.specs.Written.{Holds, Suits}
 use Rattle.table_store.specs.declared.name.TableName.{TableName}
-use Rattle.table_store.proofs.Holding.{IsKeyed, keyed-row, shown-first, shown-loaded, loaded-shown, key_cmp-is, number, head, row-is, rows-rise}
+use Rattle.table_store.specs.declared.name.TableName.TheVariants.{Meta, Categories, Locations, Parts, Lines, Substitutes, Items, History, Orders, OrderLines, Builds, Allocations, Kept}
+use Rattle.table_store.proofs.Holding.{IsKeyed, keyed-row, shown-first, shown-loaded, key_cmp-is, number, head, row-is, rows-rise}
 
 module _ {X : Type 0} where
   no-length : (xs : List X) → length xs ≡ 0 → xs ≡ []
@@ -105,7 +107,23 @@ module _ {X E : Type 0} (columns : X → List Column) (key_of : X → List ℕ) 
   loaded-fills (Ok rows) rising loaded told = λ digits suits. loaded-holds columns key_of digits table suits tree rows.items rising (subst (IsLoaded table tree) told loaded)
   loaded-fills (Err e) rising loaded told = tt
 
--- an empty tree shows no rows
-pub holds-empty : {X : Type 0} (columns : X → List Column) (table : TableName) (tree : List Row) → IsKeyed table → tree ≡ [] → Holds columns table tree empty
-holds-empty columns table tree keyed none =
-    loaded-shown table tree (map (values_of columns) (values empty)) keyed (ap (map (shown_row table)) none ∙ sym (ap (map (values_of columns)) values-empty))
+-- an empty tree of any table shows no rows
+loaded-none : (table : TableName) → IsLoaded table [] []
+loaded-none Kept = record { pairs = []; same = IsPermutation-refl []; sorted = λ k d p q. absurd (omega arith); shown_are = refl }
+loaded-none Meta = refl
+loaded-none Categories = refl
+loaded-none Locations = refl
+loaded-none Parts = refl
+loaded-none Lines = refl
+loaded-none Substitutes = refl
+loaded-none Items = refl
+loaded-none History = refl
+loaded-none Orders = refl
+loaded-none OrderLines = refl
+loaded-none Builds = refl
+loaded-none Allocations = refl
+
+pub holds-empty : {X : Type 0} (columns : X → List Column) (table : TableName) (tree : List Row) → tree ≡ [] → Holds columns table tree empty
+holds-empty {X} columns table tree none =
+    let no-rows : map (values_of columns) (values (empty {X = X} {R = key_cmp})) ≡ [] = ap (map (values_of columns)) values-empty in
+    subst (λ rows. IsLoaded table rows (map (values_of columns) (values (empty {X = X} {R = key_cmp})))) (sym none) (subst (IsLoaded table []) (sym no-rows) (loaded-none table))

@@ -55,4 +55,4 @@ write_pending-requires-clause-stays g c = inr (λ k some. absurd (nothing-there 
 pub write_pending-requires-clause-kept : goal.write_pending-requires-clause-kept
 write_pending-requires-clause-kept g c clean =
     let tree = tree_of Categories (state g.S.Store c.fresh.new.conn) in
-    subst (Holds category_columns Categories tree) (sym c.in_ok-sheet.ensures.kept) (holds-empty category_columns Categories tree tt ((c.in_ok-fresh.ensures.fresh clean).empty Categories))
+    subst (Holds category_columns Categories tree) (sym c.in_ok-sheet.ensures.kept) (holds-empty category_columns Categories tree ((c.in_ok-fresh.ensures.fresh clean).empty Categories))
