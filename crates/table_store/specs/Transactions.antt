@@ -4,7 +4,7 @@ use Rattle.sqlite.specs.State.{State, Fails, Shows}
 use Rattle.table_store.specs.declared.fault.Cause.{Cause}
 use Rattle.table_store.specs.declared.fault.Cause.TheVariants as cause
 use Rattle.table_store.specs.declared.fault.TableFault.{TableFault}
-use Rattle.table_store.specs.declared.fault.TableFault.TheVariants.{Store}
+use Rattle.table_store.specs.declared.fault.TableFault.TheVariants.{Memory, Store}
 
 -- it is the database's error, with which it failed and undid the transaction
 abbrev pub StopsBy : State → State → Cause → Type 0
@@ -30,3 +30,9 @@ StaysInside old new = Shows old new new.now old.committed true
 abbrev pub IsOfStore : TableFault → Type 0
 IsOfStore (Store failed) = Unit {0}
 IsOfStore _ = ⊥
+
+-- want of memory, or a fault of the database
+abbrev pub IsOfMemoryOrStore : TableFault → Type 0
+IsOfMemoryOrStore Memory = Unit {0}
+IsOfMemoryOrStore (Store failed) = Unit {0}
+IsOfMemoryOrStore _ = ⊥

@@ -1,11 +1,12 @@
 //! The answers that are kept go into their table, whose key is a word and whose rows stay as they are.
-ghost use Rattle.std.specs.Prelude.{◌≡◌, ◌⊎◌, IfOk, OnOk, OnErr, All, None, option_copied};
+ghost use Rattle.std.specs.Prelude.{◌≡◌, ◌⊎◌, IfErr, IfOk, OnOk, OnErr, All, None, option_copied};
 ghost use Rattle.std.specs.FinMap.{get, insert};
 ghost use Rattle.sqlite.specs.Held.{state};
 ghost use Rattle.sqlite.specs.State.{HasCleanDisk, IsUnchanged, IsRolledBack, KeepsCommit, Survives};
 ghost use Rattle.part_core.specs.Columns.{IsSmall, AreSmall};
 ghost use Rattle.part_core.specs.Filled.{StandUnderKeys};
 ghost use Rattle.part_core.specs.Sheet.{Table, given, now_of};
+ghost use Rattle.table_store.specs.Transactions.{IsOfMemoryOrStore};
 ghost use Rattle.table_store.specs.declared.name.TableName.TheVariants.{Kept};
 ghost use Rattle.table_store.specs.Written.{tree_of, IsReady, IsStopped, Holds, Writes, SuitKept, KeptTakes, StayAsTheyAre, AreNew, changes_of, given_all};
 
@@ -37,6 +38,7 @@ fn add_row<S: Alter, R: Stored>(
     ensures failed { HasCleanDisk (state S.Store conn.new)
         → OnErr result (IsUnchanged (state S.Store conn.old) (state S.Store conn.new)
         ⊎ IsRolledBack (state S.Store conn.old) (state S.Store conn.new)) }
+    ensures fault { IfErr result IsOfMemoryOrStore }
     ensures crash { Survives (state S.Store conn.old) (state S.Store conn.new) (λ _. ⊥) }
 {
     let columns = row.columns(alloc)?;
@@ -65,6 +67,7 @@ fn add_change<S: Alter, R: Stored>(
     ensures failed { HasCleanDisk (state S.Store conn.new)
         → OnErr result (IsUnchanged (state S.Store conn.old) (state S.Store conn.new)
         ⊎ IsRolledBack (state S.Store conn.old) (state S.Store conn.new)) }
+    ensures fault { IfErr result IsOfMemoryOrStore }
     ensures crash { Survives (state S.Store conn.old) (state S.Store conn.new) (λ _. ⊥) }
 {
     match change.row {
@@ -93,6 +96,7 @@ fn add_changes<S: Alter, R: Stored>(
         (given_all (changes_of R.digits changes.now) rows)) }
     ensures failed { HasCleanDisk (state S.Store conn.new)
         → OnErr result (IsStopped (state S.Store conn.old) (state S.Store conn.new)) }
+    ensures fault { IfErr result IsOfMemoryOrStore }
     ensures crash { Survives (state S.Store conn.old) (state S.Store conn.new) (λ _. ⊥) }
 {
     for change in changes {
@@ -125,6 +129,7 @@ pub fn write_kept<S: Alter, R: Stored>(
         → OnErr result (IsStopped (state S.Store conn.old) (state S.Store conn.new)) }
     ensures commit { HasCleanDisk (state S.Store conn.new)
         → KeepsCommit (state S.Store conn.old) (state S.Store conn.new) }
+    ensures fault { IfErr result IsOfMemoryOrStore }
     ensures crash { Survives (state S.Store conn.old) (state S.Store conn.new) (λ _. ⊥) }
 {
     let changes = sheet.pending()?;

@@ -1,5 +1,5 @@
 //! The changes of a sheet go into its table.
-ghost use Rattle.std.specs.Prelude.{◌≡◌, ◌⊎◌, ◌∷◌, ◌<◌, ◌^◌, [], ℕ, map, IfOk, OnOk, OnErr, All, option_copied};
+ghost use Rattle.std.specs.Prelude.{◌≡◌, ◌⊎◌, ◌∷◌, ◌<◌, ◌^◌, [], ℕ, map, IfErr, IfOk, OnOk, OnErr, All, option_copied};
 ghost use Rattle.std.specs.FinMap.{insert, remove};
 ghost use Rattle.sqlite.specs.Held.{state};
 ghost use Rattle.sqlite.specs.State.{HasCleanDisk, IsUnchanged, IsRolledBack, KeepsCommit, Survives};
@@ -10,6 +10,7 @@ ghost use Rattle.part_core.specs.Filled.{StandUnderKeys};
 ghost use Rattle.part_core.specs.Rows.{StayThere};
 ghost use Rattle.part_core.specs.Sheet.{Table, given, now_of};
 ghost use Rattle.table_store.specs.Stored.{value_of};
+ghost use Rattle.table_store.specs.Transactions.{IsOfMemoryOrStore};
 ghost use Rattle.table_store.specs.Values.{AreDropped};
 ghost use Rattle.table_store.specs.Written.{tree_of, IsReady, IsStopped, Holds, Writes, Suits, Takes, changes_of, given_all};
 
@@ -65,6 +66,7 @@ fn write_row<S: Alter, R: Stored + Row<Key = u64>>(
     ensures failed { HasCleanDisk (state S.Store conn.new)
         → OnErr result (IsUnchanged (state S.Store conn.old) (state S.Store conn.new)
         ⊎ IsRolledBack (state S.Store conn.old) (state S.Store conn.new)) }
+    ensures fault { IfErr result IsOfMemoryOrStore }
     ensures crash { Survives (state S.Store conn.old) (state S.Store conn.new) (λ _. ⊥) }
 {
     let columns = row.columns(alloc)?;
@@ -92,6 +94,7 @@ fn remove_row<S: Alter, R: Stored + Row<Key = u64>>(
     ensures failed { HasCleanDisk (state S.Store conn.new)
         → OnErr result (IsUnchanged (state S.Store conn.old) (state S.Store conn.new)
         ⊎ IsRolledBack (state S.Store conn.old) (state S.Store conn.new)) }
+    ensures fault { IfErr result IsOfMemoryOrStore }
     ensures crash { Survives (state S.Store conn.old) (state S.Store conn.new) (λ _. ⊥) }
 {
     drop_row(conn, table, number as i64)
@@ -118,6 +121,7 @@ fn write_change<S: Alter, R: Stored + Row<Key = u64>>(
     ensures failed { HasCleanDisk (state S.Store conn.new)
         → OnErr result (IsUnchanged (state S.Store conn.old) (state S.Store conn.new)
         ⊎ IsRolledBack (state S.Store conn.old) (state S.Store conn.new)) }
+    ensures fault { IfErr result IsOfMemoryOrStore }
     ensures crash { Survives (state S.Store conn.old) (state S.Store conn.new) (λ _. ⊥) }
 {
     match change.row {
@@ -146,6 +150,7 @@ fn write_changes<S: Alter, R: Stored + Row<Key = u64>>(
         (given_all (changes_of R.digits changes.now) rows)) }
     ensures failed { HasCleanDisk (state S.Store conn.new)
         → OnErr result (IsStopped (state S.Store conn.old) (state S.Store conn.new)) }
+    ensures fault { IfErr result IsOfMemoryOrStore }
     ensures crash { Survives (state S.Store conn.old) (state S.Store conn.new) (λ _. ⊥) }
 {
     for change in changes {
@@ -181,6 +186,7 @@ pub fn write_pending<S: Alter, R: Stored + Row<Key = u64>>(
         → OnErr result (IsStopped (state S.Store conn.old) (state S.Store conn.new)) }
     ensures commit { HasCleanDisk (state S.Store conn.new)
         → KeepsCommit (state S.Store conn.old) (state S.Store conn.new) }
+    ensures fault { IfErr result IsOfMemoryOrStore }
     ensures crash { Survives (state S.Store conn.old) (state S.Store conn.new) (λ _. ⊥) }
 {
     let changes = sheet.pending()?;
