@@ -21,4 +21,8 @@ bench: build
 	python3 tools/bench.py $(PROGRAM)
 	python3 tools/bench_calls.py
 
-.PHONY: run test build install bench
+# The wrong bodies that the gate leaves out: each has to be refused. It takes hours; 'make refuse CRATES=forest' tries one crate's.
+refuse:
+	python3 tools/refuse.py $(CRATES)
+
+.PHONY: run test build install bench refuse
