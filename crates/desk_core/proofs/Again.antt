@@ -47,7 +47,7 @@ beside s after key row (Some q) text a same none is =
     other : key ≡ q → ⊥
     other e = absurd (let there : ◌≡◌ {A = Option Kept} None (Some row) = sym none ∙ ap (λ k. table.get s.answers k) (sym e) ∙ is in cc)
 
-step-keeps : (s : State) (r : Request) (key : List ℕ) (row : Kept) → table.get s.answers key ≡ Some row → table.get (step s r).0.answers key ≡ Some row
+pub step-keeps : (s : State) (r : Request) (key : List ℕ) (row : Kept) → table.get s.answers key ≡ Some row → table.get (step s r).0.answers key ≡ Some row
 step-keeps s r key row is = again (repeated r s) refl
   where
     after : State
