@@ -54,12 +54,13 @@ module _ {X E : Type 0} (columns : X → List Column) (key_of : X → List ℕ) 
 
 -- ---- some changes are made, and these are left of all
 
-pub record IsMidway {X : Type 0} (columns : X → List Column) (key_of : X → List ℕ) (table : TableName) (left all : List (List ℕ × Option X)) (old now : State) : Type 0 where
+-- where `Is` says of a tree whose rows it has
+pub record IsMidway {X : Type 0} (Is : List Row → Table X → Type 0) (key_of : X → List ℕ) (table : TableName) (left all : List (List ℕ × Option X)) (old now : State) : Type 0 where
   pub ready : IsReady now
   pub stays : StaysInside old now
   pub others : (other : TableName) → other ≢ table → tree_of other now ≡ tree_of other old
-  pub rows : (rows : Table X) → StandUnderKeys key_of rows → Holds columns table (tree_of table old) rows
-      → (mid : Table X) × StandUnderKeys key_of mid × Holds columns table (tree_of table now) mid × (given_all left mid ≡ given_all all rows)
+  pub rows : (rows : Table X) → StandUnderKeys key_of rows → Is (tree_of table old) rows
+      → (mid : Table X) × StandUnderKeys key_of mid × Is (tree_of table now) mid × (given_all left mid ≡ given_all all rows)
 
 pub stays-on : (old now new : State) → StaysInside old now → StaysInside now new → StaysInside old new
 stays-on old now new a b = record { was_open = a.was_open; is_open = b.is_open; now_is = refl; committed_is = b.committed_is ∙ a.committed_is; mode = b.mode }
@@ -122,13 +123,13 @@ module _ {X K : Type 0} (digits : K → List ℕ) where
 
 -- ---- the changes of a sheet, in their order
 
-module _ {X : Type 0} (columns : X → List Column) (key_of : X → List ℕ) (digits : ℕ → List ℕ) (table : TableName) where
-  pub midway-start : (all : List (List ℕ × Option X)) (s : State) → IsReady s → IsMidway columns key_of table all all s s
+module _ {X : Type 0} (Is : List Row → Table X → Type 0) (columns : X → List Column) (key_of : X → List ℕ) (table : TableName) where
+  pub midway-start : (all : List (List ℕ × Option X)) (s : State) → IsReady s → IsMidway Is key_of table all all s s
   midway-start all s ready = record { ready = ready; stays = stays-here s ready; others = λ other differs. refl; rows = λ rows own holds. (rows, own, holds, refl) }
 
-  pub midway-more : (c : List ℕ × Option X) (left all : List (List ℕ × Option X)) (old now new : State) → Takes columns key_of table c.0 c.1 → IsMidway columns key_of table (c ∷ left) all old now → Writes table now new
-      → ((rows : Table X) → StandUnderKeys key_of rows → Holds columns table (tree_of table now) rows → Holds columns table (tree_of table new) (given c.0 c.1 rows))
-      → IsMidway columns key_of table left all old new
+  pub midway-more : (c : List ℕ × Option X) (left all : List (List ℕ × Option X)) (old now new : State) → Takes columns key_of table c.0 c.1 → IsMidway Is key_of table (c ∷ left) all old now → Writes table now new
+      → ((rows : Table X) → StandUnderKeys key_of rows → Is (tree_of table now) rows → Is (tree_of table new) (given c.0 c.1 rows))
+      → IsMidway Is key_of table left all old new
   midway-more c left all old now new takes m set made = record {
     ready = ((set.tables, set.shown.mode), set.shown.is_open);
     stays = stays-on old now new m.stays set.shown;
@@ -136,13 +137,14 @@ module _ {X : Type 0} (columns : X → List Column) (key_of : X → List ℕ) (d
     rows = λ rows own holds. let mid = m.rows rows own holds in (given c.0 c.1 mid.0, own-given columns key_of table mid.0 c.0 c.1 mid.1 takes, made mid.0 mid.1 mid.2, mid.3);
   }
 
-  pub midway-writes : (left all : List (List ℕ × Option X)) (old now : State) → IsMidway columns key_of table left all old now → Writes table old now
+  pub midway-writes : (left all : List (List ℕ × Option X)) (old now : State) → IsMidway Is key_of table left all old now → Writes table old now
   midway-writes left all old now m = record { rows = refl; others = m.others; tables = m.ready.0.0; shown = m.stays }
 
-  pub midway-holds : (all : List (List ℕ × Option X)) (old now : State) → IsMidway columns key_of table [] all old now
-      → (rows : Table X) → StandUnderKeys key_of rows → Holds columns table (tree_of table old) rows → Holds columns table (tree_of table now) (given_all all rows)
-  midway-holds all old now m rows own holds = let mid = m.rows rows own holds in subst (Holds columns table (tree_of table now)) mid.3 mid.2
+  pub midway-holds : (all : List (List ℕ × Option X)) (old now : State) → IsMidway Is key_of table [] all old now
+      → (rows : Table X) → StandUnderKeys key_of rows → Is (tree_of table old) rows → Is (tree_of table now) (given_all all rows)
+  midway-holds all old now m rows own holds = let mid = m.rows rows own holds in subst (Is (tree_of table now)) mid.3 mid.2
 
+module _ {X : Type 0} (columns : X → List Column) (key_of : X → List ℕ) (digits : ℕ → List ℕ) (table : TableName) where
   -- ---- the changes of a sheet are such as the table takes
 
   module _ (suits : Suits columns key_of digits table) (now kept : Table X) (own-now : StandUnderKeys key_of now) (own-kept : StandUnderKeys key_of kept) (small-now : AreSmall columns now) (small-kept : AreSmall columns kept) (stays : AreDropped table ⊎ StayThere kept now) where
@@ -189,9 +191,9 @@ module _ {X K : Type 0} (digits : K → List ℕ) (now kept : Table X) where
   pending-all ps is exact =
       given-difference now kept (changes_of digits ps) (rows-of ps (recursion_from_All (λ p. option_copied p.row ≡ get now (digits p.key.now)) ps is)) (subst (λ ks. IsDifference ks now kept) (sym (keys-of ps)) exact)
 
-  pub now-held : {E : Type 0} (columns : X → List Column) (table : TableName) (tree : List Row) (r : Result (Unit {0}) E) (ps given : List (Pending X K)) → given ≡ ps
+  pub now-held : {E : Type 0} (Is : Table X → Type 0) (r : Result (Unit {0}) E) (ps given : List (Pending X K)) → given ≡ ps
       → All (λ p. option_copied p.row ≡ get now (digits p.key.now)) ps → IsDifference (map (λ p. digits p.key.now) ps) now kept
-      → OnOk r (Holds columns table tree (given_all (changes_of digits given) kept)) → OnOk r (Holds columns table tree now)
-  now-held columns table tree (Ok u) ps given same is exact h =
-      subst (Holds columns table tree) (ap (λ (qs : List (Pending X K)). given_all (changes_of digits qs) kept) same ∙ pending-all ps is exact) h
-  now-held columns table tree (Err e) ps given same is exact h = tt
+      → OnOk r (Is (given_all (changes_of digits given) kept)) → OnOk r (Is now)
+  now-held Is (Ok u) ps given same is exact h =
+      subst Is (ap (λ (qs : List (Pending X K)). given_all (changes_of digits qs) kept) same ∙ pending-all ps is exact) h
+  now-held Is (Err e) ps given same is exact h = tt

@@ -1,7 +1,10 @@
 -- The columns of a row are read one by one, and the rows of a table likewise.
-use Rattle.std.proofs.Common.{◌≡◌, Result, Ok, Err, IfOk, ℕ, pos, negsuc, Bool, true, false, cond, ◌+◌, ◌<◌, ◌≤◌, List, [], ◌∷◌, ◌++◌, map, drop, length, Option, Some, None, append_assoc, append-nil, refl, sym, ap, ◌∙◌}
+use Rattle.std.proofs.Common.{◌≡◌, Result, Ok, Err, IfOk, ℕ, pos, negsuc, Bool, true, false, cond, ◌+◌, ◌<◌, ◌≤◌, List, [], ◌∷◌, ◌++◌, map, take, drop, get_or, length, Option, Some, None, append_assoc, append-nil, refl, sym, ap, subst, ◌∙◌}
+use Rattle.std.specs.Prelude.{All}
+use Rattle.std.specs.List.{AllByRecursion}
 use Rattle.std.specs.Str.{is_utf8}
-use Rattle.std.proofs.lemmas.List.{drop_more, drop_all}
+use Rattle.std.proofs.lemmas.List.{drop_more, drop_all, take_more, take_all}
+use Rattle.std.proofs.lemmas.List.Elements.{recursion_from_All, All-push}
 use Rattle.sqlite.specs.declared.types.Value.TheVariants.{Null, Int, Real, Text as Words, Blob}
 use Rattle.sqlite.specs.declared.types.Value.{Value}
 use Rattle.sqlite.specs.Order.{Row, column}
@@ -11,6 +14,7 @@ use Rattle.part_core.specs.declared.column.Column.TheVariants.{Whole, Text, Abse
 use Rattle.part_core.specs.declared.column.ColumnFault.{ColumnFault}
 use Rattle.part_core.specs.declared.column.ColumnFault.TheVariants.{Memory, NoRow}
 use Rattle.table_store.specs.Stored.{value_of, values_of, column_of, columns_in}
+use Rattle.table_store.specs.Written.{IsRead}
 
 -- these columns, before those
 abbrev pub onto : List Column → Option (List Column) → Option (List Column)
@@ -46,6 +50,35 @@ module _ (row : Row) (columns : List Column) (at : ℕ) (all : onto columns (col
 
   pub columns_read : length row ≤ at → columns_in row ≡ Some columns
   columns_read over = sym all ∙ ap (λ (vs : Row). onto columns (columns_in vs)) (drop_all at row over) ∙ ap (λ (l : List Column). Some l) (append-nil columns)
+
+-- ---- what is written of columns is read again
+
+-- the value of the column is read as the column
+abbrev pub IsKept : Column → Type 0
+IsKept c = column_of (value_of c) ≡ Some c
+
+pub text_kept : (text : List ℕ) → is_utf8 text ≡ true → IsKept (Text text)
+text_kept text e = ap (λ b. cond b (Some (Text text)) None) e
+
+each_kept : (columns : List Column) → AllByRecursion IsKept columns → columns_in (map value_of columns) ≡ Some columns
+each_kept [] h = refl
+each_kept (c ∷ cs) h = one-found (value_of c) (map value_of cs) c h.0 ∙ ap (λ (o : Option (List Column)). o >>= λ more. Some (c ∷ more)) (each_kept cs h.1)
+
+columns_kept : (columns : List Column) → All IsKept columns → columns_in (map value_of columns) ≡ Some columns
+columns_kept columns all = each_kept columns (recursion_from_All IsKept columns all)
+
+-- one more column, in a loop over them
+pub kept_more : (columns : List Column) (i : ℕ) (c : Column) → i < length columns → c ≡ get_or columns i c → IsKept c → All IsKept (take i columns) → All IsKept (take (i + 1) columns)
+kept_more columns i c within is here before =
+    subst (All IsKept) (ap (λ (x : Column). take i columns ++ x ∷ []) is ∙ sym (take_more columns i c within)) (All-push IsKept (take i columns) c before here)
+
+pub all_kept : (columns : List Column) (i : ℕ) → length columns ≤ i → All IsKept (take i columns) → columns_in (map value_of columns) ≡ Some columns
+all_kept columns i over all = columns_kept columns (subst (All IsKept) (take_all i columns over) all)
+
+-- a row whose columns are read again is read again
+pub row_kept : {R : Type 0} (row_from : List Column → Option R) (columns_of : R → List Column) (r : R) (columns : List Column) → columns ≡ columns_of r → columns_in (map value_of columns) ≡ Some columns → row_from columns ≡ Some r
+    → IsRead row_from columns_of r
+row_kept row_from columns_of r columns is read from = ap (λ (cs : List Column). columns_in (map value_of cs) >>= row_from) (sym is) ∙ ap (λ o. o >>= row_from) read ∙ from
 
 -- ---- columns are the values that they were read from
 

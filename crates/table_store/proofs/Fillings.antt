@@ -1,5 +1,5 @@
 -- Rows that were loaded in order fill a sheet that the table's tree shows.
-use Rattle.std.proofs.Common.{◌≡◌, Vec, Global, ℕ, pos, List, [], ◌∷◌, ◌++◌, map, length, Result, Ok, Err, IfOk, append_assoc, append-nil, arith, refl, sym, ap, subst, ◌∙◌}
+use Rattle.std.proofs.Common.{◌≡◌, ℕ, pos, List, [], ◌∷◌, ◌++◌, map, length, append_assoc, append-nil, arith, refl, sym, ap, subst, ◌∙◌}
 use Rattle.std.specs.List.{AllByRecursion}
 use Rattle.std.specs.declared.cmp.Ordering.TheVariants.{Less}
 use Rattle.std.specs.Ordering.{nat_cmp, ordering_reverse}
@@ -47,10 +47,10 @@ module _ {X : Type 0} where
       ∙ ap (λ l. e ∷ l) (put-last k x es h.1)
 
   module _ (key_of : X → List ℕ) where
-    abbrev RowsRise : List X → Type 0
+    abbrev pub RowsRise : List X → Type 0
     RowsRise = IsAscending (λ x y. key_cmp (key_of x) (key_of y) ≡ Less)
 
-    abbrev entry : X → List ℕ × X
+    abbrev pub entry : X → List ℕ × X
     entry x = (key_of x, x)
 
     below-more : (es : List (List ℕ × X)) (x : X) (ys : List X) → AllByRecursion (λ y. AreBelow es (key_of y)) ys → AllByRecursion (λ y. key_cmp (key_of x) (key_of y) ≡ Less) ys
@@ -73,10 +73,12 @@ module _ {X : Type 0} where
     each-again [] = refl
     each-again (x ∷ xs) = ap (λ l. x ∷ l) (each-again xs)
 
+    pub entries-filled : (xs : List X) → RowsRise xs → entries (filled key_of xs) ≡ map entry xs
+    entries-filled xs r = entries-onto empty xs r (below-nothing xs) ∙ ap (λ es. es ++ map entry xs) entries-empty
+
     -- rows in order are those of the table that they fill
-    values-filled : (xs : List X) → RowsRise xs → values (filled key_of xs) ≡ xs
-    values-filled xs r =
-        ap (map (λ e. e.1)) (entries-onto empty xs r (below-nothing xs) ∙ ap (λ es. es ++ map entry xs) entries-empty) ∙ each-again xs
+    pub values-filled : (xs : List X) → RowsRise xs → values (filled key_of xs) ≡ xs
+    values-filled xs r = ap (map (λ e. e.1)) (entries-filled xs r) ∙ each-again xs
 
 module _ {X : Type 0} (columns : X → List Column) (key_of : X → List ℕ) (digits : ℕ → List ℕ) (table : TableName) (suits : Suits columns key_of digits table) where
   keys-rise : (xs : List X) → IsAscending (λ x y. nat_cmp (number columns key_of digits table suits x) (number columns key_of digits table suits y) ≡ Less) xs → RowsRise key_of xs
@@ -88,24 +90,13 @@ module _ {X : Type 0} (columns : X → List Column) (key_of : X → List ℕ) (d
       each (y ∷ ys) h =
           (ap (λ k. key_cmp k (key_of y)) (suits.numbered x).3 ∙ ap (key_cmp ((suits.numbered x).0 ∷ [])) (suits.numbered y).3 ∙ key_cmp-is (suits.numbered x).0 (suits.numbered y).0 ∙ h.0, each ys h.1)
 
-  loaded-rise : (tree : List Row) (rows : List X) → IsTable tree → IsLoaded table tree (map (values_of columns) rows) → values (filled key_of rows) ≡ rows
+  pub loaded-rise : (tree : List Row) (rows : List X) → IsTable tree → IsLoaded table tree (map (values_of columns) rows) → values (filled key_of rows) ≡ rows
   loaded-rise tree [] rising loaded = values-filled key_of [] tt
   loaded-rise tree (x ∷ xs) rising loaded =
       let fits = subst (IsRow table) (row-is columns key_of digits table suits x) (suits.fits x) in
       let keyed : IsKeyed table = keyed-row table (pos (suits.numbered x).0) (map value_of (suits.numbered x).1) fits in
       values-filled key_of (x ∷ xs) (keys-rise (x ∷ xs) (
       rows-rise (shown_row table) (values_of columns) (number columns key_of digits table suits) (shown-first table keyed) (head columns key_of digits table suits) (x ∷ xs) tree rising (shown-loaded table tree _ keyed loaded)))
-
-  -- the rows that were loaded fill a sheet that the tree shows
-  pub loaded-holds : (tree : List Row) (rows : List X) → IsTable tree → IsLoaded table tree (map (values_of columns) rows) → Holds columns table tree (filled key_of rows)
-  loaded-holds tree rows rising loaded =
-      subst (λ (xs : List X). IsLoaded table tree (map (values_of columns) xs)) (sym (loaded-rise tree rows rising loaded)) loaded
-
-module _ {X E : Type 0} (columns : X → List Column) (key_of : X → List ℕ) (table : TableName) (tree shown : List Row) where
-  pub loaded-fills : (r : Result (Vec X Global) E) → IsTable tree → IsLoaded table tree shown → IfOk r (λ rows. shown ≡ map (values_of columns) rows.items)
-      → IfOk r (λ rows. (digits : ℕ → List ℕ) → Suits columns key_of digits table → Holds columns table tree (filled key_of rows.items))
-  loaded-fills (Ok rows) rising loaded told = λ digits suits. loaded-holds columns key_of digits table suits tree rows.items rising (subst (IsLoaded table tree) told loaded)
-  loaded-fills (Err e) rising loaded told = tt
 
 -- an empty tree of any table shows no rows
 loaded-none : (table : TableName) → IsLoaded table [] []

@@ -1,9 +1,9 @@
 -- BEGIN, COMMIT and ROLLBACK as texts, and what a crash leaves of a statement inside.
-use Rattle.std.proofs.Common.{◌≡◌, ◌⊎◌, inl, inr, ℕ, List, [], codes, Bool, true, false, None, Some, Ok, Err, Result, length, ◌≤◌, subst₂, append-nil, arith, OnOk, IfErr, IsTrue, IsSome, refl, subst, ap, ◌∙◌, sym, true≢false}
+use Rattle.std.proofs.Common.{◌≡◌, ◌⊎◌, inl, inr, ℕ, List, [], codes, Bool, true, false, None, Some, Ok, Err, Result, length, ◌≤◌, subst₂, append-nil, arith, OnOk, OnErr, IfErr, IsTrue, IsSome, refl, subst, ap, ◌∙◌, sym, true≢false}
 use Rattle.sqlite.specs.Order.{Row}
 use Rattle.sqlite.specs.Schema.{Schema}
 use Rattle.sqlite.specs.Tree.{Trees}
-use Rattle.sqlite.specs.Command.TheVariants.{Begin, Commit, Rollback, Release}
+use Rattle.sqlite.specs.Command.TheVariants.{Begin, Commit, Rollback, Release, Nothing}
 use Rattle.sqlite.specs.Command.{Command}
 use Rattle.sqlite.specs.declared.error.Error.{Error}
 use Rattle.sqlite.specs.State.{State, Executes, CommitsBy, Survives, Shows, MayCommit, IsMisplaced, IsUnchanged, Fails, mode_of, shows_rows, ExecutesIn, IsNotRun, IsNoStatement, RunsCommand, text_of, HasCause, IsRolledBack, KeepsCommit, HasCleanDisk}
@@ -38,6 +38,14 @@ commit_is s = refl
 pub rollback_is : (s : Schema) → command_of (understood s (codes "ROLLBACK")) ≡ Rollback
 unfolding understood everything
 rollback_is s = refl
+
+pub empty_is : (s : Schema) → command_of (understood s (codes "")) ≡ Nothing
+unfolding understood everything
+empty_is s = refl
+
+pub empty_plain : (s : Schema) → IsPlain (understood s (codes ""))
+unfolding understood everything
+empty_plain s = (refl, refl)
 
 pub begin_plain : (s : Schema) → IsPlain (understood s (codes "BEGIN"))
 unfolding understood everything
@@ -200,6 +208,18 @@ rolls_nothing s db h = go (commits_as (codes "ROLLBACK") [] s s Rollback (rollba
     go (inl h) = elim h.0 [ inl a ↦ cc | inr b ↦ let e = b.2 in cc ]
     go (inr h) = let e = h.3 in cc
 
+-- ---- a text that does nothing
+
+pub nothing_changes : (old new : State) (count : ℕ) → Executes (codes "") [] old new (Ok count) → IsUnchanged old new
+nothing_changes old new count h = (runs_as (codes "") [] old new old.now.schema refl Nothing (empty_is _) (empty_plain _) count h).0
+
+pub nothing_commits : (s : State) (db : Trees) → ¬ CommitsBy (codes "") [] s db
+nothing_commits s db h = go (commits_as (codes "") [] s s Nothing (empty_is _) (empty_plain _) db h)
+  where
+    go : MayCommit s None Nothing (statement_of (codes "") (understood s.now.schema (codes ""))) [] db → ⊥
+    go (inl h) = elim h.0 [ inl a ↦ cc | inr b ↦ let e = b.2 in cc ]
+    go (inr h) = let e = h.3 in cc
+
 -- ---- an error, of any text
 
 pub as_before_or_undone : (sql : List ℕ) (params : Row) (old new : State) (e : Error) → Executes sql params old new (Err e) → IsUnchanged old new ⊎ IsRolledBack old new
@@ -210,6 +230,32 @@ as_before_or_undone sql params old new e (inr h) = go (shows_rows false h.0) h.2
     go : (b : Bool) → MatchBool b (◌≡◌ {A = Result ℕ Error} (Err e) (Err ExecuteReturnedResults) × IsUnchanged old new) (RunsCommand old new sql h.0 (timed params h.0.formats h.1.now) (Err e)) → IsUnchanged old new ⊎ IsRolledBack old new
     go true it = inl it.1
     go false it = elim it [ inl own ↦ inl own.1 | inr fails ↦ inr fails.3 ]
+
+-- ---- a call after a rollback
+
+pub is_back : (old new : State) → IsRolledBack old new → IsBack old new
+is_back old new back = record { was_open = back.was_open; undone = back.undone; autocommit = back.autocommit }
+
+pub undone_then : (a b c : State) → IsRolledBack a b → IsUnchanged b c ⊎ IsRolledBack b c → IsRolledBack a c
+undone_then a b c p (inl q) = record {
+  was_open = λ up. p.was_open q.0.was_open;
+  undone = λ up. let was = p.undone q.0.was_open in (q.0.now_is ∙ was.0, q.0.committed_is ∙ was.1);
+  autocommit = q.0.mode ∙ p.autocommit;
+  unmarked = q.2 ∙ p.unmarked;
+  counts = record { changes = q.1.changes ∙ p.counts.changes; last_rowid = q.1.last_rowid ∙ p.counts.last_rowid };
+}
+undone_then a b c p (inr q) = record {
+  was_open = λ up. p.was_open (q.was_open up);
+  undone = λ up. let was = p.undone (q.was_open up) in let now = q.undone up in (now.0 ∙ was.1, now.1 ∙ was.1);
+  autocommit = q.autocommit;
+  unmarked = q.unmarked;
+  counts = record { changes = q.counts.changes ∙ p.counts.changes; last_rowid = q.counts.last_rowid ∙ p.counts.last_rowid };
+}
+
+-- what a call that only asks leaves
+pub unchanged_or_undone : {A E : Type 0} (r : Result A E) (old new : State) → OnOk r (IsUnchanged old new) → OnErr r (IsUnchanged old new ⊎ IsRolledBack old new) → IsUnchanged old new ⊎ IsRolledBack old new
+unchanged_or_undone (Ok x) old new same failed = inl same
+unchanged_or_undone (Err e) old new same failed = failed
 
 -- ---- inside a transaction
 
@@ -225,9 +271,6 @@ shows_inside old new inside h = subst (λ b. Shows old new new.now (if b then ol
 pub keeps_commit : (old new : State) → IsUnchanged old new ⊎ IsRolledBack old new → KeepsCommit old new
 keeps_commit old new (inl same) = record { was_open = λ _. same.0.was_open; committed = λ _. same.0.committed_is }
 keeps_commit old new (inr back) = record { was_open = back.was_open; committed = λ up. (back.undone up).1 }
-
-pub is_back : (old new : State) → IsRolledBack old new → IsBack old new
-is_back old new back = record { was_open = back.was_open; undone = back.undone; autocommit = back.autocommit }
 
 pub same_tables : (old new : State) → new.now ≡ old.now → HasTables old → HasTables new
 same_tables old new same has = record {

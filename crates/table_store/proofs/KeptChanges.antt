@@ -36,24 +36,25 @@ module _ {X E : Type 0} (columns : X → List Column) (key_of : X → List ℕ) 
 
 -- ---- some rows are added, and these are left of all
 
-pub record IsAdding {X : Type 0} (columns : X → List Column) (key_of : X → List ℕ) (left all : List (List ℕ × Option X)) (old now : State) : Type 0 where
+-- where `Is` says of a tree whose rows it has
+pub record IsAdding {X : Type 0} (Is : List Row → Table X → Type 0) (key_of : X → List ℕ) (left all : List (List ℕ × Option X)) (old now : State) : Type 0 where
   pub ready : IsReady now
   pub stays : StaysInside old now
   pub others : (other : TableName) → other ≢ Kept → tree_of other now ≡ tree_of other old
-  pub rows : (rows : Table X) → StandUnderKeys key_of rows → AreNew all rows → Holds columns Kept (tree_of Kept old) rows
-      → (mid : Table X) × StandUnderKeys key_of mid × AreNew left mid × Holds columns Kept (tree_of Kept now) mid × (given_all left mid ≡ given_all all rows)
+  pub rows : (rows : Table X) → StandUnderKeys key_of rows → AreNew all rows → Is (tree_of Kept old) rows
+      → (mid : Table X) × StandUnderKeys key_of mid × AreNew left mid × Is (tree_of Kept now) mid × (given_all left mid ≡ given_all all rows)
 
-module _ {X : Type 0} (columns : X → List Column) (key_of : X → List ℕ) where
+module _ {X : Type 0} (Is : List Row → Table X → Type 0) (columns : X → List Column) (key_of : X → List ℕ) where
   own-added : (rows : Table X) (k : List ℕ) (o : Option X) → StandUnderKeys key_of rows → KeptTakes columns key_of k o → StandUnderKeys key_of (given k o rows)
   own-added rows k None own takes = absurd takes
   own-added rows k (Some x) own takes = subst (λ q. StandUnderKeys key_of (insert rows q x)) (sym takes.0) (own-put columns key_of rows x own)
 
-  pub adding-start : (all : List (List ℕ × Option X)) (s : State) → IsReady s → IsAdding columns key_of all all s s
+  pub adding-start : (all : List (List ℕ × Option X)) (s : State) → IsReady s → IsAdding Is key_of all all s s
   adding-start all s ready = record { ready = ready; stays = stays-here s ready; others = λ other differs. refl; rows = λ rows own free holds. (rows, own, free, holds, refl) }
 
-  pub adding-more : (c : List ℕ × Option X) (left all : List (List ℕ × Option X)) (old now new : State) → KeptTakes columns key_of c.0 c.1 → IsAdding columns key_of (c ∷ left) all old now → Writes Kept now new
-      → ((rows : Table X) → StandUnderKeys key_of rows → get rows c.0 ≡ None → Holds columns Kept (tree_of Kept now) rows → Holds columns Kept (tree_of Kept new) (given c.0 c.1 rows))
-      → IsAdding columns key_of left all old new
+  pub adding-more : (c : List ℕ × Option X) (left all : List (List ℕ × Option X)) (old now new : State) → KeptTakes columns key_of c.0 c.1 → IsAdding Is key_of (c ∷ left) all old now → Writes Kept now new
+      → ((rows : Table X) → StandUnderKeys key_of rows → get rows c.0 ≡ None → Is (tree_of Kept now) rows → Is (tree_of Kept new) (given c.0 c.1 rows))
+      → IsAdding Is key_of left all old new
   adding-more c left all old now new takes m set made = record {
     ready = ((set.tables, set.shown.mode), set.shown.is_open);
     stays = stays-on old now new m.stays set.shown;
@@ -61,12 +62,12 @@ module _ {X : Type 0} (columns : X → List Column) (key_of : X → List ℕ) wh
     rows = λ rows own free holds. let mid = m.rows rows own free holds in (given c.0 c.1 mid.0, own-added mid.0 c.0 c.1 mid.1 takes, mid.2.1, made mid.0 mid.1 mid.2.0 mid.3, mid.4);
   }
 
-  pub adding-writes : (left all : List (List ℕ × Option X)) (old now : State) → IsAdding columns key_of left all old now → Writes Kept old now
+  pub adding-writes : (left all : List (List ℕ × Option X)) (old now : State) → IsAdding Is key_of left all old now → Writes Kept old now
   adding-writes left all old now m = record { rows = refl; others = m.others; tables = m.ready.0.0; shown = m.stays }
 
-  pub adding-holds : (all : List (List ℕ × Option X)) (old now : State) → IsAdding columns key_of [] all old now
-      → (rows : Table X) → StandUnderKeys key_of rows → AreNew all rows → Holds columns Kept (tree_of Kept old) rows → Holds columns Kept (tree_of Kept now) (given_all all rows)
-  adding-holds all old now m rows own free holds = let mid = m.rows rows own free holds in subst (Holds columns Kept (tree_of Kept now)) mid.4 mid.3
+  pub adding-holds : (all : List (List ℕ × Option X)) (old now : State) → IsAdding Is key_of [] all old now
+      → (rows : Table X) → StandUnderKeys key_of rows → AreNew all rows → Is (tree_of Kept old) rows → Is (tree_of Kept now) (given_all all rows)
+  adding-holds all old now m rows own free holds = let mid = m.rows rows own free holds in subst (Is (tree_of Kept now)) mid.4 mid.3
 
 -- ---- the changes of a sheet whose rows stay as they are
 

@@ -12,7 +12,13 @@ pub mod Deleting
 pub mod Dropping
 pub mod Columns
 pub mod Holding
+pub mod Tables
 pub mod Fillings
 pub mod Changes
 pub mod KeptRows
 pub mod KeptChanges
+pub mod Loads
+pub mod Opening
+pub mod Shapes
+pub mod Rising
+pub mod KeptLoads

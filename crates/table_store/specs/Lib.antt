@@ -1,7 +1,9 @@
 pub mod Schema
+pub mod Shape
 pub mod Texts
 pub mod Transactions
 pub mod Making
 pub mod Values
 pub mod Stored
 pub mod Written
+pub mod Opened

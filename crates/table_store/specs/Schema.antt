@@ -9,6 +9,7 @@ use Rattle.sqlite.specs.Table.{Table}
 use Rattle.sqlite.specs.Schema.{Schema}
 use Rattle.sqlite_schema.specs.declared.schema.Column.{Column}
 use Rattle.sqlite_schema.specs.declared.schema.Index.{Index}
+use Rattle.sqlite_schema.specs.declared.schema.Stamps.{Stamps}
 use Rattle.table_store.specs.declared.name.TableName.{TableName}
 use Rattle.table_store.specs.declared.name.TableName.TheVariants.{Meta, Categories, Locations, Parts, Lines, Substitutes, Items, History, Orders, OrderLines, Builds, Allocations, Kept}
 
@@ -44,7 +45,7 @@ name_of Allocations = codes "allocations"
 name_of Kept = codes "kept"
 
 -- a column of a STRICT table, without a default
-abbrev column_of : Kind → Bool → List ℕ → Column
+abbrev pub column_of : Kind → Bool → List ℕ → Column
 column_of kind not_null name = record { name = name; kind = kind; is_strict = true; not_null = not_null; default = Null; collation = Binary }
 
 -- the whole number that is the primary key, which is never NULL though the column doesn't say so
@@ -78,6 +79,10 @@ columns_of Builds = key (codes "id") ∷ number (codes "part") ∷ number (codes
 columns_of Allocations = key (codes "id") ∷ number (codes "item") ∷ number (codes "quantity") ∷ number (codes "side") ∷ number (codes "owner") ∷ number (codes "line") ∷ number (codes "output") ∷ []
 columns_of Kept = text (codes "word") ∷ text (codes "command") ∷ text (codes "answer") ∷ []
 
+-- no default reads the time
+abbrev pub no_stamps : Stamps
+no_stamps = record { places = []; terms = []; formats = [] }
+
 -- a STRICT table whose first column is its INTEGER PRIMARY KEY
 abbrev keyed : List ℕ → ℕ → List Column → Table
 keyed name tree columns = record {
@@ -91,7 +96,7 @@ keyed name tree columns = record {
   checks = [];
   references = [];
   computed = [];
-  stamps = record { places = []; terms = []; formats = [] };
+  stamps = no_stamps;
   is_counted = false;
 }
 
@@ -111,7 +116,7 @@ table_of Builds = keyed (name_of Builds) (position Builds) (columns_of Builds)
 table_of Allocations = keyed (name_of Allocations) (position Allocations) (columns_of Allocations)
 
 -- the index that the database makes for the words of `kept`
-abbrev kept_index : Index
+abbrev pub kept_index : Index
 kept_index = record { name = codes "sqlite_autoindex_kept_1"; tree = 13; table = 12; columns = 1 ∷ []; order = plain; is_unique = true }
 
 abbrev pub all_names : List TableName

@@ -4,7 +4,7 @@ use Rattle.sqlite.specs.State.{State, Fails, Shows}
 use Rattle.table_store.specs.declared.fault.Cause.{Cause}
 use Rattle.table_store.specs.declared.fault.Cause.TheVariants as cause
 use Rattle.table_store.specs.declared.fault.TableFault.{TableFault}
-use Rattle.table_store.specs.declared.fault.TableFault.TheVariants.{Memory, Store}
+use Rattle.table_store.specs.declared.fault.TableFault.TheVariants.{Memory, Store, NoTable, BadRow}
 
 -- it is the database's error, with which it failed and undid the transaction
 abbrev pub StopsBy : State → State → Cause → Type 0
@@ -36,3 +36,13 @@ abbrev pub IsOfMemoryOrStore : TableFault → Type 0
 IsOfMemoryOrStore Memory = Unit {0}
 IsOfMemoryOrStore (Store failed) = Unit {0}
 IsOfMemoryOrStore _ = ⊥
+
+-- a row of a table is none of the machine's
+abbrev pub IsBadRow : TableFault → Type 0
+IsBadRow (BadRow failed) = Unit {0}
+IsBadRow _ = ⊥
+
+-- want of memory, a fault of the database, or a row that is none of the machine's
+abbrev pub IsOfReading : TableFault → Type 0
+IsOfReading (NoTable failed) = ⊥
+IsOfReading _ = Unit {0}

@@ -4,12 +4,14 @@ use Rattle.std.specs.FinMap.{values, get}
 use Rattle.sqlite.specs.Order.{Row}
 use Rattle.sqlite.specs.State.{State}
 use Rattle.part_core.specs.Columns.{IsSmall}
+use Rattle.part_core.specs.Filled.{filled, StandUnderKeys}
+use Rattle.part_core.specs.Rows.{EachRow}
 use Rattle.part_core.specs.Sheet.{Table, given}
 use Rattle.part_core.specs.declared.column.Column.{Column}
 use Rattle.part_core.specs.declared.column.Column.TheVariants.{Whole, Text}
 use Rattle.part_core.specs.declared.sheet.Pending.{Pending}
 use Rattle.table_store.specs.Schema.{position}
-use Rattle.table_store.specs.Stored.{values_of}
+use Rattle.table_store.specs.Stored.{row_of, values_of}
 use Rattle.table_store.specs.Transactions.{IsBack, StaysInside}
 use Rattle.table_store.specs.Values.{IsLoaded, IsRow, IsInside, HasSet, AreDropped}
 use Rattle.table_store.specs.declared.name.TableName.{TableName}
@@ -84,3 +86,26 @@ module _ {R : Type 0} where
   abbrev pub AreNew : List (List ℕ × Option R) → Table R → Type 0
   AreNew [] rows = Unit {0}
   AreNew (c ∷ cs) rows = (get rows c.0 ≡ None) × AreNew cs (given c.0 c.1 rows)
+
+module _ {R : Type 0} (row_from : List Column → Option R) (columns_of : R → List Column) where
+  -- the row is read again from its own columns
+  abbrev pub IsRead : R → Type 0
+  IsRead r = row_of row_from (values_of columns_of r) ≡ Some r
+
+  -- the tree is the table of these rows: a load shows them in the order of their keys, and each is read as it is
+  pub record IsTableOf (table : TableName) (tree : List Row) (rows : Table R) : Type 0 where
+    pub holds : Holds columns_of table tree rows
+    pub read : EachRow IsRead rows
+
+  -- the tree is the table of no rows of this kind
+  abbrev pub IsTableOfNone : TableName → List Row → Type 0
+  IsTableOfNone table tree = (rows : Table R) → ¬ IsTableOf table tree rows
+
+  -- the tree is the table of no rows of this kind that stand under their keys
+  abbrev pub IsTableOfNoneOwn : (R → List ℕ) → TableName → List Row → Type 0
+  IsTableOfNoneOwn key_of table tree = (rows : Table R) → StandUnderKeys key_of rows → ¬ IsTableOf table tree rows
+
+  -- of a load that gave these rows: the tree is their table, and that of no other rows that stand under their keys
+  pub record AreItsRows (key_of : R → List ℕ) (table : TableName) (tree : List Row) (rows : List R) : Type 0 where
+    pub table_of : IsTableOf table tree (filled key_of rows)
+    pub only : (t : Table R) → StandUnderKeys key_of t → IsTableOf table tree t → t ≡ filled key_of rows

@@ -8,7 +8,7 @@ ghost use Rattle.part_core.specs.Filled.{StandUnderKeys};
 ghost use Rattle.part_core.specs.Sheet.{Table, given, now_of};
 ghost use Rattle.table_store.specs.Transactions.{IsOfMemoryOrStore};
 ghost use Rattle.table_store.specs.declared.name.TableName.TheVariants.{Kept};
-ghost use Rattle.table_store.specs.Written.{tree_of, IsReady, IsStopped, Holds, Writes, SuitKept, KeptTakes, StayAsTheyAre, AreNew, changes_of, given_all};
+ghost use Rattle.table_store.specs.Written.{tree_of, IsReady, IsStopped, IsTableOf, Writes, SuitKept, KeptTakes, StayAsTheyAre, AreNew, changes_of, given_all};
 
 use crate::fault::TableFault;
 use crate::name::TableName;
@@ -32,8 +32,9 @@ fn add_row<S: Alter, R: Stored>(
     ensures put { HasCleanDisk (state S.Store conn.new) → (rows : Table R)
         → StandUnderKeys R.key_of rows
         → get rows (R.key_of row.now) ≡ None
-        → Holds R.columns_of Kept (tree_of Kept (state S.Store conn.old)) rows
-        → OnOk result (Holds R.columns_of Kept (tree_of Kept (state S.Store conn.new))
+        → IsTableOf R.row_from R.columns_of Kept (tree_of Kept (state S.Store conn.old)) rows
+        → OnOk result (IsTableOf R.row_from R.columns_of Kept
+        (tree_of Kept (state S.Store conn.new))
         (insert rows (R.key_of row.now) row.now)) }
     ensures failed { HasCleanDisk (state S.Store conn.new)
         → OnErr result (IsUnchanged (state S.Store conn.old) (state S.Store conn.new)
@@ -61,8 +62,9 @@ fn add_change<S: Alter, R: Stored>(
     ensures made { HasCleanDisk (state S.Store conn.new) → (rows : Table R)
         → StandUnderKeys R.key_of rows
         → get rows (R.digits change.now.key.now) ≡ None
-        → Holds R.columns_of Kept (tree_of Kept (state S.Store conn.old)) rows
-        → OnOk result (Holds R.columns_of Kept (tree_of Kept (state S.Store conn.new))
+        → IsTableOf R.row_from R.columns_of Kept (tree_of Kept (state S.Store conn.old)) rows
+        → OnOk result (IsTableOf R.row_from R.columns_of Kept
+        (tree_of Kept (state S.Store conn.new))
         (given (R.digits change.now.key.now) (option_copied change.now.row) rows)) }
     ensures failed { HasCleanDisk (state S.Store conn.new)
         → OnErr result (IsUnchanged (state S.Store conn.old) (state S.Store conn.new)
@@ -91,8 +93,9 @@ fn add_changes<S: Alter, R: Stored>(
     ensures made { HasCleanDisk (state S.Store conn.new) → (rows : Table R)
         → StandUnderKeys R.key_of rows
         → AreNew (changes_of R.digits changes.now) rows
-        → Holds R.columns_of Kept (tree_of Kept (state S.Store conn.old)) rows
-        → OnOk result (Holds R.columns_of Kept (tree_of Kept (state S.Store conn.new))
+        → IsTableOf R.row_from R.columns_of Kept (tree_of Kept (state S.Store conn.old)) rows
+        → OnOk result (IsTableOf R.row_from R.columns_of Kept
+        (tree_of Kept (state S.Store conn.new))
         (given_all (changes_of R.digits changes.now) rows)) }
     ensures failed { HasCleanDisk (state S.Store conn.new)
         → OnErr result (IsStopped (state S.Store conn.old) (state S.Store conn.new)) }
@@ -119,10 +122,11 @@ pub fn write_kept<S: Alter, R: Stored>(
     requires small { AreSmall R.columns_of (now_of sheet.now) }
     requires added { StayAsTheyAre sheet.now.kept (now_of sheet.now) }
     requires kept { HasCleanDisk (state S.Store conn.old)
-        → Holds R.columns_of Kept (tree_of Kept (state S.Store conn.old)) sheet.now.kept }
+        → IsTableOf R.row_from R.columns_of Kept (tree_of Kept (state S.Store conn.old))
+        sheet.now.kept }
     ensures written { HasCleanDisk (state S.Store conn.new)
-        → OnOk result (Holds R.columns_of Kept (tree_of Kept (state S.Store conn.new))
-        (now_of sheet.now)) }
+        → OnOk result (IsTableOf R.row_from R.columns_of Kept
+        (tree_of Kept (state S.Store conn.new)) (now_of sheet.now)) }
     ensures set { HasCleanDisk (state S.Store conn.new)
         → OnOk result (Writes Kept (state S.Store conn.old) (state S.Store conn.new)) }
     ensures failed { HasCleanDisk (state S.Store conn.new)

@@ -5,8 +5,10 @@ mod create;
 mod fault;
 mod kept;
 mod name;
+mod open;
 mod read;
 mod rows;
+mod shape;
 mod transaction;
 mod write;
 
@@ -14,10 +16,11 @@ pub use create::create_tables;
 pub use fault::{Failed, TableFault};
 pub use kept::write_kept;
 pub use name::TableName;
-pub use read::load_sheet;
+pub use open::{has_tables, is_bare, open_tables};
+pub use read::{has_no_row, load_kept, load_sheet};
 pub use rows::{drop_row, load_rows, put_row};
 pub use transaction::{begin, commit, rollback};
-pub use write::write_pending;
+pub use write::{write_pending, write_row};
 
 #[cfg(test)]
 mod tests;

@@ -1,8 +1,10 @@
 //! The desk's tables, and the texts of their statements.
-ghost use Rattle.std.specs.Prelude.{◌≡◌, ◌<◌};
-ghost use Rattle.table_store.specs.Schema.{position, name_of};
+ghost use Rattle.std.specs.Prelude.{◌≡◌, ◌<◌, map};
+ghost use Rattle.table_store.specs.Schema.{position, name_of, column_of, columns_of};
 ghost use Rattle.table_store.specs.Values.{AreDropped};
 ghost use Rattle.table_store.specs.Texts.{create_text, put_text, load_text, drop_text};
+
+use sqlite_schema::schema::Kind;
 
 /// A table of the desk's file.
 #[derive(Clone, Copy, Debug, PartialEq, Eq)]
@@ -63,6 +65,127 @@ impl TableName {
             10 => TableName::Builds,
             11 => TableName::Allocations,
             _ => TableName::Kept,
+        }
+    }
+
+    /// The place of the table, which is also its tree's number.
+    pub(crate) fn place(self) -> u32
+        ensures { result ≡ position self }
+    {
+        match self {
+            TableName::Meta => 0,
+            TableName::Categories => 1,
+            TableName::Locations => 2,
+            TableName::Parts => 3,
+            TableName::Lines => 4,
+            TableName::Substitutes => 5,
+            TableName::Items => 6,
+            TableName::History => 7,
+            TableName::Orders => 8,
+            TableName::OrderLines => 9,
+            TableName::Builds => 10,
+            TableName::Allocations => 11,
+            TableName::Kept => 12,
+        }
+    }
+
+    /// The table's columns: the name, the kind, and whether it is NOT NULL.
+    pub(crate) fn columns(self) -> &'static [(&'static str, Kind, bool)]
+        ensures { map (λ c. column_of c.1 c.2 c.0.now) result.now ≡ columns_of self }
+    {
+        match self {
+            TableName::Meta => &[
+                ("one", Kind::Integer, false),
+                ("version", Kind::Integer, true),
+                ("next", Kind::Integer, true),
+                ("entries", Kind::Integer, true),
+                ("max_numbers", Kind::Integer, true),
+                ("max_entries", Kind::Integer, true),
+            ],
+            TableName::Categories => &[
+                ("id", Kind::Integer, false),
+                ("name", Kind::Text, true),
+                ("parent", Kind::Integer, false),
+            ],
+            TableName::Locations => &[
+                ("id", Kind::Integer, false),
+                ("name", Kind::Text, true),
+                ("parent", Kind::Integer, false),
+            ],
+            TableName::Parts => &[
+                ("id", Kind::Integer, false),
+                ("name", Kind::Text, true),
+                ("category", Kind::Integer, false),
+                ("template", Kind::Integer, false),
+                ("flags", Kind::Integer, true),
+                ("retired", Kind::Integer, true),
+            ],
+            TableName::Lines => &[
+                ("id", Kind::Integer, false),
+                ("assembly", Kind::Integer, true),
+                ("component", Kind::Integer, true),
+                ("quantity", Kind::Integer, true),
+                ("flags", Kind::Integer, true),
+            ],
+            TableName::Substitutes => &[
+                ("id", Kind::Integer, false),
+                ("line", Kind::Integer, true),
+                ("part", Kind::Integer, true),
+            ],
+            TableName::Items => &[
+                ("id", Kind::Integer, false),
+                ("part", Kind::Integer, true),
+                ("batch", Kind::Text, false),
+                ("serial", Kind::Text, false),
+                ("status", Kind::Integer, true),
+                ("quantity", Kind::Integer, true),
+                ("place", Kind::Integer, true),
+                ("ref", Kind::Integer, true),
+            ],
+            TableName::History => &[
+                ("n", Kind::Integer, false),
+                ("day", Kind::Text, true),
+                ("kind", Kind::Integer, true),
+                ("item", Kind::Integer, true),
+                ("part", Kind::Integer, true),
+                ("quantity", Kind::Integer, true),
+                ("place", Kind::Integer, true),
+                ("ref", Kind::Integer, true),
+            ],
+            TableName::Orders => &[
+                ("id", Kind::Integer, false),
+                ("side", Kind::Integer, true),
+                ("partner", Kind::Text, true),
+                ("state", Kind::Integer, true),
+            ],
+            TableName::OrderLines => &[
+                ("id", Kind::Integer, false),
+                ("owner", Kind::Integer, true),
+                ("part", Kind::Integer, true),
+                ("quantity", Kind::Integer, true),
+                ("done", Kind::Integer, true),
+            ],
+            TableName::Builds => &[
+                ("id", Kind::Integer, false),
+                ("part", Kind::Integer, true),
+                ("quantity", Kind::Integer, true),
+                ("state", Kind::Integer, true),
+                ("done", Kind::Integer, true),
+            ],
+            TableName::Allocations => &[
+                ("id", Kind::Integer, false),
+                ("item", Kind::Integer, true),
+                ("quantity", Kind::Integer, true),
+                ("side", Kind::Integer, true),
+                ("owner", Kind::Integer, true),
+                ("line", Kind::Integer, true),
+                ("output", Kind::Integer, true),
+            ],
+            TableName::Kept => &[
+                ("word", Kind::Text, true),
+                ("command", Kind::Text, true),
+                ("answer", Kind::Text, true),
+            ],
         }
     }
 

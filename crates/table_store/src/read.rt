@@ -1,20 +1,24 @@
 //! Rows of the machine are read from the tables.
-ghost use Rattle.std.specs.Prelude.{◌≡◌, ◌∷◌, ◌++◌, [], IfOk, IfErr, OnOk, MatchResult, ℕ, List, Some, map};
+ghost use Rattle.std.specs.Prelude.{◌≡◌, ◌↔◌, ◌⊎◌, ◌∷◌, ◌++◌, [], IfOk, IfErr, OnOk, OnErr, IsTrue, MatchResult, ℕ, List, Some, map};
 ghost use Rattle.sqlite.specs.Held.{state};
-ghost use Rattle.sqlite.specs.State.{HasCleanDisk, IsUnchanged, Survives};
+ghost use Rattle.sqlite.specs.State.{HasCleanDisk, IsUnchanged, IsRolledBack, Survives};
+ghost use Rattle.std.specs.declared.cmp.Ordering.TheVariants.{Less};
+ghost use Rattle.sqlite.specs.Order.{column, value_cmp};
 ghost use Rattle.sqlite_value.specs.Value.{owned};
 ghost use Rattle.sqlite_value.specs.declared.value.Value.TheVariants.{Int, Text};
 ghost use Rattle.part_core.specs.Columns.{Finds, Misses};
-ghost use Rattle.part_core.specs.Filled.{filled};
 ghost use Rattle.table_store.specs.Stored.{column_of, columns_in, row_of, values_of, AreLoaded, FailsToLoad, FailsToRead};
-ghost use Rattle.table_store.specs.Values.{HasTables};
-ghost use Rattle.table_store.specs.Written.{tree_of, Holds, Suits};
+ghost use Rattle.table_store.specs.Transactions.{IsBadRow, IsOfReading, IsOfStore};
+ghost use Rattle.table_store.specs.Values.{HasTables, RiseByWord};
+ghost use Rattle.table_store.specs.Written.{tree_of, AreItsRows, IsTableOfNone, IsTableOfNoneOwn, Suits, SuitKept};
+ghost use Rattle.table_store.specs.declared.name.TableName.TheVariants.{Kept};
 
 use crate::fault::{Failed, TableFault};
 use crate::name::TableName;
 use crate::rows::load_rows;
 use part_core::{Column, ColumnFault, Stored};
 use sqlite::{Alter, Connection, Row};
+use sqlite_value::order::compare;
 use sqlite_value::value::ValueRef;
 use std::alloc::{AllocError, Global};
 
@@ -98,10 +102,9 @@ fn rows_of<R: Stored>(alloc: Global, table: TableName, rows: &[Row]) -> Result<V
     Ok(read)
 }
 
-/// All rows of a table, as rows of the machine, in the order of the key.
+/// All rows of a table under numbers, as rows of the machine, in the order of their numbers.
 ///
-/// `BadRow` where one of them is none. `NoTable` is never answered: whether the tables are there is asked before. A
-/// sheet that these rows fill is the one whose changes `write_pending` takes.
+/// `BadRow` where one of them is none. `NoTable` is never answered: whether the tables are there is asked before.
 pub fn load_sheet<S: Alter, R: Stored>(
     alloc: Global,
     conn: &mut Connection<S>,
@@ -111,10 +114,14 @@ pub fn load_sheet<S: Alter, R: Stored>(
     ensures loaded { HasCleanDisk (state S.Store conn.new)
         → IfOk result (λ rows. AreLoaded R.row_from R.columns_of table
         (tree_of table (state S.Store conn.old)) rows.items) }
-    ensures held { HasCleanDisk (state S.Store conn.new)
+    ensures rows { HasCleanDisk (state S.Store conn.new)
         → IfOk result (λ rows. (digits : ℕ → List ℕ) → Suits R.columns_of R.key_of digits table
-        → Holds R.columns_of table (tree_of table (state S.Store conn.old))
-        (filled R.key_of rows.items)) }
+        → AreItsRows R.row_from R.columns_of R.key_of table
+        (tree_of table (state S.Store conn.old)) rows.items) }
+    ensures none { HasCleanDisk (state S.Store conn.new)
+        → IfErr result (λ fault. (digits : ℕ → List ℕ) → Suits R.columns_of R.key_of digits table
+        → IsBadRow fault
+        → IsTableOfNone R.row_from R.columns_of table (tree_of table (state S.Store conn.old))) }
     ensures same { HasCleanDisk (state S.Store conn.new)
         → OnOk result (IsUnchanged (state S.Store conn.old) (state S.Store conn.new)) }
     ensures failed { HasCleanDisk (state S.Store conn.new)
@@ -124,4 +131,80 @@ pub fn load_sheet<S: Alter, R: Stored>(
 {
     let rows = load_rows(conn, table)?;
     rows_of(alloc, table, rows.as_slice())
+}
+
+/// The first value of a row.
+fn first_of(row: &Row) -> ValueRef<'_>
+    ensures { owned result ≡ column row.now 0 }
+{
+    match row.get_ref(0) {
+        Ok(value) => value,
+        Err(_) => ValueRef::Null,
+    }
+}
+
+/// Whether the first value of the one row is below that of the other.
+fn is_below(first: &Row, second: &Row) -> bool
+    ensures { IsTrue result ↔ (value_cmp (column first.now 0) (column second.now 0) ≡ Less) }
+{
+    compare(first_of(first), first_of(second)).is_lt()
+}
+
+/// Whether the first value of each row is below that of the next: rows that are shown by their words have no word twice.
+fn are_words_rising(rows: &[Row]) -> bool
+    ensures { IsTrue result ↔ RiseByWord rows.now }
+{
+    for at in 1..rows.len() {
+        if !is_below(&rows[at - 1], &rows[at]) {
+            return false;
+        }
+    }
+    true
+}
+
+/// All rows of `kept`, as rows of the machine, in the order of their words.
+///
+/// `BadRow` where one of them is none, or two have one word. `NoTable` is never answered.
+pub fn load_kept<S: Alter, R: Stored>(
+    alloc: Global,
+    conn: &mut Connection<S>,
+) -> Result<Vec<R>, TableFault>
+    requires tables { HasCleanDisk (state S.Store conn.old) → HasTables (state S.Store conn.old) }
+    requires suits { SuitKept R.columns_of R.key_of }
+    ensures rows { HasCleanDisk (state S.Store conn.new)
+        → IfOk result (λ rows. AreItsRows R.row_from R.columns_of R.key_of Kept
+        (tree_of Kept (state S.Store conn.old)) rows.items) }
+    ensures none { HasCleanDisk (state S.Store conn.new)
+        → IfErr result (λ fault. IsBadRow fault
+        → IsTableOfNoneOwn R.row_from R.columns_of R.key_of Kept
+        (tree_of Kept (state S.Store conn.old))) }
+    ensures same { HasCleanDisk (state S.Store conn.new)
+        → OnOk result (IsUnchanged (state S.Store conn.old) (state S.Store conn.new)) }
+    ensures failed { HasCleanDisk (state S.Store conn.new)
+        → OnErr result (IsUnchanged (state S.Store conn.old) (state S.Store conn.new)
+        ⊎ IsRolledBack (state S.Store conn.old) (state S.Store conn.new)) }
+    ensures fault { IfErr result IsOfReading }
+    ensures crash { Survives (state S.Store conn.old) (state S.Store conn.new) (λ _. ⊥) }
+{
+    let kept = load_rows(conn, TableName::Kept)?;
+    if !are_words_rising(kept.as_slice()) {
+        return Err(TableFault::BadRow(Failed::bad_row(TableName::Kept)));
+    }
+    rows_of(alloc, TableName::Kept, kept.as_slice())
+}
+
+/// Whether a table has no row.
+pub fn has_no_row<S: Alter>(conn: &mut Connection<S>, table: TableName) -> Result<bool, TableFault>
+    requires { HasCleanDisk (state S.Store conn.old) → HasTables (state S.Store conn.old) }
+    ensures value { HasCleanDisk (state S.Store conn.new)
+        → IfOk result (λ none. IsTrue none ↔ (tree_of table (state S.Store conn.old) ≡ [])) }
+    ensures same { HasCleanDisk (state S.Store conn.new)
+        → OnOk result (IsUnchanged (state S.Store conn.old) (state S.Store conn.new)) }
+    ensures failed { HasCleanDisk (state S.Store conn.new)
+        → OnErr result (IsUnchanged (state S.Store conn.old) (state S.Store conn.new)
+        ⊎ IsRolledBack (state S.Store conn.old) (state S.Store conn.new)) }
+    ensures fault { IfErr result IsOfStore }
+    ensures crash { Survives (state S.Store conn.old) (state S.Store conn.new) (λ _. ⊥) }
+{
+    Ok(load_rows(conn, table)?.is_empty())
 }

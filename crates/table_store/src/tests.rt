@@ -5,6 +5,7 @@ ghost use Rattle.sqlite.specs.State.{HasCleanDisk};
 ghost use Rattle.table_store.specs.Schema.{schema_up_to};
 ghost use Rattle.table_store.specs.Values.{HasTables, IsInside};
 
+mod opening;
 mod sheets;
 
 use crate::{TableName, begin, commit, create_tables, drop_row, load_rows, put_row, rollback};

@@ -1,9 +1,9 @@
 //! Transactions: all of their changes are kept, or none.
-ghost use Rattle.std.specs.Prelude.{◌≡◌, false, true, IfErr, OnOk, IsTrue};
+ghost use Rattle.std.specs.Prelude.{◌≡◌, ◌⊎◌, false, true, IfErr, OnOk, OnErr, IsTrue};
 ghost use Rattle.sqlite.specs.Held.{state};
-ghost use Rattle.sqlite.specs.State.{HasCleanDisk, Survives, Shows, IsRolledBack};
+ghost use Rattle.sqlite.specs.State.{HasCleanDisk, Survives, Shows, IsUnchanged, IsRolledBack};
 ghost use Rattle.table_store.specs.Values.{HasTables};
-ghost use Rattle.table_store.specs.Transactions.{Stops, IsBack};
+ghost use Rattle.table_store.specs.Transactions.{Stops, IsBack, IsOfStore};
 
 use crate::fault::{Failed, TableFault};
 use sqlite::{Alter, Connection};
@@ -50,21 +50,40 @@ pub fn commit<S: Alter>(conn: &mut Connection<S>) -> Result<(), TableFault>
     }
 }
 
+/// Whether the database still answers: it runs a text that does nothing.
+fn still_answers<S: Alter>(conn: &mut Connection<S>) -> Result<(), TableFault>
+    ensures same { HasCleanDisk (state S.Store conn.new)
+        → OnOk result (IsUnchanged (state S.Store conn.old) (state S.Store conn.new)) }
+    ensures failed { HasCleanDisk (state S.Store conn.new)
+        → OnErr result (IsUnchanged (state S.Store conn.old) (state S.Store conn.new)
+        ⊎ IsRolledBack (state S.Store conn.old) (state S.Store conn.new)) }
+    ensures store { IfErr result IsOfStore }
+    ensures crash { Survives (state S.Store conn.old) (state S.Store conn.new) (λ _. ⊥) }
+{
+    match conn.execute("", &[]) {
+        Ok(_) => Ok(()),
+        Err(error) => Err(TableFault::Store(Failed::new(error))),
+    }
+}
+
 /// Ends the transaction, if one is open, and goes back to the last commit. It does no harm where
-/// the database has done so by itself.
+/// the database has done so by itself. Ok tells that the database still answers.
 pub fn rollback<S: Alter>(conn: &mut Connection<S>) -> Result<(), TableFault>
     ensures undone { HasCleanDisk (state S.Store conn.new)
         → IsTrue (state S.Store conn.old).in_transaction
         → IsRolledBack (state S.Store conn.old) (state S.Store conn.new) }
     ensures back { HasCleanDisk (state S.Store conn.new)
         → IsBack (state S.Store conn.old) (state S.Store conn.new) }
+    ensures open { HasCleanDisk (state S.Store conn.new)
+        → OnOk result (IsTrue (state S.Store conn.new).is_open) }
+    ensures store { IfErr result IsOfStore }
     ensures crash { Survives (state S.Store conn.old) (state S.Store conn.new) (λ _. ⊥) }
 {
     if conn.is_autocommit() {
-        return Ok(());
+        return still_answers(conn);
     }
     match conn.execute("ROLLBACK", &[]) {
-        Ok(_) => Ok(()),
+        Ok(_) => still_answers(conn),
         Err(error) => Err(TableFault::Store(Failed::new(error))),
     }
 }

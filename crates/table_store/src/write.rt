@@ -1,5 +1,5 @@
 //! The changes of a sheet go into its table.
-ghost use Rattle.std.specs.Prelude.{◌≡◌, ◌⊎◌, ◌∷◌, ◌<◌, ◌^◌, [], ℕ, map, IfErr, IfOk, OnOk, OnErr, All, option_copied};
+ghost use Rattle.std.specs.Prelude.{◌≡◌, ◌⊎◌, ◌∷◌, ◌<◌, ◌^◌, [], ℕ, Some, map, IfErr, IfOk, OnOk, OnErr, All, option_copied};
 ghost use Rattle.std.specs.FinMap.{insert, remove};
 ghost use Rattle.sqlite.specs.Held.{state};
 ghost use Rattle.sqlite.specs.State.{HasCleanDisk, IsUnchanged, IsRolledBack, KeepsCommit, Survives};
@@ -9,10 +9,10 @@ ghost use Rattle.part_core.specs.Columns.{IsSmall, AreSmall};
 ghost use Rattle.part_core.specs.Filled.{StandUnderKeys};
 ghost use Rattle.part_core.specs.Rows.{StayThere};
 ghost use Rattle.part_core.specs.Sheet.{Table, given, now_of};
-ghost use Rattle.table_store.specs.Stored.{value_of};
+ghost use Rattle.table_store.specs.Stored.{value_of, column_of, columns_in};
 ghost use Rattle.table_store.specs.Transactions.{IsOfMemoryOrStore};
 ghost use Rattle.table_store.specs.Values.{AreDropped};
-ghost use Rattle.table_store.specs.Written.{tree_of, IsReady, IsStopped, Holds, Writes, Suits, Takes, changes_of, given_all};
+ghost use Rattle.table_store.specs.Written.{tree_of, IsReady, IsStopped, IsTableOf, Writes, Suits, Takes, changes_of, given_all};
 
 use crate::fault::TableFault;
 use crate::name::TableName;
@@ -22,10 +22,11 @@ use sqlite::{Alter, Connection};
 use sqlite_value::value::ValueRef;
 use std::alloc::{AllocError, Global};
 
-/// The value of a column.
+/// The value of a column, which is read as that column.
 fn value_of(column: &Column) -> ValueRef<'_>
     requires { IsSmall column.now }
-    ensures { bound_value (owned result) ≡ value_of column.now }
+    ensures value { bound_value (owned result) ≡ value_of column.now }
+    ensures read { column_of (value_of column.now) ≡ Some column.now }
 {
     match column {
         Column::Whole(number) => ValueRef::Int(*number as i64),
@@ -34,10 +35,11 @@ fn value_of(column: &Column) -> ValueRef<'_>
     }
 }
 
-/// The values of the columns.
+/// The values of the columns, which are read as those columns.
 pub(crate) fn values_of(alloc: Global, columns: &[Column]) -> Result<Vec<ValueRef<'_>>, AllocError>
     requires { All IsSmall columns.now }
-    ensures { IfOk result (λ values. bound values.items ≡ map value_of columns.now) }
+    ensures values { IfOk result (λ values. bound values.items ≡ map value_of columns.now) }
+    ensures read { IfOk result (λ _. columns_in (map value_of columns.now) ≡ Some columns.now) }
 {
     let mut values = Vec::new(alloc);
     for column in columns {
@@ -46,8 +48,9 @@ pub(crate) fn values_of(alloc: Global, columns: &[Column]) -> Result<Vec<ValueRe
     Ok(values)
 }
 
-/// Puts a row of the machine under its number.
-fn write_row<S: Alter, R: Stored + Row<Key = u64>>(
+/// Puts a row of the machine under its number, in the place of the one that stands there. After a fault the
+/// transaction is undone or as it was.
+pub fn write_row<S: Alter, R: Stored + Row<Key = u64>>(
     alloc: Global,
     conn: &mut Connection<S>,
     table: TableName,
@@ -60,8 +63,9 @@ fn write_row<S: Alter, R: Stored + Row<Key = u64>>(
         → OnOk result (Writes table (state S.Store conn.old) (state S.Store conn.new)) }
     ensures put { HasCleanDisk (state S.Store conn.new) → (rows : Table R)
         → StandUnderKeys R.key_of rows
-        → Holds R.columns_of table (tree_of table (state S.Store conn.old)) rows
-        → OnOk result (Holds R.columns_of table (tree_of table (state S.Store conn.new))
+        → IsTableOf R.row_from R.columns_of table (tree_of table (state S.Store conn.old)) rows
+        → OnOk result (IsTableOf R.row_from R.columns_of table
+        (tree_of table (state S.Store conn.new))
         (insert rows (R.key_of row.now) row.now)) }
     ensures failed { HasCleanDisk (state S.Store conn.new)
         → OnErr result (IsUnchanged (state S.Store conn.old) (state S.Store conn.new)
@@ -88,8 +92,9 @@ fn remove_row<S: Alter, R: Stored + Row<Key = u64>>(
         → OnOk result (Writes table (state S.Store conn.old) (state S.Store conn.new)) }
     ensures gone { HasCleanDisk (state S.Store conn.new) → (rows : Table R)
         → StandUnderKeys R.key_of rows
-        → Holds R.columns_of table (tree_of table (state S.Store conn.old)) rows
-        → OnOk result (Holds R.columns_of table (tree_of table (state S.Store conn.new))
+        → IsTableOf R.row_from R.columns_of table (tree_of table (state S.Store conn.old)) rows
+        → OnOk result (IsTableOf R.row_from R.columns_of table
+        (tree_of table (state S.Store conn.new))
         (remove rows (number ∷ []))) }
     ensures failed { HasCleanDisk (state S.Store conn.new)
         → OnErr result (IsUnchanged (state S.Store conn.old) (state S.Store conn.new)
@@ -115,8 +120,9 @@ fn write_change<S: Alter, R: Stored + Row<Key = u64>>(
         → OnOk result (Writes table (state S.Store conn.old) (state S.Store conn.new)) }
     ensures made { HasCleanDisk (state S.Store conn.new) → (rows : Table R)
         → StandUnderKeys R.key_of rows
-        → Holds R.columns_of table (tree_of table (state S.Store conn.old)) rows
-        → OnOk result (Holds R.columns_of table (tree_of table (state S.Store conn.new))
+        → IsTableOf R.row_from R.columns_of table (tree_of table (state S.Store conn.old)) rows
+        → OnOk result (IsTableOf R.row_from R.columns_of table
+        (tree_of table (state S.Store conn.new))
         (given (R.digits change.now.key.now) (option_copied change.now.row) rows)) }
     ensures failed { HasCleanDisk (state S.Store conn.new)
         → OnErr result (IsUnchanged (state S.Store conn.old) (state S.Store conn.new)
@@ -145,8 +151,9 @@ fn write_changes<S: Alter, R: Stored + Row<Key = u64>>(
         → OnOk result (Writes table (state S.Store conn.old) (state S.Store conn.new)) }
     ensures made { HasCleanDisk (state S.Store conn.new) → (rows : Table R)
         → StandUnderKeys R.key_of rows
-        → Holds R.columns_of table (tree_of table (state S.Store conn.old)) rows
-        → OnOk result (Holds R.columns_of table (tree_of table (state S.Store conn.new))
+        → IsTableOf R.row_from R.columns_of table (tree_of table (state S.Store conn.old)) rows
+        → OnOk result (IsTableOf R.row_from R.columns_of table
+        (tree_of table (state S.Store conn.new))
         (given_all (changes_of R.digits changes.now) rows)) }
     ensures failed { HasCleanDisk (state S.Store conn.new)
         → OnErr result (IsStopped (state S.Store conn.old) (state S.Store conn.new)) }
@@ -176,10 +183,11 @@ pub fn write_pending<S: Alter, R: Stored + Row<Key = u64>>(
         × AreSmall R.columns_of sheet.now.kept }
     requires stays { AreDropped table ⊎ StayThere sheet.now.kept (now_of sheet.now) }
     requires kept { HasCleanDisk (state S.Store conn.old)
-        → Holds R.columns_of table (tree_of table (state S.Store conn.old)) sheet.now.kept }
+        → IsTableOf R.row_from R.columns_of table (tree_of table (state S.Store conn.old))
+        sheet.now.kept }
     ensures written { HasCleanDisk (state S.Store conn.new)
-        → OnOk result (Holds R.columns_of table (tree_of table (state S.Store conn.new))
-        (now_of sheet.now)) }
+        → OnOk result (IsTableOf R.row_from R.columns_of table
+        (tree_of table (state S.Store conn.new)) (now_of sheet.now)) }
     ensures set { HasCleanDisk (state S.Store conn.new)
         → OnOk result (Writes table (state S.Store conn.old) (state S.Store conn.new)) }
     ensures failed { HasCleanDisk (state S.Store conn.new)

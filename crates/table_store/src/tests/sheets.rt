@@ -3,14 +3,16 @@ ghost use Rattle.std.specs.Prelude.{◌≡◌, ◌∷◌, ◌<◌, ◌^◌, [], 
 ghost use Rattle.std.specs.FinMap.{empty};
 ghost use Rattle.sqlite.specs.Held.{state};
 ghost use Rattle.sqlite.specs.State.{HasCleanDisk};
-ghost use Rattle.part_core.specs.CategoryColumns.{category_columns};
+ghost use Rattle.part_core.specs.CategoryColumns.{category_columns, category_from};
 ghost use Rattle.part_core.specs.Columns.{IsSmall, AreSmall};
 ghost use Rattle.part_core.specs.Filled.{StandUnderKeys};
+ghost use Rattle.part_core.specs.Rows.{StayThere};
 ghost use Rattle.part_core.specs.Sheet.{now_of};
 ghost use Rattle.table_store.specs.Making.{IsFresh};
 ghost use Rattle.table_store.specs.Schema.{schema_up_to};
 ghost use Rattle.table_store.specs.Values.{HasTables};
-ghost use Rattle.table_store.specs.Written.{IsReady};
+ghost use Rattle.table_store.specs.Written.{tree_of, IsReady, IsTableOf};
+ghost use Rattle.table_store.specs.declared.name.TableName.TheVariants.{Categories};
 
 use super::{committed, holds, made};
 use crate::{
@@ -39,11 +41,11 @@ fn fresh<S: Alter>(conn: &mut Connection<S>) -> Result<(), Fail>
     Ok(begin(conn)?)
 }
 
-fn category(alloc: Global, number: u64) -> Result<Category, Fail>
+fn category(alloc: Global, number: u64, name: &str) -> Result<Category, Fail>
     requires { number < 2 ^ 63 }
     ensures { IfOk result (λ row. All IsSmall (category_columns row)) }
 {
-    let text = String::from_str(alloc, "Screws")?;
+    let text = String::from_str(alloc, name)?;
     let name = Name::new(text).ok_or("a name")?;
     Ok(Category {
         number,
@@ -59,11 +61,50 @@ fn categories(alloc: Global) -> Result<Sheet<Category>, Fail>
     ensures kept { IfOk result (λ sheet. sheet.kept ≡ empty) }
 {
     let mut sheet = Sheet::new(alloc);
-    let later = category(alloc, 20)?;
-    let first = category(alloc, 10)?;
+    let later = category(alloc, 20, "Screws")?;
+    let first = category(alloc, 10, "Screws")?;
     sheet.put(later)?;
     sheet.put(first)?;
     Ok(sheet)
+}
+
+/// Keeps the categories, and puts the later one again under another name.
+fn renamed(alloc: Global, sheet: &mut Sheet<Category>) -> Result<(), Fail>
+    requires own { StandUnderKeys (λ row. row.number ∷ []) (now_of sheet.old) }
+    requires small { AreSmall category_columns (now_of sheet.old) }
+    ensures own { IfOk result (λ _. StandUnderKeys (λ row. row.number ∷ [])
+        (now_of sheet.new)) }
+    ensures small { IfOk result (λ _. AreSmall category_columns (now_of sheet.new)) }
+    ensures stays { IfOk result (λ _. StayThere sheet.new.kept (now_of sheet.new)) }
+    ensures kept { sheet.new.kept ≡ now_of sheet.old }
+{
+    sheet.keep();
+    let row = category(alloc, 20, "Bolts")?;
+    Ok(sheet.put(row)?)
+}
+
+/// Writes the categories whose kept rows the table has.
+fn written<S: Alter>(
+    alloc: Global,
+    conn: &mut Connection<S>,
+    sheet: &Sheet<Category>,
+) -> Result<(), Fail>
+    requires ready { HasCleanDisk (state S.Store conn.old) → IsReady (state S.Store conn.old) }
+    requires own { StandUnderKeys (λ row. row.number ∷ []) (now_of sheet.now)
+        × StandUnderKeys (λ row. row.number ∷ []) sheet.now.kept }
+    requires small { AreSmall category_columns (now_of sheet.now)
+        × AreSmall category_columns sheet.now.kept }
+    requires stays { StayThere sheet.now.kept (now_of sheet.now) }
+    requires kept { HasCleanDisk (state S.Store conn.old)
+        → IsTableOf category_from category_columns Categories
+        (tree_of Categories (state S.Store conn.old)) sheet.now.kept }
+    ensures ready { IfOk result (λ _. HasCleanDisk (state S.Store conn.new)
+        → IsReady (state S.Store conn.new)) }
+    ensures table { IfOk result (λ _. HasCleanDisk (state S.Store conn.new)
+        → IsTableOf category_from category_columns Categories
+        (tree_of Categories (state S.Store conn.new)) (now_of sheet.now)) }
+{
+    Ok(write_pending::<S, Category>(alloc, conn, TableName::Categories, sheet)?)
 }
 
 fn writes<S: Alter>(alloc: Global, conn: &mut Connection<S>) -> Result<(), Fail>
@@ -73,11 +114,17 @@ fn writes<S: Alter>(alloc: Global, conn: &mut Connection<S>) -> Result<(), Fail>
         → (state S.Store conn.old).in_transaction ≡ false }
 {
     fresh(conn)?;
-    let sheet = categories(alloc)?;
-    write_pending::<S, Category>(alloc, conn, TableName::Categories, &sheet)?;
+    let mut sheet = categories(alloc)?;
+    written(alloc, conn, &sheet)?;
+    renamed(alloc, &mut sheet)?;
+    written(alloc, conn, &sheet)?;
     let rows = load_sheet::<S, Category>(alloc, conn, TableName::Categories)?;
     let numbers: Vec<u64> = rows.iter().map(|row| row.number).collect(alloc)?;
-    holds(numbers.as_slice() == [10, 20].as_slice(), "both categories")
+    let is_as_now = |row: &Category| (row.number == 20) == (row.name.as_str() == "Bolts");
+    holds(
+        numbers.as_slice() == [10, 20].as_slice() && rows.iter().all(is_as_now),
+        "both categories as they are now",
+    )
 }
 
 /// A location whose parent is this number is loaded as this fault, or as none.
@@ -108,7 +155,7 @@ fn loads<S: Alter>(
 }
 
 #[test]
-fn a_sheet_is_written_and_loaded(rt: HostRuntime) -> Result<(), Fail> {
+fn a_sheet_is_written_again_and_loaded(rt: HostRuntime) -> Result<(), Fail> {
     let alloc = rt.alloc();
     let mut conn = Connection::open_in_memory(alloc)?;
     writes(alloc, &mut conn)

@@ -2,7 +2,8 @@ use Rattle.std.proofs.Common.{◌+◌, drop, option_copied, subst, arith, rules}
 use Rattle.sqlite.specs.Held.{state}
 use Rattle.sqlite.specs.State.{HasCleanDisk}
 use Rattle.sqlite.proofs.StateLemmas.{survives_then}
-use Rattle.table_store.specs.Written.{KeptTakes, changes_of}
+use Rattle.table_store.specs.Written.{IsTableOf, KeptTakes, changes_of}
+use Rattle.table_store.specs.declared.name.TableName.TheVariants.{Kept}
 use Rattle.table_store.proofs.Changes.{left-more, holds-at}
 use Rattle.table_store.proofs.KeptChanges.{IsAdding, adding-start, adding-more}
 use Rattle.table_store.proofs.kept.add_changes.Goals as goal
@@ -10,7 +11,7 @@ use Rattle.table_store.proofs.kept.add_changes.Goals as goal
 pub loop-change-init : goal.loop-change-init
 loop-change-init g c = record {
   crash = search rules;
-  adding = λ clean. adding-start g.R.Stored.columns_of g.R.Row.key_of (changes_of g.R.Row.digits c.args.changes.now) (state g.S.Store c.args.conn.now) (c.requires.ready clean);
+  adding = λ clean. adding-start (IsTableOf g.R.Stored.row_from g.R.Stored.columns_of Kept) g.R.Stored.columns_of g.R.Row.key_of (changes_of g.R.Row.digits c.args.changes.now) (state g.S.Store c.args.conn.now) (c.requires.ready clean);
 }
 
 pub add_change-requires-clause-takes : goal.add_change-requires-clause-takes
@@ -27,10 +28,10 @@ loop-change-preserved g c =
       crash = survives_then old now new (λ _. ⊥) (λ _. ⊥) (λ _. ⊥) (λ _ db h. h) (λ _ db h. h) c.loop-change.invariant.crash c.add_change.ensures.crash;
       adding = λ clean.
           let before : HasCleanDisk now = omega (arith, clean, c.add_change.ensures.crash.clean) in
-          adding-more g.R.Stored.columns_of g.R.Row.key_of (g.R.Row.digits p.key.now, option_copied p.row) (changes_of g.R.Row.digits (drop (c.loop-change.change-index + 1) c.args.changes.now))
+          adding-more (IsTableOf g.R.Stored.row_from g.R.Stored.columns_of Kept) g.R.Stored.columns_of g.R.Row.key_of (g.R.Row.digits p.key.now, option_copied p.row) (changes_of g.R.Row.digits (drop (c.loop-change.change-index + 1) c.args.changes.now))
           (changes_of g.R.Row.digits c.args.changes.now) old now new
           (holds-at g.R.Row.digits (KeptTakes g.R.Stored.columns_of g.R.Row.key_of) c.args.changes.now c.loop-change.change-index p c.loop-change-test.true c.change-item.is c.requires.takes)
-          (subst (λ left. IsAdding g.R.Stored.columns_of g.R.Row.key_of left (changes_of g.R.Row.digits c.args.changes.now) old now)
+          (subst (λ left. IsAdding (IsTableOf g.R.Stored.row_from g.R.Stored.columns_of Kept) g.R.Row.key_of left (changes_of g.R.Row.digits c.args.changes.now) old now)
           (left-more g.R.Row.digits c.args.changes.now c.loop-change.change-index p c.loop-change-test.true c.change-item.is) (c.loop-change.invariant.adding before))
           (c.in_ok-add_change.ensures.set clean) (c.in_ok-add_change.ensures.made clean);
     }

@@ -1,7 +1,8 @@
 use Rattle.std.proofs.Common.{drop}
 use Rattle.sqlite.specs.Held.{state}
 use Rattle.sqlite.specs.State.{HasCleanDisk, Survives}
-use Rattle.table_store.specs.Written.{changes_of}
+use Rattle.table_store.specs.Written.{IsTableOf, changes_of}
+use Rattle.table_store.specs.declared.name.TableName.TheVariants.{Kept}
 use Rattle.table_store.proofs.KeptChanges.{IsAdding}
 use Rattle.table_store.proofs.kept.add_changes.Given as goal
 
@@ -12,5 +13,5 @@ invariant-loop-change g l =
     record {
       crash : Survives old now (λ _. ⊥);
       adding : HasCleanDisk now
-          → IsAdding g.R.Stored.columns_of g.R.Row.key_of (changes_of g.R.Row.digits (drop l.change-index l.changes)) (changes_of g.R.Row.digits l.changes) old now;
+          → IsAdding (IsTableOf g.R.Stored.row_from g.R.Stored.columns_of Kept) g.R.Row.key_of (changes_of g.R.Row.digits (drop l.change-index l.changes)) (changes_of g.R.Row.digits l.changes) old now;
     }

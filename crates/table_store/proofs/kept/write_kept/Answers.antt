@@ -2,7 +2,7 @@ use Rattle.std.proofs.Common.{sym, subst, arith}
 use Rattle.std.specs.Prelude.{All}
 use Rattle.sqlite.specs.Held.{state}
 use Rattle.part_core.specs.Sheet.{now_of}
-use Rattle.table_store.specs.Written.{tree_of, KeptTakes, AreNew, changes_of}
+use Rattle.table_store.specs.Written.{tree_of, IsTableOf, KeptTakes, AreNew, changes_of}
 use Rattle.table_store.specs.declared.name.TableName.TheVariants.{Kept}
 use Rattle.table_store.proofs.Changes.{now-held}
 use Rattle.table_store.proofs.KeptChanges.{kept-takes-all, all-new, own-kept}
@@ -19,7 +19,7 @@ returns-clause-written g c clean =
     let now = now_of c.args.sheet.now in
     let kept = c.args.sheet.now.kept in
     let changes = c.in_ok-changes.changes.items in
-    now-held g.R.Row.digits now kept g.R.Stored.columns_of Kept (tree_of Kept (state g.S.Store c.add_changes.new.conn)) c.add_changes.result
+    now-held g.R.Row.digits now kept (IsTableOf g.R.Stored.row_from g.R.Stored.columns_of Kept (tree_of Kept (state g.S.Store c.add_changes.new.conn))) c.add_changes.result
     changes c.as_slice.result.now c.as_slice.ensures.value c.in_ok-changes.ensures.rows c.in_ok-changes.ensures.exact
     (c.add_changes.ensures.made clean kept (own-kept g.R.Row.digits now kept c.requires.added g.R.Row.key_of c.requires.own)
     (subst (λ ps. AreNew (changes_of g.R.Row.digits ps) kept) (sym c.as_slice.ensures.value) (all-new g.R.Row.digits now kept c.requires.added changes c.in_ok-changes.ensures.once c.in_ok-changes.ensures.exact))

@@ -1,0 +1,145 @@
+//! Whether a file's tables are the desk's.
+//!
+//! A database may be anyone's until its schema has been compared, table by table and column by column, with that which
+//! `create_tables` makes. A connection says nothing of the order of its rows: so a store is taken from it, and opened
+//! once more, by which what holds of the store's trees is known of the tables too.
+ghost use Rattle.std.specs.Prelude.{◌≡◌, ◌↔◌, ◌≤◌, false, IsTrue, IfOk, IfErr};
+ghost use Rattle.sqlite.specs.Held.{state};
+ghost use Rattle.sqlite.specs.State.{HasCleanDisk};
+ghost use Rattle.sqlite.specs.Table.{Table};
+ghost use Rattle.sqlite.specs.Tree.{Trees};
+ghost use Rattle.sqlite_catalog.specs.Listing.{IsSound};
+ghost use Rattle.sqlite_rules.specs.Lists.{Has};
+ghost use Rattle.sqlite_trees.specs.View.{doubt, IsClean, IsShaped};
+ghost use Rattle.sqlite_trees.specs.declared.store.Shape.TheVariants as shape;
+ghost use Rattle.sqlite.specs.Steps.{IsFresh};
+ghost use Rattle.table_store.specs.Opened.{IsAtRest, FailsToOpen};
+ghost use Rattle.table_store.specs.Schema.{desk_schema, schema_up_to};
+ghost use Rattle.table_store.specs.Transactions.{IsOfStore};
+ghost use Rattle.table_store.specs.Values.{HasTables};
+
+use crate::fault::{Failed, TableFault};
+use crate::shape::odd_table;
+use sqlite::{Alter, Connection, Error, ErrorCode};
+use std::alloc::Global;
+
+/// Whether the database has nothing: no table, no index and no view.
+pub fn is_bare<S: Alter>(conn: &Connection<S>) -> bool
+    ensures { IsTrue result ↔ ((state S.Store conn.now).now.schema ≡ schema_up_to 0) }
+{
+    let schema = conn.schema();
+    schema.tables.is_empty() && schema.indexes.is_empty() && schema.views.is_empty()
+}
+
+/// Whether the database has the desk's tables, with their columns, and nothing else.
+pub fn has_tables<S: Alter>(conn: &Connection<S>) -> bool
+    ensures { IsTrue result ↔ ((state S.Store conn.now).now.schema ≡ desk_schema) }
+{
+    odd_table(conn.schema()).is_none()
+}
+
+/// The store of a connection, with the tables of the last commit.
+fn given_back<S: Alter + Drop>(conn: Connection<S>) -> S
+    ensures fresh { IsClean (S.Store.view result) → (S.Store.view result).is_broken ≡ false
+        → IsFresh (S.Store.view result) }
+    ensures trees { IsTrue (S.Store.view result).is_open
+        → (S.Store.view result).trees ≡ (state S.Store conn).committed.trees }
+    ensures clean { doubt (state S.Store conn).is_clean ≤ doubt (S.Store.view result).is_clean }
+    ensures left { (trees : Trees) → S.Store.recovers result trees
+        → (state S.Store conn).may_leave trees }
+{
+    conn.into_store()
+}
+
+/// A connection over the store, which tells that the trees of its tables are in order.
+fn opened<S: Alter + Drop>(alloc: Global, store: S) -> Result<Connection<S>, (TableFault, S)>
+    requires { IsClean (S.Store.view store) → (S.Store.view store).is_broken ≡ false
+        → IsFresh (S.Store.view store) }
+    ensures rest { IfOk result (λ c. HasCleanDisk (state S.Store c)
+        → IsAtRest (state S.Store c)) }
+    ensures sound { IfOk result (λ c. HasCleanDisk (state S.Store c)
+        → IsSound (state S.Store c).now.schema (state S.Store c).now.trees) }
+    ensures shaped { IfOk result (λ c. HasCleanDisk (state S.Store c)
+        → (table : Table) → Has (state S.Store c).now.schema.tables table
+        → IsShaped shape.Table ((state S.Store c).now.trees table.tree)) }
+    ensures live { IfOk result (λ c. HasCleanDisk (state S.Store c)
+        → IsTrue (S.Store.view store).is_open) }
+    ensures same { IfOk result (λ c. HasCleanDisk (state S.Store c)
+        → (state S.Store c).now.trees ≡ (S.Store.view store).trees) }
+    ensures clean { IfOk result (λ c.
+        doubt (S.Store.view store).is_clean ≤ doubt (state S.Store c).is_clean) }
+    ensures left { IfOk result (λ c. HasCleanDisk (state S.Store c) → (trees : Trees)
+        → (state S.Store c).may_leave trees → S.Store.recovers store trees) }
+    ensures fault { IfErr result (λ e. IsOfStore e.0) }
+    ensures kept { IfErr result (λ e. IsClean (S.Store.view e.1)
+        → IsTrue (S.Store.view e.1).is_open
+        → IsTrue (S.Store.view store).is_open
+        × ((S.Store.view e.1).trees ≡ (S.Store.view store).trees)) }
+    ensures harmless { IfErr result (λ e. (trees : Trees)
+        → S.Store.recovers e.1 trees → S.Store.recovers store trees) }
+{
+    if store.is_broken() {
+        let error = Error::SqliteFailure(ErrorCode::Closed);
+        return Err((TableFault::Store(Failed::new(error)), store));
+    }
+    match Connection::over(alloc, store) {
+        Ok(conn) => Ok(conn),
+        Err((error, store)) => Err((TableFault::Store(Failed::new(error)), store)),
+    }
+}
+
+/// The connection, where its tables are the desk's.
+fn compared<S: Alter + Drop>(conn: Connection<S>) -> Result<Connection<S>, (TableFault, S)>
+    requires rest { HasCleanDisk (state S.Store conn) → IsAtRest (state S.Store conn) }
+    requires sound { HasCleanDisk (state S.Store conn)
+        → IsSound (state S.Store conn).now.schema (state S.Store conn).now.trees }
+    ensures same { IfOk result (λ c. c ≡ conn) }
+    ensures desk { IfOk result (λ c. (state S.Store c).now.schema ≡ desk_schema) }
+    ensures foreign { IfErr result (λ e. IsClean (S.Store.view e.1)
+        → FailsToOpen (state S.Store conn).now.trees e.0) }
+    ensures kept { IfErr result (λ e. IsClean (S.Store.view e.1)
+        → IsTrue (S.Store.view e.1).is_open
+        → (S.Store.view e.1).trees ≡ (state S.Store conn).now.trees) }
+    ensures clean { IfErr result (λ e.
+        doubt (state S.Store conn).is_clean ≤ doubt (S.Store.view e.1).is_clean) }
+    ensures harmless { IfErr result (λ e. (trees : Trees)
+        → S.Store.recovers e.1 trees → (state S.Store conn).may_leave trees) }
+{
+    match odd_table(conn.schema()) {
+        None => Ok(conn),
+        Some(name) => {
+            let fault = TableFault::NoTable(Failed::no_table(name));
+            Err((fault, given_back(conn)))
+        }
+    }
+}
+
+/// The connection opened once more, where its tables are the desk's: `NoTable` where they aren't. What isn't committed
+/// is rolled back. The store that is handed back after a fault has the tables of the last commit.
+pub fn open_tables<S: Alter + Drop>(
+    alloc: Global,
+    conn: Connection<S>,
+) -> Result<Connection<S>, (TableFault, S)>
+    ensures tables { IfOk result (λ c. HasCleanDisk (state S.Store c)
+        → HasTables (state S.Store c)) }
+    ensures rest { IfOk result (λ c. HasCleanDisk (state S.Store c)
+        → IsAtRest (state S.Store c)) }
+    ensures same { IfOk result (λ c. HasCleanDisk (state S.Store c)
+        → (state S.Store c).now.trees ≡ (state S.Store conn).committed.trees) }
+    ensures clean { IfOk result (λ c. HasCleanDisk (state S.Store c)
+        → HasCleanDisk (state S.Store conn)) }
+    ensures left { IfOk result (λ c. HasCleanDisk (state S.Store c) → (trees : Trees)
+        → (state S.Store c).may_leave trees → (state S.Store conn).may_leave trees) }
+    ensures failed { IfErr result (λ e. IsClean (S.Store.view e.1)
+        → FailsToOpen (state S.Store conn).committed.trees e.0) }
+    ensures kept { IfErr result (λ e. IsClean (S.Store.view e.1)
+        → IsTrue (S.Store.view e.1).is_open
+        → (S.Store.view e.1).trees ≡ (state S.Store conn).committed.trees) }
+    ensures harmless { IfErr result (λ e. IsClean (S.Store.view e.1) → (trees : Trees)
+        → S.Store.recovers e.1 trees → (state S.Store conn).may_leave trees) }
+{
+    match opened(alloc, given_back(conn)) {
+        Ok(conn) => compared(conn),
+        Err(failed) => Err(failed),
+    }
+}
