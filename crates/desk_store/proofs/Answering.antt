@@ -1,0 +1,25 @@
+-- Rows of `kept` that can't be read are the table of no sound state.
+use Rattle.std.proofs.Common.{◌≡◌, ℕ, List}
+use Rattle.sqlite.specs.Tree.{Trees}
+use Rattle.part_core.specs.Filled.{StandUnderKeys}
+use Rattle.desk_core.specs.KeptColumns.{kept_columns, kept_from}
+use Rattle.desk_core.specs.Machine.{IsSoundState, State}
+use Rattle.desk_core.specs.declared.kept.Kept.{Kept as KeptRow}
+use Rattle.desk_store.specs.Loading.{open_fault}
+use Rattle.desk_store.specs.Opening.{WhyNot}
+use Rattle.table_store.specs.Schema.{position}
+use Rattle.table_store.specs.Transactions.{IsBadRow, IsOfReading}
+use Rattle.table_store.specs.Written.{IsTableOfNoneOwn}
+use Rattle.table_store.specs.declared.fault.TableFault.{TableFault}
+use Rattle.table_store.specs.declared.fault.TableFault.TheVariants.{Memory, Store, NoTable, BadRow}
+use Rattle.table_store.specs.declared.name.TableName.TheVariants.{Kept}
+
+answers-own : (s : State) → IsSoundState s → StandUnderKeys (λ (row : KeptRow). row.word) s.answers
+answers-own s sound key row is = (sound.answers key row is).own
+
+pub why-answers : (trees : Trees) (fault : TableFault) → IsOfReading fault
+    → (IsBadRow fault → IsTableOfNoneOwn kept_from kept_columns (λ row. row.word) Kept (trees (position Kept))) → WhyNot trees (open_fault fault)
+why-answers trees Memory of none = tt
+why-answers trees (Store failed) of none = tt
+why-answers trees (NoTable failed) of none = absurd of
+why-answers trees (BadRow failed) of none = λ s sound next tables. none tt s.answers (answers-own s sound) tables.kept

@@ -1,0 +1,61 @@
+-- What the answers and the row of the counter bring to their tables.
+use Rattle.std.proofs.Common.{◌≡◌, ℕ, Bool, true, false, cond, List, [], ◌∷◌, Some, arith, refl, sym, ap, ◌∙◌, subst}
+use Rattle.std.specs.Prelude.{All}
+use Rattle.std.specs.Ordering.{eq_by_cmp}
+use Rattle.std.specs.FinMap.{empty, get, get-insert, insert, same_map}
+use Rattle.std.proofs.lemmas.List.Elements.{All-from_recursion}
+use Rattle.sqlite.specs.Order.{Row}
+use Rattle.part_core.specs.Columns.{AreSmall, IsSmall}
+use Rattle.part_core.specs.Filled.{StandUnderKeys}
+use Rattle.part_core.specs.Sheet.{Rows, Table, key_cmp, now_of}
+use Rattle.part_core.proofs.FilledTables.{filled-own}
+use Rattle.part_core.proofs.Keys.{keys_exact, keys_total}
+use Rattle.desk_core.specs.KeptColumns.{kept_columns}
+use Rattle.desk_core.specs.Machine.{IsSoundState, State, StandsKept}
+use Rattle.desk_core.specs.declared.kept.Kept.{Kept as KeptRow}
+use Rattle.desk_store.specs.MetaColumns.{meta_columns, meta_from, meta_of, only}
+use Rattle.desk_store.specs.Saving.{HaveSmallNumbers}
+use Rattle.desk_store.specs.declared.meta.MetaRow.{MetaRow}
+use Rattle.table_store.specs.Written.{IsTableOf, StayAsTheyAre}
+use Rattle.table_store.specs.declared.name.TableName.TheVariants.{Meta}
+
+module _ (sheet source : Rows KeptRow) (same : sheet ≡ source) where
+  pub own_words : ((k : List ℕ) (row : KeptRow) → get (now_of source) k ≡ Some row → StandsKept k row) → StandUnderKeys (λ (r : KeptRow). r.word) (now_of sheet)
+  own_words h = subst (λ (s : Rows KeptRow). StandUnderKeys (λ (r : KeptRow). r.word) (now_of s)) (sym same) (λ k r is. (h k r is).own)
+
+  pub stay_kept : StayAsTheyAre source.kept (now_of source) → StayAsTheyAre sheet.kept (now_of sheet)
+  stay_kept h = subst (λ (s : Rows KeptRow). StayAsTheyAre s.kept (now_of s)) (sym same) h
+
+-- answers have no numbers
+pub small_answers : (t : Table KeptRow) → AreSmall kept_columns t
+small_answers t k row is = All-from_recursion IsSmall (kept_columns row) (tt, (tt, (tt, tt)))
+
+-- the numbers of the counter's row are small
+pub small_meta : (s : State) → IsSoundState s → HaveSmallNumbers s → All IsSmall (meta_columns (meta_of s))
+small_meta s sound small =
+    All-from_recursion IsSmall (meta_columns (meta_of s)) (
+      omega arith,
+      (omega arith, (small.next, (let within = sound.stock.items.within in let most = small.max_entries in omega (arith, within, most), (small.max_numbers, (small.max_entries, tt))))),
+    )
+
+-- ---- the table of one row
+
+pub own_meta : (m : MetaRow) → StandUnderKeys (λ (r : MetaRow). r.one ∷ []) (only m)
+own_meta m = filled-own (λ (r : MetaRow). r.one ∷ []) (m ∷ [])
+
+absorbed : {A : Type 0} (b : Bool) (x y z : A) → cond b x (cond b y z) ≡ cond b x z
+absorbed true x y z = refl
+absorbed false x y z = refl
+
+-- of two rows that are put under one key the later one is there
+put_twice : {X : Type 0} (k : List ℕ) (x y : X) → insert (insert (empty {X = X} {R = key_cmp}) k x) k y ≡ insert empty k y
+put_twice k x y =
+    same_map keys_total keys_exact _ _ (λ q.
+    get-insert keys_total (insert empty k x) k y q ∙ ap (cond (eq_by_cmp key_cmp q k) (Some y)) (get-insert keys_total empty k x q)
+    ∙ absorbed (eq_by_cmp key_cmp q k) (Some y) (Some x) (get empty q) ∙ sym (get-insert keys_total empty k y q))
+
+pub meta_there : (tree : List Row) (old new : State) (row : MetaRow) → row ≡ meta_of new → IsTableOf meta_from meta_columns Meta tree (insert (only (meta_of old)) (row.one ∷ []) row)
+    → IsTableOf meta_from meta_columns Meta tree (only (meta_of new))
+meta_there tree old new row is h =
+    subst (IsTableOf meta_from meta_columns Meta tree)
+    (ap (λ (r : MetaRow). insert (only (meta_of old)) (r.one ∷ []) r) is ∙ put_twice (1 ∷ []) (meta_of old) (meta_of new)) h

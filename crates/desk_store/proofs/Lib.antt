@@ -1,0 +1,15 @@
+pub mod MetaRows
+pub mod Suiting
+pub mod Sheets
+pub mod Midway
+pub mod Kept
+pub mod Running
+pub mod Runs
+pub mod Starting
+pub mod Loads
+pub mod Metas
+pub mod Opens
+pub mod Readings
+pub mod Exporting
+pub mod Sent
+pub mod Answering

@@ -1,0 +1,8 @@
+use Rattle.desk_store.proofs.Suiting.{line-suits, substitute-suits}
+use Rattle.desk_store.proofs.load.load_bills.Goals as goal
+
+pub load_rows-requires-clause-suits : goal.load_rows-requires-clause-suits
+load_rows-requires-clause-suits g c = line-suits
+
+pub load_rows-requires-2-clause-suits : goal.load_rows-requires-2-clause-suits
+load_rows-requires-2-clause-suits g c = substitute-suits

@@ -1,0 +1,8 @@
+use Rattle.desk_store.proofs.Suiting.{category-suits, part-suits}
+use Rattle.desk_store.proofs.load.load_catalogue.Goals as goal
+
+pub load_rows-requires-clause-suits : goal.load_rows-requires-clause-suits
+load_rows-requires-clause-suits g c = category-suits
+
+pub load_rows-requires-2-clause-suits : goal.load_rows-requires-2-clause-suits
+load_rows-requires-2-clause-suits g c = part-suits

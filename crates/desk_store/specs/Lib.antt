@@ -1,0 +1,8 @@
+pub mod MetaColumns
+pub mod Books
+pub mod Saving
+pub mod Outcomes
+pub mod Desks
+pub mod Opening
+pub mod Loading
+pub mod Exports

@@ -1,0 +1,127 @@
+-- What is read of the tables, and what a call that reads them leaves.
+use Rattle.std.specs.Prelude.{◌≡◌, ◌⊎◌, ℕ, List, [], ◌∷◌, Option, Some, Result, IfOk, IfErr, OnOk, OnErr, Contains, ◌≢◌}
+use Rattle.sqlite.specs.Order.{Row}
+use Rattle.sqlite.specs.State.{State, HasCleanDisk, IsUnchanged, IsRolledBack, Survives}
+use Rattle.sqlite.specs.Tree.{Trees}
+use Rattle.part_core.specs.CategoryColumns.{category_columns, category_from}
+use Rattle.part_core.specs.PartColumns.{part_columns, part_from}
+use Rattle.part_core.specs.declared.category.Category.{Category}
+use Rattle.part_core.specs.declared.column.Column.{Column}
+use Rattle.part_core.specs.declared.part.Part.{Part}
+use Rattle.bom_core.specs.BillColumns.{line_columns, line_from, substitute_columns, substitute_from}
+use Rattle.bom_core.specs.declared.line.Line.{Line}
+use Rattle.bom_core.specs.declared.substitute.Substitute.{Substitute}
+use Rattle.forest.specs.EntryColumns.{entry_columns, entry_from}
+use Rattle.forest.specs.ItemColumns.{item_columns, item_from}
+use Rattle.forest.specs.declared.entry.Entry.{Entry}
+use Rattle.forest.specs.declared.item.Item.{Item}
+use Rattle.yard_core.specs.LocationColumns.{location_columns, location_from}
+use Rattle.yard_core.specs.declared.location.Location.{Location}
+use Rattle.desk_core.specs.KeptColumns.{kept_columns, kept_from}
+use Rattle.desk_core.specs.Machine as machine
+use Rattle.desk_core.specs.Shops.{state_of}
+use Rattle.desk_core.specs.declared.kept.Kept.{Kept as KeptRow}
+use Rattle.desk_core.specs.declared.shop.Shop.{Shop}
+use Rattle.desk_core.specs.declared.shop.assemble.Tables.{Tables}
+use Rattle.desk_store.specs.Books.{TablesAre}
+use Rattle.desk_store.specs.MetaColumns.{meta_columns, meta_from, only}
+use Rattle.desk_store.specs.declared.fault.OpenFault.{OpenFault}
+use Rattle.desk_store.specs.declared.fault.OpenFault.TheVariants as why
+use Rattle.desk_store.specs.declared.meta.MetaRow.{MetaRow}
+use Rattle.table_store.specs.Schema.{position}
+use Rattle.table_store.specs.Stored.{AreLoaded}
+use Rattle.table_store.specs.Written.{AreItsRows, IsTableOf}
+use Rattle.table_store.specs.declared.fault.TableFault.{TableFault}
+use Rattle.table_store.specs.declared.fault.TableFault.TheVariants as table
+use Rattle.table_store.specs.declared.name.TableName.{TableName}
+use Rattle.table_store.specs.declared.name.TableName.TheVariants.{Meta, Categories, Locations, Parts, Lines, Substitutes, Items, History, Orders, OrderLines, Builds, Allocations, Kept}
+
+-- ---- calls that read
+
+-- What a call answers is so of the tables, or its fault is. It changes nothing, and a crash leaves nothing new.
+pub record Reads {X : Type 0} (Gives : Trees → X → Type 0) (Why : Trees → OpenFault → Type 0) (old new : State) (r : Result X OpenFault) : Type 0 where
+  pub gives : HasCleanDisk new → IfOk r (Gives old.now.trees)
+  pub why : HasCleanDisk new → IfErr r (Why old.now.trees)
+  pub same : HasCleanDisk new → OnOk r (IsUnchanged old new)
+  pub failed : HasCleanDisk new → OnErr r (IsUnchanged old new ⊎ IsRolledBack old new)
+  pub crash : Survives old new (λ _. ⊥)
+
+-- of a fault that isn't one of memory or of the database: the tables are damaged, since this holds of them
+abbrev pub Blames : Type 0 → OpenFault → Type 0
+Blames P why.Memory = Unit {0}
+Blames P (why.Store failed) = Unit {0}
+Blames P why.Foreign = ⊥
+Blames P (why.Damaged failed) = P
+
+-- a fault of a table, as the opening tells it
+abbrev pub open_fault : TableFault → OpenFault
+open_fault table.Memory = why.Memory
+open_fault (table.Store failed) = why.Store failed
+open_fault (table.NoTable failed) = why.Foreign
+open_fault (table.BadRow failed) = why.Damaged (Some failed)
+
+-- ---- the rows of the tables
+
+module _ {R : Type 0} (row_from : List Column → Option R) (columns_of : R → List Column) (key_of : R → List ℕ) where
+  -- these rows were loaded, and no others under their keys are those of the tree
+  pub record AreTheRows (table : TableName) (tree : List Row) (rows : List R) : Type 0 where
+    pub loaded : AreLoaded row_from columns_of table tree rows
+    pub its : AreItsRows row_from columns_of key_of table tree rows
+
+pub record ArePartRows (trees : Trees) (categories : List Category) (parts : List Part) : Type 0 where
+  pub categories_are : AreTheRows category_from category_columns (λ row. row.number ∷ []) Categories (trees (position Categories)) categories
+  pub parts_are : AreTheRows part_from part_columns (λ row. row.number ∷ []) Parts (trees (position Parts)) parts
+
+pub record AreBillRows (trees : Trees) (lines : List Line) (substitutes : List Substitute) : Type 0 where
+  pub lines_are : AreTheRows line_from line_columns (λ row. row.number ∷ []) Lines (trees (position Lines)) lines
+  pub substitutes_are : AreTheRows substitute_from substitute_columns (λ row. row.number ∷ []) Substitutes (trees (position Substitutes)) substitutes
+
+pub record AreStockRows (trees : Trees) (locations : List Location) (items : List Item) (history : List Entry) : Type 0 where
+  pub locations_are : AreTheRows location_from location_columns (λ row. row.number ∷ []) Locations (trees (position Locations)) locations
+  pub items_are : AreTheRows item_from item_columns (λ row. row.number ∷ []) Items (trees (position Items)) items
+  pub history_are : AreTheRows entry_from entry_columns (λ row. row.number ∷ []) History (trees (position History)) history
+
+abbrev pub AreAnswers : Trees → List KeptRow → Type 0
+AreAnswers trees answers = AreItsRows kept_from kept_columns (λ row. row.word) Kept (trees (position Kept)) answers
+
+-- no order and no build is made yet
+pub record AreNotMade (trees : Trees) : Type 0 where
+  pub orders : trees (position Orders) ≡ []
+  pub order_lines : trees (position OrderLines) ≡ []
+  pub builds : trees (position Builds) ≡ []
+  pub allocations : trees (position Allocations) ≡ []
+
+-- ---- the row of the counter
+
+-- the tree of `meta` is the table of this row alone, which has the key 1 and the version 1, and of no other
+pub record IsMetaRow (trees : Trees) (row : MetaRow) : Type 0 where
+  pub table : IsTableOf meta_from meta_columns Meta (trees (position Meta)) (only row)
+  pub sole : (other : MetaRow) → IsTableOf meta_from meta_columns Meta (trees (position Meta)) (only other) → other ≡ row
+  pub one : row.one ≡ 1
+  pub version : row.version ≡ 1
+
+-- why these rows of `meta` aren't one row with the key 1 and the version 1
+abbrev pub IsNoMeta : List MetaRow → OpenFault → Type 0
+IsNoMeta rows why.Memory = ⊥
+IsNoMeta rows (why.Store failed) = ⊥
+IsNoMeta rows why.Foreign = (row : MetaRow) × Contains rows row × (row.version ≢ 1)
+IsNoMeta rows (why.Damaged failed) = (row : MetaRow) → row.one ≡ 1 → rows ≢ row ∷ []
+
+-- the row that the counter of these tables has
+abbrev pub meta_in : Tables → MetaRow
+meta_in t = record { one = 1; version = 1; next = t.next; entries = t.entries; max_numbers = t.limits.numbers; max_entries = t.limits.entries }
+
+-- ---- all tables
+
+-- these rows are those of the tables
+pub record AreTables (trees : Trees) (t : Tables) : Type 0 where
+  pub meta : IsMetaRow trees (meta_in t)
+  pub catalogue : ArePartRows trees t.categories.items t.parts.items
+  pub bills : AreBillRows trees t.lines.items t.substitutes.items
+  pub stock : AreStockRows trees t.locations.items t.items.items t.history.items
+  pub answers : AreAnswers trees t.answers.items
+
+-- the tables are those of the shop's state, and of no other sound state
+pub record AreBooksOf (trees : Trees) (shop : Shop) : Type 0 where
+  pub tables : TablesAre (state_of shop) trees
+  pub one : (s : machine.State) → machine.IsSoundState s → TablesAre s trees → s ≡ state_of shop

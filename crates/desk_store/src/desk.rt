@@ -1,0 +1,159 @@
+//! A desk over a store.
+//!
+//! It holds the shop whose state the tables have. A request is decided on the shop; what it changes is written in one
+//! transaction, and answered once that is committed. A refusal and a kept answer touch no table. Where memory ends, the
+//! shop and the tables are as they were. Where the database fails, the desk is closed: no later request is run, and what
+//! the file then holds, the tables before or after that request, is found by opening it again.
+ghost use Rattle.std.specs.Prelude.{◌≡◌, ◌↔◌, ◌⊎◌, ℕ, None, IsSome, is_some, length, IfOk, IfErr, OnErr, Err};
+ghost use Rattle.sqlite.specs.Held.{state};
+ghost use Rattle.sqlite.specs.State.{HasCleanDisk, Survives};
+ghost use Rattle.sqlite.specs.Tree.{Trees};
+ghost use Rattle.bom_core.specs.Walks.{IsAcyclic};
+ghost use Rattle.forest.specs.Forest.{Balanced};
+ghost use Rattle.yard_core.specs.Stock.{forest_and_history};
+ghost use Rattle.stock_core.specs.Sound.{SerialsStandOnce};
+ghost use Rattle.desk_core.specs.Machine.{run, step};
+ghost use Rattle.desk_core.specs.Shops.{state_of};
+ghost use Rattle.desk_store.specs.Books.{TablesAre};
+ghost use Rattle.desk_store.specs.Desks.{IsDesk};
+ghost use Rattle.desk_store.specs.Outcomes.{AreLeft, Closes, Tells, answered, stopped_at, told};
+
+use crate::fault::Fault;
+use crate::save::save;
+use desk_core::{Request, Shop, rows_stay};
+use part_core::Answer;
+use sqlite::{Alter, Connection};
+use std::alloc::{AllocError, Global};
+use table_store::{Failed, TableFault};
+
+/// A workshop's books: a shop, and the database that keeps its state.
+pub struct Desk<S: Alter> {
+    pub(crate) conn: Connection<S>,
+    pub(crate) shop: Shop,
+    pub(crate) failed: Option<Failed>,
+    pub(crate) alloc: Global,
+}
+
+// It is written out, so that a caller does not prove again how each part is dropped.
+impl<S: Alter + Drop> Drop for Desk<S> {
+    fn drop(self) {
+        let Desk {
+            conn: _,
+            shop: _,
+            failed: _,
+            alloc: _,
+        } = self;
+    }
+}
+
+impl<S: Alter> Desk<S> {
+    /// The shop, whose state the tables have: `Closed` where the desk is.
+    pub fn shop(&self) -> Result<&Shop, Fault>
+        ensures shop { IfOk result (λ shop. shop.now ≡ self.now.shop) }
+        ensures closed { IfErr result (λ fault. fault ≡ Fault.Closed) }
+        ensures exact { OnErr result (IsSome self.now.failed) }
+    {
+        match &self.failed {
+            None => Ok(&self.shop),
+            Some(_) => Err(Fault::Closed),
+        }
+    }
+
+    /// What the database answered that closed the desk, which is there exactly where the desk is closed.
+    pub fn failed(&self) -> Option<&Failed>
+        ensures { is_some result ≡ is_some self.now.failed }
+    {
+        self.failed.as_ref()
+    }
+
+    /// Runs one request: its answer is given after its changes are committed.
+    ///
+    /// `Store` where the database failed, which closes the desk; what a crash then leaves are the tables before or
+    /// after this request. Every call of a closed desk answers `Closed`. After `Refused` and `Memory` nothing has
+    /// changed.
+    pub fn run(&mut self, request: &Request) -> Result<Answer, Fault>
+        requires { IsDesk S.Store self.old }
+        ensures desk { IsDesk S.Store self.new }
+        ensures tells { Tells (state_of self.old.shop) request.now result (state_of self.new.shop) }
+        ensures closed { (result ≡ Err Fault.Closed) ↔ IsSome self.old.failed }
+        ensures store { IsSome self.new.failed
+            ↔ ((result ≡ Err Fault.Store) ⊎ IsSome self.old.failed) }
+        ensures crash { Survives (state S.Store self.old.conn) (state S.Store self.new.conn)
+            (λ trees. TablesAre (step (state_of self.old.shop) request.now).0 trees) }
+        ensures idle { IsSome self.old.failed → self.new ≡ self.old }
+    {
+        if self.failed.is_some() {
+            return Err(Fault::Closed);
+        }
+        let kept = self.shop.answers().len();
+        let answer = self.shop.decide(request)?;
+        // A repeat changes nothing; whatever else has a key is kept.
+        if request.key.is_some() && self.shop.answers().len() == kept {
+            return Ok(answer);
+        }
+        rows_stay();
+        match save(self.alloc, &mut self.conn, &self.shop) {
+            Ok(()) => Ok(answer),
+            Err(TableFault::Memory) => {
+                self.shop.back();
+                Err(Fault::Memory)
+            }
+            Err(
+                TableFault::Store(failed)
+                | TableFault::NoTable(failed)
+                | TableFault::BadRow(failed),
+            ) => {
+                self.shop.back();
+                self.failed = Some(failed);
+                Err(Fault::Store)
+            }
+        }
+    }
+
+    /// Runs the requests in their order. The list of outcomes is made first: where there is no memory for it, none is
+    /// run.
+    pub fn run_list(
+        &mut self,
+        alloc: Global,
+        requests: &[Request],
+    ) -> Result<Vec<Result<Answer, Fault>>, AllocError>
+        requires { IsDesk S.Store self.old }
+        ensures desk { IsDesk S.Store self.new }
+        ensures ran { IfOk result (λ outcomes.
+            run (state_of self.old.shop) (answered requests.now outcomes.items)
+            ≡ (state_of self.new.shop, told outcomes.items)) }
+        ensures count { IfOk result (λ outcomes. length outcomes.items ≡ length requests.now) }
+        ensures closes { IfOk result (λ outcomes.
+            Closes (is_some self.old.failed) outcomes.items (is_some self.new.failed)) }
+        ensures left { IfOk result (λ outcomes. self.old.failed ≡ None
+            → HasCleanDisk (state S.Store self.new.conn) → (trees : Trees)
+            → (state S.Store self.new.conn).may_leave trees
+            → AreLeft (state_of self.new.shop) (stopped_at requests.now outcomes.items) trees) }
+        ensures balanced { (part : ℕ)
+            → Balanced part (forest_and_history (state_of self.new.shop).stock) }
+        ensures serials { SerialsStandOnce (state_of self.new.shop).parts
+            (state_of self.new.shop).stock }
+        ensures acyclic { IsAcyclic (state_of self.new.shop).parts (state_of self.new.shop).bills }
+        ensures none_run { OnErr result (self.new ≡ self.old) }
+    {
+        let mut outcomes = Vec::with_capacity(alloc, requests.len())?;
+        for request in requests {
+            let outcome = self.run(request);
+            outcomes.push_reserved(outcome);
+        }
+        Ok(outcomes)
+    }
+
+    /// The connection, as it is. After a fault of the database it has to be closed and opened again.
+    pub fn close(self) -> Connection<S>
+        ensures { result ≡ self.conn }
+    {
+        let Desk {
+            conn,
+            shop: _,
+            failed: _,
+            alloc: _,
+        } = self;
+        conn
+    }
+}

@@ -1,0 +1,225 @@
+//! A shop from the rows of the tables.
+//!
+//! Each table is read whole, and none is changed. Whatever keeps the rows from being a desk's is told of the tables, so
+//! that a damaged file is one that no desk has left.
+ghost use Rattle.std.specs.Prelude.{◌≡◌, ◌∷◌, [], IfOk, IfErr};
+ghost use Rattle.sqlite.specs.Held.{state};
+ghost use Rattle.sqlite.specs.State.{HasCleanDisk};
+ghost use Rattle.part_core.specs.Numbered.{number_digits};
+ghost use Rattle.desk_core.specs.Machine.{IsSoundState};
+ghost use Rattle.desk_core.specs.Shops.{state_of};
+ghost use Rattle.desk_store.specs.Loading.{AreAnswers, AreBillRows, AreBooksOf, AreNotMade, ArePartRows, AreStockRows};
+ghost use Rattle.desk_store.specs.Loading.{AreTables, AreTheRows, Blames, IsMetaRow, IsNoMeta, Reads, open_fault};
+ghost use Rattle.desk_store.specs.Opening.{WhyNot};
+ghost use Rattle.table_store.specs.Schema.{position};
+ghost use Rattle.table_store.specs.Values.{HasTables};
+ghost use Rattle.table_store.specs.Written.{IsTableOfNone, Suits};
+
+use crate::fault::OpenFault;
+use crate::meta::MetaRow;
+use bom_core::{Line, Substitute};
+use desk_core::{AssembleFault, Kept, Shop, Tables};
+use part_core::{Category, Limits, Part, Stored};
+use sqlite::{Alter, Connection};
+use std::alloc::Global;
+use table_store::{TableFault, TableName, has_no_row, load_kept, load_sheet};
+use yard_core::{Entry, Item, Location};
+
+/// The fault of a table, as the opening tells it.
+pub(crate) fn open_fault(fault: TableFault) -> OpenFault
+    ensures { result ≡ open_fault fault }
+{
+    match fault {
+        TableFault::Memory => OpenFault::Memory,
+        TableFault::Store(failed) => OpenFault::Store(failed),
+        TableFault::NoTable(_) => OpenFault::Foreign,
+        TableFault::BadRow(failed) => OpenFault::Damaged(Some(failed)),
+    }
+}
+
+/// The rows of a table under numbers.
+fn load_rows<S: Alter, R: Stored>(
+    alloc: Global,
+    conn: &mut Connection<S>,
+    table: TableName,
+) -> Result<Vec<R>, OpenFault>
+    requires tables { HasCleanDisk (state S.Store conn.old) → HasTables (state S.Store conn.old) }
+    requires suits { Suits R.columns_of R.key_of number_digits table }
+    ensures { Reads
+        (λ trees rows. AreTheRows R.row_from R.columns_of R.key_of table
+        (trees (position table)) rows.items)
+        (λ trees. Blames (IsTableOfNone R.row_from R.columns_of table (trees (position table))))
+        (state S.Store conn.old) (state S.Store conn.new) result }
+{
+    match load_sheet::<S, R>(alloc, conn, table) {
+        Ok(rows) => Ok(rows),
+        Err(fault) => Err(open_fault(fault)),
+    }
+}
+
+/// The answers that are kept.
+fn load_answers<S: Alter>(alloc: Global, conn: &mut Connection<S>) -> Result<Vec<Kept>, OpenFault>
+    requires { HasCleanDisk (state S.Store conn.old) → HasTables (state S.Store conn.old) }
+    ensures { Reads (λ trees rows. AreAnswers trees rows.items) WhyNot
+        (state S.Store conn.old) (state S.Store conn.new) result }
+{
+    match load_kept::<S, Kept>(alloc, conn) {
+        Ok(rows) => Ok(rows),
+        Err(fault) => Err(open_fault(fault)),
+    }
+}
+
+/// That a table has no row. `Damaged` where it has one.
+fn check_bare<S: Alter>(conn: &mut Connection<S>, table: TableName) -> Result<(), OpenFault>
+    requires { HasCleanDisk (state S.Store conn.old) → HasTables (state S.Store conn.old) }
+    ensures { Reads (λ trees _. trees (position table) ≡ [])
+        (λ trees. Blames (¬ (trees (position table) ≡ [])))
+        (state S.Store conn.old) (state S.Store conn.new) result }
+{
+    match has_no_row(conn, table) {
+        Ok(true) => Ok(()),
+        Ok(false) => Err(OpenFault::Damaged(None)),
+        Err(fault) => Err(open_fault(fault)),
+    }
+}
+
+/// That no order and no build is made yet.
+fn check_not_made<S: Alter>(conn: &mut Connection<S>) -> Result<(), OpenFault>
+    requires { HasCleanDisk (state S.Store conn.old) → HasTables (state S.Store conn.old) }
+    ensures { Reads (λ trees _. AreNotMade trees) WhyNot
+        (state S.Store conn.old) (state S.Store conn.new) result }
+{
+    check_bare(conn, TableName::Orders)?;
+    check_bare(conn, TableName::OrderLines)?;
+    check_bare(conn, TableName::Builds)?;
+    check_bare(conn, TableName::Allocations)
+}
+
+/// The one row of `meta` among these. `Foreign` where a row is of another version.
+fn meta_in(rows: &[MetaRow]) -> Result<MetaRow, OpenFault>
+    ensures alone { IfOk result (λ row. rows.now ≡ row ∷ []) }
+    ensures one { IfOk result (λ row. row.one ≡ 1) }
+    ensures version { IfOk result (λ row. row.version ≡ 1) }
+    ensures why { IfErr result (IsNoMeta rows.now) }
+{
+    for row in rows {
+        if row.version != 1 {
+            return Err(OpenFault::Foreign);
+        }
+    }
+    match rows {
+        [row] if row.one == 1 => Ok(*row),
+        _ => Err(OpenFault::Damaged(None)),
+    }
+}
+
+/// The row of the counter.
+fn load_meta<S: Alter>(alloc: Global, conn: &mut Connection<S>) -> Result<MetaRow, OpenFault>
+    requires { HasCleanDisk (state S.Store conn.old) → HasTables (state S.Store conn.old) }
+    ensures { Reads IsMetaRow WhyNot (state S.Store conn.old) (state S.Store conn.new) result }
+{
+    let rows = load_rows::<S, MetaRow>(alloc, conn, TableName::Meta)?;
+    meta_in(rows.as_slice())
+}
+
+/// The row of the counter, and the limits that it has.
+fn load_counter<S: Alter>(
+    alloc: Global,
+    conn: &mut Connection<S>,
+) -> Result<(MetaRow, Limits), OpenFault>
+    requires { HasCleanDisk (state S.Store conn.old) → HasTables (state S.Store conn.old) }
+    ensures row { Reads (λ trees found. IsMetaRow trees found.0) WhyNot
+        (state S.Store conn.old) (state S.Store conn.new) result }
+    ensures numbers { IfOk result (λ found. found.1.numbers ≡ found.0.max_numbers) }
+    ensures entries { IfOk result (λ found. found.1.entries ≡ found.0.max_entries) }
+{
+    let row = load_meta(alloc, conn)?;
+    match Limits::new(row.max_numbers, row.max_entries) {
+        Some(limits) => Ok((row, limits)),
+        None => Err(OpenFault::Damaged(None)),
+    }
+}
+
+/// The rows of the catalogue.
+fn load_catalogue<S: Alter>(
+    alloc: Global,
+    conn: &mut Connection<S>,
+) -> Result<(Vec<Category>, Vec<Part>), OpenFault>
+    requires { HasCleanDisk (state S.Store conn.old) → HasTables (state S.Store conn.old) }
+    ensures { Reads (λ trees rows. ArePartRows trees rows.0.items rows.1.items) WhyNot
+        (state S.Store conn.old) (state S.Store conn.new) result }
+{
+    let categories = load_rows::<S, Category>(alloc, conn, TableName::Categories)?;
+    let parts = load_rows::<S, Part>(alloc, conn, TableName::Parts)?;
+    Ok((categories, parts))
+}
+
+/// The rows of the bills.
+fn load_bills<S: Alter>(
+    alloc: Global,
+    conn: &mut Connection<S>,
+) -> Result<(Vec<Line>, Vec<Substitute>), OpenFault>
+    requires { HasCleanDisk (state S.Store conn.old) → HasTables (state S.Store conn.old) }
+    ensures { Reads (λ trees rows. AreBillRows trees rows.0.items rows.1.items) WhyNot
+        (state S.Store conn.old) (state S.Store conn.new) result }
+{
+    let lines = load_rows::<S, Line>(alloc, conn, TableName::Lines)?;
+    let substitutes = load_rows::<S, Substitute>(alloc, conn, TableName::Substitutes)?;
+    Ok((lines, substitutes))
+}
+
+/// The rows of the stock.
+fn load_stock<S: Alter>(
+    alloc: Global,
+    conn: &mut Connection<S>,
+) -> Result<(Vec<Location>, Vec<Item>, Vec<Entry>), OpenFault>
+    requires { HasCleanDisk (state S.Store conn.old) → HasTables (state S.Store conn.old) }
+    ensures { Reads (λ trees rows. AreStockRows trees rows.0.items rows.1.items rows.2.items) WhyNot
+        (state S.Store conn.old) (state S.Store conn.new) result }
+{
+    let locations = load_rows::<S, Location>(alloc, conn, TableName::Locations)?;
+    let items = load_rows::<S, Item>(alloc, conn, TableName::Items)?;
+    let history = load_rows::<S, Entry>(alloc, conn, TableName::History)?;
+    Ok((locations, items, history))
+}
+
+/// The rows of all tables that a state has rows in.
+fn load_tables<S: Alter>(alloc: Global, conn: &mut Connection<S>) -> Result<Tables, OpenFault>
+    requires { HasCleanDisk (state S.Store conn.old) → HasTables (state S.Store conn.old) }
+    ensures { Reads AreTables WhyNot (state S.Store conn.old) (state S.Store conn.new) result }
+{
+    let (row, limits) = load_counter(alloc, conn)?;
+    let (categories, parts) = load_catalogue(alloc, conn)?;
+    let (lines, substitutes) = load_bills(alloc, conn)?;
+    let (locations, items, history) = load_stock(alloc, conn)?;
+    let answers = load_answers(alloc, conn)?;
+    Ok(Tables {
+        categories,
+        parts,
+        lines,
+        substitutes,
+        locations,
+        items,
+        history,
+        answers,
+        next: row.next,
+        entries: row.entries,
+        limits,
+    })
+}
+
+/// The shop whose state the tables have.
+pub(crate) fn load<S: Alter>(alloc: Global, conn: &mut Connection<S>) -> Result<Shop, OpenFault>
+    requires { HasCleanDisk (state S.Store conn.old) → HasTables (state S.Store conn.old) }
+    ensures sound { IfOk result (λ shop. IsSoundState (state_of shop)) }
+    ensures read { Reads AreBooksOf WhyNot
+        (state S.Store conn.old) (state S.Store conn.new) result }
+{
+    check_not_made(conn)?;
+    let tables = load_tables(alloc, conn)?;
+    match Shop::assemble(alloc, tables) {
+        Ok(shop) => Ok(shop),
+        Err(AssembleFault::Memory) => Err(OpenFault::Memory),
+        Err(AssembleFault::Unsound) => Err(OpenFault::Damaged(None)),
+    }
+}

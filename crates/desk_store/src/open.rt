@@ -1,0 +1,60 @@
+//! A desk in a database that has one.
+//!
+//! The tables are read whole, and are looked at as nobody's: whether they are the desk's at all, whether each row is
+//! one of the machine's, and whether the rows are together a sound state. So the state is one that the laws of the
+//! machine speak of, whoever wrote the file.
+ghost use Rattle.std.specs.Prelude.{◌≡◌, ◌⊎◌, None, IfOk, IfErr, IsTrue};
+ghost use Rattle.sqlite.specs.Held.{state};
+ghost use Rattle.sqlite.specs.State.{HasCleanDisk};
+ghost use Rattle.sqlite.specs.Tree.{Trees};
+ghost use Rattle.sqlite_trees.specs.View.{IsClean};
+ghost use Rattle.desk_core.specs.Machine.{IsSoundState, State};
+ghost use Rattle.desk_core.specs.Shops.{state_of};
+ghost use Rattle.desk_store.specs.Books.{TablesAre};
+ghost use Rattle.desk_store.specs.Desks.{IsDesk};
+ghost use Rattle.desk_store.specs.Opening.{IsOfOtherVersion, WhyNot};
+
+use crate::desk::Desk;
+use crate::fault::OpenFault;
+use crate::load::{load, open_fault};
+use sqlite::{Alter, Connection};
+use std::alloc::Global;
+use table_store::open_tables;
+
+impl<S: Alter + Drop> Desk<S> {
+    /// The desk whose books the database holds. What isn't committed there is rolled back.
+    ///
+    /// `Foreign` where the tables aren't a desk's, or are of another version; `Damaged` where they are the tables of no
+    /// sound state. The store is handed back beside a fault, with the tables as they were; after `Store` it is to be
+    /// opened again.
+    pub fn open(alloc: Global, conn: Connection<S>) -> Result<Desk<S>, (OpenFault, S)>
+        ensures desk { IfOk result (λ desk. IsDesk S.Store desk) }
+        ensures open { IfOk result (λ desk. desk.failed ≡ None) }
+        ensures found { IfOk result (λ desk. HasCleanDisk (state S.Store desk.conn)
+            → TablesAre (state_of desk.shop) (state S.Store conn).committed.trees) }
+        ensures one { IfOk result (λ desk. HasCleanDisk (state S.Store desk.conn)
+            → (s : State) → IsSoundState s → TablesAre s (state S.Store conn).committed.trees
+            → s ≡ state_of desk.shop) }
+        ensures why { IfErr result (λ e. IsClean (S.Store.view e.1)
+            → WhyNot (state S.Store conn).committed.trees e.0) }
+        ensures kept { IfErr result (λ e. IsClean (S.Store.view e.1)
+            → IsTrue (S.Store.view e.1).is_open
+            → (S.Store.view e.1).trees ≡ (state S.Store conn).committed.trees) }
+        ensures crash { IfErr result (λ e. IsClean (S.Store.view e.1) → (trees : Trees)
+            → S.Store.recovers e.1 trees → (state S.Store conn).may_leave trees) }
+    {
+        let mut opened = match open_tables(alloc, conn) {
+            Ok(opened) => opened,
+            Err((fault, store)) => return Err((open_fault(fault), store)),
+        };
+        match load(alloc, &mut opened) {
+            Ok(shop) => Ok(Desk {
+                conn: opened,
+                shop,
+                failed: None,
+                alloc,
+            }),
+            Err(fault) => Err((fault, opened.into_store())),
+        }
+    }
+}

@@ -1,0 +1,30 @@
+//! Whole writes.
+ghost use Rattle.std.specs.Prelude.{OnOk, OnErr};
+ghost use Rattle.std.specs.Io.KnownBytes.{Appends};
+ghost use Rattle.desk_store.specs.Exports.{AppendsFront};
+
+use std::io::Write;
+
+/// The writer failed, or took no byte.
+#[derive(Clone, Copy, Debug, PartialEq, Eq)]
+pub struct WriteFailed;
+
+/// Writes all the bytes and flushes; else a front of them.
+pub fn send<W: Write>(writer: &mut W, text: &[u8]) -> Result<(), WriteFailed>
+    ensures whole { OnOk result (Appends (W.contents writer.old) (W.contents writer.new) text.now) }
+    ensures front { OnErr result
+        (AppendsFront (W.contents writer.old) (W.contents writer.new) text.now) }
+{
+    let mut at = 0;
+    while at < text.len() {
+        match writer.write(&text[at..]) {
+            Ok(0) => return Err(WriteFailed),
+            Ok(n) => at += n,
+            Err(_) => return Err(WriteFailed),
+        }
+    }
+    match writer.flush() {
+        Ok(()) => Ok(()),
+        Err(_) => Err(WriteFailed),
+    }
+}
