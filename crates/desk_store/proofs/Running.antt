@@ -31,10 +31,6 @@ kept_more (Some k) text a s after same some none =
     ∙ ap (λ o. cond (is_some o) (table.len s.answers) (table.len s.answers + 1)) none
 
 module _ (s : State) (r : Request) (new : State) (a : Answer) where
-  -- the three ways in which a step ends
-  abbrev Ended : Option Answer → Option Refusal → Type 0
-  Ended again refusal = by_repeat again s (by_check refusal s r (effect s r.day r.command)) ≡ (new, Ok a)
-
   one_state : (p q : State × Outcome) → p ≡ q → p.0 ≡ q.0
   one_state p q e = ap (λ (x : State × Outcome). x.0) e
 

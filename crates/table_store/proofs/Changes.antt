@@ -7,7 +7,7 @@ use Rattle.std.specs.FinMap.{get, insert, remove}
 use Rattle.std.proofs.lemmas.List.{drop_more}
 use Rattle.std.proofs.lemmas.List.Elements.{recursion_from_All, All-from_recursion}
 use Rattle.sqlite.specs.Order.{Row}
-use Rattle.sqlite.specs.State.{State, IsUnchanged, IsRolledBack, KeepsCommit}
+use Rattle.sqlite.specs.State.{State}
 use Rattle.sqlite.specs.Tree.{without_rowid}
 use Rattle.part_core.specs.Columns.{IsSmall, AreSmall}
 use Rattle.part_core.specs.Filled.{StandUnderKeys}
@@ -21,7 +21,7 @@ use Rattle.table_store.specs.declared.name.TableName.{TableName}
 use Rattle.table_store.specs.Stored.{values_of}
 use Rattle.table_store.specs.Transactions.{StaysInside}
 use Rattle.table_store.specs.Values.{HasTables, AreDropped, HasSet, with_row}
-use Rattle.table_store.specs.Written.{tree_of, IsReady, IsStopped, Holds, Writes, Suits, Takes, changes_of, given_all}
+use Rattle.table_store.specs.Written.{tree_of, IsReady, Holds, Writes, Suits, Takes, changes_of, given_all}
 use Rattle.table_store.proofs.Holding.{keyed-dropped, holds-put, holds-removed, own-given, given-difference}
 
 -- ---- one change
@@ -65,17 +65,8 @@ pub record IsMidway {X : Type 0} (Is : List Row → Table X → Type 0) (key_of 
 pub stays-on : (old now new : State) → StaysInside old now → StaysInside now new → StaysInside old new
 stays-on old now new a b = record { was_open = a.was_open; is_open = b.is_open; now_is = refl; committed_is = b.committed_is ∙ a.committed_is; mode = b.mode }
 
-pub stopped-after : (old now new : State) → StaysInside old now → IsUnchanged now new ⊎ IsRolledBack now new → IsStopped old new
-stopped-after old now new a (inl same) = inr (record { was_open = a.was_open; is_open = same.0.is_open; now_is = refl; committed_is = same.0.committed_is ∙ a.committed_is; mode = same.0.mode ∙ a.mode })
-stopped-after old now new a (inr back) =
-    inl (record { was_open = λ up. a.was_open; undone = λ up. let u = back.undone up in (u.0 ∙ a.committed_is, u.1 ∙ a.committed_is); autocommit = back.autocommit })
-
 pub stays-here : (s : State) → IsReady s → StaysInside s s
 stays-here s ready = record { was_open = ready.1; is_open = ready.1; now_is = refl; committed_is = refl; mode = ready.0.1 }
-
-pub stopped-commit : (old new : State) → IsStopped old new → KeepsCommit old new
-stopped-commit old new (inl back) = record { was_open = back.was_open; committed = λ up. (back.undone up).1 }
-stopped-commit old new (inr stays) = record { was_open = λ up. stays.was_open; committed = λ up. stays.committed_is }
 
 -- ---- the changes that a sheet lists
 
@@ -136,13 +127,6 @@ module _ {X : Type 0} (Is : List Row → Table X → Type 0) (columns : X → Li
     others = λ other differs. set.others other differs ∙ m.others other differs;
     rows = λ rows own holds. let mid = m.rows rows own holds in (given c.0 c.1 mid.0, own-given columns key_of table mid.0 c.0 c.1 mid.1 takes, made mid.0 mid.1 mid.2, mid.3);
   }
-
-  pub midway-writes : (left all : List (List ℕ × Option X)) (old now : State) → IsMidway Is key_of table left all old now → Writes table old now
-  midway-writes left all old now m = record { rows = refl; others = m.others; tables = m.ready.0.0; shown = m.stays }
-
-  pub midway-holds : (all : List (List ℕ × Option X)) (old now : State) → IsMidway Is key_of table [] all old now
-      → (rows : Table X) → StandUnderKeys key_of rows → Is (tree_of table old) rows → Is (tree_of table now) (given_all all rows)
-  midway-holds all old now m rows own holds = let mid = m.rows rows own holds in subst (Is (tree_of table now)) mid.3 mid.2
 
 module _ {X : Type 0} (columns : X → List Column) (key_of : X → List ℕ) (digits : ℕ → List ℕ) (table : TableName) where
   -- ---- the changes of a sheet are such as the table takes

@@ -1,18 +1,16 @@
 -- The columns of a row are read one by one, and the rows of a table likewise.
-use Rattle.std.proofs.Common.{◌≡◌, Result, Ok, Err, IfOk, ℕ, pos, negsuc, Bool, true, false, cond, ◌+◌, ◌<◌, ◌≤◌, List, [], ◌∷◌, ◌++◌, map, take, drop, get_or, length, Option, Some, None, append_assoc, append-nil, refl, sym, ap, subst, ◌∙◌}
+use Rattle.std.proofs.Common.{◌≡◌, Result, Ok, Err, IfOk, ℕ, pos, negsuc, Bool, true, false, cond, ◌+◌, ◌<◌, ◌≤◌, List, [], ◌∷◌, ◌++◌, map, take, get_or, length, Option, Some, None, refl, sym, ap, subst, ◌∙◌}
 use Rattle.std.specs.Prelude.{All}
 use Rattle.std.specs.List.{AllByRecursion}
 use Rattle.std.specs.Str.{is_utf8}
-use Rattle.std.proofs.lemmas.List.{drop_more, drop_all, take_more, take_all}
+use Rattle.std.proofs.lemmas.List.{take_more, take_all}
 use Rattle.std.proofs.lemmas.List.Elements.{recursion_from_All, All-push}
 use Rattle.sqlite.specs.declared.types.Value.TheVariants.{Null, Int, Real, Text as Words, Blob}
 use Rattle.sqlite.specs.declared.types.Value.{Value}
 use Rattle.sqlite.specs.Order.{Row, column}
-use Rattle.part_core.specs.Columns.{◌>>=◌, Misses}
+use Rattle.part_core.specs.Columns.{◌>>=◌}
 use Rattle.part_core.specs.declared.column.Column.{Column}
 use Rattle.part_core.specs.declared.column.Column.TheVariants.{Whole, Text, Absent}
-use Rattle.part_core.specs.declared.column.ColumnFault.{ColumnFault}
-use Rattle.part_core.specs.declared.column.ColumnFault.TheVariants.{Memory, NoRow}
 use Rattle.table_store.specs.Stored.{value_of, values_of, column_of, columns_in}
 use Rattle.table_store.specs.Written.{IsRead}
 
@@ -21,35 +19,8 @@ abbrev pub onto : List Column → Option (List Column) → Option (List Column)
 onto columns None = None
 onto columns (Some more) = Some (columns ++ more)
 
-onto-pushed : (columns : List Column) (c : Column) (more : Option (List Column)) → onto columns (more >>= λ cs. Some (c ∷ cs)) ≡ onto (columns ++ c ∷ []) more
-onto-pushed columns c None = refl
-onto-pushed columns c (Some cs) = ap (λ (l : List Column). Some l) (sym (append_assoc columns (c ∷ []) cs))
-
-none-found : (v : Value) (vs : Row) → column_of v ≡ None → columns_in (v ∷ vs) ≡ None
-none-found v vs e = ap (λ (o : Option Column). o >>= λ c. columns_in vs >>= λ cs. Some (c ∷ cs)) e
-
 one-found : (v : Value) (vs : Row) (c : Column) → column_of v ≡ Some c → columns_in (v ∷ vs) ≡ (columns_in vs >>= λ cs. Some (c ∷ cs))
 one-found v vs c e = ap (λ (o : Option Column). o >>= λ c. columns_in vs >>= λ cs. Some (c ∷ cs)) e
-
-module _ (row : Row) (columns : List Column) (at : ℕ) (all : onto columns (columns_in (drop at row)) ≡ columns_in row) where
-  -- one more column
-  pub column_read : (c : Column) → at < length row → column_of (column row at) ≡ Some c → onto (columns ++ c ∷ []) (columns_in (drop (at + 1) row)) ≡ columns_in row
-  column_read c within e =
-      sym (onto-pushed columns c (columns_in (drop (at + 1) row))) ∙ ap (onto columns) (sym (one-found (column row at) (drop (at + 1) row) c e))
-      ∙ ap (λ (vs : Row). onto columns (columns_in vs)) (sym (drop_more row at Null within)) ∙ all
-
-  none_read : at < length row → column_of (column row at) ≡ None → columns_in row ≡ None
-  none_read within e =
-      sym all ∙ ap (λ (vs : Row). onto columns (columns_in vs)) (drop_more row at Null within)
-      ∙ ap (onto columns) (none-found (column row at) (drop (at + 1) row) e)
-
-  -- a value that is no column
-  pub column_missed : (fault : ColumnFault) → at < length row → Misses fault (column_of (column row at)) → Misses fault (columns_in row)
-  column_missed Memory within e = tt
-  column_missed NoRow within e = none_read within e
-
-  pub columns_read : length row ≤ at → columns_in row ≡ Some columns
-  columns_read over = sym all ∙ ap (λ (vs : Row). onto columns (columns_in vs)) (drop_all at row over) ∙ ap (λ (l : List Column). Some l) (append-nil columns)
 
 -- ---- what is written of columns is read again
 

@@ -62,13 +62,6 @@ module _ {X : Type 0} (Is : List Row → Table X → Type 0) (columns : X → Li
     rows = λ rows own free holds. let mid = m.rows rows own free holds in (given c.0 c.1 mid.0, own-added mid.0 c.0 c.1 mid.1 takes, mid.2.1, made mid.0 mid.1 mid.2.0 mid.3, mid.4);
   }
 
-  pub adding-writes : (left all : List (List ℕ × Option X)) (old now : State) → IsAdding Is key_of left all old now → Writes Kept old now
-  adding-writes left all old now m = record { rows = refl; others = m.others; tables = m.ready.0.0; shown = m.stays }
-
-  pub adding-holds : (all : List (List ℕ × Option X)) (old now : State) → IsAdding Is key_of [] all old now
-      → (rows : Table X) → StandUnderKeys key_of rows → AreNew all rows → Is (tree_of Kept old) rows → Is (tree_of Kept now) (given_all all rows)
-  adding-holds all old now m rows own free holds = let mid = m.rows rows own free holds in subst (Is (tree_of Kept now)) mid.4 mid.3
-
 -- ---- the changes of a sheet whose rows stay as they are
 
 module _ {X K : Type 0} (digits : K → List ℕ) where
