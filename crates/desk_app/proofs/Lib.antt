@@ -1,4 +1,3 @@
-pub mod Known
 pub mod Cutting
 pub mod Partway
 pub mod Stepping

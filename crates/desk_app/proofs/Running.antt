@@ -1,14 +1,14 @@
 -- A run, line by line.
 use Rattle.std.proofs.Common.{◌≡◌, ◌+◌, ◌<◌, ◌==◌, ℕ, Bool, true, false, ◌&&◌, cond, List, [], ◌∷◌, ◌++◌, take, drop, length, arith, ap, sym, refl, ◌∙◌, subst, append_assoc, append-nil, inl, inr, length-append, take-append-drop}
-use Rattle.std.specs.Prelude.{◌≢◌, Option, Some, None, ◌⊎◌, Result, Ok, Err, IfErr}
+use Rattle.std.specs.Prelude.{◌≢◌, Option, Some, None, Result, Ok, Err, IfErr}
 use Rattle.std.specs.Result.{IsErrAnd}
 use Rattle.std.specs.Io.KnownBytes.{Keeps, Appends}
 use Rattle.std.proofs.KnownBytes.{Appends-nil, Appends-trans}
 use Rattle.desk_app.specs.Cuts.{held, first_of, rest_of, TakesLine}
 use Rattle.desk_core.specs.Machine.{State}
 use Rattle.desk_app.specs.declared.end.Stop.{Stop}
-use Rattle.desk_app.specs.declared.end.Stop.TheVariants.{ReadFailed, WriteFailed, Memory}
-use Rattle.desk_app.specs.Runs.{onto_first, lines_of, line_step, line_after, line_out, is_fine, run_after, run_out, all_fine, Stopped, CutShort}
+use Rattle.desk_app.specs.declared.end.Stop.TheVariants.{ReadFailed, WriteFailed, Memory, Store}
+use Rattle.desk_app.specs.Runs.{onto_first, lines_of, line_step, line_after, line_out, is_fine, run_after, run_out, all_fine, Stopped, CutLine, CutShort}
 use Rattle.desk_app.proofs.Stepping.{step-held}
 
 -- the lines so far and those to come are all lines; the state, the text and the tests are theirs
@@ -59,6 +59,7 @@ running_stop stop None r w w' s s' n f q p = tt
 running_stop stop (Some xs) None w w' s s' n f q p = absurd p
 running_stop ReadFailed (Some xs) (Some ys) w w' s s' n f q (done, e, a, o, t, c) = record { done = done; rest = lines_of ys; split = e; state = a; written = o }
 running_stop WriteFailed (Some xs) (Some ys) w w' s s' n f q p = absurd (q refl)
+running_stop Store (Some xs) (Some ys) w w' s s' n f q (done, e, a, o, t, c) = record { done = done; rest = lines_of ys; split = e; state = a; written = o }
 running_stop Memory (Some xs) (Some ys) w w' s s' n f q (done, e, a, o, t, c) =
     let all : done ++ [] ≡ done = append-nil done in
     record {
@@ -128,6 +129,8 @@ running_cut Memory (Some xs) (Some ys) (Some zs) w w' w'' s s' s'' n f line (don
       state = a' ∙ ap (λ v. v.0) there ∙ sym (run_after-push s 1 done l);
       written = appends_kept _ _ _ _ o kept;
     }
+running_cut Store (Some xs) (Some ys) (Some zs) w w' w'' s s' s'' n f line (done, e, a, o, g, c) t (same, kept) =
+    running_stop Store (Some xs) (Some ys) w w'' s s'' n f (λ h. absurd (cc)) (done, e, same ∙ a, appends_kept _ _ _ _ o kept, g, c)
 running_cut WriteFailed (Some xs) (Some ys) (Some zs) w w' w'' s s' s'' n f line (done, e, a, o, g, c) t x =
     let l = first_of ys in
     let there = step_there s s' n done line l a c t.1 in
@@ -153,8 +156,11 @@ Keeps-refl : (w : Option (List ℕ)) → Keeps w w
 Keeps-refl None = tt
 Keeps-refl (Some x) = refl
 
-pub cut_for_memory : (stop : Stop) (w : Option (List ℕ)) (s s' : State) (n : ℕ) (line : List ℕ) → stop ≡ Memory → (s' ≡ s) ⊎ (s' ≡ line_after s n line) → CutShort stop w w s s' n line
-cut_for_memory stop w s s' n line h e = subst (λ v. CutShort v w w s s' n line) (sym h) (e, Keeps-refl w)
+pub cut_by_desk : (stop : Stop) (w : Option (List ℕ)) (s s' : State) (n : ℕ) (line : List ℕ) → CutLine stop s s' n line → CutShort stop w w s s' n line
+cut_by_desk ReadFailed w s s' n line h = absurd h
+cut_by_desk WriteFailed w s s' n line h = absurd h
+cut_by_desk Memory w s s' n line h = (h, Keeps-refl w)
+cut_by_desk Store w s s' n line h = (h, Keeps-refl w)
 
 pub stopped_start : (stop : Stop) (o w : Option (List ℕ)) (s : State) → stop ≡ Memory → Stopped stop o w w s s
 stopped_start stop None w s h = tt

@@ -1,11 +1,17 @@
 -- A line, of which as much is here as is held.
-use Rattle.std.proofs.Common.{◌≡◌, ◌+◌, ◌≤◌, ℕ, Bool, true, false, List, [], ◌∷◌, length, nat_le, arith, ap, sym, refl, ◌∙◌, length-take, take}
-use Rattle.std.specs.Prelude.{Err}
-use Rattle.desk_core.specs.Machine.{State}
+use Rattle.std.proofs.Common.{◌≡◌, ◌+◌, ◌≤◌, ℕ, Bool, true, false, List, [], ◌∷◌, length, nat_le, arith, ap, sym, subst, refl, ◌∙◌, length-take, take, ◌⊎◌, inl, inr}
+use Rattle.std.specs.Prelude.{Ok, Err}
+use Rattle.sqlite.specs.Tree.{Trees}
+use Rattle.desk_core.specs.Machine.{State, Outcome, step}
+use Rattle.desk_core.specs.declared.command.Request.{Request as Req}
+use Rattle.desk_store.specs.Books.{TablesAre}
+use Rattle.desk_wire.specs.declared.read.Asked.TheVariants.{Request}
 use Rattle.desk_wire.specs.declared.fault.What.TheVariants.{TooLong}
 use Rattle.desk_app.specs.Cuts.{held}
 use Rattle.desk_wire.specs.Reading.{line}
-use Rattle.desk_app.specs.Runs.{is_blank, line_step}
+use Rattle.desk_app.specs.declared.end.Stop.{Stop}
+use Rattle.desk_app.specs.declared.end.Stop.TheVariants.{ReadFailed, WriteFailed, Memory, Store}
+use Rattle.desk_app.specs.Runs.{by_outcome, is_blank, line_after, line_step, CutLine, CutRequest, IsLeft}
 use Rattle.desk_app.proofs.Cutting.{held_short}
 
 pub blank_step : (s : State) (n : ℕ) (l : List ℕ) → is_blank l ≡ true → line_step s n l ≡ (s, [], true)
@@ -41,3 +47,26 @@ line-held l = cases (nat_le (length l) 65536) refl
 pub step-held : (s : State) (n : ℕ) (l : List ℕ) → line_step s n (held l) ≡ line_step s n l
 unfolding line_step
 step-held s n l = rw (blank-held l, line-held l) refl
+
+-- ---- a line that asks for a request
+
+outcome_state : (p : State × Outcome) → (by_outcome p).0 ≡ p.0
+outcome_state (s, Ok answer) = refl
+outcome_state (s, Err refusal) = refl
+
+asked_step : (s : State) (n : ℕ) (l : List ℕ) (r : Req) → is_blank l ≡ false → line l ≡ Ok (Request r) → line_step s n l ≡ by_outcome (step s r)
+unfolding line_step
+asked_step s n l r filled is = rw (filled, is) refl
+
+pub asked_after : (s : State) (n : ℕ) (l : List ℕ) (r : Req) → is_blank l ≡ false → line l ≡ Ok (Request r) → line_after s n l ≡ (step s r).0
+asked_after s n l r filled is = ap (λ t. t.0) (asked_step s n l r filled is) ∙ outcome_state (step s r)
+
+pub cut_line : (stop : Stop) (s s' : State) (n : ℕ) (l : List ℕ) (r : Req) → line_after s n l ≡ (step s r).0 → CutRequest stop s s' r → CutLine stop s s' n l
+cut_line ReadFailed s s' n l r e h = absurd h
+cut_line WriteFailed s s' n l r e h = absurd h
+cut_line Memory s s' n l r e h = elim h [ inl same ↦ inl same | inr after ↦ inr (after ∙ sym e) ]
+cut_line Store s s' n l r e h = h
+
+pub left_of_line : (s : State) (n : ℕ) (l : List ℕ) (r : Req) (trees : Trees) → line_after s n l ≡ (step s r).0 → TablesAre s trees ⊎ TablesAre (step s r).0 trees → IsLeft s trees
+left_of_line s n l r trees e (inl h) = inl h
+left_of_line s n l r trees e (inr h) = inr (n, l, subst (λ t. TablesAre t trees) (sym e) h)

@@ -3,6 +3,7 @@ use Rattle.std.specs.Prelude.{◌≡◌, ◌≤◌, ℕ, length, ◌+◌, ◌==�
 use Rattle.std.specs.Io.KnownBytes.{Appends, Keeps}
 use Rattle.part_core.specs.declared.refusal.Refusal.TheVariants.{NoSuch}
 use Rattle.desk_core.specs.Machine.{State, Outcome, step}
+use Rattle.desk_core.specs.declared.command.Request.{Request as Req}
 use Rattle.report_core.specs.Lines.{Lines}
 use Rattle.report_core.specs.Reports.{report_lines}
 use Rattle.desk_wire.specs.declared.fault.What.{What}
@@ -10,8 +11,10 @@ use Rattle.desk_wire.specs.declared.read.Asked.{Asked}
 use Rattle.desk_wire.specs.declared.read.Asked.TheVariants.{Request, Report}
 use Rattle.desk_wire.specs.Reading as reading
 use Rattle.desk_wire.specs.Writing.{answer_text, refused_text, fault_text, report_text}
+use Rattle.sqlite.specs.Tree.{Trees}
+use Rattle.desk_store.specs.Books.{TablesAre}
 use Rattle.desk_app.specs.declared.end.Stop.{Stop}
-use Rattle.desk_app.specs.declared.end.Stop.TheVariants.{ReadFailed, WriteFailed, Memory}
+use Rattle.desk_app.specs.declared.end.Stop.TheVariants.{ReadFailed, WriteFailed, Memory, Store}
 
 -- ---- one line: the state after it, the text with LF that is answered, and whether nothing was
 -- refused or faulty
@@ -98,8 +101,9 @@ abbrev pub Finished : Option (List ℕ) → Option (List ℕ) → Option (List �
 Finished None w w' s s' all = Unit {0}
 Finished (Some text) w w' s s' all = RunWhole text w w' s s' all
 
--- the first of these lines were run, and their answers written whole; the others were not run
-pub record StoppedReading (lines : List (List ℕ)) (w w' : Option (List ℕ)) (s s' : State) : Type 0 where
+-- the first of these lines were run, and their answers written whole; the others were not run. So it is where no line
+-- came, and where the desk kept none.
+pub record StoppedBetween (lines : List (List ℕ)) (w w' : Option (List ℕ)) (s s' : State) : Type 0 where
   pub done : List (List ℕ)
   pub rest : List (List ℕ)
   pub split : lines ≡ done ++ rest
@@ -133,9 +137,10 @@ pub record StoppedForMemory (lines : List (List ℕ)) (w w' : Option (List ℕ))
 abbrev pub Stopped : Stop → Option (List ℕ) → Option (List ℕ) → Option (List ℕ) → State → State
     → Type 0
 Stopped stop None w w' s s' = Unit {0}
-Stopped ReadFailed (Some text) w w' s s' = StoppedReading (lines_of text) w w' s s'
+Stopped ReadFailed (Some text) w w' s s' = StoppedBetween (lines_of text) w w' s s'
 Stopped WriteFailed (Some text) w w' s s' = StoppedWriting (lines_of text) w w' s s'
 Stopped Memory (Some text) w w' s s' = StoppedForMemory (lines_of text) w w' s s'
+Stopped Store (Some text) w w' s s' = StoppedBetween (lines_of text) w w' s s'
 
 -- the line was run, and a front of its answer is written
 pub record CutWriting (w w' : Option (List ℕ)) (s s' : State) (number : ℕ) (line : List ℕ) : Type 0 where
@@ -145,8 +150,42 @@ pub record CutWriting (w w' : Option (List ℕ)) (s s' : State) (number : ℕ) (
   pub answer : line_out s number line ≡ front ++ more
   pub written : Appends w w' front
 
--- a line that was not answered whole; for want of memory it was run or not, and nothing is written
+-- a request that the desk did not answer, or whose answer was not told: it was run or not, for want of memory; where the
+-- database failed it was not
+abbrev pub CutRequest : Stop → State → State → Req → Type 0
+CutRequest Memory s s' r = (s' ≡ s) ⊎ (s' ≡ (step s r).0)
+CutRequest Store s s' r = s' ≡ s
+CutRequest _ s s' r = ⊥
+
+-- the same of a line
+abbrev pub CutLine : Stop → State → State → ℕ → List ℕ → Type 0
+CutLine Memory s s' number line = (s' ≡ s) ⊎ (s' ≡ line_after s number line)
+CutLine Store s s' number line = s' ≡ s
+CutLine _ s s' number line = ⊥
+
+-- neither the reader nor the writer stops it
+abbrev pub IsOfDesk : Stop → Type 0
+IsOfDesk Memory = Unit {0}
+IsOfDesk Store = Unit {0}
+IsOfDesk _ = ⊥
+
+-- a desk that wasn't closed isn't, unless the database failed
+abbrev pub StaysOpen : {F X : Type 0} → Option F → Option F → Result X Stop → Type 0
+StaysOpen old new (Ok x) = old ≡ None → new ≡ None
+StaysOpen old new (Err ReadFailed) = old ≡ None → new ≡ None
+StaysOpen old new (Err WriteFailed) = old ≡ None → new ≡ None
+StaysOpen old new (Err Memory) = old ≡ None → new ≡ None
+StaysOpen old new (Err Store) = Unit {0}
+
+-- a line that was not answered whole; for want of memory it was run or not, and nothing is written; where the database
+-- failed it was not run
 abbrev pub CutShort : Stop → Option (List ℕ) → Option (List ℕ) → State → State → ℕ → List ℕ → Type 0
 CutShort ReadFailed w w' s s' number line = ⊥
 CutShort WriteFailed w w' s s' number line = CutWriting w w' s s' number line
 CutShort Memory w w' s s' number line = ((s' ≡ s) ⊎ (s' ≡ line_after s number line)) × Keeps w w'
+CutShort Store w w' s s' number line = (s' ≡ s) × Keeps w w'
+
+-- what a crash leaves of a desk that holds this state: its tables, or those after one line more, at which the database
+-- failed
+abbrev pub IsLeft : State → Trees → Type 0
+IsLeft s trees = TablesAre s trees ⊎ ((number : ℕ) × (line : List ℕ) × TablesAre (line_after s number line) trees)

@@ -12,6 +12,8 @@ pub enum RunEnd {
     WriteFailed,
     /// A growth was refused for want of memory.
     Memory,
+    /// The database failed, or the desk was closed.
+    Store,
 }
 
 /// Why a run stops before its end.
@@ -20,6 +22,7 @@ pub enum Stop {
     ReadFailed,
     WriteFailed,
     Memory,
+    Store,
 }
 
 impl Stop {
@@ -34,6 +37,7 @@ impl Stop {
             Stop::ReadFailed => RunEnd::ReadFailed,
             Stop::WriteFailed => RunEnd::WriteFailed,
             Stop::Memory => RunEnd::Memory,
+            Stop::Store => RunEnd::Store,
         }
     }
 }

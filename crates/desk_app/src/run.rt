@@ -1,23 +1,32 @@
-//! A run over the lines of a reader. After each line the shop holds the state after all lines so far,
-//! and their answers are written whole. A line is run before its answer is written: where the writer
-//! fails that line is run, and a front of its answer is written. No line is run after a failure.
-ghost use Rattle.std.specs.Prelude.{◌≡◌, ◌≢◌, ◌⊎◌, ◌≤◌, ℕ, List, Bool, false, length, true, IfOk, OnOk, IfErr, OnErr};
+//! A run over the lines of a reader. After each line the desk holds the state after all lines so far,
+//! and their answers are written whole. A line is run, and what it changes is committed, before its
+//! answer is written: where the writer fails that line is run, and a front of its answer is written.
+//! No line is run after a failure. Where it is the database that failed, the desk is closed, and its
+//! tables are those before that line or after it.
+ghost use Rattle.std.specs.Prelude.{◌≡◌, ◌≢◌, ◌⊎◌, ◌≤◌, ℕ, List, Bool, None, false, length, true, IfOk, OnOk, IfErr, OnErr};
 ghost use Rattle.std.specs.String.{string_bytes};
 ghost use Rattle.std.specs.Io.KnownBytes.{Appends};
+ghost use Rattle.sqlite.specs.Held.{state};
+ghost use Rattle.sqlite.specs.State.{HasCleanDisk};
+ghost use Rattle.sqlite.specs.Tree.{Trees};
 ghost use Rattle.desk_core.specs.Machine.{IsSoundState, step};
 ghost use Rattle.desk_core.specs.Shops.{state_of};
+ghost use Rattle.desk_store.specs.Books.{TablesAre};
+ghost use Rattle.desk_store.specs.Desks.{IsDesk};
 ghost use Rattle.desk_app.specs.declared.end.Stop.{Stop};
 ghost use Rattle.desk_app.specs.Ends.{end_of};
 ghost use Rattle.report_core.specs.Reports.{report_lines};
-ghost use Rattle.desk_app.specs.Runs.{by_outcome, by_report, is_blank, line_step, line_after, line_out, is_fine, CutShort, Finished, Stopped};
+ghost use Rattle.desk_app.specs.Runs.{by_outcome, by_report, is_blank, line_step, line_after, line_out, is_fine, CutLine, CutRequest, CutShort, Finished, IsLeft, IsOfDesk, StaysOpen, Stopped};
 
 use crate::end::{RunEnd, Stop};
 use crate::lines::Lines;
 use crate::send::send;
 use desk_core::{Request, Shop};
+use desk_store::{Desk, Fault};
 use desk_wire::{Asked, ReadError, answer_text, fault_text, read_line, refused_text, report_text};
 use part_core::CoreFault;
 use report_core::{ReportName, report};
+use sqlite::Alter;
 use std::alloc::Global;
 use std::io::{Read, Write};
 
@@ -39,25 +48,34 @@ fn is_blank(line: &[u8]) -> bool
 }
 
 /// Runs a request, and tells its outcome.
-fn tell_outcome(alloc: Global, shop: &mut Shop, request: &Request) -> Result<Told, Stop>
-    requires { IsSoundState (state_of shop.old) }
-    ensures ok { IfOk result (λ told. by_outcome (step (state_of shop.old) request.now)
-        ≡ (state_of shop.new, string_bytes told.text, told.fine)) }
-    ensures memory { IfErr result (λ stop. stop ≡ Stop.Memory) }
-    ensures err { OnErr result ((state_of shop.new ≡ state_of shop.old)
-        ⊎ (state_of shop.new ≡ (by_outcome (step (state_of shop.old) request.now)).0)) }
-    ensures sound { IsSoundState (state_of shop.new) }
+fn tell_outcome<S: Alter>(
+    alloc: Global,
+    desk: &mut Desk<S>,
+    request: &Request,
+) -> Result<Told, Stop>
+    requires { IsDesk S.Store desk.old }
+    ensures ok { IfOk result (λ told. by_outcome (step (state_of desk.old.shop) request.now)
+        ≡ (state_of desk.new.shop, string_bytes told.text, told.fine)) }
+    ensures cut { IfErr result (λ stop. CutRequest stop (state_of desk.old.shop)
+        (state_of desk.new.shop) request.now) }
+    ensures desk { IsDesk S.Store desk.new }
+    ensures stays_open { StaysOpen desk.old.failed desk.new.failed result }
+    ensures left { desk.old.failed ≡ None → HasCleanDisk (state S.Store desk.new.conn)
+        → (trees : Trees) → (state S.Store desk.new.conn).may_leave trees
+        → TablesAre (state_of desk.new.shop) trees
+        ⊎ TablesAre (step (state_of desk.new.shop) request.now).0 trees }
 {
-    match shop.decide(request) {
+    match desk.run(request) {
         Ok(answer) => Ok(Told {
             text: answer_text(alloc, &answer)?,
             fine: true,
         }),
-        Err(CoreFault::Refused(refusal)) => Ok(Told {
+        Err(Fault::Refused(refusal)) => Ok(Told {
             text: refused_text(alloc, refusal)?,
             fine: false,
         }),
-        Err(CoreFault::Memory) => Err(Stop::Memory),
+        Err(Fault::Memory) => Err(Stop::Memory),
+        Err(Fault::Store | Fault::Closed) => Err(Stop::Store),
     }
 }
 
@@ -82,21 +100,43 @@ fn tell_report(alloc: Global, shop: &Shop, name: ReportName, of: u64) -> Result<
     }
 }
 
+/// Tells the report of that name, of the shop that an open desk holds.
+fn tell_of_desk<S: Alter>(
+    alloc: Global,
+    desk: &Desk<S>,
+    name: ReportName,
+    of: u64,
+) -> Result<Told, Stop>
+    requires { IsSoundState (state_of desk.now.shop) }
+    ensures ok { IfOk result (λ told.
+        by_report (state_of desk.now.shop) (report_lines name of (state_of desk.now.shop))
+        ≡ (state_of desk.now.shop, string_bytes told.text, told.fine)) }
+    ensures stop { IfErr result IsOfDesk }
+{
+    match desk.shop() {
+        Ok(shop) => tell_report(alloc, shop, name, of),
+        Err(_) => Err(Stop::Store),
+    }
+}
+
 #[tactic(auto, unfolding(crate::specs::Runs::line_step))]
 /// Runs one line that isn't blank, and tells what is answered.
-fn tell(alloc: Global, shop: &mut Shop, number: u64, line: &[u8]) -> Result<Told, Stop>
+fn tell<S: Alter>(alloc: Global, desk: &mut Desk<S>, number: u64, line: &[u8]) -> Result<Told, Stop>
     requires filled { is_blank line.now ≡ false }
-    requires sound { IsSoundState (state_of shop.old) }
-    ensures ok { IfOk result (λ told. line_step (state_of shop.old) number line.now
-        ≡ (state_of shop.new, string_bytes told.text, told.fine)) }
-    ensures memory { IfErr result (λ stop. stop ≡ Stop.Memory) }
-    ensures err { OnErr result ((state_of shop.new ≡ state_of shop.old)
-        ⊎ (state_of shop.new ≡ line_after (state_of shop.old) number line.now)) }
-    ensures sound { IsSoundState (state_of shop.new) }
+    requires desk { IsDesk S.Store desk.old }
+    ensures ok { IfOk result (λ told. line_step (state_of desk.old.shop) number line.now
+        ≡ (state_of desk.new.shop, string_bytes told.text, told.fine)) }
+    ensures cut { IfErr result (λ stop. CutLine stop (state_of desk.old.shop)
+        (state_of desk.new.shop) number line.now) }
+    ensures desk { IsDesk S.Store desk.new }
+    ensures stays_open { StaysOpen desk.old.failed desk.new.failed result }
+    ensures left { desk.old.failed ≡ None → HasCleanDisk (state S.Store desk.new.conn)
+        → (trees : Trees) → (state S.Store desk.new.conn).may_leave trees
+        → IsLeft (state_of desk.new.shop) trees }
 {
     match read_line(alloc, line, number) {
-        Ok(Asked::Request(request)) => tell_outcome(alloc, shop, &request),
-        Ok(Asked::Report { name, of }) => tell_report(alloc, shop, name, of),
+        Ok(Asked::Request(request)) => tell_outcome(alloc, desk, &request),
+        Ok(Asked::Report { name, of }) => tell_of_desk(alloc, desk, name, of),
         Err(ReadError::Wrong(fault)) => Ok(Told {
             text: fault_text(alloc, fault)?,
             fine: false,
@@ -107,46 +147,55 @@ fn tell(alloc: Global, shop: &mut Shop, number: u64, line: &[u8]) -> Result<Told
 
 /// Runs one line, of which as much is here as is held, and writes its answer. True where nothing
 /// was refused or faulty.
-fn answer<W: Write>(
+fn answer<S: Alter, W: Write>(
     alloc: Global,
     writer: &mut W,
-    shop: &mut Shop,
+    desk: &mut Desk<S>,
     number: u64,
     line: &[u8],
 ) -> Result<bool, Stop>
     requires short { length line.now ≤ 65537 }
-    requires sound { IsSoundState (state_of shop.old) }
-    ensures fine { IfOk result (λ fine. fine ≡ is_fine (state_of shop.old) number line.now) }
-    ensures ok { OnOk result (state_of shop.new ≡ line_after (state_of shop.old) number line.now) }
+    requires desk { IsDesk S.Store desk.old }
+    ensures fine { IfOk result (λ fine. fine ≡ is_fine (state_of desk.old.shop) number line.now) }
+    ensures ok { OnOk result (state_of desk.new.shop
+        ≡ line_after (state_of desk.old.shop) number line.now) }
     ensures out { OnOk result (Appends (W.contents writer.old) (W.contents writer.new)
-        (line_out (state_of shop.old) number line.now)) }
+        (line_out (state_of desk.old.shop) number line.now)) }
     ensures cut { IfErr result (λ stop.
         CutShort stop (W.contents writer.old) (W.contents writer.new)
-        (state_of shop.old) (state_of shop.new) number line.now) }
-    ensures sound { IsSoundState (state_of shop.new) }
+        (state_of desk.old.shop) (state_of desk.new.shop) number line.now) }
+    ensures desk { IsDesk S.Store desk.new }
+    ensures stays_open { StaysOpen desk.old.failed desk.new.failed result }
+    ensures left { desk.old.failed ≡ None → HasCleanDisk (state S.Store desk.new.conn)
+        → (trees : Trees) → (state S.Store desk.new.conn).may_leave trees
+        → IsLeft (state_of desk.new.shop) trees }
 {
     if is_blank(line) {
         return Ok(true);
     }
-    let told = tell(alloc, shop, number, line)?;
+    let told = tell(alloc, desk, number, line)?;
     send(writer, told.text.as_bytes())?;
     Ok(told.fine)
 }
 
 /// Answers each line of the reader: true where nothing was refused or faulty.
-fn answer_all<R: Read, W: Write>(
+fn answer_all<S: Alter, R: Read, W: Write>(
     alloc: Global,
     reader: &mut R,
     writer: &mut W,
-    shop: &mut Shop,
+    desk: &mut Desk<S>,
 ) -> Result<bool, Stop>
-    requires { IsSoundState (state_of shop.old) }
+    requires { IsDesk S.Store desk.old }
     ensures done { IfOk result (λ all. Finished (R.remaining reader.old) (W.contents writer.old)
-        (W.contents writer.new) (state_of shop.old) (state_of shop.new) all) }
+        (W.contents writer.new) (state_of desk.old.shop) (state_of desk.new.shop) all) }
     ensures stopped { IfErr result (λ stop.
         Stopped stop (R.remaining reader.old) (W.contents writer.old)
-        (W.contents writer.new) (state_of shop.old) (state_of shop.new)) }
-    ensures sound { IsSoundState (state_of shop.new) }
+        (W.contents writer.new) (state_of desk.old.shop) (state_of desk.new.shop)) }
+    ensures desk { IsDesk S.Store desk.new }
+    ensures stays_open { StaysOpen desk.old.failed desk.new.failed result }
+    ensures left { desk.old.failed ≡ None → HasCleanDisk (state S.Store desk.new.conn)
+        → (trees : Trees) → (state S.Store desk.new.conn).may_leave trees
+        → IsLeft (state_of desk.new.shop) trees }
 {
     let mut lines = Lines::new(alloc)?;
     let mut line = Vec::new(alloc);
@@ -155,29 +204,33 @@ fn answer_all<R: Read, W: Write>(
         if !lines.next_line(reader, &mut line)? {
             return Ok(all);
         }
-        let fine = answer(alloc, writer, shop, number, &line)?;
+        let fine = answer(alloc, writer, desk, number, &line)?;
         all = all && fine;
     }
     Err(Stop::ReadFailed)
 }
 
 /// Answers each line of the reader, one line each but for blank lines.
-pub fn run_lines<R: Read, W: Write>(
+pub fn run_lines<S: Alter, R: Read, W: Write>(
     alloc: Global,
     reader: &mut R,
     writer: &mut W,
-    shop: &mut Shop,
+    desk: &mut Desk<S>,
 ) -> RunEnd
-    requires { IsSoundState (state_of shop.old) }
+    requires { IsDesk S.Store desk.old }
     ensures done { (all : Bool) → result ≡ RunEnd.Done all
         → Finished (R.remaining reader.old) (W.contents writer.old)
-        (W.contents writer.new) (state_of shop.old) (state_of shop.new) all }
+        (W.contents writer.new) (state_of desk.old.shop) (state_of desk.new.shop) all }
     ensures stopped { (stop : Stop) → result ≡ end_of stop
         → Stopped stop (R.remaining reader.old) (W.contents writer.old)
-        (W.contents writer.new) (state_of shop.old) (state_of shop.new) }
-    ensures sound { IsSoundState (state_of shop.new) }
+        (W.contents writer.new) (state_of desk.old.shop) (state_of desk.new.shop) }
+    ensures desk { IsDesk S.Store desk.new }
+    ensures stays_open { desk.old.failed ≡ None → result ≢ RunEnd.Store → desk.new.failed ≡ None }
+    ensures left { desk.old.failed ≡ None → HasCleanDisk (state S.Store desk.new.conn)
+        → (trees : Trees) → (state S.Store desk.new.conn).may_leave trees
+        → IsLeft (state_of desk.new.shop) trees }
 {
-    match answer_all(alloc, reader, writer, shop) {
+    match answer_all(alloc, reader, writer, desk) {
         Ok(all) => RunEnd::Done(all),
         Err(stop) => stop.end(),
     }

@@ -3,7 +3,7 @@ ghost use Rattle.std.specs.Prelude.{◌≡◌, ◌≤◌, List, ℕ, take, OnOk,
 ghost use Rattle.std.specs.Io.KnownBytes.{Appends};
 
 use crate::end::Stop;
-use std::io::{ErrorKind, Write};
+use std::io::Write;
 
 /// Writes all the bytes and flushes; else a front of them.
 pub fn send<W: Write>(writer: &mut W, text: &[u8]) -> Result<(), Stop>
@@ -11,15 +11,7 @@ pub fn send<W: Write>(writer: &mut W, text: &[u8]) -> Result<(), Stop>
     ensures front { IfErr result (λ e. (e ≡ Stop.WriteFailed) × (n : ℕ) × (n ≤ length text.now)
         × Appends (W.contents writer.old) (W.contents writer.new) (take n text.now)) }
 {
-    let mut at = 0;
-    while at < text.len() {
-        match writer.write(&text[at..]) {
-            Ok(0) => return Err(Stop::WriteFailed),
-            Ok(n) => at += n,
-            Err(_) => return Err(Stop::WriteFailed),
-        }
-    }
-    match writer.flush() {
+    match desk_store::send(writer, text) {
         Ok(()) => Ok(()),
         Err(_) => Err(Stop::WriteFailed),
     }

@@ -3,7 +3,7 @@ ghost use Rattle.desk_core.specs.Machine.{IsSoundState};
 ghost use Rattle.desk_core.specs.Shops.{state_of};
 
 use crate::outcomes::holds;
-use crate::play::plays_on;
+use crate::play::plays_on_shop;
 use bom_core::Substitute;
 use desk_core::{AssembleFault, Shop, Tables};
 use part_core::{Limits, MOST, Row, Sheet};
@@ -89,7 +89,7 @@ fn tables_of(alloc: Global, shop: &Shop) -> Result<Tables, Fail> {
 /// The tables of a small workshop.
 fn workshop(alloc: Global) -> Result<Tables, Fail> {
     let mut shop = Shop::new(alloc, Limits::LARGEST);
-    plays_on(alloc, &mut shop, LINES, ANSWERS)?;
+    plays_on_shop(alloc, &mut shop, LINES, ANSWERS)?;
     tables_of(alloc, &shop)
 }
 
@@ -100,7 +100,7 @@ fn taken_and_gone_on_with(rt: HostRuntime) -> Result<(), Fail> {
     match Shop::assemble(alloc, tables) {
         Ok(shop) => {
             let mut shop = shop;
-            plays_on(alloc, &mut shop, LATER, LATER_ANSWERS)
+            plays_on_shop(alloc, &mut shop, LATER, LATER_ANSWERS)
         }
         Err(_) => Err(Fail::from("tables that a run left are refused")),
     }

@@ -4,7 +4,7 @@ ghost use Rattle.desk_core.specs.Shops.{state_of};
 
 use crate::examples::{bill_cycles, nesting_deep, refused_rows};
 use crate::outcomes::{Wanted, holds, plays};
-use crate::play::plays_on;
+use crate::play::plays_on_shop;
 use crate::requests::{component, found, location, part, remove};
 use desk_core::{Request, Shop, is_key};
 use part_core::{Day, Limits, Refusal, Text};
@@ -15,7 +15,7 @@ use yard_core::{Place, Reason};
 fn ask_bills(alloc: Global, shop: &mut Shop) -> Result<(), Fail>
     requires { IsSoundState (state_of shop.old) }
 {
-    plays_on(alloc, shop, bill_cycles::LINES, bill_cycles::ANSWERS)?;
+    plays_on_shop(alloc, shop, bill_cycles::LINES, bill_cycles::ANSWERS)?;
     let lines = shop.boms().effective(shop.catalogue(), 15)?;
     holds(lines.len() == 1, "one line holds")?;
     let number = lines.first().ok_or("a line")?.number;
@@ -37,7 +37,7 @@ fn bills(rt: HostRuntime) -> Result<(), Fail> {
 fn ask_families(alloc: Global, shop: &mut Shop) -> Result<(), Fail>
     requires { IsSoundState (state_of shop.old) }
 {
-    plays_on(alloc, shop, refused_rows::LINES, refused_rows::ANSWERS)?;
+    plays_on_shop(alloc, shop, refused_rows::LINES, refused_rows::ANSWERS)?;
     holds(shop.catalogue().family(7) == 6, "a variant's family")?;
     holds(shop.catalogue().family(2) == 2, "a part's own family")?;
     holds(shop.catalogue().descends(7, 6), "7 is a variant")?;
@@ -54,7 +54,7 @@ fn families(rt: HostRuntime) -> Result<(), Fail> {
 fn ask_tower(alloc: Global, shop: &mut Shop) -> Result<(), Fail>
     requires { IsSoundState (state_of shop.old) }
 {
-    plays_on(alloc, shop, nesting_deep::LINES, nesting_deep::ANSWERS)?;
+    plays_on_shop(alloc, shop, nesting_deep::LINES, nesting_deep::ANSWERS)?;
     let yard = shop.yard();
     if yard.item(35).is_none() || yard.item(50).is_none() {
         return holds(false, "both ends are there");

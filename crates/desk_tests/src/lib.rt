@@ -6,9 +6,15 @@ mod assembled;
 #[cfg(test)]
 mod calls;
 #[cfg(test)]
+mod damaged;
+#[cfg(test)]
 mod devices;
 #[cfg(test)]
 mod examples;
+#[cfg(test)]
+mod exports;
+#[cfg(test)]
+mod flushes;
 #[cfg(test)]
 mod lines;
 #[cfg(test)]

@@ -1,8 +1,8 @@
 //! Lines, a repeat and reports among them, through slow and failing readers and writers.
 use crate::devices::{Sink, Source};
+use crate::play::created;
 use desk_app::{RunEnd, run_lines};
-use desk_core::Shop;
-use part_core::Limits;
+use sqlite::Connection;
 use std::alloc::Global;
 use std::io::ErrorKind;
 use std::test::Fail;
@@ -25,10 +25,11 @@ const FIRST_OUT: &str = r#"{"entries":0,"ids":[1]}
 {"report":[["ledger","2","Screw"],["received","0"],["found","100"],["built","0"],["returned","0"],["consumed","0"],["shipped","0"],["written","30"],["present","70"],["sent","0"],["used","0"]]}
 "#;
 
-/// Runs the lines on a shop with nothing in it.
-fn runs(alloc: Global, source: &mut Source, sink: &mut Sink) -> RunEnd {
-    let mut shop = Shop::new(alloc, Limits::LARGEST);
-    run_lines(alloc, source, sink, &mut shop)
+/// Runs the lines on a desk with nothing in it.
+fn runs(alloc: Global, source: &mut Source, sink: &mut Sink) -> Result<RunEnd, Fail> {
+    let conn = Connection::open_in_memory(alloc)?;
+    let mut desk = created(alloc, conn)?;
+    Ok(run_lines(alloc, source, sink, &mut desk))
 }
 
 #[test]
@@ -37,7 +38,7 @@ fn first_run(rt: HostRuntime) -> Result<(), Fail> {
     for (read, write) in [(4096, 4096), (1, 1), (7, 3)] {
         let mut source = Source::new(FIRST.as_bytes(), read);
         let mut sink = Sink::new(alloc, write);
-        let end = runs(alloc, &mut source, &mut sink);
+        let end = runs(alloc, &mut source, &mut sink)?;
         assert!(rt; end == RunEnd::Done(true));
         assert!(rt; sink.bytes.as_slice() == FIRST_OUT.as_bytes());
     }
@@ -53,7 +54,7 @@ fn each_read_fails(rt: HostRuntime) -> Result<(), Fail> {
         let mut source = Source::new(FIRST.as_bytes(), 20);
         source.fails = fails;
         let mut sink = Sink::new(alloc, 4096);
-        let end = runs(alloc, &mut source, &mut sink);
+        let end = runs(alloc, &mut source, &mut sink)?;
         assert!(rt; FIRST_OUT.as_bytes().starts_with(sink.bytes.as_slice()));
         assert!(rt; before <= sink.bytes.len());
         before = sink.bytes.len();
@@ -76,7 +77,7 @@ fn each_write_fails(rt: HostRuntime) -> Result<(), Fail> {
         let mut source = Source::new(FIRST.as_bytes(), 4096);
         let mut sink = Sink::new(alloc, 10);
         sink.fails = fails;
-        let end = runs(alloc, &mut source, &mut sink);
+        let end = runs(alloc, &mut source, &mut sink)?;
         assert!(rt; FIRST_OUT.as_bytes().starts_with(sink.bytes.as_slice()));
         if sink.calls < fails {
             assert!(rt; end == RunEnd::Done(true));
@@ -98,12 +99,12 @@ fn interrupted_and_full(rt: HostRuntime) -> Result<(), Fail> {
     source.fails = 3;
     source.failure = ErrorKind::Interrupted;
     let mut sink = Sink::new(alloc, 4096);
-    let end = runs(alloc, &mut source, &mut sink);
+    let end = runs(alloc, &mut source, &mut sink)?;
     assert!(rt; end == RunEnd::Done(true));
     assert!(rt; sink.bytes.as_slice() == FIRST_OUT.as_bytes());
     let mut source = Source::new(FIRST.as_bytes(), 4096);
     let mut sink = Sink::new(alloc, 0);
-    let end = runs(alloc, &mut source, &mut sink);
+    let end = runs(alloc, &mut source, &mut sink)?;
     assert!(rt; end == RunEnd::WriteFailed);
     Ok(())
 }
@@ -136,7 +137,7 @@ fn faults(rt: HostRuntime) -> Result<(), Fail> {
     );
     let mut source = Source::new(text.as_bytes(), 11);
     let mut sink = Sink::new(alloc, 4096);
-    let end = runs(alloc, &mut source, &mut sink);
+    let end = runs(alloc, &mut source, &mut sink)?;
     assert!(rt; end == RunEnd::Done(false));
     assert!(rt; sink.bytes.as_slice() == wanted.as_bytes());
     Ok(())
@@ -165,7 +166,7 @@ fn long_lines(rt: HostRuntime) -> Result<(), Fail> {
         text.extend_from_slice(next.as_bytes())?;
         let mut source = Source::new(text.as_slice(), 5000);
         let mut sink = Sink::new(alloc, 4096);
-        let end = runs(alloc, &mut source, &mut sink);
+        let end = runs(alloc, &mut source, &mut sink)?;
         assert!(rt; end == RunEnd::Done(false));
         assert!(rt; sink.bytes.as_slice() == wanted.as_bytes());
     }

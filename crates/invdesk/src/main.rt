@@ -1,44 +1,47 @@
-//! An inventory desk: reads requests from the standard input, one line of JSON each, and writes one line
-//! of answer for each to the standard output.
+//! An inventory desk: reads requests from the standard input, one line of JSON each, and writes one line of answer for
+//! each to the standard output. Its books are kept in a file, or, where none is named, in memory alone.
 #![tactic(auto)]
 
+mod file;
 mod status;
 mod words;
 
-use desk_app::{RunEnd, run_lines};
-use desk_core::Shop;
-use part_core::Limits;
-use status::{DEVICE, MEMORY, early_status, status_of};
+ghost use Rattle.std.specs.Prelude.{◌≡◌, false};
+
+use desk_app::{RunEnd, print_export, print_report, run_lines, take_desk};
+use desk_store::OpenFault;
+use file::{FileFault, connect};
+use sqlite::{Alter, Connection};
+use status::{DEVICE, MEMORY, early_status, status_of, status_of_fault};
 use std::env::{self, Env};
 use std::io::{self, Input};
 use std::process::ExitCode;
 use words::{Asked, read_words};
 
-/// What the words ask for that the program is called with.
-fn asked<R: Env + AllocGlobal>(rt: &R) -> Asked {
+/// The words that the program is called with, the first its name.
+fn given<R: Env + AllocGlobal>(rt: &R) -> Result<Vec<String>, Asked<'static>> {
     let words = match env::args(rt) {
         Ok(words) => words,
         Err(e) => {
-            return if e.kind() == io::ErrorKind::OutOfMemory {
+            return Err(if e.kind() == io::ErrorKind::OutOfMemory {
                 Asked::Memory
             } else {
                 Asked::Unreadable
-            };
+            });
         }
     };
-    let words: Vec<String> = match words.collect(rt.alloc()) {
-        Ok(words) => words,
-        Err(_) => return Asked::Memory,
-    };
-    read_words(rt.alloc(), words.as_slice())
+    match words.collect(rt.alloc()) {
+        Ok(words) => Ok(words),
+        Err(_) => Err(Asked::Memory),
+    }
 }
 
-/// Prints what the words ask for, and gives the status to end with at once, unless they ask for a run.
-fn at_once<R: Print + Eprint>(rt: &R, asked: &Asked) -> Option<u8> {
+/// Prints what the words ask for, and gives the status to end with at once, unless a desk is asked for.
+fn at_once<R: Print + Eprint>(rt: &R, asked: &Asked<'_>) -> Option<u8> {
     let printed = match asked {
-        Asked::Run | Asked::Memory => Ok(()),
         Asked::Help(text) | Asked::Wrong(text) => text.print(rt),
         Asked::Unreadable => eprintln!(rt; "invdesk: a word isn't UTF-8"),
+        _ => Ok(()),
     };
     match printed {
         Ok(()) => early_status(asked),
@@ -46,12 +49,51 @@ fn at_once<R: Print + Eprint>(rt: &R, asked: &Asked) -> Option<u8> {
     }
 }
 
-/// Answers each line of the standard input.
-fn run<R: Input + AllocGlobal + Print>(rt: &R) -> RunEnd {
-    let mut shop = Shop::new(rt.alloc(), Limits::LARGEST);
-    let mut reader = rt.reader();
+/// Does what the words ask for, with the desk of the database.
+fn act<S: Alter + Drop>(
+    rt: &HostRuntime,
+    conn: Connection<S>,
+    is_new: bool,
+    asked: &Asked<'_>,
+) -> Result<RunEnd, OpenFault>
+    requires { conn.in_transaction ≡ false }
+{
+    let alloc = rt.alloc();
+    let mut desk = take_desk(alloc, conn, is_new)?;
     let mut writer = io::writer(rt);
-    run_lines(rt.alloc(), &mut reader, &mut writer, &mut shop)
+    Ok(match asked {
+        Asked::Report(_, name, number) => {
+            print_report(alloc, &desk, *name, *number, &mut writer)
+        }
+        Asked::Export(_, table) => print_export(&desk, *table, &mut writer),
+        _ => run_lines(alloc, &mut rt.reader(), &mut writer, &mut desk),
+    })
+}
+
+/// Does what the words ask for, with the desk of the file, or with a new one in memory.
+fn act_on(rt: &HostRuntime, asked: &Asked<'_>) -> Result<RunEnd, FileFault> {
+    match asked.file() {
+        Some(path) => {
+            let (conn, is_new) = connect(rt, path)?;
+            Ok(act(rt, conn, is_new, asked)?)
+        }
+        None => {
+            let conn = Connection::open_in_memory(rt.alloc())?;
+            Ok(act(rt, conn, true, asked)?)
+        }
+    }
+}
+
+/// Does what the words ask for, and says why not, where the file is the reason.
+fn status_after(rt: &HostRuntime, asked: &Asked<'_>) -> u8 {
+    match act_on(rt, asked) {
+        Ok(end) => status_of(end),
+        Err(fault) => {
+            // Where the standard error fails too, the status alone tells.
+            let _ = eprintln!(rt; "invdesk: {fault}");
+            status_of_fault(&fault)
+        }
+    }
 }
 
 /// Says why there was no run, or why it ended early.
@@ -61,15 +103,24 @@ fn tell<R: Eprint>(rt: &R, status: u8) {
         MEMORY => eprintln!(rt; "invdesk: no memory"),
         _ => Ok(()),
     };
-    // Where the standard error fails too, the status alone tells.
     let _ = told;
 }
 
-fn main(rt: HostRuntime) -> ExitCode {
-    let status = match at_once(&rt, &asked(&rt)) {
-        Some(status) => status,
-        None => status_of(run(&rt)),
+/// The status of what the words ask for.
+fn run(rt: &HostRuntime) -> u8 {
+    let words = match given(rt) {
+        Ok(words) => words,
+        Err(asked) => return at_once(rt, &asked).unwrap_or(DEVICE),
     };
+    let asked = read_words(rt.alloc(), words.as_slice());
+    match at_once(rt, &asked) {
+        Some(status) => status,
+        None => status_after(rt, &asked),
+    }
+}
+
+fn main(rt: HostRuntime) -> ExitCode {
+    let status = run(&rt);
     tell(&rt, status);
     ExitCode::from(status)
 }

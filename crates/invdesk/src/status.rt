@@ -1,7 +1,8 @@
 //! The status that the program ends with.
 ghost use Rattle.std.specs.Prelude.{◌≡◌};
-ghost use Rattle.invdesk.specs.Statuses.{status_of, early_status};
+ghost use Rattle.invdesk.specs.Statuses.{status_of, status_of_fault, early_status};
 
+use crate::file::FileFault;
 use crate::words::Asked;
 use desk_app::RunEnd;
 
@@ -9,7 +10,7 @@ use desk_app::RunEnd;
 pub const NOT_ALL: u8 = 1;
 /// The words are wrong.
 pub const WRONG_WORDS: u8 = 2;
-/// The reader or the writer failed.
+/// The reader, the writer or the file failed.
 pub const DEVICE: u8 = 3;
 /// There was no memory.
 pub const MEMORY: u8 = 4;
@@ -21,17 +22,27 @@ pub fn status_of(end: RunEnd) -> u8
     match end {
         RunEnd::Done(true) => 0,
         RunEnd::Done(false) => NOT_ALL,
-        RunEnd::ReadFailed | RunEnd::WriteFailed => DEVICE,
+        RunEnd::ReadFailed | RunEnd::WriteFailed | RunEnd::Store => DEVICE,
         RunEnd::Memory => MEMORY,
     }
 }
 
-/// The status to end with at once, unless the words ask for a run.
-pub fn early_status(asked: &Asked) -> Option<u8>
+/// The status where there is no desk.
+pub fn status_of_fault(fault: &FileFault) -> u8
+    ensures { result ≡ status_of_fault fault.now }
+{
+    match fault {
+        FileFault::Memory => MEMORY,
+        _ => DEVICE,
+    }
+}
+
+/// The status to end with at once, unless the words ask for a desk.
+pub fn early_status(asked: &Asked<'_>) -> Option<u8>
     ensures { result ≡ early_status asked.now }
 {
     match asked {
-        Asked::Run => None,
+        Asked::Run(_) | Asked::Report(..) | Asked::Export(..) => None,
         Asked::Help(_) => Some(0),
         Asked::Wrong(_) | Asked::Unreadable => Some(WRONG_WORDS),
         Asked::Memory => Some(MEMORY),

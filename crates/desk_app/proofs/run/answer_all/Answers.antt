@@ -10,13 +10,13 @@ use Rattle.desk_app.proofs.run.answer_all.Goals.{then-all, else-all}
 pub returns-in_err-lines-clause-stopped : goal.returns-in_err-lines-clause-stopped
 returns-in_err-lines-clause-stopped g c =
     if_err (λ stop. stop ≡ Memory)
-    (λ stop. Stopped stop (g.R.Read.remaining c.args.reader.now) (g.W.Write.contents c.args.writer.now) (g.W.Write.contents c.args.writer.now) (state_of c.args.shop.now) (state_of c.args.shop.now))
-    c.from_residual.result (λ stop. stopped_start stop (g.R.Read.remaining c.args.reader.now) (g.W.Write.contents c.args.writer.now) (state_of c.args.shop.now)) c.from_residual.ensures.1
+    (λ stop. Stopped stop (g.R.Read.remaining c.args.reader.now) (g.W.Write.contents c.args.writer.now) (g.W.Write.contents c.args.writer.now) (state_of c.args.desk.now.shop) (state_of c.args.desk.now.shop))
+    c.from_residual.result (λ stop. stopped_start stop (g.R.Read.remaining c.args.reader.now) (g.W.Write.contents c.args.writer.now) (state_of c.args.desk.now.shop)) c.from_residual.ensures.1
 
 pub returns-in_err-next_line-clause-stopped : goal.returns-in_err-next_line-clause-stopped
 returns-in_err-next_line-clause-stopped g c =
     if_err_as
-    (λ stop. Stopped stop (g.R.Read.remaining c.args.reader.now) (g.W.Write.contents c.args.writer.now) (g.W.Write.contents c.loop-number.writer) (state_of c.args.shop.now) (state_of c.loop-number.shop))
+    (λ stop. Stopped stop (g.R.Read.remaining c.args.reader.now) (g.W.Write.contents c.args.writer.now) (g.W.Write.contents c.loop-number.writer) (state_of c.args.desk.now.shop) (state_of c.loop-number.desk.shop))
     c.from_residual-in_err-next_line.result c.in_err-next_line.field-0.0 c.from_residual-in_err-next_line.ensures.1
     (running_stop c.in_err-next_line.field-0.0 _ _ _ _ _ _ _ _ c.in_err-next_line.ensures.reading c.loop-number.invariant.running)
 
@@ -25,11 +25,11 @@ returns-in_err-fine-clause-stopped g c =
     let takes = rw c.if-not-branch.false at c.in_ok-next_line.ensures.takes in
     let cut = rw c.deref.ensures.value at c.in_err-fine.ensures.cut in
     if_err_as
-    (λ stop. Stopped stop (g.R.Read.remaining c.args.reader.now) (g.W.Write.contents c.args.writer.now) (g.W.Write.contents c.answer.new.writer) (state_of c.args.shop.now) (state_of c.answer.new.shop))
+    (λ stop. Stopped stop (g.R.Read.remaining c.args.reader.now) (g.W.Write.contents c.args.writer.now) (g.W.Write.contents c.answer.new.writer) (state_of c.args.desk.now.shop) (state_of c.answer.new.desk.shop))
     c.from_residual-in_err-fine.result c.in_err-fine.field-0.0 c.from_residual-in_err-fine.ensures.1
     (running_cut c.in_err-fine.field-0.0 (g.R.Read.remaining c.args.reader.now) (left (g.R.Read.remaining c.loop-number.reader) c.loop-number.lines) (left (g.R.Read.remaining c.next_line.new.reader) c.next_line.new.self)
     (g.W.Write.contents c.args.writer.now) (g.W.Write.contents c.loop-number.writer) (g.W.Write.contents c.answer.new.writer)
-    (state_of c.args.shop.now) (state_of c.loop-number.shop) (state_of c.answer.new.shop) c.loop-number.number c.loop-number.all c.next_line.new.line.items c.loop-number.invariant.running takes cut)
+    (state_of c.args.desk.now.shop) (state_of c.loop-number.desk.shop) (state_of c.answer.new.desk.shop) c.loop-number.number c.loop-number.all c.next_line.new.line.items c.loop-number.invariant.running takes cut)
 
 pub loop-number-preserved : goal.loop-number-preserved
 loop-number-preserved g c =
@@ -37,7 +37,7 @@ loop-number-preserved g c =
     let ok = rw c.deref.ensures.value at c.in_ok-fine.ensures.ok in
     let out = rw c.deref.ensures.value at c.in_ok-fine.ensures.out in
     let fine = rw c.deref.ensures.value at c.in_ok-fine.ensures.fine in
-    let both : c.if-all.all ≡ (c.loop-number.all && is_fine (state_of c.loop-number.shop) c.loop-number.number c.next_line.new.line.items) =
+    let both : c.if-all.all ≡ (c.loop-number.all && is_fine (state_of c.loop-number.desk.shop) c.loop-number.number c.next_line.new.line.items) =
     elim c.if-all.branch [
       | then-all w ↦ rw w.if-all.true (w.all-is ∙ fine)
       | else-all w ↦ rw w.if-all.false (w.all-is ∙ w.if-all.false)
@@ -45,8 +45,9 @@ loop-number-preserved g c =
     record {
       running = running_line (g.R.Read.remaining c.args.reader.now) (left (g.R.Read.remaining c.loop-number.reader) c.loop-number.lines) (left (g.R.Read.remaining c.next_line.new.reader) c.next_line.new.self)
           (g.W.Write.contents c.args.writer.now) (g.W.Write.contents c.loop-number.writer) (g.W.Write.contents c.answer.new.writer)
-          (state_of c.args.shop.now) (state_of c.loop-number.shop) (state_of c.answer.new.shop) c.loop-number.number c.loop-number.all c.if-all.all c.next_line.new.line.items c.loop-number.invariant.running takes ok out both;
-      sound = c.in_ok-fine.ensures.sound;
+          (state_of c.args.desk.now.shop) (state_of c.loop-number.desk.shop) (state_of c.answer.new.desk.shop) c.loop-number.number c.loop-number.all c.if-all.all c.next_line.new.line.items c.loop-number.invariant.running takes ok out both;
+      desk = c.in_ok-fine.ensures.desk;
+      stays_open = λ before. c.in_ok-fine.ensures.stays_open (c.loop-number.invariant.stays_open before);
     }
 
 pub returns-clause-stopped : goal.returns-clause-stopped

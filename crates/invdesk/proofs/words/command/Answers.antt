@@ -1,13 +1,21 @@
-use Rattle.std.proofs.Common.{rules, ap, ap₂, codes, ◌≡◌, ◌∙◌, true}
+use Rattle.std.proofs.Common.{ap, refl, true, ◌≡◌, ◌∙◌}
 use Rattle.std.proofs.lemmas.Result.{IfOk-weaker}
-use Rattle.clap.specs.Words.{App, app_of, new_app, with_subcommand}
-use Rattle.clap.specs.Simple.{on_top, app_of_fields}
+use Rattle.clap.specs.Words.{app_of, with_subcommand}
+use Rattle.clap.specs.Simple.{app_of_fields, on_top}
+use Rattle.invdesk.specs.Words.{Places, top_line, run_line, report_line, export_line}
+use Rattle.invdesk.proofs.Lines.{line_added}
 use Rattle.invdesk.proofs.words.command.Goals as goal
 
 pub returns : goal.returns
 returns c =
-    let run_is : app_of c.about-run.result ≡ new_app (codes "run") = ap app_of_fields c.about-run.ensures ∙ c.new.ensures.app in
-    let top_is : app_of c.about.result ≡ new_app (codes "invdesk") = ap app_of_fields c.about.ensures ∙ c.new-2.ensures.app in
-    let base_is : app_of c.disable_help_subcommand.result ≡ on_top (λ shape. record shape { disable_help_subcommand = true }) (new_app (codes "invdesk")) =
-    ap app_of_fields c.disable_help_subcommand.ensures ∙ ap (on_top (λ shape. record shape { disable_help_subcommand = true })) top_is in
-    IfOk-weaker c.subcommand.result _ _ (λ r h. h.shape (search rules) ∙ ap₂ with_subcommand base_is (ap (λ (a : App). a.top) run_is)) c.subcommand.ensures
+    let report = c.in_ok-report_command.ensures in
+    let export = c.in_ok-export_command.ensures in
+    let places : Places = record { reports = report.0; tables = export.0 } in
+    let top_is : app_of c.disable_help_subcommand.result ≡ top_line = ap app_of_fields c.disable_help_subcommand.ensures
+    ∙ ap (on_top (λ shape. record shape { disable_help_subcommand = true })) (ap app_of_fields c.about.ensures ∙ c.new.ensures.app) in
+    let one = line_added c.disable_help_subcommand.result c.in_ok-run_command.field-0 c.in_ok-subcommand.field-0 top_line run_line c.in_ok-subcommand.ensures refl top_is c.in_ok-run_command.ensures in
+    let two = line_added c.in_ok-subcommand.field-0 c.in_ok-report_command.field-0 c.in_ok-subcommand-2.field-0 (with_subcommand top_line run_line.top) (report_line report.0) c.in_ok-subcommand-2.ensures refl one report.1 in
+    IfOk-weaker c.subcommand-3.result _ _ (λ r added. (
+      places,
+      line_added c.in_ok-subcommand-2.field-0 c.in_ok-export_command.field-0 r (with_subcommand (with_subcommand top_line run_line.top) (report_line report.0).top) (export_line export.0) added refl two export.1,
+    )) c.subcommand-3.ensures

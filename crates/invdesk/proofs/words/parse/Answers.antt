@@ -1,17 +1,20 @@
-use Rattle.std.proofs.Common.{map, ap, sym, subst, ◌∙◌}
-use Rattle.clap.specs.Words.{HasKind, is_simple_and_free, fault_of}
-use Rattle.invdesk.specs.Words.{faults}
-use Rattle.invdesk.proofs.Faulty.{fails_as, is_free, is_faults}
+use Rattle.std.proofs.Common.{map}
+use Rattle.clap.specs.Words.{app_of}
+use Rattle.invdesk.proofs.Parsed.{failed, free_line, parsed, refused}
 use Rattle.invdesk.proofs.words.parse.Goals as goal
 
-pub returns-in_err-try_get_matches_from : goal.returns-in_err-try_get_matches_from
-returns-in_err-try_get_matches_from g c =
-    let words = map g.S.AsStr.text c.args.words.now in
-    let fails = c.in_err-try_get_matches_from.ensures.kinds (ap is_simple_and_free c.in_ok-command.ensures ∙ is_free) in
-    fails_as (faults words) c.from_residual-in_err-try_get_matches_from.result c.in_err-try_get_matches_from.field-0.0 c.from_residual-in_err-try_get_matches_from.ensures.1
-    (subst (λ kinds. HasKind kinds c.in_err-try_get_matches_from.field-0.0) (ap (λ app. fault_of app words) c.in_ok-command.ensures ∙ is_faults words) fails)
+pub returns-in_err-command : goal.returns-in_err-command
+returns-in_err-command g c = refused (map g.S.AsStr.text c.args.words.now) c.from_residual.result c.from_residual.ensures.1
+
+pub returns-in_err-matches : goal.returns-in_err-matches
+returns-in_err-matches g c =
+    let app = app_of c.in_ok-command.field-0 in
+    failed (map g.S.AsStr.text c.args.words.now) app c.in_ok-command.ensures c.from_residual-in_err-matches.result
+    c.in_err-matches.field-0.0 c.from_residual-in_err-matches.ensures.1
+    (c.in_err-matches.ensures.kinds (free_line app c.in_ok-command.ensures))
 
 pub returns : goal.returns
 returns g c =
-    let words = map g.S.AsStr.text c.args.words.now in
-    sym (ap (λ app. fault_of app words) c.in_ok-command.ensures ∙ is_faults words) ∙ c.in_ok-try_get_matches_from.ensures.kinds (ap is_simple_and_free c.in_ok-command.ensures ∙ is_free)
+    let app = app_of c.in_ok-command.field-0 in
+    parsed (map g.S.AsStr.text c.args.words.now) app c.in_ok-command.ensures c.in_ok-matches.matches
+    (c.in_ok-matches.ensures.kinds (free_line app c.in_ok-command.ensures)) c.in_ok-matches.ensures.matches

@@ -1,7 +1,7 @@
 //! What a writer sees of the answers.
-use crate::{RunEnd, run_lines};
-use desk_core::Shop;
-use part_core::Limits;
+use crate::play::created;
+use desk_app::{RunEnd, run_lines};
+use sqlite::Connection;
 use std::io::{self, Write};
 use std::test::Fail;
 
@@ -30,14 +30,15 @@ impl Write for Held {
 #[test]
 fn flushes_each_answer(rt: HostRuntime) -> Result<(), Fail> {
     let alloc = rt.alloc();
-    let mut shop = Shop::new(alloc, Limits::LARGEST);
+    let conn = Connection::open_in_memory(alloc)?;
+    let mut desk = created(alloc, conn)?;
     let mut reader = b"[]\n\n{}".as_slice();
     let mut writer = Held {
         held: Vec::new(alloc),
         shown: Vec::new(alloc),
         flushes: 0,
     };
-    let end = run_lines(alloc, &mut reader, &mut writer, &mut shop);
+    let end = run_lines(alloc, &mut reader, &mut writer, &mut desk);
     assert_eq!(rt; end, RunEnd::Done(false));
     assert_eq!(rt; writer.flushes, 2);
     let wanted =

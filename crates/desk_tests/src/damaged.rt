@@ -1,0 +1,132 @@
+//! Databases that no run could have left: one change by SQL of a small workshop's tables each.
+use crate::outcomes::holds;
+use crate::play::{created, plays_on};
+use desk_store::{Desk, OpenFault};
+use sqlite::{Connection, MemStore};
+use std::alloc::Global;
+use std::test::Fail;
+
+const LINES: &str = r#"{"day":"2030-01-02","do":"add_location","name":"A"}
+{"day":"2030-01-02","do":"add_category","name":"Bought"}
+{"category":2,"day":"2030-01-02","do":"add_part","flags":["component","purchaseable"],"name":"Screw"}
+{"day":"2030-01-02","do":"add_part","flags":["component","trackable"],"name":"Motor"}
+{"day":"2030-01-02","do":"add_part","flags":["assembly","trackable"],"name":"Robot"}
+{"assembly":5,"component":4,"day":"2030-01-02","do":"add_line","quantity":4}
+{"day":"2030-01-02","do":"add_part","flags":["component"],"name":"Bolt"}
+{"day":"2030-01-02","do":"add_substitute","line":6,"part":7}
+{"day":"2030-01-02","do":"found","key":"k","location":1,"part":3,"quantity":100}
+{"day":"2030-01-02","do":"found","location":1,"part":5,"quantity":1,"serials":"R1"}
+{"day":"2030-01-02","do":"found","location":1,"part":4,"quantity":2,"serials":"S1,S2"}
+{"day":"2030-01-02","do":"install","item":11,"parent":10,"quantity":1}
+"#;
+
+const ANSWERS: &str = r#"{"entries":0,"ids":[1]}
+{"entries":0,"ids":[2]}
+{"entries":0,"ids":[3]}
+{"entries":0,"ids":[4]}
+{"entries":0,"ids":[5]}
+{"entries":0,"ids":[6]}
+{"entries":0,"ids":[7]}
+{"entries":0,"ids":[8]}
+{"entries":1,"ids":[9]}
+{"entries":1,"ids":[10]}
+{"entries":2,"ids":[11,12]}
+{"entries":1,"ids":[]}
+"#;
+
+/// Each breaks another clause of what a sound state is, or is no row.
+const DAMAGES: [&str; 27] = [
+    "UPDATE parts SET template = 99 WHERE id = 3",
+    "UPDATE parts SET category = 99 WHERE id = 3",
+    "UPDATE parts SET flags = 999 WHERE id = 3",
+    "UPDATE parts SET name = '' WHERE id = 3",
+    "UPDATE categories SET parent = 2 WHERE id = 2",
+    "UPDATE locations SET parent = 1 WHERE id = 1",
+    "UPDATE lines SET component = 99 WHERE id = 6",
+    "UPDATE lines SET component = 5 WHERE id = 6",
+    "UPDATE lines SET quantity = 0 WHERE id = 6",
+    "INSERT INTO substitutes VALUES (1, 6, 7)",
+    "UPDATE substitutes SET line = 99",
+    "UPDATE items SET ref = 11 WHERE id = 11",
+    "UPDATE items SET place = 1, ref = 9 WHERE id = 11",
+    "UPDATE items SET serial = 'S2' WHERE id = 11",
+    "UPDATE items SET quantity = 99 WHERE id = 9",
+    "UPDATE items SET part = 99 WHERE id = 9",
+    "UPDATE items SET place = 9 WHERE id = 9",
+    "UPDATE items SET part = -3 WHERE id = 9",
+    "DELETE FROM history WHERE n = 2",
+    "UPDATE history SET day = '2030-02-30' WHERE n = 1",
+    "UPDATE kept SET answer = 'x'",
+    "UPDATE kept SET word = ' '",
+    "UPDATE meta SET next = 5",
+    "UPDATE meta SET entries = 1",
+    "DELETE FROM meta",
+    "INSERT INTO meta VALUES (2, 1, 13, 5, 9, 9)",
+    "INSERT INTO orders VALUES (1, 0, 'x', 0)",
+];
+
+/// Each leaves tables that are no desk's of today.
+const FOREIGN: [&str; 3] = [
+    "UPDATE meta SET version = 2",
+    "DROP TABLE builds",
+    "CREATE TABLE more (id INTEGER PRIMARY KEY) STRICT",
+];
+
+/// The tables of a small workshop.
+fn workshop(alloc: Global) -> Result<Connection<MemStore>, Fail> {
+    let conn = Connection::open_in_memory(alloc)?;
+    let mut desk = created(alloc, conn)?;
+    plays_on(alloc, &mut desk, LINES, ANSWERS)?;
+    Ok(desk.close())
+}
+
+/// Why the tables are refused after the change: none where they aren't.
+fn refused(alloc: Global, change: &str) -> Result<Option<OpenFault>, Fail> {
+    let mut conn = workshop(alloc)?;
+    conn.execute(change, &[])?;
+    match Desk::open(alloc, conn) {
+        Ok(_) => Ok(None),
+        Err((fault, _)) => Ok(Some(fault)),
+    }
+}
+
+#[test]
+fn damaged_tables_are_refused(rt: HostRuntime) -> Result<(), Fail> {
+    let alloc = rt.alloc();
+    for change in DAMAGES {
+        let fault = refused(alloc, change)?;
+        assert!(rt; matches!(fault, Some(OpenFault::Damaged(_))), "{change}");
+    }
+    Ok(())
+}
+
+#[test]
+fn tables_of_others_are_foreign(rt: HostRuntime) -> Result<(), Fail> {
+    let alloc = rt.alloc();
+    for change in FOREIGN {
+        let fault = refused(alloc, change)?;
+        assert!(rt; matches!(fault, Some(OpenFault::Foreign)), "{change}");
+    }
+    Ok(())
+}
+
+#[test]
+fn a_change_that_harms_nothing(rt: HostRuntime) -> Result<(), Fail> {
+    let fault = refused(rt.alloc(), "UPDATE parts SET name = 'Washer' WHERE id = 3")?;
+    holds(fault.is_none(), "another name is refused")
+}
+
+/// A desk is made in a database that has nothing, and in no other.
+#[test]
+fn made_once(rt: HostRuntime) -> Result<(), Fail> {
+    let alloc = rt.alloc();
+    let conn = workshop(alloc)?;
+    if !conn.is_autocommit() {
+        return Err(Fail::from("a transaction is open"));
+    }
+    let made = Desk::create(alloc, conn, part_core::Limits::LARGEST);
+    holds(
+        matches!(made, Err((OpenFault::Foreign, _))),
+        "a second desk",
+    )
+}

@@ -1,0 +1,81 @@
+//! Tables as text, whole and through writers that fail.
+use crate::devices::Sink;
+use crate::outcomes::holds;
+use crate::play::{created, plays_on};
+use desk_store::{Desk, ExportFault};
+use sqlite::{Alter, Connection};
+use std::alloc::Global;
+use std::test::Fail;
+use table_store::TableName;
+
+const LINES: &str = r#"{"day":"2030-01-02","do":"add_location","name":"Shelf \"A\", left"}
+{"day":"2030-01-02","do":"add_part","flags":["component","purchaseable"],"name":"Screw"}
+{"day":"2030-01-02","do":"found","key":"k","location":1,"part":2,"quantity":100}
+{"day":"2030-01-03","do":"remove","item":3,"quantity":30}
+"#;
+
+const ANSWERS: &str = r#"{"entries":0,"ids":[1]}
+{"entries":0,"ids":[2]}
+{"entries":1,"ids":[3]}
+{"entries":1,"ids":[]}
+"#;
+
+const EXPORTS: [(TableName, &str); 6] = [
+    (
+        TableName::Meta,
+        "one,version,next,entries,max_numbers,max_entries\n1,1,4,2,10000000000,10000000000\n",
+    ),
+    (
+        TableName::Locations,
+        "id,name,parent\n1,\"Shelf \"\"A\"\", left\",\n",
+    ),
+    (
+        TableName::Parts,
+        "id,name,category,template,flags,retired\n2,Screw,,,20,0\n",
+    ),
+    (
+        TableName::Items,
+        "id,part,batch,serial,status,quantity,place,ref\n3,2,,,0,70,0,1\n",
+    ),
+    (
+        TableName::History,
+        "n,day,kind,item,part,quantity,place,ref\n1,2030-01-02,1,3,2,100,0,1\n2,2030-01-03,6,3,2,30,5,0\n",
+    ),
+    (TableName::Builds, "id,part,quantity,state,done\n"),
+];
+
+/// The table is exported as this text, and as a front of it through a writer that fails.
+fn exports<S: Alter>(
+    alloc: Global,
+    desk: &Desk<S>,
+    table: TableName,
+    wanted: &str,
+) -> Result<(), Fail> {
+    let mut sink = Sink::new(alloc, 4096);
+    holds(desk.export(table, &mut sink).is_ok(), "no export")?;
+    holds(sink.bytes.as_slice() == wanted.as_bytes(), "another export")?;
+    for fails in 1..40u64 {
+        let mut sink = Sink::new(alloc, 10);
+        sink.fails = fails;
+        let done = desk.export(table, &mut sink);
+        let front = wanted.as_bytes().starts_with(sink.bytes.as_slice());
+        holds(front, "no front of the export")?;
+        match done {
+            Ok(()) => holds(sink.bytes.len() == wanted.len(), "an export cut short")?,
+            Err(fault) => holds(fault == ExportFault::WriteFailed, "another fault")?,
+        }
+    }
+    Ok(())
+}
+
+#[test]
+fn tables_as_text(rt: HostRuntime) -> Result<(), Fail> {
+    let alloc = rt.alloc();
+    let conn = Connection::open_in_memory(alloc)?;
+    let mut desk = created(alloc, conn)?;
+    plays_on(alloc, &mut desk, LINES, ANSWERS)?;
+    for (table, wanted) in EXPORTS {
+        exports(alloc, &desk, table, wanted)?;
+    }
+    Ok(())
+}

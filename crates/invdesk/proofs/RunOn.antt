@@ -1,0 +1,50 @@
+-- What is found in words that name a file for a run.
+use Rattle.std.proofs.Common.{◌≡◌, ◌∙◌, ℕ, Bool, true, false, List, [], ◌∷◌, ap, refl}
+use Rattle.std.specs.Prelude.{◌==◌, not, Some}
+use Rattle.clap.specs.Words.{IsAmong, Text}
+use Rattle.clap.specs.declared.error.kind.ErrorKind.{ErrorKind}
+use Rattle.clap.proofs.OnLiterals.{clap_on_literals}
+use Rattle.invdesk.specs.Words.{faults, Places, run, run_on, run_with, is_path, wish}
+use Rattle.invdesk.proofs.Faulty.{nothing_among}
+
+named_free : (places : Places) (name file : Text) → faults places (run_on name file) ≡ []
+unfolding faults clap_on_literals
+named_free places name file = refl
+
+named_wished : (places : Places) (name file : Text) → wish places (run_on name file) ≡ Some (run (Some file))
+unfolding wish clap_on_literals
+named_wished places name file = refl
+
+pub run_on_wished : (places : Places) (words : List Text) (name file : Text) → words ≡ run_on name file → wish places words ≡ Some (run (Some file))
+run_on_wished places words name file e = ap (wish places) e ∙ named_wished places name file
+
+pub no_run_on : (places : Places) (words : List Text) (k : ErrorKind) → IsAmong k (faults places words) → (name file : Text)
+    → words ≡ run_on name file → ⊥
+no_run_on places words k h name file e = nothing_among k (faults places words) (ap (faults places) e ∙ named_free places name file) h
+
+begun_free : (places : Places) (name : Text) (first : ℕ) (rest : Text) → (first == 45) ≡ false → faults places (run_with name (first ∷ rest)) ≡ []
+unfolding faults clap_on_literals
+begun_free places name first rest h = simp h
+
+begun_wished : (places : Places) (name : Text) (first : ℕ) (rest : Text) → (first == 45) ≡ false → wish places (run_with name (first ∷ rest)) ≡ Some (run (Some (first ∷ rest)))
+unfolding wish clap_on_literals
+begun_wished places name first rest h = simp h
+
+no_hyphen : (b : Bool) → not b ≡ true → b ≡ false
+no_hyphen true h = absurd (cc)
+no_hyphen false h = refl
+
+path_free : (places : Places) (name file : Text) → is_path file ≡ true → faults places (run_with name file) ≡ []
+path_free places name [] h = absurd (cc)
+path_free places name (first ∷ rest) h = begun_free places name first rest (no_hyphen (first == 45) h)
+
+path_wished : (places : Places) (name file : Text) → is_path file ≡ true → wish places (run_with name file) ≡ Some (run (Some file))
+path_wished places name [] h = absurd (cc)
+path_wished places name (first ∷ rest) h = begun_wished places name first rest (no_hyphen (first == 45) h)
+
+pub run_with_wished : (places : Places) (words : List Text) (name file : Text) → is_path file ≡ true → words ≡ run_with name file → wish places words ≡ Some (run (Some file))
+run_with_wished places words name file h e = ap (wish places) e ∙ path_wished places name file h
+
+pub no_run_with : (places : Places) (words : List Text) (k : ErrorKind) → IsAmong k (faults places words) → (name file : Text) → is_path file ≡ true
+    → words ≡ run_with name file → ⊥
+no_run_with places words k a name file h e = nothing_among k (faults places words) (ap (faults places) e ∙ path_free places name file h) a

@@ -1,0 +1,12 @@
+use Rattle.std.proofs.Common.{ap, codes, ◌≡◌, ◌∙◌}
+use Rattle.std.proofs.lemmas.Result.{IfOk-weaker}
+use Rattle.clap.specs.Words.{app_of, new_app}
+use Rattle.clap.specs.Simple.{app_of_fields}
+use Rattle.invdesk.specs.Words.{file_rule}
+use Rattle.invdesk.proofs.Lines.{rule_added}
+use Rattle.invdesk.proofs.words.run_command.Goals as goal
+
+pub returns : goal.returns
+returns c =
+    let name_is : app_of c.about.result ≡ new_app (codes "run") = ap app_of_fields c.about.ensures ∙ c.new.ensures.app in
+    IfOk-weaker c.arg.result _ _ (λ r added. rule_added c.about.result c.file.result r (new_app (codes "run")) file_rule added c.file.ensures.local name_is c.file.ensures.rule) c.arg.ensures
