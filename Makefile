@@ -16,13 +16,19 @@ build:
 install: build
 	install -D $(PROGRAM) $(PREFIX)/bin/invdesk
 
-# Lines per second and peak memory over 10,000 and 20,000 lines of each kind, and how calls of the libraries grow.
+# Lines per second and peak memory over 10,000 and 20,000 lines of each kind, files beside Python's sqlite3, and how
+# calls of the libraries grow.
 bench: build
 	python3 tools/bench.py $(PROGRAM)
+	python3 tools/bench_file.py $(PROGRAM)
 	python3 tools/bench_calls.py
+
+# Files as Python's sqlite3 finds them, and files that are refused.
+file: build
+	python3 tools/check_file.py $(PROGRAM)
 
 # The wrong bodies that the gate leaves out: each has to be refused. It takes hours; 'make refuse CRATES=forest' tries one crate's.
 refuse:
 	python3 tools/refuse.py $(CRATES)
 
-.PHONY: run test build install bench refuse
+.PHONY: run test build install bench file refuse
