@@ -1,9 +1,9 @@
 #!/usr/bin/env python3
 """Tries the wrong bodies that the gate leaves out: the prover has to refuse each.
 
-The gate tries one wrong body for each public function, and those that say most. The others lie in tools/wrong_bodies, a
-folder for each crate, in the form of its must-fail edits. They are tried by 'rt must-fail' in a copy of the crates that
-has them in their place. Names of crates as words: theirs alone. A crate's take about a minute each."""
+The gate tries those that say most. The others lie in tools/wrong_bodies, a folder for each crate, in the form of its
+must-fail edits. They are tried by 'rt must-fail' in a copy of the crates that has them in their place. Names of crates
+as words: theirs alone. One takes about a minute, of desk_store up to five."""
 import os
 import shutil
 import subprocess
