@@ -4,7 +4,7 @@
 //! transaction, and answered once that is committed. A refusal and a kept answer touch no table. Where memory ends, the
 //! shop and the tables are as they were. Where the database fails, the desk is closed: no later request is run, and what
 //! the file then holds, the tables before or after that request, is found by opening it again.
-ghost use Rattle.std.specs.Prelude.{◌≡◌, ◌↔◌, ◌⊎◌, ℕ, None, IsSome, is_some, length, IfOk, IfErr, OnErr, Err};
+ghost use Rattle.std.specs.Prelude.{◌≡◌, ◌↔◌, ◌⊎◌, ℕ, None, IsSome, is_some, length, IfOk, IfErr, OnErr, OnOk, Err};
 ghost use Rattle.sqlite.specs.Held.{state};
 ghost use Rattle.sqlite.specs.State.{HasCleanDisk, Survives};
 ghost use Rattle.sqlite.specs.Tree.{Trees};
@@ -52,6 +52,7 @@ impl<S: Alter> Desk<S> {
         ensures shop { IfOk result (λ shop. shop.now ≡ self.now.shop) }
         ensures closed { IfErr result (λ fault. fault ≡ Fault.Closed) }
         ensures exact { OnErr result (IsSome self.now.failed) }
+        ensures open { OnOk result (self.now.failed ≡ None) }
     {
         match &self.failed {
             None => Ok(&self.shop),

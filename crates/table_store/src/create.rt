@@ -1,10 +1,11 @@
 //! The tables are made.
-ghost use Rattle.std.specs.Prelude.{◌≡◌, ◌+◌, OnOk, IsTrue};
+ghost use Rattle.std.specs.Prelude.{◌≡◌, ◌+◌, OnOk, IfErr, IsTrue};
 ghost use Rattle.sqlite.specs.Held.{state};
 ghost use Rattle.sqlite.specs.State.{HasCleanDisk, Survives, KeepsCommit};
 ghost use Rattle.table_store.specs.Schema.{position, schema_up_to};
 ghost use Rattle.table_store.specs.Values.{IsInside};
 ghost use Rattle.table_store.specs.Making.{HasMade, IsFresh};
+ghost use Rattle.table_store.specs.Transactions.{IsOfStore};
 
 use crate::fault::{Failed, TableFault};
 use crate::name::TableName;
@@ -18,6 +19,7 @@ fn create_table<S: Alter>(conn: &mut Connection<S>, table: TableName) -> Result<
         → OnOk result (HasMade (position table + 1) (state S.Store conn.new)) }
     ensures kept { HasCleanDisk (state S.Store conn.new)
         → KeepsCommit (state S.Store conn.old) (state S.Store conn.new) }
+    ensures fault { IfErr result IsOfStore }
     ensures crash { Survives (state S.Store conn.old) (state S.Store conn.new) (λ _. ⊥) }
 {
     match conn.execute(table.create_text(), &[]) {
@@ -39,6 +41,7 @@ pub fn create_tables<S: Alter>(conn: &mut Connection<S>) -> Result<(), TableFaul
         → OnOk result (IsInside (state S.Store conn.new)) }
     ensures kept { HasCleanDisk (state S.Store conn.new)
         → KeepsCommit (state S.Store conn.old) (state S.Store conn.new) }
+    ensures fault { IfErr result IsOfStore }
     ensures crash { Survives (state S.Store conn.old) (state S.Store conn.new) (λ _. ⊥) }
 {
     'tables: for place in 0..13 {
