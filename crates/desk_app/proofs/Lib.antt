@@ -2,3 +2,9 @@ pub mod Cutting
 pub mod Partway
 pub mod Stepping
 pub mod Running
+pub mod CommandLines
+pub mod Faulty
+pub mod Numbers
+pub mod Parsed
+pub mod RunOn
+pub mod Told

@@ -2,3 +2,5 @@ pub mod Cuts
 pub mod Ends
 pub mod Runs
 pub mod Printed
+pub mod Words
+pub mod Statuses

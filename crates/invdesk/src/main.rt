@@ -2,21 +2,17 @@
 //! each to the standard output. Its books are kept in a file, or, where none is named, in memory alone.
 #![tactic(auto)]
 
-mod file;
-mod status;
-mod words;
-
 ghost use Rattle.std.specs.Prelude.{◌≡◌, false};
 
-use desk_app::{RunEnd, print_export, print_report, run_lines, take_desk};
+use desk_app::{
+    Asked, DEVICE, FileFault, MEMORY, RunEnd, connect, early_status, print_export, print_report,
+    read_words, run_lines, status_of, status_of_fault, take_desk,
+};
 use desk_store::OpenFault;
-use file::{FileFault, connect};
 use sqlite::{Alter, Connection};
-use status::{DEVICE, MEMORY, early_status, status_of, status_of_fault};
 use std::env::{self, Env};
 use std::io::{self, Input};
 use std::process::ExitCode;
-use words::{Asked, read_words};
 
 /// The words that the program is called with, the first its name.
 fn given<R: Env + AllocGlobal>(rt: &R) -> Result<Vec<String>, Asked<'static>> {
@@ -124,6 +120,3 @@ fn main(rt: HostRuntime) -> ExitCode {
     tell(&rt, status);
     ExitCode::from(status)
 }
-
-#[cfg(test)]
-mod tests;

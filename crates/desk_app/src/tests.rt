@@ -1,6 +1,5 @@
-use crate::status::{early_status, status_of};
-use crate::words::{Asked, read_words};
-use desk_app::RunEnd;
+//! The words that the program is called with, the help and the faults that it prints, and its statuses.
+use crate::{Asked, RunEnd, early_status, read_words, status_of};
 use std::alloc::{AllocError, Global};
 use std::test::Fail;
 

@@ -4,8 +4,8 @@ use Rattle.std.specs.Prelude.{◌==◌, not, Some}
 use Rattle.clap.specs.Words.{IsAmong, Text}
 use Rattle.clap.specs.declared.error.kind.ErrorKind.{ErrorKind}
 use Rattle.clap.proofs.OnLiterals.{clap_on_literals}
-use Rattle.invdesk.specs.Words.{faults, Places, run, run_on, run_with, is_path, wish}
-use Rattle.invdesk.proofs.Faulty.{nothing_among}
+use Rattle.desk_app.specs.Words.{faults, Places, run, run_on, run_with, is_path, wish}
+use Rattle.desk_app.proofs.Faulty.{nothing_among}
 
 named_free : (places : Places) (name file : Text) → faults places (run_on name file) ≡ []
 unfolding faults clap_on_literals

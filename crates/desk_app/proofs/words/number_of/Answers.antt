@@ -2,9 +2,9 @@ use Rattle.std.proofs.Common.{◌≡◌, true, cond, Some, None, sym, ap, ◌∙
 use Rattle.std.specs.Result.{result_ok}
 use Rattle.std.specs.Str.Parse.{digits_value}
 use Rattle.std.proofs.lemmas.Str.Parse.{parse_gives}
-use Rattle.invdesk.specs.Words.{is_number}
-use Rattle.invdesk.proofs.Numbers.{numerals, digits_value-small, number_digits}
-use Rattle.invdesk.proofs.words.number_of.Goals as goal
+use Rattle.desk_app.specs.Words.{is_number}
+use Rattle.desk_app.proofs.Numbers.{numerals, digits_value-small, number_digits}
+use Rattle.desk_app.proofs.words.number_of.Goals as goal
 
 pub returns-then-is_number : goal.returns-then-is_number
 returns-then-is_number c =

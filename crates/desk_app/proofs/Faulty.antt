@@ -8,7 +8,7 @@ use Rattle.clap.specs.declared.error.Error.{Error}
 use Rattle.clap.specs.declared.error.kind.ErrorKind.{ErrorKind}
 use Rattle.clap.specs.declared.error.kind.ErrorKind.TheVariants.{DisplayHelp, OutOfMemory}
 use Rattle.clap.proofs.OnLiterals.{clap_on_literals}
-use Rattle.invdesk.specs.Words.{asks_run, asks_help, faults, command_line, Places, run, wish}
+use Rattle.desk_app.specs.Words.{asks_run, asks_help, faults, command_line, Places, run, wish}
 
 nothing_more : (places : Places) (name : Text) → faults places (name ∷ []) ≡ []
 unfolding faults clap_on_literals

@@ -3,9 +3,9 @@ use Rattle.std.proofs.lemmas.Result.{IfOk-weaker}
 use Rattle.clap.specs.Words.{app_of, new_app, rule_of, with_rule}
 use Rattle.clap.specs.Simple.{app_of_fields}
 use Rattle.clap.specs.declared.builder.arg.Arg.{Arg}
-use Rattle.invdesk.specs.Words.{Listing, table_names, file_rule, word_rule, needed, among}
-use Rattle.invdesk.proofs.Lines.{rule_added, rule_among}
-use Rattle.invdesk.proofs.words.export_command.Goals as goal
+use Rattle.desk_app.specs.Words.{Listing, table_names, file_rule, word_rule, needed, among}
+use Rattle.desk_app.proofs.CommandLines.{rule_added, rule_among}
+use Rattle.desk_app.proofs.words.export_command.Goals as goal
 
 pub returns : goal.returns
 returns c =

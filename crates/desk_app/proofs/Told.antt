@@ -2,9 +2,9 @@
 use Rattle.std.proofs.Common.{◌≡◌, ◌∙◌, List, [], sym, refl, inr}
 use Rattle.std.specs.Prelude.{Option, Some, None, option_map}
 use Rattle.clap.specs.Words.{Text}
-use Rattle.invdesk.specs.declared.words.Asked.{Asked}
-use Rattle.invdesk.specs.declared.words.Asked.TheVariants.{Run, Report, Export, Help, Wrong, Unreadable, Memory}
-use Rattle.invdesk.specs.Words.{Places, Wish, run, report, export, wish, faults, Tells, AnswersAt, Runs, RunsOn}
+use Rattle.desk_app.specs.declared.words.Asked.{Asked}
+use Rattle.desk_app.specs.declared.words.Asked.TheVariants.{Run, Report, Export, Help, Wrong, Unreadable, Memory}
+use Rattle.desk_app.specs.Words.{Places, Wish, run, report, export, wish, faults, Tells, AnswersAt, Runs, RunsOn}
 
 pub told_answers : (places : Places) (words : List Text) (w : Option Wish) (asked : Asked) → faults places words ≡ [] → w ≡ wish places words
     → Tells w asked → AnswersAt places words asked

@@ -2,9 +2,9 @@ use Rattle.std.proofs.Common.{ap, codes, ◌≡◌, ◌∙◌}
 use Rattle.std.proofs.lemmas.Result.{IfOk-weaker}
 use Rattle.clap.specs.Words.{app_of, new_app}
 use Rattle.clap.specs.Simple.{app_of_fields}
-use Rattle.invdesk.specs.Words.{file_rule}
-use Rattle.invdesk.proofs.Lines.{rule_added}
-use Rattle.invdesk.proofs.words.run_command.Goals as goal
+use Rattle.desk_app.specs.Words.{file_rule}
+use Rattle.desk_app.proofs.CommandLines.{rule_added}
+use Rattle.desk_app.proofs.words.run_command.Goals as goal
 
 pub returns : goal.returns
 returns c =

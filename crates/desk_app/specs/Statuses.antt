@@ -2,10 +2,10 @@
 use Rattle.std.specs.Prelude.{ℕ, true, false, Option, Some, None}
 use Rattle.desk_app.specs.declared.end.RunEnd.{RunEnd}
 use Rattle.desk_app.specs.declared.end.RunEnd.TheVariants.{Done, ReadFailed, WriteFailed, Memory, Store}
-use Rattle.invdesk.specs.declared.file.FileFault.{FileFault}
-use Rattle.invdesk.specs.declared.file.FileFault.TheVariants as file
-use Rattle.invdesk.specs.declared.words.Asked.{Asked}
-use Rattle.invdesk.specs.declared.words.Asked.TheVariants as asked
+use Rattle.desk_app.specs.declared.database.FileFault.{FileFault}
+use Rattle.desk_app.specs.declared.database.FileFault.TheVariants as file
+use Rattle.desk_app.specs.declared.words.Asked.{Asked}
+use Rattle.desk_app.specs.declared.words.Asked.TheVariants as asked
 
 -- after a run that ended so
 abbrev pub status_of : RunEnd → ℕ

@@ -1,7 +1,7 @@
 use Rattle.std.proofs.Common.{map}
 use Rattle.clap.specs.Words.{app_of}
-use Rattle.invdesk.proofs.Parsed.{failed, free_line, parsed, refused}
-use Rattle.invdesk.proofs.words.parse.Goals as goal
+use Rattle.desk_app.proofs.Parsed.{failed, free_line, parsed, refused}
+use Rattle.desk_app.proofs.words.parse.Goals as goal
 
 pub returns-in_err-command : goal.returns-in_err-command
 returns-in_err-command g c = refused (map g.S.AsStr.text c.args.words.now) c.from_residual.result c.from_residual.ensures.1

@@ -17,8 +17,8 @@ use Rattle.report_core.specs.Names.{report_named}
 use Rattle.report_core.specs.declared.name.ReportName.{ReportName}
 use Rattle.table_store.specs.declared.name.TableName.{TableName}
 use Rattle.table_store.specs.declared.name.TableName.TheVariants as table
-use Rattle.invdesk.specs.declared.words.Asked.{Asked}
-use Rattle.invdesk.specs.declared.words.Asked.TheVariants.{Run, Report, Export, Help, Wrong, Unreadable, Memory}
+use Rattle.desk_app.specs.declared.words.Asked.{Asked}
+use Rattle.desk_app.specs.declared.words.Asked.TheVariants.{Run, Report, Export, Help, Wrong, Unreadable, Memory}
 
 -- no more words, or `run`
 abbrev pub asks_run : List (List ℕ) → Bool

@@ -7,8 +7,8 @@ use Rattle.clap.specs.Words.{App, HasKind, HasMatchesOf, Text, fault_of, is_simp
 use Rattle.clap.specs.declared.error.Error.{Error}
 use Rattle.clap.specs.declared.error.kind.ErrorKind.TheVariants.{OutOfMemory}
 use Rattle.clap.specs.declared.parser.matches.ArgMatches.{ArgMatches}
-use Rattle.invdesk.specs.Words.{IsCommandLine, Parses, Places, command_line, faults, report_names, table_names, wish, wish_met}
-use Rattle.invdesk.proofs.Faulty.{is_faults, is_free, is_simple_line}
+use Rattle.desk_app.specs.Words.{IsCommandLine, Parses, Places, command_line, faults, report_names, table_names, wish, wish_met}
+use Rattle.desk_app.proofs.Faulty.{is_faults, is_free, is_simple_line}
 
 abbrev lying : List Text → List (Bor Text)
 lying names = map (λ (name : Text). record { ref_ptr = (0, 0); now = name }) names

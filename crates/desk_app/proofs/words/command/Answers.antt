@@ -2,9 +2,9 @@ use Rattle.std.proofs.Common.{ap, refl, true, ◌≡◌, ◌∙◌}
 use Rattle.std.proofs.lemmas.Result.{IfOk-weaker}
 use Rattle.clap.specs.Words.{app_of, with_subcommand}
 use Rattle.clap.specs.Simple.{app_of_fields, on_top}
-use Rattle.invdesk.specs.Words.{Places, top_line, run_line, report_line, export_line}
-use Rattle.invdesk.proofs.Lines.{line_added}
-use Rattle.invdesk.proofs.words.command.Goals as goal
+use Rattle.desk_app.specs.Words.{Places, top_line, run_line, report_line, export_line}
+use Rattle.desk_app.proofs.CommandLines.{line_added}
+use Rattle.desk_app.proofs.words.command.Goals as goal
 
 pub returns : goal.returns
 returns c =

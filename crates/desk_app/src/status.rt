@@ -1,10 +1,10 @@
 //! The status that the program ends with.
 ghost use Rattle.std.specs.Prelude.{◌≡◌};
-ghost use Rattle.invdesk.specs.Statuses.{status_of, status_of_fault, early_status};
+ghost use Rattle.desk_app.specs.Statuses.{status_of, status_of_fault, early_status};
 
-use crate::file::FileFault;
+use crate::database::FileFault;
+use crate::end::RunEnd;
 use crate::words::Asked;
-use desk_app::RunEnd;
 
 /// Something was refused or faulty.
 pub const NOT_ALL: u8 = 1;

@@ -8,7 +8,7 @@ use Rattle.clap.specs.declared.builder.command.Command.{Command}
 use Rattle.clap.specs.declared.builder.value_parser.ValueParser.{ValueParser}
 use Rattle.clap.specs.declared.builder.value_parser.ValueParser.TheVariants.{Names}
 use Rattle.clap.proofs.SimpleLemmas.{plain_fields}
-use Rattle.invdesk.specs.Words.{among}
+use Rattle.desk_app.specs.Words.{among}
 
 pub rule_added : (old : Command) (a : Arg) (new : Command) (app : App) (rule : Rule) → AddsArg old a new → a.global ≡ false
     → app_of old ≡ app → rule_of a ≡ rule → app_of new ≡ with_rule app rule

@@ -2,11 +2,11 @@ use Rattle.std.proofs.Common.{map, sym, subst, ◌∙◌, inl}
 use Rattle.std.specs.Prelude.{◌≢◌}
 use Rattle.clap.specs.Words.{IsAmong, kind_of}
 use Rattle.clap.specs.declared.error.kind.ErrorKind.TheVariants.{DisplayHelp, OutOfMemory}
-use Rattle.invdesk.specs.Words.{faults}
-use Rattle.invdesk.proofs.Faulty.{found, no_run, no_help, not_free, help_remembers, run_is_wished}
-use Rattle.invdesk.proofs.RunOn.{no_run_on, no_run_with, run_on_wished, run_with_wished}
-use Rattle.invdesk.proofs.Told.{told_answers, told_runs, told_runs_on}
-use Rattle.invdesk.proofs.words.read_words.Goals as goal
+use Rattle.desk_app.specs.Words.{faults}
+use Rattle.desk_app.proofs.Faulty.{found, no_run, no_help, not_free, help_remembers, run_is_wished}
+use Rattle.desk_app.proofs.RunOn.{no_run_on, no_run_with, run_on_wished, run_with_wished}
+use Rattle.desk_app.proofs.Told.{told_answers, told_runs, told_runs_on}
+use Rattle.desk_app.proofs.words.read_words.Goals as goal
 
 pub returns-in-Ok : goal.returns-in-Ok
 returns-in-Ok g c =

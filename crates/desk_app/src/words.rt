@@ -4,10 +4,10 @@ ghost use Rattle.std.specs.Char.{is_ascii_digit};
 ghost use Rattle.std.specs.List.{list_all};
 ghost use Rattle.clap.specs.Words.{app_of, kind_of, rule_of, subcommand_rows_of};
 ghost use Rattle.report_core.specs.Names.{report_named};
-ghost use Rattle.invdesk.specs.Words.{file_rule, word_rule, run_line, IsReportLine, IsExportLine, IsCommandLine};
-ghost use Rattle.invdesk.specs.Words.{number_of, is_number, table_named, report_in, export_in, wish_met};
-ghost use Rattle.invdesk.specs.Words.{given_in, rows_in, AsksFor, Tells, Parses, file_of};
-ghost use Rattle.invdesk.specs.Words.{asks_run, asks_help, run_on, run_with, is_path, Answers, Runs, RunsOn, Helps};
+ghost use Rattle.desk_app.specs.Words.{file_rule, word_rule, run_line, IsReportLine, IsExportLine, IsCommandLine};
+ghost use Rattle.desk_app.specs.Words.{number_of, is_number, table_named, report_in, export_in, wish_met};
+ghost use Rattle.desk_app.specs.Words.{given_in, rows_in, AsksFor, Tells, Parses, file_of};
+ghost use Rattle.desk_app.specs.Words.{asks_run, asks_help, run_on, run_with, is_path, Answers, Runs, RunsOn, Helps};
 
 use clap::error::ErrorKind;
 use clap::{Arg, ArgAction, ArgMatches, Command, Error};
