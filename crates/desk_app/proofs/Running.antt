@@ -5,10 +5,12 @@ use Rattle.std.specs.Result.{IsErrAnd}
 use Rattle.std.specs.Io.KnownBytes.{Keeps, Appends}
 use Rattle.std.proofs.KnownBytes.{Appends-nil, Appends-trans}
 use Rattle.desk_app.specs.Cuts.{held, first_of, rest_of, TakesLine}
+use Rattle.sqlite.specs.Tree.{Trees}
 use Rattle.desk_core.specs.Machine.{State}
+use Rattle.desk_store.specs.Books.{TablesAre}
 use Rattle.desk_app.specs.declared.end.Stop.{Stop}
 use Rattle.desk_app.specs.declared.end.Stop.TheVariants.{ReadFailed, WriteFailed, Memory, Store}
-use Rattle.desk_app.specs.Runs.{onto_first, lines_of, line_step, line_after, line_out, is_fine, run_after, run_out, all_fine, Stopped, CutLine, CutShort}
+use Rattle.desk_app.specs.Runs.{onto_first, lines_of, line_step, line_after, line_out, is_fine, run_after, run_out, all_fine, Stopped, StaysOpen, CutLine, CutShort, IsLeft, IsLeftAt, IsOfReading}
 use Rattle.desk_app.proofs.Stepping.{step-held}
 
 -- the lines so far and those to come are all lines; the state, the text and the tests are theirs
@@ -74,6 +76,22 @@ running_stop Memory (Some xs) (Some ys) w w' s s' n f q (done, e, a, o, t, c) =
 
 pub no_writing : ReadFailed ≢ WriteFailed
 no_writing h = absurd (cc)
+
+pub reading_stop : (stop : Stop) → IsOfReading stop → stop ≢ WriteFailed
+reading_stop ReadFailed h e = absurd (cc)
+reading_stop Memory h e = absurd (cc)
+reading_stop WriteFailed h e = absurd h
+reading_stop Store h e = absurd h
+
+stays_of_reading : {F : Type 0} (old new : Option F) (stop : Stop) → IsOfReading stop → (old ≡ None → new ≡ None) → StaysOpen {F = F} {X = Bool} old new (Err stop)
+stays_of_reading old new ReadFailed h stays = stays
+stays_of_reading old new Memory h stays = stays
+stays_of_reading old new WriteFailed h stays = absurd h
+stays_of_reading old new Store h stays = absurd h
+
+pub stays_reading : {F : Type 0} (old new : Option F) (r : Result Bool Stop) (stop : Stop) → IsErrAnd r (λ d. d ≡ stop) → IsOfReading stop → (old ≡ None → new ≡ None) → StaysOpen {F = F} {X = Bool} old new r
+stays_reading old new (Ok x) stop h is stays = stays
+stays_reading old new (Err d) stop h is stays = stays_of_reading old new d (subst IsOfReading (sym h) is) stays
 
 -- the line that was taken
 abbrev Taken : List ℕ → List (List ℕ) → List ℕ → List ℕ → Type 0
@@ -145,6 +163,40 @@ running_cut WriteFailed (Some xs) (Some ys) (Some zs) w w' w'' s s' s'' n f line
       answer = sym (ap (λ v. v.1) there) ∙ x.answer;
       written = Appends-trans w w' w'' _ _ o x.written;
     }
+
+-- ---- what a crash leaves
+
+pub left_shown : (o : Option (List ℕ)) (s s' : State) (trees : Trees) → TablesAre s' trees → IsLeft o s s' trees
+left_shown None s s' trees h = inl h
+left_shown (Some xs) s s' trees h = inl h
+
+left_next : (o r r' w w' : Option (List ℕ)) (s s' s'' : State) (n : ℕ) (f : Bool) (line : List ℕ) (trees : Trees) → Running o r w w' s s' n f → TakesLine r true line r'
+    → s'' ≡ s' → TablesAre (line_after s'' n line) trees → IsLeft o s s'' trees
+left_next None r r' w w' s s' s'' n f line trees p t same h = inr (n, line, h)
+left_next (Some xs) None r' w w' s s' s'' n f line trees p t same h = absurd p
+left_next (Some xs) (Some ys) None w w' s s' s'' n f line trees p t same h = absurd t
+left_next (Some xs) (Some ys) (Some zs) w w' s s' s'' n f line trees (done, e, a, o, g, c) t same h =
+    let l = first_of ys in
+    let there = step_there s s' n done line l a c t.1 in
+    let after : line_after s'' n line ≡ run_after s 1 (done ++ l ∷ []) = ap (λ v. line_after v n line) same ∙ ap (λ v. v.0) there ∙ sym (run_after-push s 1 done l) in
+    inr (record {
+      done = done;
+      next = l;
+      rest = lines_of zs;
+      split = taken xs ys zs done e t.0 t.2 ∙ append_assoc done (l ∷ []) (lines_of zs);
+      state = same ∙ a;
+      tables = subst (λ v. TablesAre v trees) after h;
+    })
+
+-- a desk that stays open leaves the tables that it shows; one that the database closed, also those after the line
+pub left_cut : {F : Type 0} (stop : Stop) (o r r' w w' w'' : Option (List ℕ)) (s s' s'' : State) (n : ℕ) (f : Bool) (line : List ℕ) (trees : Trees) (old new : Option F)
+    → Running o r w w' s s' n f → TakesLine r true line r' → CutShort stop w' w'' s' s'' n line → StaysOpen {F = F} {X = Bool} old new (Err stop) → old ≡ None
+    → (new ≡ None → TablesAre s'' trees) → IsLeftAt s'' n line trees → IsLeft o s s'' trees
+left_cut ReadFailed o r r' w w' w'' s s' s'' n f line trees old new p t x stays was shown at = absurd x
+left_cut WriteFailed o r r' w w' w'' s s' s'' n f line trees old new p t x stays was shown at = left_shown o s s'' trees (shown (stays was))
+left_cut Memory o r r' w w' w'' s s' s'' n f line trees old new p t x stays was shown at = left_shown o s s'' trees (shown (stays was))
+left_cut Store o r r' w w' w'' s s' s'' n f line trees old new p t x stays was shown (inl h) = left_shown o s s'' trees h
+left_cut Store o r r' w w' w'' s s' s'' n f line trees old new p t x stays was shown (inr h) = left_next o r r' w w' s s' s'' n f line trees p t x.0 h
 
 pub cut_writing : (stop : Stop) (w w' : Option (List ℕ)) (s s' : State) (n k : ℕ) (line text : List ℕ) (f : Bool) → stop ≡ WriteFailed → line_step s n line ≡ (s', text, f)
     → Appends w w' (take k text) → CutShort stop w w' s s' n line

@@ -11,7 +11,7 @@ use Rattle.desk_app.specs.Cuts.{held}
 use Rattle.desk_wire.specs.Reading.{line}
 use Rattle.desk_app.specs.declared.end.Stop.{Stop}
 use Rattle.desk_app.specs.declared.end.Stop.TheVariants.{ReadFailed, WriteFailed, Memory, Store}
-use Rattle.desk_app.specs.Runs.{by_outcome, is_blank, line_after, line_step, CutLine, CutRequest, IsLeft}
+use Rattle.desk_app.specs.Runs.{by_outcome, is_blank, line_after, line_step, CutLine, CutRequest, IsLeftAt}
 use Rattle.desk_app.proofs.Cutting.{held_short}
 
 pub blank_step : (s : State) (n : ℕ) (l : List ℕ) → is_blank l ≡ true → line_step s n l ≡ (s, [], true)
@@ -67,6 +67,6 @@ cut_line WriteFailed s s' n l r e h = absurd h
 cut_line Memory s s' n l r e h = elim h [ inl same ↦ inl same | inr after ↦ inr (after ∙ sym e) ]
 cut_line Store s s' n l r e h = h
 
-pub left_of_line : (s : State) (n : ℕ) (l : List ℕ) (r : Req) (trees : Trees) → line_after s n l ≡ (step s r).0 → TablesAre s trees ⊎ TablesAre (step s r).0 trees → IsLeft s trees
+pub left_of_line : (s : State) (n : ℕ) (l : List ℕ) (r : Req) (trees : Trees) → line_after s n l ≡ (step s r).0 → TablesAre s trees ⊎ TablesAre (step s r).0 trees → IsLeftAt s n l trees
 left_of_line s n l r trees e (inl h) = inl h
-left_of_line s n l r trees e (inr h) = inr (n, l, subst (λ t. TablesAre t trees) (sym e) h)
+left_of_line s n l r trees e (inr h) = inr (subst (λ t. TablesAre t trees) (sym e) h)

@@ -5,7 +5,11 @@ use Rattle.part_core.specs.declared.refusal.Refusal.TheVariants.{NoSuch}
 use Rattle.report_core.specs.Lines.{Lines, report_text}
 use Rattle.desk_wire.specs.Writing.{refused_text}
 
--- the report's text is written; where there is none, that there is no such row
+-- the report's text, and that there is one; where there is none, that there is no such row
+abbrev pub printed : Option Lines → List ℕ × Bool
+printed (Some lines) = (report_text lines, true)
+printed None = (refused_text NoSuch, false)
+
+-- it is written whole
 abbrev pub IsPrinted : Option (List ℕ) → Option (List ℕ) → Option Lines → Bool → Type 0
-IsPrinted w w' (Some lines) there = (there ≡ true) × Appends w w' (report_text lines)
-IsPrinted w w' None there = (there ≡ false) × Appends w w' (refused_text NoSuch)
+IsPrinted w w' lines there = (there ≡ (printed lines).1) × Appends w w' (printed lines).0

@@ -1,5 +1,5 @@
 -- A run over the lines of a text.
-use Rattle.std.specs.Prelude.{◌≡◌, ◌≤◌, ℕ, length, ◌+◌, ◌==◌, ◌&&◌, Bool, true, false, List, [], ◌∷◌, ◌++◌, if◌then◌else◌, ◌⊎◌, Option, Some, None, Result, Ok, Err}
+use Rattle.std.specs.Prelude.{◌≡◌, ◌≤◌, ℕ, length, ◌+◌, ◌==◌, ◌&&◌, Bool, true, false, List, [], ◌∷◌, ◌++◌, if◌then◌else◌, ◌⊎◌, Option, Some, None, IsSome, Result, Ok, Err}
 use Rattle.std.specs.Io.KnownBytes.{Appends, Keeps}
 use Rattle.part_core.specs.declared.refusal.Refusal.TheVariants.{NoSuch}
 use Rattle.desk_core.specs.Machine.{State, Outcome, step}
@@ -169,13 +169,19 @@ IsOfDesk Memory = Unit {0}
 IsOfDesk Store = Unit {0}
 IsOfDesk _ = ⊥
 
--- a desk that wasn't closed isn't, unless the database failed
+-- it is the reader that stops it, or want of memory
+abbrev pub IsOfReading : Stop → Type 0
+IsOfReading ReadFailed = Unit {0}
+IsOfReading Memory = Unit {0}
+IsOfReading _ = ⊥
+
+-- a desk that wasn't closed isn't, unless the database failed; where it failed, the desk is closed
 abbrev pub StaysOpen : {F X : Type 0} → Option F → Option F → Result X Stop → Type 0
 StaysOpen old new (Ok x) = old ≡ None → new ≡ None
 StaysOpen old new (Err ReadFailed) = old ≡ None → new ≡ None
 StaysOpen old new (Err WriteFailed) = old ≡ None → new ≡ None
 StaysOpen old new (Err Memory) = old ≡ None → new ≡ None
-StaysOpen old new (Err Store) = Unit {0}
+StaysOpen old new (Err Store) = IsSome new
 
 -- a line that was not answered whole; for want of memory it was run or not, and nothing is written; where the database
 -- failed it was not run
@@ -185,7 +191,21 @@ CutShort WriteFailed w w' s s' number line = CutWriting w w' s s' number line
 CutShort Memory w w' s s' number line = ((s' ≡ s) ⊎ (s' ≡ line_after s number line)) × Keeps w w'
 CutShort Store w w' s s' number line = (s' ≡ s) × Keeps w w'
 
--- what a crash leaves of a desk that holds this state: its tables, or those after one line more, at which the database
--- failed
-abbrev pub IsLeft : State → Trees → Type 0
-IsLeft s trees = TablesAre s trees ⊎ ((number : ℕ) × (line : List ℕ) × TablesAre (line_after s number line) trees)
+-- what a crash leaves where the database may have failed at this line: the tables before it or after it
+abbrev pub IsLeftAt : State → ℕ → List ℕ → Trees → Type 0
+IsLeftAt s number line trees = TablesAre s trees ⊎ TablesAre (line_after s number line) trees
+
+-- the first of these lines lead to the state, and the tables are those after the next line too
+pub record HasNext (lines : List (List ℕ)) (s s' : State) (trees : Trees) : Type 0 where
+  pub done : List (List ℕ)
+  pub next : List ℕ
+  pub rest : List (List ℕ)
+  pub split : lines ≡ done ++ next ∷ rest
+  pub state : s' ≡ run_after s 1 done
+  pub tables : TablesAre (run_after s 1 (done ++ next ∷ [])) trees
+
+-- what a crash leaves of a desk that a run over these bytes left in this state: its tables or, where the database failed,
+-- those after the line that came next; of unknown bytes, after some line
+abbrev pub IsLeft : Option (List ℕ) → State → State → Trees → Type 0
+IsLeft None s s' trees = TablesAre s' trees ⊎ ((number : ℕ) × (line : List ℕ) × TablesAre (line_after s' number line) trees)
+IsLeft (Some text) s s' trees = TablesAre s' trees ⊎ HasNext (lines_of text) s s' trees

@@ -1,16 +1,19 @@
 //! A desk in a database, and what is printed of it.
-ghost use Rattle.std.specs.Prelude.{◌≡◌, Bool, false, true, None, IfOk};
-ghost use Rattle.std.specs.Io.KnownBytes.{Appends};
+ghost use Rattle.std.specs.Prelude.{◌≡◌, ◌↔◌, ◌⊎◌, Bool, false, true, None, IfOk, IfErr, IsSome};
+ghost use Rattle.std.specs.Io.KnownBytes.{Appends, Keeps};
+ghost use Rattle.std.specs.String.{string_bytes};
 ghost use Rattle.sqlite.specs.Held.{state};
 ghost use Rattle.sqlite.specs.State.{HasCleanDisk};
-ghost use Rattle.desk_core.specs.Machine.{IsSoundState};
+ghost use Rattle.desk_core.specs.Machine.{IsSoundState, start};
 ghost use Rattle.desk_core.specs.Shops.{state_of};
+ghost use Rattle.desk_store.specs.Books.{TablesAre};
 ghost use Rattle.desk_store.specs.Desks.{IsDesk};
-ghost use Rattle.desk_store.specs.Exports.{table_text};
+ghost use Rattle.desk_store.specs.Exports.{AppendsFront, table_text};
 ghost use Rattle.report_core.specs.Reports.{report_lines};
-ghost use Rattle.desk_app.specs.Printed.{IsPrinted};
+ghost use Rattle.desk_app.specs.Printed.{IsPrinted, printed};
 
 use crate::end::{RunEnd, Stop};
+use crate::run::Told;
 use crate::send::send;
 use desk_core::Shop;
 use desk_store::{Desk, ExportFault, OpenFault};
@@ -31,41 +34,40 @@ pub fn take_desk<S: Alter + Drop>(
     requires { HasCleanDisk (state S.Store conn) → (state S.Store conn).in_transaction ≡ false }
     ensures desk { IfOk result (λ desk. IsDesk S.Store desk) }
     ensures open { IfOk result (λ desk. desk.failed ≡ None) }
+    ensures new { is_new ≡ true → IfOk result (λ desk.
+        state_of desk.shop ≡ start (state_of desk.shop).counter.limits) }
+    ensures found { is_new ≡ false → IfOk result (λ desk. HasCleanDisk (state S.Store desk.conn)
+        → TablesAre (state_of desk.shop) (state S.Store conn).committed.trees) }
 {
-    let taken = if is_new {
-        Desk::create(alloc, conn, Limits::LARGEST)
+    if is_new {
+        match Desk::create(alloc, conn, Limits::LARGEST) {
+            Ok(desk) => Ok(desk),
+            Err((fault, _store)) => Err(fault),
+        }
     } else {
-        Desk::open(alloc, conn)
-    };
-    match taken {
-        Ok(desk) => Ok(desk),
-        Err((fault, _)) => Err(fault),
+        match Desk::open(alloc, conn) {
+            Ok(desk) => Ok(desk),
+            Err((fault, _store)) => Err(fault),
+        }
     }
 }
 
-/// Writes the report of a shop: true where there is such a row.
-fn write_report<W: Write>(
-    alloc: Global,
-    shop: &Shop,
-    name: ReportName,
-    of: u64,
-    writer: &mut W,
-) -> Result<bool, Stop>
+/// What is printed for a report of a shop.
+fn told_as_text(alloc: Global, shop: &Shop, name: ReportName, of: u64) -> Result<Told, Stop>
     requires { IsSoundState (state_of shop.now) }
-    ensures { IfOk result (λ there. IsPrinted (W.contents writer.old) (W.contents writer.new)
-        (report_lines name of (state_of shop.now)) there) }
+    ensures ok { IfOk result (λ told. printed (report_lines name of (state_of shop.now))
+        ≡ (string_bytes told.text, told.fine)) }
+    ensures memory { IfErr result (λ stop. stop ≡ Stop.Memory) }
 {
     match report(alloc, shop, name, of) {
-        Ok(lines) => {
-            let text = lines.text(alloc)?;
-            send(writer, text.as_bytes())?;
-            Ok(true)
-        }
-        Err(CoreFault::Refused(refusal)) => {
-            let text = refused_text(alloc, refusal)?;
-            send(writer, text.as_bytes())?;
-            Ok(false)
-        }
+        Ok(report) => Ok(Told {
+            text: report.text(alloc)?,
+            fine: true,
+        }),
+        Err(CoreFault::Refused(refusal)) => Ok(Told {
+            text: refused_text(alloc, refusal)?,
+            fine: false,
+        }),
         Err(CoreFault::Memory) => Err(Stop::Memory),
     }
 }
@@ -79,24 +81,40 @@ pub fn print_report<S: Alter, W: Write>(
     writer: &mut W,
 ) -> RunEnd
     requires { IsSoundState (state_of desk.now.shop) }
-    ensures { (there : Bool) → result ≡ RunEnd.Done there
+    ensures whole { (there : Bool) → result ≡ RunEnd.Done there
         → IsPrinted (W.contents writer.old) (W.contents writer.new)
         (report_lines name of (state_of desk.now.shop)) there }
+    ensures front { result ≡ RunEnd.WriteFailed
+        → AppendsFront (W.contents writer.old) (W.contents writer.new)
+        (printed (report_lines name of (state_of desk.now.shop))).0 }
+    ensures nothing { (result ≡ RunEnd.Memory) ⊎ (result ≡ RunEnd.Store)
+        → Keeps (W.contents writer.old) (W.contents writer.new) }
+    ensures closed { (result ≡ RunEnd.Store) ↔ IsSome desk.now.failed }
 {
     let Ok(shop) = desk.shop() else {
         return RunEnd::Store;
     };
-    match write_report(alloc, shop, name, of, writer) {
-        Ok(there) => RunEnd::Done(there),
+    let told = match told_as_text(alloc, shop, name, of) {
+        Ok(told) => told,
+        Err(stop) => return stop.end(),
+    };
+    match send(writer, told.text.as_bytes()) {
+        Ok(()) => RunEnd::Done(told.fine),
         Err(stop) => stop.end(),
     }
 }
 
 /// Prints a table as text.
 pub fn print_export<S: Alter, W: Write>(desk: &Desk<S>, table: TableName, writer: &mut W) -> RunEnd
-    ensures { (all : Bool) → result ≡ RunEnd.Done all
+    ensures whole { (all : Bool) → result ≡ RunEnd.Done all
         → (all ≡ true) × Appends (W.contents writer.old) (W.contents writer.new)
         (table_text table (state_of desk.now.shop)) }
+    ensures front { result ≡ RunEnd.WriteFailed
+        → AppendsFront (W.contents writer.old) (W.contents writer.new)
+        (table_text table (state_of desk.now.shop)) }
+    ensures nothing { (result ≡ RunEnd.Memory) ⊎ (result ≡ RunEnd.Store)
+        → Keeps (W.contents writer.old) (W.contents writer.new) }
+    ensures closed { (result ≡ RunEnd.Store) ↔ IsSome desk.now.failed }
 {
     match desk.export(table, writer) {
         Ok(()) => RunEnd::Done(true),

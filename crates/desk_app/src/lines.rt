@@ -2,7 +2,7 @@
 //! reader still has, is the text that is left; each line that is taken is the next of that text. Of a
 //! long line no more is held than shows that it is too long. There is a bound on the reads, and each
 //! counts, an interrupted one too; past it every read is refused.
-ghost use Rattle.std.specs.Prelude.{◌≡◌, ◌≢◌, ◌⊎◌, ◌≤◌, ◌<◌, ◌+◌, ◌++◌, [], ◌∷◌, length, take, drop, vec_len, IfOk, OnOk, OnErr, IfErr, Err, true, false, IsTrue};
+ghost use Rattle.std.specs.Prelude.{◌≡◌, ◌⊎◌, ◌≤◌, ◌<◌, ◌+◌, ◌++◌, [], ◌∷◌, length, take, drop, vec_len, IfOk, OnOk, OnErr, IfErr, Err, true, false, IsTrue};
 
 use crate::end::Stop;
 use crate::pieces::{end_of, hold};
@@ -23,6 +23,7 @@ pub struct Lines {
 
 impl Lines {
     ghost use Rattle.std.specs.Io.KnownBytes.{Keeps, IsAtEnd};
+    ghost use Rattle.desk_app.specs.Runs.{IsOfReading};
     ghost use Rattle.desk_app.specs.Cuts.{unread, left, held, first_of, rest_of, has_end, TakesLine};
 
     pub fn new(alloc: Global) -> Result<Self, AllocError>
@@ -103,7 +104,7 @@ impl Lines {
     pub fn next_line<R: Read>(&mut self, reader: &mut R, line: &mut Vec<u8>) -> Result<bool, Stop>
         ensures short { OnOk result (length line.new.items ≤ 65537) }
         ensures reads { self.new.reads ≤ self.old.reads }
-        ensures reading { IfErr result (λ stop. stop ≢ Stop.WriteFailed) }
+        ensures reading { IfErr result IsOfReading }
         ensures takes { IfOk result (λ found. TakesLine (left (R.remaining reader.old) self.old)
             found line.new.items (left (R.remaining reader.new) self.new)) }
     {

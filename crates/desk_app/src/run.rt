@@ -3,7 +3,7 @@
 //! answer is written: where the writer fails that line is run, and a front of its answer is written.
 //! No line is run after a failure. Where it is the database that failed, the desk is closed, and its
 //! tables are those before that line or after it.
-ghost use Rattle.std.specs.Prelude.{◌≡◌, ◌≢◌, ◌⊎◌, ◌≤◌, ℕ, List, Bool, None, false, length, true, IfOk, OnOk, IfErr, OnErr};
+ghost use Rattle.std.specs.Prelude.{◌≡◌, ◌≢◌, ◌⊎◌, ◌≤◌, ℕ, List, Bool, None, false, length, true, IfOk, OnOk, IfErr, OnErr, Err, IsSome};
 ghost use Rattle.std.specs.String.{string_bytes};
 ghost use Rattle.std.specs.Io.KnownBytes.{Appends};
 ghost use Rattle.sqlite.specs.Held.{state};
@@ -16,7 +16,7 @@ ghost use Rattle.desk_store.specs.Desks.{IsDesk};
 ghost use Rattle.desk_app.specs.declared.end.Stop.{Stop};
 ghost use Rattle.desk_app.specs.Ends.{end_of};
 ghost use Rattle.report_core.specs.Reports.{report_lines};
-ghost use Rattle.desk_app.specs.Runs.{by_outcome, by_report, is_blank, line_step, line_after, line_out, is_fine, CutLine, CutRequest, CutShort, Finished, IsLeft, IsOfDesk, StaysOpen, Stopped};
+ghost use Rattle.desk_app.specs.Runs.{by_outcome, by_report, is_blank, line_step, line_after, line_out, is_fine, CutLine, CutRequest, CutShort, Finished, IsLeft, IsLeftAt, IsOfDesk, StaysOpen, Stopped};
 
 use crate::end::{RunEnd, Stop};
 use crate::lines::Lines;
@@ -32,9 +32,9 @@ use std::io::{Read, Write};
 
 /// What is answered to a line, and whether nothing was refused or faulty.
 #[derive(Drop)]
-struct Told {
-    text: String,
-    fine: bool,
+pub struct Told {
+    pub text: String,
+    pub fine: bool,
 }
 
 fn is_blank(line: &[u8]) -> bool
@@ -112,6 +112,7 @@ fn tell_of_desk<S: Alter>(
         by_report (state_of desk.now.shop) (report_lines name of (state_of desk.now.shop))
         ≡ (state_of desk.now.shop, string_bytes told.text, told.fine)) }
     ensures stop { IfErr result IsOfDesk }
+    ensures closed { result ≡ Err Stop.Store → IsSome desk.now.failed }
 {
     match desk.shop() {
         Ok(shop) => tell_report(alloc, shop, name, of),
@@ -132,7 +133,7 @@ fn tell<S: Alter>(alloc: Global, desk: &mut Desk<S>, number: u64, line: &[u8]) -
     ensures stays_open { StaysOpen desk.old.failed desk.new.failed result }
     ensures left { desk.old.failed ≡ None → HasCleanDisk (state S.Store desk.new.conn)
         → (trees : Trees) → (state S.Store desk.new.conn).may_leave trees
-        → IsLeft (state_of desk.new.shop) trees }
+        → IsLeftAt (state_of desk.new.shop) number line.now trees }
 {
     match read_line(alloc, line, number) {
         Ok(Asked::Request(request)) => tell_outcome(alloc, desk, &request),
@@ -168,7 +169,7 @@ fn answer<S: Alter, W: Write>(
     ensures stays_open { StaysOpen desk.old.failed desk.new.failed result }
     ensures left { desk.old.failed ≡ None → HasCleanDisk (state S.Store desk.new.conn)
         → (trees : Trees) → (state S.Store desk.new.conn).may_leave trees
-        → IsLeft (state_of desk.new.shop) trees }
+        → IsLeftAt (state_of desk.new.shop) number line.now trees }
 {
     if is_blank(line) {
         return Ok(true);
@@ -195,7 +196,8 @@ fn answer_all<S: Alter, R: Read, W: Write>(
     ensures stays_open { StaysOpen desk.old.failed desk.new.failed result }
     ensures left { desk.old.failed ≡ None → HasCleanDisk (state S.Store desk.new.conn)
         → (trees : Trees) → (state S.Store desk.new.conn).may_leave trees
-        → IsLeft (state_of desk.new.shop) trees }
+        → IsLeft (R.remaining reader.old) (state_of desk.old.shop)
+        (state_of desk.new.shop) trees }
 {
     let mut lines = Lines::new(alloc)?;
     let mut line = Vec::new(alloc);
@@ -226,9 +228,11 @@ pub fn run_lines<S: Alter, R: Read, W: Write>(
         (W.contents writer.new) (state_of desk.old.shop) (state_of desk.new.shop) }
     ensures desk { IsDesk S.Store desk.new }
     ensures stays_open { desk.old.failed ≡ None → result ≢ RunEnd.Store → desk.new.failed ≡ None }
+    ensures closed { result ≡ RunEnd.Store → IsSome desk.new.failed }
     ensures left { desk.old.failed ≡ None → HasCleanDisk (state S.Store desk.new.conn)
         → (trees : Trees) → (state S.Store desk.new.conn).may_leave trees
-        → IsLeft (state_of desk.new.shop) trees }
+        → IsLeft (R.remaining reader.old) (state_of desk.old.shop)
+        (state_of desk.new.shop) trees }
 {
     match answer_all(alloc, reader, writer, desk) {
         Ok(all) => RunEnd::Done(all),

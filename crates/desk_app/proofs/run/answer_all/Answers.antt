@@ -2,7 +2,7 @@ use Rattle.std.proofs.Common.{◌≡◌, ◌&&◌, ◌∙◌}
 use Rattle.desk_core.specs.Shops.{state_of}
 use Rattle.desk_app.specs.Cuts.{left}
 use Rattle.desk_app.specs.Runs.{is_fine, Stopped}
-use Rattle.desk_app.proofs.Running.{running_stop, running_line, running_cut, stopped_start, no_writing, if_err, if_err_as}
+use Rattle.desk_app.proofs.Running.{running_stop, running_line, running_cut, reading_stop, stays_reading, left_cut, stopped_start, no_writing, if_err, if_err_as}
 use Rattle.desk_app.specs.declared.end.Stop.TheVariants.{Memory}
 use Rattle.desk_app.proofs.run.answer_all.Goals as goal
 use Rattle.desk_app.proofs.run.answer_all.Goals.{then-all, else-all}
@@ -18,7 +18,7 @@ returns-in_err-next_line-clause-stopped g c =
     if_err_as
     (λ stop. Stopped stop (g.R.Read.remaining c.args.reader.now) (g.W.Write.contents c.args.writer.now) (g.W.Write.contents c.loop-number.writer) (state_of c.args.desk.now.shop) (state_of c.loop-number.desk.shop))
     c.from_residual-in_err-next_line.result c.in_err-next_line.field-0.0 c.from_residual-in_err-next_line.ensures.1
-    (running_stop c.in_err-next_line.field-0.0 _ _ _ _ _ _ _ _ c.in_err-next_line.ensures.reading c.loop-number.invariant.running)
+    (running_stop c.in_err-next_line.field-0.0 _ _ _ _ _ _ _ _ (reading_stop c.in_err-next_line.field-0.0 c.in_err-next_line.ensures.reading) c.loop-number.invariant.running)
 
 pub returns-in_err-fine-clause-stopped : goal.returns-in_err-fine-clause-stopped
 returns-in_err-fine-clause-stopped g c =
@@ -30,6 +30,23 @@ returns-in_err-fine-clause-stopped g c =
     (running_cut c.in_err-fine.field-0.0 (g.R.Read.remaining c.args.reader.now) (left (g.R.Read.remaining c.loop-number.reader) c.loop-number.lines) (left (g.R.Read.remaining c.next_line.new.reader) c.next_line.new.self)
     (g.W.Write.contents c.args.writer.now) (g.W.Write.contents c.loop-number.writer) (g.W.Write.contents c.answer.new.writer)
     (state_of c.args.desk.now.shop) (state_of c.loop-number.desk.shop) (state_of c.answer.new.desk.shop) c.loop-number.number c.loop-number.all c.next_line.new.line.items c.loop-number.invariant.running takes cut)
+
+pub returns-in_err-next_line-clause-stays_open : goal.returns-in_err-next_line-clause-stays_open
+returns-in_err-next_line-clause-stays_open g c =
+    stays_reading c.args.desk.now.failed c.loop-number.desk.failed c.from_residual-in_err-next_line.result c.in_err-next_line.field-0.0
+    c.from_residual-in_err-next_line.ensures.1 c.in_err-next_line.ensures.reading c.loop-number.invariant.stays_open
+
+pub returns-in_err-fine-clause-left : goal.returns-in_err-fine-clause-left
+returns-in_err-fine-clause-left g c before clean trees there =
+    let takes = rw c.if-not-branch.false at c.in_ok-next_line.ensures.takes in
+    let cut = rw c.deref.ensures.value at c.in_err-fine.ensures.cut in
+    let crash = rw c.deref.ensures.value at c.in_err-fine.ensures.left in
+    let was = c.loop-number.invariant.stays_open before in
+    left_cut c.in_err-fine.field-0.0 (g.R.Read.remaining c.args.reader.now) (left (g.R.Read.remaining c.loop-number.reader) c.loop-number.lines) (left (g.R.Read.remaining c.next_line.new.reader) c.next_line.new.self)
+    (g.W.Write.contents c.args.writer.now) (g.W.Write.contents c.loop-number.writer) (g.W.Write.contents c.answer.new.writer)
+    (state_of c.args.desk.now.shop) (state_of c.loop-number.desk.shop) (state_of c.answer.new.desk.shop) c.loop-number.number c.loop-number.all c.next_line.new.line.items trees
+    c.loop-number.desk.failed c.answer.new.desk.failed c.loop-number.invariant.running takes cut c.in_err-fine.ensures.stays_open was
+    (λ none. (c.in_err-fine.ensures.desk.books none clean).left trees there) (crash was clean trees there)
 
 pub loop-number-preserved : goal.loop-number-preserved
 loop-number-preserved g c =
