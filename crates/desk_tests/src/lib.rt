@@ -1,4 +1,4 @@
-//! Tests that cross crates: the worked examples, and readers and writers that fail.
+//! Tests that cross crates: the worked examples, readers, writers and disks that fail, and files that are damaged.
 #![tactic(auto)]
 
 #[cfg(test)]
@@ -29,3 +29,5 @@ mod requests;
 mod rows;
 #[cfg(test)]
 mod sheets;
+#[cfg(test)]
+mod stops;

@@ -30,7 +30,7 @@ pub fn created<S: Alter + Drop>(alloc: Global, conn: Connection<S>) -> Result<De
 }
 
 /// The desk, closed and opened again.
-pub fn reopened<S: Alter + Drop>(alloc: Global, desk: Desk<S>) -> Result<Desk<S>, Fail>
+fn reopened<S: Alter + Drop>(alloc: Global, desk: Desk<S>) -> Result<Desk<S>, Fail>
     ensures { IfOk result (λ desk. IsDesk S.Store desk) }
 {
     match Desk::open(alloc, desk.close()) {
