@@ -1,4 +1,5 @@
 pub mod Schema
+pub mod Faults
 pub mod Shape
 pub mod Texts
 pub mod Transactions

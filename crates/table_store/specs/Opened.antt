@@ -5,7 +5,6 @@ use Rattle.sqlite.specs.Schema.{Schema}
 use Rattle.sqlite.specs.Tree.{Trees}
 use Rattle.sqlite_catalog.specs.Listing.{IsSound}
 use Rattle.table_store.specs.Schema.{desk_schema}
-use Rattle.table_store.specs.Values.{HasTables}
 use Rattle.table_store.specs.declared.fault.TableFault.{TableFault}
 use Rattle.table_store.specs.declared.fault.TableFault.TheVariants.{Memory, Store, NoTable, BadRow}
 

@@ -54,6 +54,10 @@ impl Failed {
 }
 
 impl fmt::Display for Failed {
+    ghost use Rattle.table_store.specs.Faults.{failed_text};
+
+    ghost output = { failed_text };
+
     fn fmt<W: fmt::Write>(&self, f: &mut fmt::Formatter<W>) -> fmt::Result {
         match &self.cause {
             Cause::Database(error) => write!(f, "the database answered: {error}"),

@@ -7,6 +7,7 @@ ghost use Rattle.sqlite.specs.Order.{column, value_cmp};
 ghost use Rattle.sqlite_value.specs.Value.{owned};
 ghost use Rattle.sqlite_value.specs.declared.value.Value.TheVariants.{Int, Text};
 ghost use Rattle.part_core.specs.Columns.{Finds, Misses};
+ghost use Rattle.table_store.specs.Faults.{NamesTable};
 ghost use Rattle.table_store.specs.Stored.{column_of, columns_in, row_of, values_of, AreLoaded, FailsToLoad, FailsToRead};
 ghost use Rattle.table_store.specs.Transactions.{IsBadRow, IsOfReading, IsOfStore};
 ghost use Rattle.table_store.specs.Values.{HasTables, RiseByWord};
@@ -90,6 +91,7 @@ fn rows_of<R: Stored>(alloc: Global, table: TableName, rows: &[Row]) -> Result<V
     ensures read { IfOk result (λ read. map (row_of R.row_from) rows.now ≡ map Some read.items) }
     ensures told { IfOk result (λ read. rows.now ≡ map (values_of R.columns_of) read.items) }
     ensures failed { IfErr result (FailsToRead R.row_from rows.now) }
+    ensures named { IfErr result (NamesTable table) }
 {
     let mut read = Vec::new(alloc);
     for row in rows {
@@ -127,6 +129,7 @@ pub fn load_sheet<S: Alter, R: Stored>(
     ensures failed { HasCleanDisk (state S.Store conn.new)
         → IfErr result (FailsToLoad R.row_from table
         (state S.Store conn.old) (state S.Store conn.new)) }
+    ensures named { IfErr result (NamesTable table) }
     ensures crash { Survives (state S.Store conn.old) (state S.Store conn.new) (λ _. ⊥) }
 {
     let rows = load_rows(conn, table)?;
@@ -184,6 +187,7 @@ pub fn load_kept<S: Alter, R: Stored>(
         → OnErr result (IsUnchanged (state S.Store conn.old) (state S.Store conn.new)
         ⊎ IsRolledBack (state S.Store conn.old) (state S.Store conn.new)) }
     ensures fault { IfErr result IsOfReading }
+    ensures named { IfErr result (NamesTable Kept) }
     ensures crash { Survives (state S.Store conn.old) (state S.Store conn.new) (λ _. ⊥) }
 {
     let kept = load_rows(conn, TableName::Kept)?;

@@ -20,6 +20,7 @@ pub fn begin<S: Alter>(conn: &mut Connection<S>) -> Result<(), TableFault>
         → OnOk result (HasTables (state S.Store conn.new)) }
     ensures stopped { HasCleanDisk (state S.Store conn.new)
         → IfErr result (Stops (state S.Store conn.old) (state S.Store conn.new)) }
+    ensures fault { IfErr result IsOfStore }
     ensures crash { Survives (state S.Store conn.old) (state S.Store conn.new) (λ _. ⊥) }
 {
     match conn.execute("BEGIN", &[]) {
@@ -41,6 +42,7 @@ pub fn commit<S: Alter>(conn: &mut Connection<S>) -> Result<(), TableFault>
         → OnOk result (HasTables (state S.Store conn.new)) }
     ensures stopped { HasCleanDisk (state S.Store conn.new)
         → IfErr result (Stops (state S.Store conn.old) (state S.Store conn.new)) }
+    ensures fault { IfErr result IsOfStore }
     ensures crash { Survives (state S.Store conn.old) (state S.Store conn.new)
         (λ trees. trees ≡ (state S.Store conn.old).now.trees) }
 {
