@@ -5,8 +5,7 @@ use Rattle.part_core.specs.Filled.{StandUnderKeys}
 use Rattle.desk_core.specs.KeptColumns.{kept_columns, kept_from}
 use Rattle.desk_core.specs.Machine.{IsSoundState, State}
 use Rattle.desk_core.specs.declared.kept.Kept.{Kept as KeptRow}
-use Rattle.desk_store.specs.Loading.{open_fault}
-use Rattle.desk_store.specs.Opening.{WhyNot}
+use Rattle.desk_store.specs.Opening.{WhyNot, open_fault_of}
 use Rattle.table_store.specs.Schema.{position}
 use Rattle.table_store.specs.Transactions.{IsBadRow, IsOfReading}
 use Rattle.table_store.specs.Written.{IsTableOfNoneOwn}
@@ -18,7 +17,7 @@ answers-own : (s : State) → IsSoundState s → StandUnderKeys (λ (row : KeptR
 answers-own s sound key row is = (sound.answers key row is).own
 
 pub why-answers : (trees : Trees) (fault : TableFault) → IsOfReading fault
-    → (IsBadRow fault → IsTableOfNoneOwn kept_from kept_columns (λ row. row.word) Kept (trees (position Kept))) → WhyNot trees (open_fault fault)
+    → (IsBadRow fault → IsTableOfNoneOwn kept_from kept_columns (λ row. row.word) Kept (trees (position Kept))) → WhyNot trees (open_fault_of fault)
 why-answers trees Memory of none = tt
 why-answers trees (Store failed) of none = tt
 why-answers trees (NoTable failed) of none = absurd of

@@ -26,7 +26,7 @@ use Rattle.desk_store.specs.declared.fault.OpenFault.{OpenFault}
 use Rattle.desk_store.specs.declared.fault.OpenFault.TheVariants.{Foreign}
 use Rattle.table_store.specs.Making.{IsFresh}
 use Rattle.table_store.specs.Schema.{position}
-use Rattle.table_store.specs.Transactions.{Stops}
+use Rattle.table_store.specs.Transactions.{IsOfMemoryOrStore, IsOfStore, Stops}
 use Rattle.table_store.specs.Values.{IsInside}
 use Rattle.table_store.specs.Written.{IsReady, IsRead, IsTableOf, Writes, tree_of}
 use Rattle.table_store.specs.declared.fault.TableFault.{TableFault}
@@ -79,26 +79,32 @@ fresh_still d e fresh same = record {
 
 -- ---- faults
 
-pub never_foreign : (fault : TableFault) (told : OpenFault) → told ≡ open_fault_of fault → told ≡ Foreign → ⊥
-never_foreign Memory told e f = absurd (let bad = sym e ∙ f in cc)
-never_foreign (Store failed) told e f = absurd (let bad = sym e ∙ f in cc)
-never_foreign (NoTable failed) told e f = absurd (let bad = sym e ∙ f in cc)
-never_foreign (BadRow failed) told e f = absurd (let bad = sym e ∙ f in cc)
+pub of_store : (fault : TableFault) → IsOfStore fault → IsOfMemoryOrStore fault
+of_store Memory of = tt
+of_store (Store failed) of = tt
+of_store (NoTable failed) of = absurd of
+of_store (BadRow failed) of = absurd of
 
-of_creating : (fault : TableFault) → IsOfCreating (open_fault_of fault)
-of_creating Memory = tt
-of_creating (Store failed) = tt
-of_creating (NoTable failed) = tt
-of_creating (BadRow failed) = tt
+pub never_foreign : (fault : TableFault) (told : OpenFault) → IsOfMemoryOrStore fault → told ≡ open_fault_of fault → told ≡ Foreign → ⊥
+never_foreign Memory told of e f = absurd (let bad = sym e ∙ f in cc)
+never_foreign (Store failed) told of e f = absurd (let bad = sym e ∙ f in cc)
+never_foreign (NoTable failed) told of e f = absurd of
+never_foreign (BadRow failed) told of e f = absurd of
 
-pub told_of_creating : (fault : TableFault) (told : OpenFault) → told ≡ open_fault_of fault → IsOfCreating told
-told_of_creating fault told e = subst IsOfCreating (sym e) (of_creating fault)
+of_creating : (fault : TableFault) → IsOfMemoryOrStore fault → IsOfCreating (open_fault_of fault)
+of_creating Memory of = tt
+of_creating (Store failed) of = tt
+of_creating (NoTable failed) of = absurd of
+of_creating (BadRow failed) of = absurd of
+
+pub told_of_creating : (fault : TableFault) (told : OpenFault) → IsOfMemoryOrStore fault → told ≡ open_fault_of fault → IsOfCreating told
+told_of_creating fault told of e = subst IsOfCreating (sym e) (of_creating fault of)
 
 may_be_made : (limits : Limits) (trees : Trees) (a b : sqlite.State) (fault : TableFault) → Stops a b fault → TablesAre (start limits) trees → MayBeMade limits trees (open_fault_of fault)
 may_be_made limits trees a b Memory stops made = absurd stops
 may_be_made limits trees a b (Store failed) stops made = made
-may_be_made limits trees a b (NoTable failed) stops made = made
-may_be_made limits trees a b (BadRow failed) stops made = made
+may_be_made limits trees a b (NoTable failed) stops made = absurd stops
+may_be_made limits trees a b (BadRow failed) stops made = absurd stops
 
 pub told_made : (limits : Limits) (trees : Trees) (a b : sqlite.State) (fault : TableFault) (told : OpenFault) → told ≡ open_fault_of fault → Stops a b fault → TablesAre (start limits) trees → MayBeMade limits trees told
 told_made limits trees a b fault told e stops made = subst (MayBeMade limits trees) (sym e) (may_be_made limits trees a b fault stops made)

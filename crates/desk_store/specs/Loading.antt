@@ -1,5 +1,5 @@
 -- What is read of the tables, and what a call that reads them leaves.
-use Rattle.std.specs.Prelude.{◌≡◌, ◌⊎◌, ℕ, List, [], ◌∷◌, Option, Some, Result, IfOk, IfErr, OnOk, OnErr, Contains, ◌≢◌}
+use Rattle.std.specs.Prelude.{◌≡◌, ◌⊎◌, ℕ, List, [], ◌∷◌, Option, Result, IfOk, IfErr, OnOk, OnErr, Contains, ◌≢◌}
 use Rattle.sqlite.specs.Order.{Row}
 use Rattle.sqlite.specs.State.{State, HasCleanDisk, IsUnchanged, IsRolledBack, Survives}
 use Rattle.sqlite.specs.Tree.{Trees}
@@ -31,8 +31,6 @@ use Rattle.desk_store.specs.declared.meta.MetaRow.{MetaRow}
 use Rattle.table_store.specs.Schema.{position}
 use Rattle.table_store.specs.Stored.{AreLoaded}
 use Rattle.table_store.specs.Written.{AreItsRows, IsTableOf}
-use Rattle.table_store.specs.declared.fault.TableFault.{TableFault}
-use Rattle.table_store.specs.declared.fault.TableFault.TheVariants as table
 use Rattle.table_store.specs.declared.name.TableName.{TableName}
 use Rattle.table_store.specs.declared.name.TableName.TheVariants.{Meta, Categories, Locations, Parts, Lines, Substitutes, Items, History, Orders, OrderLines, Builds, Allocations, Kept}
 
@@ -52,13 +50,6 @@ Blames P why.Memory = Unit {0}
 Blames P (why.Store failed) = Unit {0}
 Blames P why.Foreign = ⊥
 Blames P (why.Damaged failed) = P
-
--- a fault of a table, as the opening tells it
-abbrev pub open_fault : TableFault → OpenFault
-open_fault table.Memory = why.Memory
-open_fault (table.Store failed) = why.Store failed
-open_fault (table.NoTable failed) = why.Foreign
-open_fault (table.BadRow failed) = why.Damaged (Some failed)
 
 -- ---- the rows of the tables
 

@@ -1,5 +1,5 @@
 -- Why a database is no desk's.
-use Rattle.std.specs.Prelude.{◌≢◌, ◌⊎◌, List, Contains}
+use Rattle.std.specs.Prelude.{◌≢◌, ◌⊎◌, List, Some, Contains}
 use Rattle.sqlite.specs.Tree.{Trees}
 use Rattle.part_core.specs.Counter.{IsNext}
 use Rattle.part_core.specs.declared.limits.Limits.{Limits}
@@ -45,9 +45,9 @@ abbrev pub MayBeMade : Limits → Trees → OpenFault → Type 0
 MayBeMade limits trees (Store failed) = TablesAre (start limits) trees
 MayBeMade limits trees _ = ⊥
 
--- a fault of the tables that are made, as it is told
+-- a fault of a table, as the opening tells it
 abbrev pub open_fault_of : TableFault → OpenFault
 open_fault_of table_fault.Memory = Memory
 open_fault_of (table_fault.Store failed) = Store failed
-open_fault_of (table_fault.NoTable failed) = Store failed
-open_fault_of (table_fault.BadRow failed) = Store failed
+open_fault_of (table_fault.NoTable failed) = Foreign
+open_fault_of (table_fault.BadRow failed) = Damaged (Some failed)

@@ -11,6 +11,7 @@ ghost use Rattle.desk_store.specs.Opening.{IsOfCreating, MayBeMade};
 ghost use Rattle.desk_store.specs.Saving.{IsUnderWay};
 ghost use Rattle.table_store.specs.Making.{IsFresh};
 ghost use Rattle.table_store.specs.Schema.{schema_up_to};
+ghost use Rattle.table_store.specs.Transactions.{IsOfMemoryOrStore, IsOfStore};
 ghost use Rattle.table_store.specs.Written.{IsReady};
 
 use crate::desk::Desk;
@@ -35,6 +36,7 @@ fn make_tables<S: Alter>(conn: &mut Connection<S>) -> Result<(), TableFault>
         → OnOk result (IsReady (state S.Store conn.new)) }
     ensures fresh { HasCleanDisk (state S.Store conn.new)
         → OnOk result (IsFresh (state S.Store conn.new)) }
+    ensures fault { IfErr result IsOfStore }
     ensures crash { Survives (state S.Store conn.old) (state S.Store conn.new) (λ _. ⊥) }
 {
     begin(conn)?;
@@ -43,6 +45,7 @@ fn make_tables<S: Alter>(conn: &mut Connection<S>) -> Result<(), TableFault>
     Ok(())
 }
 
+#[tactic(auto, using(crate::proofs::Starting::of_store))]
 /// Makes the tables of a shop that has nothing, in a transaction that stays open.
 fn make<S: Alter>(
     alloc: Global,
@@ -58,6 +61,7 @@ fn make<S: Alter>(
     requires sound { IsSoundState (state_of shop.now) }
     ensures made { HasCleanDisk (state S.Store conn.new)
         → OnOk result (IsUnderWay (start limits) (start limits) 9 (state S.Store conn.new)) }
+    ensures fault { IfErr result IsOfMemoryOrStore }
     ensures crash { Survives (state S.Store conn.old) (state S.Store conn.new) (λ _. ⊥) }
 {
     make_tables(conn)?;

@@ -125,15 +125,8 @@ fn write_rows<R: Stored>(
 fn write_meta(alloc: Global, writer: &mut Writer<Vec<u8>>, row: &MetaRow) -> Result<(), AllocError>
     ensures { OnOk result (WritesLines writer.old writer.new (row_line (meta_columns row.now))) }
 {
-    let columns = [
-        Column::Whole(row.one),
-        Column::Whole(row.version),
-        Column::Whole(row.next),
-        Column::Whole(row.entries),
-        Column::Whole(row.max_numbers),
-        Column::Whole(row.max_entries),
-    ];
-    write_columns(alloc, writer, &columns)
+    let columns = row.columns(alloc)?;
+    write_columns(alloc, writer, columns.as_slice())
 }
 
 /// Writes the lines of the rows that the shop has in a table.

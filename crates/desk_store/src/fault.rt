@@ -65,8 +65,9 @@ impl From<TableFault> for OpenFault {
     fn from(fault: TableFault) -> Self {
         match fault {
             TableFault::Memory => OpenFault::Memory,
-            TableFault::Store(failed) | TableFault::NoTable(failed) | TableFault::BadRow(failed) =>
-                { OpenFault::Store(failed) }
+            TableFault::Store(failed) => OpenFault::Store(failed),
+            TableFault::NoTable(_) => OpenFault::Foreign,
+            TableFault::BadRow(failed) => OpenFault::Damaged(Some(failed)),
         }
     }
 }

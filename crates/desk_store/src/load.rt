@@ -9,7 +9,7 @@ ghost use Rattle.part_core.specs.Numbered.{number_digits};
 ghost use Rattle.desk_core.specs.Machine.{IsSoundState};
 ghost use Rattle.desk_core.specs.Shops.{state_of};
 ghost use Rattle.desk_store.specs.Loading.{AreAnswers, AreBillRows, AreBooksOf, AreNotMade, ArePartRows, AreStockRows};
-ghost use Rattle.desk_store.specs.Loading.{AreTables, AreTheRows, Blames, IsMetaRow, IsNoMeta, Reads, open_fault};
+ghost use Rattle.desk_store.specs.Loading.{AreTables, AreTheRows, Blames, IsMetaRow, IsNoMeta, Reads};
 ghost use Rattle.desk_store.specs.Opening.{WhyNot};
 ghost use Rattle.table_store.specs.Schema.{position};
 ghost use Rattle.table_store.specs.Values.{HasTables};
@@ -22,20 +22,8 @@ use desk_core::{AssembleFault, Kept, Shop, Tables};
 use part_core::{Category, Limits, Part, Stored};
 use sqlite::{Alter, Connection};
 use std::alloc::Global;
-use table_store::{TableFault, TableName, has_no_row, load_kept, load_sheet};
+use table_store::{TableName, has_no_row, load_kept, load_sheet};
 use yard_core::{Entry, Item, Location};
-
-/// The fault of a table, as the opening tells it.
-pub(crate) fn open_fault(fault: TableFault) -> OpenFault
-    ensures { result ≡ open_fault fault }
-{
-    match fault {
-        TableFault::Memory => OpenFault::Memory,
-        TableFault::Store(failed) => OpenFault::Store(failed),
-        TableFault::NoTable(_) => OpenFault::Foreign,
-        TableFault::BadRow(failed) => OpenFault::Damaged(Some(failed)),
-    }
-}
 
 /// The rows of a table under numbers.
 fn load_rows<S: Alter, R: Stored>(
@@ -53,7 +41,7 @@ fn load_rows<S: Alter, R: Stored>(
 {
     match load_sheet::<S, R>(alloc, conn, table) {
         Ok(rows) => Ok(rows),
-        Err(fault) => Err(open_fault(fault)),
+        Err(fault) => Err(OpenFault::from(fault)),
     }
 }
 
@@ -65,7 +53,7 @@ fn load_answers<S: Alter>(alloc: Global, conn: &mut Connection<S>) -> Result<Vec
 {
     match load_kept::<S, Kept>(alloc, conn) {
         Ok(rows) => Ok(rows),
-        Err(fault) => Err(open_fault(fault)),
+        Err(fault) => Err(OpenFault::from(fault)),
     }
 }
 
@@ -79,7 +67,7 @@ fn check_bare<S: Alter>(conn: &mut Connection<S>, table: TableName) -> Result<()
     match has_no_row(conn, table) {
         Ok(true) => Ok(()),
         Ok(false) => Err(OpenFault::Damaged(None)),
-        Err(fault) => Err(open_fault(fault)),
+        Err(fault) => Err(OpenFault::from(fault)),
     }
 }
 

@@ -16,7 +16,7 @@ ghost use Rattle.desk_store.specs.Opening.{IsOfOtherVersion, WhyNot};
 
 use crate::desk::Desk;
 use crate::fault::OpenFault;
-use crate::load::{load, open_fault};
+use crate::load::load;
 use sqlite::{Alter, Connection};
 use std::alloc::Global;
 use table_store::open_tables;
@@ -45,7 +45,7 @@ impl<S: Alter + Drop> Desk<S> {
     {
         let mut opened = match open_tables(alloc, conn) {
             Ok(opened) => opened,
-            Err((fault, store)) => return Err((open_fault(fault), store)),
+            Err((fault, store)) => return Err((OpenFault::from(fault), store)),
         };
         match load(alloc, &mut opened) {
             Ok(shop) => Ok(Desk {

@@ -137,6 +137,7 @@ fn write_tables<S: Alter>(
     write_answers(alloc, conn, shop)
 }
 
+#[tactic(auto, using(crate::proofs::Starting::of_store))]
 /// The whole transaction. After a fault it is undone, or still open without a commit.
 fn write<S: Alter>(alloc: Global, conn: &mut Connection<S>, shop: &Shop) -> Result<(), TableFault>
     requires follows { MayFollow (kept_state shop.now) (state_of shop.now) }
@@ -146,6 +147,7 @@ fn write<S: Alter>(alloc: Global, conn: &mut Connection<S>, shop: &Shop) -> Resu
         → OnOk result (HoldsBooks (state_of shop.now) (state S.Store conn.new)) }
     ensures commit { HasCleanDisk (state S.Store conn.new)
         → OnErr result (KeepsCommit (state S.Store conn.old) (state S.Store conn.new)) }
+    ensures fault { IfErr result IsOfMemoryOrStore }
     ensures crash { Survives (state S.Store conn.old) (state S.Store conn.new)
         (λ trees. TablesAre (state_of shop.now) trees) }
 {
@@ -193,10 +195,9 @@ pub fn save<S: Alter>(
             rollback(conn)?;
             Err(TableFault::Memory)
         }
-        Err(TableFault::Store(failed) | TableFault::NoTable(failed) | TableFault::BadRow(failed)) =>
-            {
-                let _undone = rollback(conn);
-                Err(TableFault::Store(failed))
-            }
+        Err(fault) => {
+            let _undone = rollback(conn);
+            Err(fault)
+        }
     }
 }

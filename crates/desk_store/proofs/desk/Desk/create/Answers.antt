@@ -5,14 +5,14 @@ use Rattle.desk_core.specs.Machine.{State, start}
 use Rattle.desk_store.specs.Books.{HoldsBooks, TablesAre}
 use Rattle.desk_store.specs.Saving.{IsUnderWay}
 use Rattle.desk_store.proofs.Midway.{all_of_them, committed}
-use Rattle.desk_store.proofs.Starting.{never_foreign, told_made, told_of_creating}
+use Rattle.desk_store.proofs.Starting.{never_foreign, of_store, told_made, told_of_creating}
 use Rattle.desk_store.proofs.desk.Desk.create.Goals as goal
 
 pub returns-in-Err-clause-foreign : goal.returns-in-Err-clause-foreign
-returns-in-Err-clause-foreign g c is same = never_foreign c.in-Err.fault c.from.result c.from.ensures is
+returns-in-Err-clause-foreign g c is same = never_foreign c.in-Err.fault c.from.result c.in-Err.ensures.fault c.from.ensures is
 
 pub returns-in-Err-clause-kind : goal.returns-in-Err-clause-kind
-returns-in-Err-clause-kind g c = told_of_creating c.in-Err.fault c.from.result c.from.ensures
+returns-in-Err-clause-kind g c = told_of_creating c.in-Err.fault c.from.result c.in-Err.ensures.fault c.from.ensures
 
 pub returns-in-Err-clause-crash : goal.returns-in-Err-clause-crash
 returns-in-Err-clause-crash g c clean trees found =
@@ -21,10 +21,10 @@ returns-in-Err-clause-crash g c clean trees found =
     elim (c.make.ensures.crash.crash clean1 trees (c.into_store-in-Err.ensures.quiet.outcomes trees found)) [ inl before ↦ inl before | inr never ↦ absurd never ]
 
 pub returns-in-Err-commit-clause-foreign : goal.returns-in-Err-commit-clause-foreign
-returns-in-Err-commit-clause-foreign g c is same = never_foreign c.in-Err-commit.fault c.from-in-Err-commit.result c.from-in-Err-commit.ensures is
+returns-in-Err-commit-clause-foreign g c is same = never_foreign c.in-Err-commit.fault c.from-in-Err-commit.result (of_store c.in-Err-commit.fault c.in-Err-commit.ensures.fault) c.from-in-Err-commit.ensures is
 
 pub returns-in-Err-commit-clause-kind : goal.returns-in-Err-commit-clause-kind
-returns-in-Err-commit-clause-kind g c = told_of_creating c.in-Err-commit.fault c.from-in-Err-commit.result c.from-in-Err-commit.ensures
+returns-in-Err-commit-clause-kind g c = told_of_creating c.in-Err-commit.fault c.from-in-Err-commit.result (of_store c.in-Err-commit.fault c.in-Err-commit.ensures.fault) c.from-in-Err-commit.ensures
 
 pub returns-in-Err-commit-clause-crash : goal.returns-in-Err-commit-clause-crash
 returns-in-Err-commit-clause-crash g c clean trees found =
