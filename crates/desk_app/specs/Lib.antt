@@ -4,3 +4,4 @@ pub mod Runs
 pub mod Printed
 pub mod Words
 pub mod Statuses
+pub mod FileFaults

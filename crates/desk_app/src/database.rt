@@ -20,12 +20,20 @@ pub enum FileFault {
 }
 
 impl From<AllocError> for FileFault {
+    ghost use Rattle.desk_app.specs.declared.database.FileFault.TheVariants.{Memory};
+
+    ghost from_gives = { λ _ fault. fault ≡ Memory };
+
     fn from(_: AllocError) -> Self {
         FileFault::Memory
     }
 }
 
 impl From<OpenFault> for FileFault {
+    ghost use Rattle.desk_app.specs.FileFaults.{file_fault_of};
+
+    ghost from_gives = { λ from fault. fault ≡ file_fault_of from };
+
     fn from(fault: OpenFault) -> Self {
         match fault {
             OpenFault::Memory => FileFault::Memory,
@@ -35,6 +43,10 @@ impl From<OpenFault> for FileFault {
 }
 
 impl fmt::Display for FileFault {
+    ghost use Rattle.desk_app.specs.FileFaults.{file_fault_text};
+
+    ghost output = { file_fault_text };
+
     fn fmt<W: fmt::Write>(&self, f: &mut fmt::Formatter<W>) -> fmt::Result {
         match self {
             FileFault::Memory => f.write_str("no memory for the desk"),

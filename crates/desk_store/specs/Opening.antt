@@ -1,5 +1,5 @@
 -- Why a database is no desk's.
-use Rattle.std.specs.Prelude.{◌≢◌, ◌⊎◌, List, Some, Contains}
+use Rattle.std.specs.Prelude.{codes, ◌≢◌, ◌⊎◌, ℕ, List, Option, None, Some, Contains}
 use Rattle.sqlite.specs.Tree.{Trees}
 use Rattle.part_core.specs.Counter.{IsNext}
 use Rattle.part_core.specs.declared.limits.Limits.{Limits}
@@ -9,6 +9,7 @@ use Rattle.desk_store.specs.MetaColumns.{meta_columns, meta_from}
 use Rattle.desk_store.specs.declared.fault.OpenFault.{OpenFault}
 use Rattle.desk_store.specs.declared.fault.OpenFault.TheVariants.{Memory, Store, Foreign, Damaged}
 use Rattle.desk_store.specs.declared.meta.MetaRow.{MetaRow}
+use Rattle.table_store.specs.Faults.{failed_text}
 use Rattle.table_store.specs.Opened.{IsForeign}
 use Rattle.table_store.specs.Schema.{position}
 use Rattle.table_store.specs.Stored.{AreLoaded}
@@ -51,3 +52,11 @@ open_fault_of table_fault.Memory = Memory
 open_fault_of (table_fault.Store failed) = Store failed
 open_fault_of (table_fault.NoTable failed) = Foreign
 open_fault_of (table_fault.BadRow failed) = Damaged (Some failed)
+
+-- why there is no desk, as text; where the database answered so, `failed_text` has none
+abbrev pub open_fault_text : OpenFault → Option (List ℕ)
+open_fault_text Memory = Some (codes "no memory")
+open_fault_text (Store failed) = failed_text failed
+open_fault_text Foreign = Some (codes "the file is no workshop's, or of another version")
+open_fault_text (Damaged (Some failed)) = failed_text failed
+open_fault_text (Damaged None) = Some (codes "the rows of the tables do not fit one another")

@@ -73,6 +73,10 @@ impl From<TableFault> for OpenFault {
 }
 
 impl fmt::Display for OpenFault {
+    ghost use Rattle.desk_store.specs.Opening.{open_fault_text};
+
+    ghost output = { open_fault_text };
+
     fn fmt<W: fmt::Write>(&self, f: &mut fmt::Formatter<W>) -> fmt::Result {
         match self {
             OpenFault::Memory => f.write_str("no memory"),
