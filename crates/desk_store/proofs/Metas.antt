@@ -1,5 +1,5 @@
 -- The one row of `meta`.
-use Rattle.std.proofs.Common.{◌≡◌, inr, ℕ, List, [], ◌∷◌, map, length, Result, Ok, Err, IfOk, IfErr, refl, sym, ap, ◌∙◌, arith}
+use Rattle.std.proofs.Common.{None, Some, ◌≡◌, inr, ℕ, List, [], ◌∷◌, map, length, Result, Ok, Err, IfOk, IfErr, refl, sym, ap, ◌∙◌, arith}
 use Rattle.std.specs.FinMap.{empty, entries, entries-insert, len-empty, len-entries, values}
 use Rattle.std.specs.FinMap.Entries.{put}
 use Rattle.sqlite.specs.Order.{Row}
@@ -68,7 +68,8 @@ module _ (trees : Trees) (rows : List MetaRow) (are : AreTheRows meta_from meta_
   meta-why Memory none = absurd none
   meta-why (Store failed) none = absurd none
   meta-why Foreign other = inr (record { rows = rows; loaded = are.loaded; row = other.0; there = other.1; other = other.2 })
-  meta-why (Damaged failed) none = λ s sound within t. none (meta_of s) refl (loaded-only (trees (position Meta)) rows (meta_of s) are.loaded t.meta)
+  meta-why (Damaged None) none = (λ s sound within t. none (meta_of s) refl (loaded-only (trees (position Meta)) rows (meta_of s) are.loaded t.meta), tt)
+  meta-why (Damaged (Some failed)) none = absurd none
 
 -- the row is found among the rows that were loaded, or they tell why there is none
 pub meta-read : (a b : sqlite.State) (rows : List MetaRow) → HasRead a b → (HasCleanDisk b → AreTheRows meta_from meta_columns (λ row. row.one ∷ []) Meta (a.now.trees (position Meta)) rows) → (r : Result MetaRow OpenFault)

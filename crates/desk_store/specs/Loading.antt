@@ -1,5 +1,5 @@
 -- What is read of the tables, and what a call that reads them leaves.
-use Rattle.std.specs.Prelude.{◌≡◌, ◌⊎◌, ℕ, List, [], ◌∷◌, Option, Result, IfOk, IfErr, OnOk, OnErr, Contains, ◌≢◌}
+use Rattle.std.specs.Prelude.{◌≡◌, ◌⊎◌, ℕ, List, [], ◌∷◌, Option, None, Some, Result, IfOk, IfErr, OnOk, OnErr, Contains, ◌≢◌}
 use Rattle.sqlite.specs.Order.{Row}
 use Rattle.sqlite.specs.State.{State, HasCleanDisk, IsUnchanged, IsRolledBack, Survives}
 use Rattle.sqlite.specs.Tree.{Trees}
@@ -31,6 +31,7 @@ use Rattle.desk_store.specs.declared.meta.MetaRow.{MetaRow}
 use Rattle.table_store.specs.Schema.{position}
 use Rattle.table_store.specs.Stored.{AreLoaded}
 use Rattle.table_store.specs.Written.{AreItsRows, IsTableOf}
+use Rattle.table_store.specs.declared.fault.Cause.TheVariants.{BadRow}
 use Rattle.table_store.specs.declared.name.TableName.{TableName}
 use Rattle.table_store.specs.declared.name.TableName.TheVariants.{Meta, Categories, Locations, Parts, Lines, Substitutes, Items, History, Orders, OrderLines, Builds, Allocations, Kept}
 
@@ -49,7 +50,16 @@ abbrev pub Blames : Type 0 → OpenFault → Type 0
 Blames P why.Memory = Unit {0}
 Blames P (why.Store failed) = Unit {0}
 Blames P why.Foreign = ⊥
-Blames P (why.Damaged failed) = P
+Blames P (why.Damaged None) = P
+Blames P (why.Damaged (Some failed)) = ⊥
+
+-- the same of a fault that names the table, of which this holds
+abbrev pub BlamesTable : TableName → Type 0 → OpenFault → Type 0
+BlamesTable table P why.Memory = Unit {0}
+BlamesTable table P (why.Store failed) = Unit {0}
+BlamesTable table P why.Foreign = ⊥
+BlamesTable table P (why.Damaged None) = ⊥
+BlamesTable table P (why.Damaged (Some failed)) = P × (failed.cause ≡ BadRow table)
 
 -- ---- the rows of the tables
 
@@ -96,7 +106,8 @@ abbrev pub IsNoMeta : List MetaRow → OpenFault → Type 0
 IsNoMeta rows why.Memory = ⊥
 IsNoMeta rows (why.Store failed) = ⊥
 IsNoMeta rows why.Foreign = (row : MetaRow) × Contains rows row × (row.version ≢ 1)
-IsNoMeta rows (why.Damaged failed) = (row : MetaRow) → row.one ≡ 1 → rows ≢ row ∷ []
+IsNoMeta rows (why.Damaged None) = (row : MetaRow) → row.one ≡ 1 → rows ≢ row ∷ []
+IsNoMeta rows (why.Damaged (Some failed)) = ⊥
 
 -- the row that the counter of these tables has
 abbrev pub meta_in : Tables → MetaRow

@@ -1,8 +1,15 @@
 -- Why a database is no desk's.
-use Rattle.std.specs.Prelude.{codes, ◌≢◌, ◌⊎◌, ℕ, List, Option, None, Some, Contains}
+use Rattle.std.specs.Prelude.{codes, ◌≡◌, ◌≢◌, ◌⊎◌, ℕ, List, Option, None, Some, Contains}
 use Rattle.sqlite.specs.Tree.{Trees}
+use Rattle.part_core.specs.CategoryColumns.{category_columns, category_from}
 use Rattle.part_core.specs.Counter.{IsNext}
+use Rattle.part_core.specs.PartColumns.{part_columns, part_from}
 use Rattle.part_core.specs.declared.limits.Limits.{Limits}
+use Rattle.bom_core.specs.BillColumns.{line_columns, line_from, substitute_columns, substitute_from}
+use Rattle.forest.specs.EntryColumns.{entry_columns, entry_from}
+use Rattle.forest.specs.ItemColumns.{item_columns, item_from}
+use Rattle.yard_core.specs.LocationColumns.{location_columns, location_from}
+use Rattle.desk_core.specs.KeptColumns.{kept_columns, kept_from}
 use Rattle.desk_core.specs.Machine.{IsSoundState, State, start}
 use Rattle.desk_store.specs.Books.{TablesAre}
 use Rattle.desk_store.specs.MetaColumns.{meta_columns, meta_from}
@@ -13,9 +20,13 @@ use Rattle.table_store.specs.Faults.{failed_text}
 use Rattle.table_store.specs.Opened.{IsForeign}
 use Rattle.table_store.specs.Schema.{position}
 use Rattle.table_store.specs.Stored.{AreLoaded}
+use Rattle.table_store.specs.Written.{IsTableOfNone, IsTableOfNoneOwn}
+use Rattle.table_store.specs.declared.fault.Cause.TheVariants.{BadRow}
+use Rattle.table_store.specs.declared.fault.Failed.{Failed}
 use Rattle.table_store.specs.declared.fault.TableFault.{TableFault}
 use Rattle.table_store.specs.declared.fault.TableFault.TheVariants as table_fault
-use Rattle.table_store.specs.declared.name.TableName.TheVariants.{Meta}
+use Rattle.table_store.specs.declared.name.TableName.{TableName}
+use Rattle.table_store.specs.declared.name.TableName.TheVariants.{Meta, Categories, Locations, Parts, Lines, Substitutes, Items, History, Kept}
 
 -- the rows of `meta` are such rows, and one has another version
 pub record IsOfOtherVersion (trees : Trees) : Type 0 where
@@ -29,12 +40,36 @@ pub record IsOfOtherVersion (trees : Trees) : Type 0 where
 abbrev pub AreNoBooks : Trees → Type 0
 AreNoBooks trees = (s : State) → IsSoundState s → IsNext s.counter.limits s.counter.next → ¬ TablesAre s trees
 
+-- the table is that of no rows of the machine, and `kept` of none that stand under their words
+abbrev pub IsBroken : TableName → Trees → Type 0
+IsBroken Meta trees = IsTableOfNone meta_from meta_columns Meta (trees (position Meta))
+IsBroken Categories trees = IsTableOfNone category_from category_columns Categories (trees (position Categories))
+IsBroken Locations trees = IsTableOfNone location_from location_columns Locations (trees (position Locations))
+IsBroken Parts trees = IsTableOfNone part_from part_columns Parts (trees (position Parts))
+IsBroken Lines trees = IsTableOfNone line_from line_columns Lines (trees (position Lines))
+IsBroken Substitutes trees = IsTableOfNone substitute_from substitute_columns Substitutes (trees (position Substitutes))
+IsBroken Items trees = IsTableOfNone item_from item_columns Items (trees (position Items))
+IsBroken History trees = IsTableOfNone entry_from entry_columns History (trees (position History))
+IsBroken Kept trees = IsTableOfNoneOwn kept_from kept_columns (λ row. row.word) Kept (trees (position Kept))
+IsBroken _ trees = ⊥
+
+-- the fault names a table that is broken
+pub record NamesBroken (trees : Trees) (failed : Failed) : Type 0 where
+  pub table : TableName
+  pub named : failed.cause ≡ BadRow table
+  pub broken : IsBroken table trees
+
+-- what is told of damaged tables
+abbrev pub IsDamage : Trees → Option Failed → Type 0
+IsDamage trees None = Unit {0}
+IsDamage trees (Some failed) = NamesBroken trees failed
+
 -- what it tells of the tables that there is no desk
 abbrev pub WhyNot : Trees → OpenFault → Type 0
 WhyNot trees Memory = Unit {0}
 WhyNot trees (Store failed) = Unit {0}
 WhyNot trees Foreign = IsForeign trees ⊎ IsOfOtherVersion trees
-WhyNot trees (Damaged failed) = AreNoBooks trees
+WhyNot trees (Damaged told) = AreNoBooks trees × IsDamage trees told
 
 -- a fault that the making of a desk may end with
 abbrev pub IsOfCreating : OpenFault → Type 0

@@ -9,7 +9,7 @@ ghost use Rattle.part_core.specs.Numbered.{number_digits};
 ghost use Rattle.desk_core.specs.Machine.{IsSoundState};
 ghost use Rattle.desk_core.specs.Shops.{state_of};
 ghost use Rattle.desk_store.specs.Loading.{AreAnswers, AreBillRows, AreBooksOf, AreNotMade, ArePartRows, AreStockRows};
-ghost use Rattle.desk_store.specs.Loading.{AreTables, AreTheRows, Blames, IsMetaRow, IsNoMeta, Reads};
+ghost use Rattle.desk_store.specs.Loading.{AreTables, AreTheRows, Blames, BlamesTable, IsMetaRow, IsNoMeta, Reads};
 ghost use Rattle.desk_store.specs.Opening.{WhyNot};
 ghost use Rattle.table_store.specs.Schema.{position};
 ghost use Rattle.table_store.specs.Values.{HasTables};
@@ -36,7 +36,8 @@ fn load_rows<S: Alter, R: Stored>(
     ensures { Reads
         (λ trees rows. AreTheRows R.row_from R.columns_of R.key_of table
         (trees (position table)) rows.items)
-        (λ trees. Blames (IsTableOfNone R.row_from R.columns_of table (trees (position table))))
+        (λ trees. BlamesTable table
+        (IsTableOfNone R.row_from R.columns_of table (trees (position table))))
         (state S.Store conn.old) (state S.Store conn.new) result }
 {
     match load_sheet::<S, R>(alloc, conn, table) {

@@ -27,6 +27,8 @@ returns-in-Err-Unsound-clause-read g c =
     let tables = c.in_ok-tables.tables in
     let first = has-read (λ trees _. AreNotMade trees) WhyNot old now c.in_ok-check_not_made.field-0 c.in_ok-check_not_made.ensures in
     let later = has-read AreTables WhyNot now new tables c.in_ok-tables.ensures in
-    reads-why AreBooksOf WhyNot old new (Damaged None) (read-then old now new first later) (λ clean.
-    unsound-tables old.now.trees tables (gives-first AreTables WhyNot old now new tables first c.in_ok-tables.ensures clean)
-    (c.in-Err-Unsound.ensures.unsound c.in-Err-Unsound.field-0-is))
+    reads-why AreBooksOf WhyNot old new (Damaged None) (read-then old now new first later) (λ clean. (
+      unsound-tables old.now.trees tables (gives-first AreTables WhyNot old now new tables first c.in_ok-tables.ensures clean)
+          (c.in-Err-Unsound.ensures.unsound c.in-Err-Unsound.field-0-is),
+      tt,
+    ))

@@ -13,7 +13,7 @@ returns-in-Err g c =
     let trees = (state g.S.Store c.args.conn.now).now.trees in
     record {
       gives = λ clean. tt;
-      why = λ clean. subst (WhyNot trees) (sym c.from.ensures) (why-answers trees c.in-Err.fault c.in-Err.ensures.fault (c.in-Err.ensures.none clean));
+      why = λ clean. subst (WhyNot trees) (sym c.from.ensures) (why-answers trees c.in-Err.fault c.in-Err.ensures.fault (c.in-Err.ensures.none clean) c.in-Err.ensures.named);
       same = λ clean. tt;
       failed = λ clean. c.in-Err.ensures.failed clean;
       crash = c.load_kept.ensures.crash;
