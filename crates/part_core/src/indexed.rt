@@ -14,9 +14,6 @@ use std::alloc::{AllocError, Global};
 use std::hash::{BuildHasher, BuildHasherDefault, FoldHasher, Hash};
 use std::marker::Model;
 
-#[cfg(test)]
-mod tests;
-
 /// A row under a number that is looked up by what stands in it too: each of that is told by a number, its index key.
 pub trait Indexed: Row<Key = u64> {
     /// The index keys of the row.

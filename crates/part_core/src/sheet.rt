@@ -28,9 +28,6 @@ use indexmap::IndexMap;
 use std::alloc::{AllocError, Global};
 use std::marker::Model;
 
-#[cfg(test)]
-mod tests;
-
 /// The rows of a table, each under its key, with what was changed since they were last kept.
 ///
 /// A look-up is by a hash of the key, and takes the same time however many rows there are. So do `put`, `remove` and
