@@ -14,6 +14,5 @@ pub mod Kept
 pub mod Variants
 pub mod Beside
 pub mod SoundChanges
-pub mod Grown
 pub mod Merging
 pub mod LookUps

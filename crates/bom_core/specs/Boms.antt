@@ -1,13 +1,10 @@
 -- What the bills hold now, and what they held when they were last kept.
-use Rattle.std.specs.Prelude.{◌≡◌, List, [], ◌∷◌}
-use Rattle.part_core.specs.Catalogues.{kept_register, parts_of, register_of}
+use Rattle.std.specs.Prelude.{List, [], ◌∷◌}
 use Rattle.part_core.specs.Counter.{Counting, kept_numbering, numbering_of}
 use Rattle.part_core.specs.Filled.{filled}
 use Rattle.part_core.specs.Sheet.{now_of}
-use Rattle.part_core.specs.declared.catalogue.Catalogue.{Catalogue}
 use Rattle.bom_core.specs.Bills.{Bills}
 use Rattle.bom_core.specs.Changes.{BillBooks}
-use Rattle.bom_core.specs.Sound.{IsSoundBill}
 use Rattle.bom_core.specs.declared.boms.Boms.{Boms}
 use Rattle.bom_core.specs.declared.line.Line.{Line}
 use Rattle.bom_core.specs.declared.substitute.Substitute.{Substitute}
@@ -27,9 +24,3 @@ bill_books boms counter = record { bills = bills_of boms; counter = numbering_of
 
 abbrev pub kept_bill_books : Boms → Counting → BillBooks
 kept_bill_books boms counter = record { bills = kept_bills boms; counter = kept_numbering counter }
-
--- nothing is pending, and the bills are sound beside the parts and the number that is drawn next
-pub record IsReady (catalogue : Catalogue) (boms : Boms) (counter : Counting) : Type 0 where
-  pub parts_kept : kept_register catalogue counter ≡ register_of catalogue counter
-  pub bills_kept : kept_bill_books boms counter ≡ bill_books boms counter
-  pub sound : IsSoundBill (parts_of catalogue) (bills_of boms) counter.next

@@ -1,6 +1,7 @@
 pub mod BillColumns
 pub mod BillKeys
 pub mod Bills
+pub mod BomForms
 pub mod BomMachine
 pub mod Boms
 pub mod Changes

@@ -19,8 +19,6 @@ mod lines;
 mod look_ups;
 mod sound;
 mod substitutes;
-#[cfg(test)]
-mod tests;
 
 /// The lines of all bills, and their substitutes.
 #[derive(Drop)]

@@ -2,6 +2,7 @@
 #![tactic(auto)]
 
 pub mod bom_command;
+mod bom_forms;
 mod boms;
 mod checks;
 mod laws;
@@ -11,8 +12,6 @@ mod order;
 mod ranks;
 mod search;
 mod substitute;
-#[cfg(test)]
-mod tests;
 
 pub use bom_command::BomCommand;
 pub use boms::Boms;

@@ -16,6 +16,7 @@ pub mod SetStatus
 pub mod Sound
 pub mod Split
 pub mod Steps
+pub mod StockForms
 pub mod StockMachine
 pub mod Transfer
 pub mod Uninstall

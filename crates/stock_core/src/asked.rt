@@ -32,7 +32,7 @@ pub fn is_loose(yard: &Yard, item: Id) -> bool
     }
 }
 
-/// Whether what the item stands under, itself where it lies in no other, lies at a location.
+/// Whether the item is at a location, by itself or in another item that is.
 pub fn stands_loose(yard: &Yard, item: Id) -> bool
     ensures { result ≡ stands_loose item (stock_of yard.now) }
 {

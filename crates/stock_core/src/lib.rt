@@ -14,6 +14,7 @@ mod opening;
 mod pieces;
 mod serials;
 pub mod stock_command;
+mod stock_forms;
 
 pub use arrivals::{Arrival, NewStock};
 pub use commands::add::add;

@@ -21,8 +21,6 @@ use yard_core::{Entry, Item, Yard, rows_in_order};
 
 mod rows;
 mod serials;
-#[cfg(test)]
-mod tests;
 
 /// Whether each item has a number below `next`, from 1 on. An error is one of memory.
 fn are_items_drawn(yard: &Yard, next: Id) -> Result<bool, AllocError>
