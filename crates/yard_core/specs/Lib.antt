@@ -10,5 +10,6 @@ pub mod Shares
 pub mod SoundLocations
 pub mod Stock
 pub mod Sums
+pub mod YardForms
 pub mod YardMachine
 pub mod Yards

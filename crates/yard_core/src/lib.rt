@@ -8,6 +8,7 @@ mod sums;
 mod walks;
 mod yard;
 pub mod yard_command;
+mod yard_forms;
 
 pub use forest::{Entry, Item, Kind, Lot, Note, Place, Reason, copy_batch, is_same_batch};
 pub use location::Location;

@@ -13,9 +13,6 @@ use forest::{Entry, Item};
 use part_core::{Id, IndexedSheet, Sheet};
 use std::alloc::{AllocError, Global};
 
-#[cfg(test)]
-mod tests;
-
 impl Yard {
     /// The yard of these rows, which are those that are kept. An error is one of memory.
     pub fn assemble(
