@@ -1,20 +1,24 @@
 -- No step takes a row away but of lines and substitutes.
-use Rattle.std.proofs.Common.{ℕ, List, Option, Some, None}
+use Rattle.std.proofs.Common.{inl, inr, ℕ, List, Option, Some, None, sym, subst}
+use Rattle.std.specs.Prelude.{Result}
 use Rattle.part_core.specs.Catalogue as catalogue
 use Rattle.part_core.specs.Day.{CivilDay}
 use Rattle.part_core.specs.declared.answer.Answer.{Answer}
+use Rattle.part_core.specs.declared.refusal.CoreFault.{CoreFault}
 use Rattle.part_core.specs.declared.refusal.Refusal.{Refusal}
 use Rattle.part_core.proofs.Staying as parts
 use Rattle.yard_core.specs.Stock as yard
 use Rattle.yard_core.proofs.Staying as yards
 use Rattle.stock_core.proofs.Staying as stock
 use Rattle.desk_core.specs.CommandText.{command_text}
-use Rattle.desk_core.specs.Machine.{State, answer_of, books_in, by_check, by_repeat, check, effect, register_in, repeated, step_anew, with_answer}
-use Rattle.desk_core.specs.Staying.{RowsStay}
+use Rattle.desk_core.specs.Machine.{State, Accepts, answer_of, books_in, by_check, by_repeat, check, effect, register_in, repeated, step_anew, with_answer}
+use Rattle.desk_core.specs.Staying.{AllStay, RowsStay}
+use Rattle.desk_core.specs.declared.accepted.Accepted.{Accepted}
 use Rattle.desk_core.specs.declared.command.Command.{Command}
 use Rattle.desk_core.specs.declared.command.Command.TheVariants as command
 use Rattle.desk_core.specs.declared.command.Request.{Request}
 use Rattle.desk_core.proofs.Again.{step-keeps}
+use Rattle.desk_core.proofs.Steps.{decides-all}
 
 -- the rows of the catalogue and of the stock
 abbrev OthersStay : State → State → Type 0
@@ -47,3 +51,11 @@ rows_stay s r = record {
   stock = (others-stay (repeated r s) s r).1;
   answers = λ key row is. step-keeps s r key row is;
 }
+
+pub nothing_goes : (s : State) → AllStay s s
+nothing_goes s = record { parts = (stay-none s).0; stock = (stay-none s).1; answers = λ key row is. is }
+
+-- nor does a request that is accepted, refused or not done
+pub accepted_stays : (s t : State) (r : Request) (o : Result Accepted CoreFault) → Accepts s r o t → AllStay s t
+accepted_stays s t r o h =
+    elim (decides-all s t r o h) [ inl same ↦ subst (AllStay s) (sym same) (nothing_goes s) | inr is ↦ subst (AllStay s) (sym is) (rows_stay s r) ]

@@ -1,5 +1,5 @@
 -- A sound state steps to a sound state, and runs go on by one step.
-use Rattle.std.proofs.Common.{◌≡◌, inl, inr, Bool, true, false, ℕ, zero, suc, ◌+◌, ◌-◌, ◌≤◌, List, [], ◌∷◌, ◌++◌, length, Option, Some, None, refl, sym, ap, ◌∙◌, subst, arith}
+use Rattle.std.proofs.Common.{◌≡◌, ◌⊎◌, inl, inr, Bool, true, false, ℕ, zero, suc, ◌+◌, ◌-◌, ◌≤◌, List, [], ◌∷◌, ◌++◌, length, Option, Some, None, refl, sym, ap, ◌∙◌, subst, arith}
 use Rattle.std.specs.Prelude.{Result, Ok, Err, IfSome, option_and_then}
 use Rattle.std.specs.FinMap as table
 use Rattle.std.specs.List.{range_with_len}
@@ -28,13 +28,15 @@ use Rattle.stock_core.specs.Sound.{IsSoundStock}
 use Rattle.stock_core.specs.StockMachine as stock
 use Rattle.stock_core.proofs.Beside as beside
 use Rattle.stock_core.proofs.Effects as effects
+use Rattle.desk_core.specs.declared.accepted.Accepted.{Accepted}
+use Rattle.desk_core.specs.declared.accepted.Accepted.TheVariants.{Anew, Again}
 use Rattle.desk_core.specs.declared.command.Command.{Command}
 use Rattle.desk_core.specs.declared.command.Command.TheVariants as command
 use Rattle.desk_core.specs.declared.command.Request.{Request}
 use Rattle.desk_core.specs.declared.kept.Kept.{Kept}
 use Rattle.desk_core.specs.CommandText.{command_text}
 use Rattle.desk_core.specs.Key.{is_key}
-use Rattle.desk_core.specs.Machine.{State, start, checks, check, effect, by_check, by_repeat, step_anew, step, run, Outcome, Decides, answer_of, answer_anew, answers_of, answered, told, onto, ids_of, entries_in, entries_of, AreDrawn, IsSoundState, StandsKept, books_in, bill_books_in, register_in, open_parts, kept_for, repeated, is_key_taken, with_answer}
+use Rattle.desk_core.specs.Machine.{State, start, checks, check, effect, by_check, by_repeat, step_anew, step, run, Outcome, Accepts, Decides, IsAnew, answer_in, answer_of, answer_of_same, answer_anew, is_other, answers_of, answered, told, onto, ids_of, entries_in, entries_of, AreDrawn, IsSoundState, StandsKept, books_in, bill_books_in, register_in, open_parts, kept_for, repeated, is_key_taken, with_answer}
 
 -- ---- effects keep what is sound, and only add to numbers and history
 
@@ -188,6 +190,17 @@ step-new s r e = rw e refl
 pub step-repeated : (s : State) (r : Request) (row : Kept) → kept_for r s ≡ Some row → bytes_eq row.command (command_text r.command) ≡ true → step s r ≡ (s, Ok row.answer)
 step-repeated s r row e same = rw (e, same) refl
 
+-- a request whose command is kept under its key is accepted again
+pub accepted-again : (s : State) (r : Request) (row : Kept) → kept_for r s ≡ Some row → bytes_eq row.command (command_text r.command) ≡ true → Accepts s r (Ok (Again row.answer)) s
+accepted-again s r row e same = (rw (e, same) refl, refl)
+
+-- one under whose key nothing is kept is accepted anew
+anew : (s : State) (r : Request) → kept_for r s ≡ None → first (checks s r.day r.command) ≡ None → IsAnew s r
+anew s r none passed = (
+  ap (answer_of_same (command_text r.command)) none,
+  ap (λ (k : Option Kept). first ((is_other (command_text r.command) k, KeyTaken) ∷ checks s r.day r.command)) none ∙ passed,
+)
+
 -- what acts as checks and effect say, and keeps its answer, decides the step
 pub decided-ok : (s t : State) (r : Request) (a : Answer) → kept_for r s ≡ None
     → Acts (checks s r.day r.command) (effect s r.day r.command, answer_of s (effect s r.day r.command)) s (Ok a) t → Decides s r (Ok a) (with_answer r.key (command_text r.command) a t)
@@ -209,6 +222,41 @@ decided-plain s t r (Ok a) none acts =
 decided-plain s t r (Err x) none acts =
     let none_kept : kept_for r s ≡ None = ap (λ k. option_and_then (λ key. table.get s.answers key) k) none in
     decided-err s t r x none_kept acts
+
+-- what acts so, and keeps its answer, is accepted
+pub accepted-anew : (s t u : State) (r : Request) (a : Answer) → kept_for r s ≡ None
+    → Acts (checks s r.day r.command) (effect s r.day r.command, answer_of s (effect s r.day r.command)) s (Ok a) t → u ≡ with_answer r.key (command_text r.command) a t → Accepts s r (Ok (Anew a)) u
+accepted-anew s t u r a none acts kept = (anew s r none acts.0, subst (λ (v : State). step s r ≡ (v, Ok a)) (sym kept) (decided-ok s t r a none acts))
+
+none_kept-plain : (s : State) (r : Request) → r.key ≡ None → kept_for r s ≡ None
+none_kept-plain s r none = ap (λ k. option_and_then (λ key. table.get s.answers key) k) none
+
+pub accepted-plain : (s t : State) (r : Request) (a : Answer) → r.key ≡ None
+    → Acts (checks s r.day r.command) (effect s r.day r.command, answer_of s (effect s r.day r.command)) s (Ok a) t → Accepts s r (Ok (Anew a)) t
+accepted-plain s t r a none acts = accepted-anew s t t r a (none_kept-plain s r none) acts (ap (λ k. with_answer k (command_text r.command) a t) (sym none))
+
+refused-err : (s t : State) (r : Request) (x : CoreFault) → Decides s r (Err x) t → Accepts s r (Err x) t
+refused-err s t r (Refused x) h = h
+refused-err s t r Memory h = h
+
+pub refused-plain : (s t : State) (r : Request) (x : CoreFault) → r.key ≡ None
+    → Acts (checks s r.day r.command) (effect s r.day r.command, answer_of s (effect s r.day r.command)) s (Err x) t → Accepts s r (Err x) t
+refused-plain s t r x none acts = refused-err s t r x (decided-err s t r x (none_kept-plain s r none) acts)
+
+-- what is told of an accepted request is its step
+pub decides-ok : (s t : State) (r : Request) (a : Accepted) → Accepts s r (Ok a) t → Decides s r (Ok (answer_in a)) t
+decides-ok s t r (Anew answer) h = h.1
+decides-ok s t r (Again answer) h = ap (λ o. by_repeat o s (step_anew s r)) h.0 ∙ ap (λ (v : State). (v, Ok answer)) (sym h.1)
+
+pub decides-err : (s t : State) (r : Request) (x : CoreFault) → Accepts s r (Err x) t → Decides s r (Err x) t
+decides-err s t r (Refused x) h = h
+decides-err s t r Memory h = h
+
+pub decides-all : (s t : State) (r : Request) (o : Result Accepted CoreFault) → Accepts s r o t → t ≡ s ⊎ (t ≡ (step s r).0)
+decides-all s t r (Ok (Anew answer)) h = inr (ap (λ p. p.0) (sym h.1))
+decides-all s t r (Ok (Again answer)) h = inl h.1
+decides-all s t r (Err (Refused x)) h = inr (ap (λ p. p.0) (sym h))
+decides-all s t r (Err Memory) h = inl h
 
 -- such a step keeps what is sound
 pub plain-sound : (s : State) → IsSoundState s → (r : Request) → r.key ≡ None → (o : Result Answer CoreFault) (t : State)

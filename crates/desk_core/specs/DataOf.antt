@@ -1,8 +1,11 @@
 -- Values as JSON data.
-use Rattle.std.specs.Prelude.{ℕ, List, [], ◌∷◌, map, Option, Some, None, Bool, if◌then◌else◌, codes}
-use Rattle.serde_json.specs.Data.{Data, null, string, number, unsigned, array}
+use Rattle.std.specs.Prelude.{ℕ, List, map, Option, Some, None}
+use Rattle.serde_json.specs.Data.{Data, null, boolean, string, number, unsigned, array}
 use Rattle.serde_json.specs.View.{items_of}
-use Rattle.part_core.specs.declared.flags.Flags.{Flags}
+use Rattle.part_core.specs.Flags.{flag_words}
+use Rattle.part_core.specs.Status.{status_name}
+use Rattle.part_core.specs.declared.field.Field.{Field}
+use Rattle.part_core.specs.declared.field.Field.TheVariants as field
 
 abbrev pub whole : ℕ → Data
 whole n = number (unsigned n)
@@ -27,20 +30,15 @@ abbrev pub maybe_strings : Option (List (List ℕ)) → Data
 maybe_strings None = null
 maybe_strings (Some ts) = strings ts
 
--- those of the words whose flag is set
-abbrev pub chosen : List (List ℕ × Bool) → List (List ℕ)
-chosen [] = []
-chosen (w ∷ ws) = if w.1 then w.0 ∷ chosen ws else chosen ws
-
--- a word for each flag that is set
-abbrev pub flag_words : Flags → List (List ℕ)
-flag_words f =
-    chosen
-    ((codes "template", f.template)
-    ∷ (codes "assembly", f.assembly)
-    ∷ (codes "component", f.component)
-    ∷ (codes "trackable", f.trackable)
-    ∷ (codes "purchaseable", f.purchaseable)
-    ∷ (codes "salable", f.salable)
-    ∷ (codes "virtual", f.is_virtual)
-    ∷ [])
+-- what stands in a field
+abbrev pub data_of : Field → Data
+data_of (field.Number n) = whole n
+data_of (field.MaybeNumber n) = maybe_whole n
+data_of (field.Text t) = string t
+data_of (field.MaybeText t) = maybe_string t
+data_of (field.Yes b) = boolean b
+data_of (field.Flags f) = strings (flag_words f)
+data_of (field.Status s) = string (status_name s)
+data_of (field.Serials ts) = strings ts
+data_of (field.MaybeSerials ts) = maybe_strings ts
+data_of (field.Numbers ns) = wholes ns

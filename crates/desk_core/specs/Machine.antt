@@ -24,6 +24,8 @@ use Rattle.yard_core.specs.Stock.{Stock, empty_stock}
 use Rattle.yard_core.specs.YardMachine as yard
 use Rattle.stock_core.specs.Sound.{IsSoundStock}
 use Rattle.stock_core.specs.StockMachine as stock
+use Rattle.desk_core.specs.declared.accepted.Accepted.{Accepted}
+use Rattle.desk_core.specs.declared.accepted.Accepted.TheVariants.{Anew, Again}
 use Rattle.desk_core.specs.declared.command.Command.{Command}
 use Rattle.desk_core.specs.declared.command.Command.TheVariants as command
 use Rattle.desk_core.specs.declared.command.Request.{Request}
@@ -189,6 +191,23 @@ entries_of (answer ∷ rest) = answer.entries + entries_of rest
 abbrev pub AreDrawn : ℕ → List ℕ → ℕ → Type 0
 AreDrawn next [] after = after ≡ next
 AreDrawn next (n ∷ ns) after = (n ≡ next) × AreDrawn (next + 1) ns after
+
+-- the step accepts the request, and not as a repeat
+abbrev pub IsAnew : State → Request → Type 0
+IsAnew s r = (repeated r s ≡ None) × (check s r ≡ None)
+
+-- the answer of an accepted request, new or not
+abbrev pub answer_in : Accepted → Answer
+answer_in (Anew answer) = answer
+answer_in (Again answer) = answer
+
+-- a request is accepted anew exactly where its step is, and again exactly where it is a repeat; or it is refused, as its
+-- step is; or it ended by want of memory, which changes nothing
+abbrev pub Accepts : State → Request → Result Accepted CoreFault → State → Type 0
+Accepts old r (Ok (Anew answer)) new = IsAnew old r × (step old r ≡ (new, Ok answer))
+Accepts old r (Ok (Again answer)) new = (repeated r old ≡ Some answer) × (new ≡ old)
+Accepts old r (Err (Refused refusal)) new = step old r ≡ (new, Err refusal)
+Accepts old r (Err Memory) new = new ≡ old
 
 -- what is told of a request is its step; or it ended by want of memory, which changes nothing
 abbrev pub Decides : State → Request → Result Answer CoreFault → State → Type 0

@@ -1,7 +1,13 @@
 //! What a clerk may ask.
+ghost use Rattle.std.specs.Prelude.{◌≡◌, option_map};
+ghost use Rattle.part_core.specs.Forms.{form_named, shown};
+ghost use Rattle.part_core.specs.FormTables.{command_by, forms_by};
+ghost use Rattle.desk_core.specs.CommandForms.{command_back, command_distinct, command_fields, command_fills, command_forms, command_made, command_verb};
+
 use crate::key::Key;
 use bom_core::BomCommand;
-use part_core::{Day, PartCommand};
+use part_core::{Day, Field, Form, Formed, PartCommand};
+use std::alloc::{AllocError, Global};
 use stock_core::StockCommand;
 use yard_core::YardCommand;
 
@@ -16,6 +22,74 @@ pub enum Command {
     Yard(YardCommand),
     /// Of stock.
     Stock(StockCommand),
+}
+
+impl Formed for Command {
+    ghost forms_of = { forms_by command_forms };
+
+    ghost verb_of = { command_verb };
+
+    ghost fields_of = { command_fields };
+
+    ghost command_of = { command_by command_forms };
+
+    #[tactic(auto, using(crate::proofs::ByCrate::form_by_crate))]
+    fn form(verb: &str) -> Option<&'static Form> {
+        if let Some(form) = StockCommand::form(verb) {
+            return Some(form);
+        }
+        if let Some(form) = PartCommand::form(verb) {
+            return Some(form);
+        }
+        if let Some(form) = BomCommand::form(verb) {
+            return Some(form);
+        }
+        YardCommand::form(verb)
+    }
+
+    fn verb(&self) -> &'static str {
+        match self {
+            Command::Part(command) => command.verb(),
+            Command::Bom(command) => command.verb(),
+            Command::Yard(command) => command.verb(),
+            Command::Stock(command) => command.verb(),
+        }
+    }
+
+    fn fields(&self, alloc: Global) -> Result<Vec<Field>, AllocError> {
+        match self {
+            Command::Part(command) => command.fields(alloc),
+            Command::Bom(command) => command.fields(alloc),
+            Command::Yard(command) => command.fields(alloc),
+            Command::Stock(command) => command.fields(alloc),
+        }
+    }
+
+    #[tactic(auto, using(crate::proofs::ByCrate::command_by_crate))]
+    fn from_fields(verb: &str, fields: Vec<Field>) -> Option<Self> {
+        if StockCommand::form(verb).is_some() {
+            let command = StockCommand::from_fields(verb, fields)?;
+            return Some(Command::Stock(command));
+        }
+        if PartCommand::form(verb).is_some() {
+            let command = PartCommand::from_fields(verb, fields)?;
+            return Some(Command::Part(command));
+        }
+        if BomCommand::form(verb).is_some() {
+            let command = BomCommand::from_fields(verb, fields)?;
+            return Some(Command::Bom(command));
+        }
+        let command = YardCommand::from_fields(verb, fields)?;
+        Some(Command::Yard(command))
+    }
+
+    ghost fills = { command_fills };
+
+    ghost back = { command_back };
+
+    ghost made = { command_made };
+
+    ghost distinct = { command_distinct };
 }
 
 /// A command, the day that it carries, and the key that it is called by, if any. Days needn't rise.

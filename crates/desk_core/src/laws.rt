@@ -1,6 +1,11 @@
-//! What a file may count on: which rows go, and which numbers there are.
+//! What a file may count on: which rows go, which numbers there are, and what stands under keys.
+//!
+//! These functions do nothing when they are run, and are called for their contracts alone.
+ghost use Rattle.desk_core.specs.Assembled.{AreKeys};
 ghost use Rattle.desk_core.specs.Small.{RowsAreSmall};
 ghost use Rattle.desk_core.specs.Staying.{RowsStay};
+
+use crate::kept::Kept;
 
 /// The law that no step takes a row away but of lines and substitutes: so a file drops rows of these tables alone.
 pub fn rows_stay()
@@ -11,3 +16,12 @@ pub fn rows_stay()
 pub fn rows_are_small()
     ensures { RowsAreSmall }
 {}
+
+/// That these rows stand under keys. It goes over them, since a key tells what it is where it is looked at.
+pub(crate) fn are_keys(rows: &[Kept])
+    ensures { AreKeys rows.now }
+{
+    for row in rows {
+        let _ = row.word.as_str();
+    }
+}

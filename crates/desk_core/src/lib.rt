@@ -1,6 +1,7 @@
 //! The machine: its commands, one step, and the shop that it works on.
 #![tactic(auto)]
 
+mod accepted;
 mod answers;
 mod command;
 mod kept;
@@ -11,6 +12,7 @@ mod repeats;
 mod shop;
 mod texts;
 
+pub use accepted::Accepted;
 pub use answers::{answer_line, read_answer};
 pub use command::{Command, Request};
 pub use kept::{CommandText, Kept};

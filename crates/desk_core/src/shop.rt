@@ -1,6 +1,6 @@
 //! The shop: all that the machine holds, and its one step.
 //!
-//! Between two requests the catalogue, the bills, the yard and the counter are a sound state of the machine. `decide`
+//! Between two requests the catalogue, the bills, the yard and the counter are a sound state of the machine. `accept`
 //! begins by keeping what is there. From then on each store knows what it held before the request: a call that
 //! stands for a command takes its own changes back where it is refused or memory ends, so that nothing is pending
 //! after that, and after an answer exactly this request's changes are.
@@ -10,9 +10,10 @@ ghost use Rattle.bom_core.specs.Walks.{IsAcyclic};
 ghost use Rattle.forest.specs.Forest.{Balanced};
 ghost use Rattle.yard_core.specs.Stock.{forest_and_history};
 ghost use Rattle.stock_core.specs.Sound.{SerialsStandOnce};
-ghost use Rattle.desk_core.specs.Machine.{AreDrawn, Decides, IsSoundState, answer_of, answered, answers_of, checks, effect, entries_in, entries_of, ids_of, open_parts, run, start, told, with_answer};
+ghost use Rattle.desk_core.specs.Machine.{Accepts, AreDrawn, Decides, IsSoundState, answer_of, answered, answers_of, checks, effect, entries_in, entries_of, ids_of, open_parts, run, start, told, with_answer};
 ghost use Rattle.desk_core.specs.Shops.{kept_state, state_of};
 
+use crate::accepted::Accepted;
 use crate::command::{Command, Request};
 use crate::kept::{CommandText, Kept};
 use crate::key::Key;
@@ -161,11 +162,11 @@ impl Shop {
     }
 
     /// Does the request of this key, once: a repeat is answered as before, another command is refused.
-    fn act_once(&mut self, key: &Key, request: &Request) -> Result<Answer, CoreFault>
+    fn act_once(&mut self, key: &Key, request: &Request) -> Result<Accepted, CoreFault>
         requires named { request.now.key ≡ Some key.now }
         requires nothing_pending { kept_state self.old ≡ state_of self.old }
         requires sound { IsSoundState (state_of self.old) }
-        ensures decides { Decides (state_of self.old) request.now result (state_of self.new) }
+        ensures accepts { Accepts (state_of self.old) request.now result (state_of self.new) }
         ensures pending { OnErr result (kept_state self.new ≡ state_of self.new) }
         ensures kept { kept_state self.new ≡ kept_state self.old }
         ensures sound { IsSoundState (state_of self.new) }
@@ -175,11 +176,11 @@ impl Shop {
             if !kept.command.equals(&command) {
                 return Err(CoreFault::Refused(Refusal::KeyTaken));
             }
-            return Ok(kept.answer.copy(self.alloc)?);
+            return Ok(Accepted::Again(kept.answer.copy(self.alloc)?));
         }
         let answer = self.act(request)?;
         match self.keep_answer(key, command, &answer) {
-            Ok(()) => Ok(answer),
+            Ok(()) => Ok(Accepted::Anew(answer)),
             Err(_) => {
                 self.back();
                 Err(CoreFault::Memory)
@@ -211,8 +212,24 @@ impl Shop {
         self.answers.back();
     }
 
-    /// One step of the machine. What was pending before is kept, and what is pending after are this
-    /// request's changes: none after a refusal and after want of memory, which leave the state as it was.
+    /// One step of the machine, of which it is told whether it accepts the request anew. What was pending before is
+    /// kept, and what is pending after are this request's changes: none after a repeat, nor after a refusal and after
+    /// want of memory, which leave the state as it was.
+    pub fn accept(&mut self, request: &Request) -> Result<Accepted, CoreFault>
+        requires { IsSoundState (state_of self.old) }
+        ensures accepts { Accepts (state_of self.old) request.now result (state_of self.new) }
+        ensures pending { OnErr result (kept_state self.new ≡ state_of self.new) }
+        ensures before { kept_state self.new ≡ state_of self.old }
+        ensures sound { IsSoundState (state_of self.new) }
+    {
+        self.keep();
+        match &request.key {
+            None => Ok(Accepted::Anew(self.act(request)?)),
+            Some(key) => self.act_once(key, request),
+        }
+    }
+
+    /// One step of the machine, as `accept`, for those who needn't know a repeat.
     pub fn decide(&mut self, request: &Request) -> Result<Answer, CoreFault>
         requires { IsSoundState (state_of self.old) }
         ensures decides { Decides (state_of self.old) request.now result (state_of self.new) }
@@ -220,11 +237,7 @@ impl Shop {
         ensures before { kept_state self.new ≡ state_of self.old }
         ensures sound { IsSoundState (state_of self.new) }
     {
-        self.keep();
-        match &request.key {
-            None => self.act(request),
-            Some(key) => self.act_once(key, request),
-        }
+        Ok(self.accept(request)?.answer())
     }
 
     /// A run of the machine over the requests that did not end by want of memory. The list of outcomes

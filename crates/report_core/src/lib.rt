@@ -15,6 +15,3 @@ pub use lines::Report;
 pub use name::{ReportName, report_named};
 pub use reports::report;
 pub use where_used::uses_tells_walks;
-
-#[cfg(test)]
-mod tests;

@@ -11,6 +11,7 @@ ghost use Rattle.desk_core.specs.Assembled.{AreKeys, AreSoundTables, HasSoundBoo
 ghost use Rattle.desk_core.specs.Shops.{kept_state, state_of};
 
 use crate::kept::Kept;
+use crate::laws::are_keys;
 use crate::shop::Shop;
 use bom_core::{Boms, Line, Substitute};
 use part_core::{Catalogue, Category, Counter, Id, Limits, Part, Sheet};
@@ -53,15 +54,6 @@ impl From<AllocError> for AssembleFault {
 
     fn from(_: AllocError) -> Self {
         AssembleFault::Memory
-    }
-}
-
-/// That the answers of these rows stand under keys.
-fn are_keys(rows: &[Kept])
-    ensures { AreKeys rows.now }
-{
-    for row in rows {
-        let _ = row.word.as_str();
     }
 }
 

@@ -1,14 +1,15 @@
-//! Values as JSON.
+//! Fields as JSON.
 ghost use Rattle.std.specs.Prelude.{◌≡◌, IfOk, map};
 ghost use Rattle.serde_json.specs.Data.{string};
 ghost use Rattle.serde_json.specs.View.{view};
-ghost use Rattle.desk_core.specs.DataOf.{chosen, flag_words, maybe_string, maybe_strings, maybe_whole, strings, wholes};
+ghost use Rattle.part_core.specs.Flags.{flag_words};
+ghost use Rattle.desk_core.specs.DataOf.{data_of, maybe_string, maybe_strings, maybe_whole, strings, wholes};
 
-use part_core::{Batch, Flags, Serial, Serials};
+use part_core::{Field, Flags, Serials, Text, Worded};
 use serde_json::Value;
 use std::alloc::{AllocError, Global};
 
-pub fn maybe_whole(number: Option<u64>) -> Value
+fn maybe_whole(number: Option<u64>) -> Value
     ensures { view result ≡ maybe_whole number }
 {
     match number {
@@ -17,22 +18,22 @@ pub fn maybe_whole(number: Option<u64>) -> Value
     }
 }
 
-fn text(alloc: Global, text: &str) -> Result<Value, AllocError>
-    ensures { IfOk result (λ value. view value ≡ string text.now) }
+fn maybe_text(text: Option<Text>) -> Value
+    ensures { view result ≡ maybe_string text }
 {
-    Ok(Value::String(String::from_str(alloc, text)?))
-}
-
-pub fn maybe_batch(alloc: Global, batch: &Option<Batch>) -> Result<Value, AllocError>
-    ensures { IfOk result (λ value. view value ≡ maybe_string batch.now) }
-{
-    match batch {
-        None => Ok(Value::Null),
-        Some(batch) => text(alloc, batch.as_str()),
+    match text {
+        None => Value::Null,
+        Some(text) => Value::String(text.into_string()),
     }
 }
 
-pub fn wholes(alloc: Global, numbers: &[u64]) -> Result<Value, AllocError>
+fn word(alloc: Global, word: &str) -> Result<Value, AllocError>
+    ensures { IfOk result (λ value. view value ≡ string word.now) }
+{
+    Ok(Value::String(String::from_str(alloc, word)?))
+}
+
+fn wholes(alloc: Global, numbers: &[u64]) -> Result<Value, AllocError>
     ensures { IfOk result (λ value. view value ≡ wholes numbers.now) }
 {
     let mut values = Vec::new(alloc);
@@ -42,53 +43,57 @@ pub fn wholes(alloc: Global, numbers: &[u64]) -> Result<Value, AllocError>
     Ok(Value::Array(values))
 }
 
-pub fn serials(alloc: Global, serials: &[Serial]) -> Result<Value, AllocError>
-    ensures { IfOk result (λ value. view value ≡ strings serials.now) }
+fn serials(alloc: Global, list: Serials) -> Result<Value, AllocError>
+    ensures { IfOk result (λ value. view value ≡ strings list) }
 {
     let mut values = Vec::new(alloc);
-    for serial in serials {
-        values.push(text(alloc, serial.as_str())?)?;
+    for serial in list.into_vec() {
+        values.push(Value::String(serial.into_string()))?;
     }
     Ok(Value::Array(values))
 }
 
-pub fn maybe_serials(alloc: Global, list: &Option<Serials>) -> Result<Value, AllocError>
-    ensures { IfOk result (λ value. view value ≡ maybe_strings list.now) }
+fn maybe_serials(alloc: Global, list: Option<Serials>) -> Result<Value, AllocError>
+    ensures { IfOk result (λ value. view value ≡ maybe_strings list) }
 {
     match list {
         None => Ok(Value::Null),
-        Some(list) => serials(alloc, list.as_slice()),
+        Some(list) => serials(alloc, list),
     }
 }
 
-/// Those of the words whose flag is set, in order.
-fn chosen(alloc: Global, words: &[(&str, bool)]) -> Result<Value, AllocError>
-    ensures { IfOk result (λ value.
-        view value ≡ strings (chosen (map (λ w. (w.0.now, w.1)) words.now))) }
+fn words(alloc: Global, words: &[&str]) -> Result<Value, AllocError>
+    ensures { IfOk result (λ value. view value ≡ strings (map (λ w. w.now) words.now)) }
 {
     let mut values = Vec::new(alloc);
-    for (word, is_set) in words {
-        if *is_set {
-            values.push(text(alloc, word)?)?;
-        }
+    for text in words {
+        values.push(word(alloc, text)?)?;
     }
     Ok(Value::Array(values))
 }
 
 /// A word for each flag that is set.
-pub fn words(alloc: Global, flags: Flags) -> Result<Value, AllocError>
+fn flags(alloc: Global, flags: Flags) -> Result<Value, AllocError>
     ensures { IfOk result (λ value. view value ≡ strings (flag_words flags)) }
 {
-    chosen(
-        alloc,
-        &[
-            ("template", flags.template),
-            ("assembly", flags.assembly),
-            ("component", flags.component),
-            ("trackable", flags.trackable),
-            ("purchaseable", flags.purchaseable),
-            ("salable", flags.salable),
-            ("virtual", flags.is_virtual),
-        ],
-    )
+    let chosen = flags.words(alloc)?;
+    words(alloc, chosen.as_slice())
+}
+
+/// What stands in a field.
+pub fn value_of(alloc: Global, field: Field) -> Result<Value, AllocError>
+    ensures { IfOk result (λ value. view value ≡ data_of field) }
+{
+    match field {
+        Field::Number(number) => Ok(Value::from(number)),
+        Field::MaybeNumber(number) => Ok(maybe_whole(number)),
+        Field::Text(text) => Ok(Value::String(text.into_string())),
+        Field::MaybeText(text) => Ok(maybe_text(text)),
+        Field::Yes(holds) => Ok(Value::Bool(holds)),
+        Field::Flags(set) => flags(alloc, set),
+        Field::Status(status) => word(alloc, status.word()),
+        Field::Serials(list) => serials(alloc, list),
+        Field::MaybeSerials(list) => maybe_serials(alloc, list),
+        Field::Numbers(ids) => wholes(alloc, ids.as_slice()),
+    }
 }

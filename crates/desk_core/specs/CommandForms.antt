@@ -1,0 +1,134 @@
+-- The forms of all commands: those of each crate, within the type of all commands.
+use Rattle.std.specs.Prelude.{◌≡◌, ℕ, List, [], true, Some, refl}
+use Rattle.part_core.proofs.JoinedForms.{back_here, back_later, told_within, distinct_within}
+use Rattle.part_core.specs.declared.field.Field.{Field}
+use Rattle.part_core.specs.declared.part_command.PartCommand.{PartCommand}
+use Rattle.part_core.specs.Forms.{Fills, IsCommand, have_distinct, are_distinct, verbs_of}
+use Rattle.part_core.specs.FormLaws.{rows_fill, rows_made}
+use Rattle.part_core.specs.FormTables.{AllTell, FormRow, command_by, forms_by}
+use Rattle.part_core.specs.JoinedForms.{rows_within}
+use Rattle.part_core.specs.PartForms.{part_forms, part_verb, part_fields, part_back, part_told, part_distinct}
+use Rattle.bom_core.specs.declared.bom_command.BomCommand.{BomCommand}
+use Rattle.bom_core.specs.BomForms.{bom_forms, bom_verb, bom_fields, bom_back, bom_told, bom_distinct}
+use Rattle.yard_core.specs.declared.yard_command.YardCommand.{YardCommand}
+use Rattle.yard_core.specs.YardForms.{yard_forms, yard_verb, yard_fields, yard_back, yard_told, yard_distinct}
+use Rattle.stock_core.specs.declared.stock_command.StockCommand.{StockCommand}
+use Rattle.stock_core.specs.StockForms.{stock_forms, stock_verb, stock_fields, stock_back, stock_told, stock_distinct}
+use Rattle.desk_core.specs.declared.command.Command.{Command}
+use Rattle.desk_core.specs.declared.command.Command.TheVariants.{Part, Bom, Yard, Stock}
+
+-- ---- the table, from its last crate to its first. Stock comes first, since most requests are of it
+
+unfoldable pub from_yard : List (FormRow Command)
+from_yard = rows_within Yard yard_forms []
+
+unfoldable pub from_bom : List (FormRow Command)
+from_bom = rows_within Bom bom_forms from_yard
+
+unfoldable pub from_part : List (FormRow Command)
+from_part = rows_within Part part_forms from_bom
+
+unfoldable pub command_forms : List (FormRow Command)
+command_forms = rows_within Stock stock_forms from_part
+
+abbrev pub command_verb : Command → List ℕ
+command_verb (Part c) = part_verb c
+command_verb (Bom c) = bom_verb c
+command_verb (Yard c) = yard_verb c
+command_verb (Stock c) = stock_verb c
+
+abbrev pub command_fields : Command → List Field
+command_fields (Part c) = part_fields c
+command_fields (Bom c) = bom_fields c
+command_fields (Yard c) = yard_fields c
+command_fields (Stock c) = stock_fields c
+
+-- ---- no verb stands twice, so what a crate makes of a verb is made by the whole table too
+
+abbrev AreOnce : List (FormRow Command) → Type 0
+AreOnce rows = are_distinct (verbs_of (forms_by rows)) ≡ true
+
+-- the rows make this command of its verb and its fields
+abbrev Makes : List (FormRow Command) → Command → Type 0
+Makes rows c = command_by rows (command_verb c) (command_fields c) ≡ Some c
+
+once_from_bom : AreOnce from_bom
+unfolding from_bom from_yard bom_forms yard_forms
+once_from_bom = refl
+
+once_from_part : AreOnce from_part
+unfolding from_part from_bom from_yard part_forms bom_forms yard_forms
+once_from_part = refl
+
+once : AreOnce command_forms
+unfolding command_forms from_part from_bom from_yard part_forms bom_forms yard_forms stock_forms
+once = refl
+
+past_bom : (c : Command) → Makes from_yard c → Makes from_bom c
+unfolding from_bom
+past_bom c = back_later Bom bom_forms from_yard (command_verb c) (command_fields c) c once_from_bom
+
+past_part : (c : Command) → Makes from_bom c → Makes from_part c
+unfolding from_part
+past_part c = back_later Part part_forms from_bom (command_verb c) (command_fields c) c once_from_part
+
+past_stock : (c : Command) → Makes from_part c → Makes command_forms c
+unfolding command_forms
+past_stock c = back_later Stock stock_forms from_part (command_verb c) (command_fields c) c once
+
+stock_here : (c : StockCommand) → Makes command_forms (Stock c)
+unfolding command_forms
+stock_here c = back_here Stock stock_forms from_part (stock_verb c) (stock_fields c) c (stock_back c)
+
+part_here : (c : PartCommand) → Makes from_part (Part c)
+unfolding from_part
+part_here c = back_here Part part_forms from_bom (part_verb c) (part_fields c) c (part_back c)
+
+bom_here : (c : BomCommand) → Makes from_bom (Bom c)
+unfolding from_bom
+bom_here c = back_here Bom bom_forms from_yard (bom_verb c) (bom_fields c) c (bom_back c)
+
+yard_here : (c : YardCommand) → Makes from_yard (Yard c)
+unfolding from_yard
+yard_here c = back_here Yard yard_forms [] (yard_verb c) (yard_fields c) c (yard_back c)
+
+-- ---- the laws of the table
+
+pub command_back : (c : Command) → Makes command_forms c
+command_back (Part c) = past_stock (Part c) (part_here c)
+command_back (Bom c) = past_stock (Bom c) (past_part (Bom c) (bom_here c))
+command_back (Yard c) = past_stock (Yard c) (past_part (Yard c) (past_bom (Yard c) (yard_here c)))
+command_back (Stock c) = stock_here c
+
+pub command_fills : (c : Command) → Fills (forms_by command_forms) (command_verb c) (command_fields c)
+command_fills c = rows_fill command_forms (command_verb c) (command_fields c) c (command_back c)
+
+abbrev Told : List (FormRow Command) → Type 0
+Told rows = AllTell command_verb command_fields rows
+
+told_from_yard : Told from_yard
+unfolding from_yard
+told_from_yard = told_within Yard yard_verb yard_fields command_verb command_fields (λ c. refl) (λ c. refl) yard_forms [] yard_told tt
+
+told_from_bom : Told from_bom
+unfolding from_bom
+told_from_bom = told_within Bom bom_verb bom_fields command_verb command_fields (λ c. refl) (λ c. refl) bom_forms from_yard bom_told told_from_yard
+
+told_from_part : Told from_part
+unfolding from_part
+told_from_part = told_within Part part_verb part_fields command_verb command_fields (λ c. refl) (λ c. refl) part_forms from_bom part_told told_from_bom
+
+command_told : Told command_forms
+unfolding command_forms
+command_told = told_within Stock stock_verb stock_fields command_verb command_fields (λ c. refl) (λ c. refl) stock_forms from_part stock_told told_from_part
+
+pub command_made : (verb : List ℕ) (fields : List Field) → Fills (forms_by command_forms) verb fields
+    → IsCommand command_verb command_fields (command_by command_forms verb fields) verb fields
+command_made = rows_made command_verb command_fields command_forms command_told
+
+pub command_distinct : have_distinct (forms_by command_forms) ≡ true
+unfolding command_forms from_part from_bom from_yard
+command_distinct =
+    distinct_within Stock stock_forms from_part stock_distinct
+    (distinct_within Part part_forms from_bom part_distinct
+    (distinct_within Bom bom_forms from_yard bom_distinct (distinct_within Yard yard_forms [] yard_distinct refl)))
