@@ -1,3 +1,4 @@
 pub mod MemberNames
 pub mod Parsed
 pub mod Spelled
+pub mod Filled

@@ -3,11 +3,11 @@ use Rattle.std.proofs.Common.{◌≡◌, List, [], ◌∷◌, map, false, refl}
 use Rattle.serde_json.specs.View.{items_of}
 use Rattle.serde_json.specs.Written.{has_float, items_have_float}
 use Rattle.report_core.specs.Lines.{Lines, line_data, report_data}
-use Rattle.desk_core.proofs.Whole.{of_strings}
+use Rattle.desk_core.proofs.Tame.{strings_float}
 
 of_lines : (ls : Lines) → items_have_float (items_of (map line_data ls)) ≡ false
 of_lines [] = refl
-of_lines (l ∷ ls) = rw (of_strings l, of_lines ls) refl
+of_lines (l ∷ ls) = rw (strings_float l, of_lines ls) refl
 
 pub no_float : (ls : Lines) → has_float (report_data ls) ≡ false
 no_float ls = of_lines ls

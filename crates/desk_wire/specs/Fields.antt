@@ -1,4 +1,4 @@
--- The fields of an object, each by its kind.
+-- The fields of an object, each by its kind, in the order of a form.
 use Rattle.std.specs.Prelude.{ℕ, List, [], ◌∷◌, ◌++◌, ◌&&◌, Bool, true, false, codes, is_some, Option, Some, None, option_and_then, Result, Ok, Err, if◌then◌else◌}
 use Rattle.serde_json.specs.Data.{Data, Items, no_items, item}
 use Rattle.serde_json.specs.Find.{get, as_null, as_bool, as_number, as_str, as_array, as_u64}
@@ -6,14 +6,20 @@ use Rattle.part_core.specs.Text.{is_text}
 use Rattle.part_core.specs.Day.{CivilDay, day_of}
 use Rattle.part_core.specs.Serials as texts
 use Rattle.part_core.specs.declared.serials.SerialFault.{SerialFault}
+use Rattle.part_core.specs.declared.field.Kind.{Kind}
+use Rattle.part_core.specs.declared.field.Kind.TheVariants as kind
+use Rattle.part_core.specs.declared.field.Field.{Field}
+use Rattle.part_core.specs.declared.field.Field.TheVariants as field
 use Rattle.part_core.specs.declared.flags.Flags.{Flags}
 use Rattle.part_core.specs.declared.status.Status.{Status}
+use Rattle.part_core.specs.Flags.{no_flags, with_word}
+use Rattle.part_core.specs.Forms.{Blanks}
+use Rattle.part_core.specs.Named.{named}
+use Rattle.part_core.specs.Status.{all_statuses, status_name}
 use Rattle.desk_core.specs.Key.{is_key}
 use Rattle.desk_wire.specs.declared.fault.What.{What}
 use Rattle.desk_wire.specs.declared.fault.What.TheVariants.{NoField, WrongType, BadKey, BadDay, BadText, BadSerials, BadWord}
 use Rattle.desk_wire.specs.Steps.{◌>>=◌, or_fault, must, maybe}
-use Rattle.desk_wire.specs.FlagWords.{no_flags, with_word}
-use Rattle.desk_wire.specs.StatusWords.{status_named}
 
 -- ---- values
 
@@ -73,13 +79,13 @@ text_in name d = do
   value ← member_in name d
   text_of value
 
-abbrev pub name_in : Data → Result (List ℕ) What
-name_in d = do
-  value ← member_in (codes "name") d
+abbrev pub row_text_in : List ℕ → Data → Result (List ℕ) What
+row_text_in name d = do
+  value ← member_in name d
   row_text_of value
 
-abbrev pub maybe_batch_in : Data → Result (Option (List ℕ)) What
-maybe_batch_in d = maybe row_text_of (given (codes "batch") d)
+abbrev pub maybe_row_text_in : List ℕ → Data → Result (Option (List ℕ)) What
+maybe_row_text_in name d = maybe row_text_of (given name d)
 
 -- what is missing is false
 abbrev pub yes_in : List ℕ → Data → Result Bool What
@@ -98,18 +104,18 @@ day_in d = do
   text ← text_in (codes "day") d
   or_fault BadDay (day_of text)
 
-abbrev pub serials_in : Data → Result (List (List ℕ)) What
-serials_in d = do
-  value ← member_in (codes "serials") d
+abbrev pub serials_in : List ℕ → Data → Result (List (List ℕ)) What
+serials_in name d = do
+  value ← member_in name d
   serials_of value
 
-abbrev pub maybe_serials_in : Data → Result (Option (List (List ℕ))) What
-maybe_serials_in d = maybe serials_of (given (codes "serials") d)
+abbrev pub maybe_serials_in : List ℕ → Data → Result (Option (List (List ℕ))) What
+maybe_serials_in name d = maybe serials_of (given name d)
 
-abbrev pub status_in : Data → Result Status What
-status_in d = do
-  text ← text_in (codes "status") d
-  or_fault BadWord (status_named text)
+abbrev pub status_in : List ℕ → Data → Result Status What
+status_in name d = do
+  text ← text_in name d
+  or_fault BadWord (named status_name all_statuses text)
 
 -- ---- arrays
 
@@ -120,9 +126,9 @@ with_numbers numbers (item d ds) = do
   n ← number_of d
   with_numbers (numbers ++ n ∷ []) ds
 
-abbrev pub items_in : Data → Result (List ℕ) What
-items_in d = do
-  value ← member_in (codes "items") d
+abbrev pub numbers_in : List ℕ → Data → Result (List ℕ) What
+numbers_in name d = do
+  value ← member_in name d
   items ← or_fault WrongType (as_array value)
   with_numbers [] items
 
@@ -135,12 +141,39 @@ abbrev pub with_words : Flags → Items → Result Flags What
 with_words flags no_items = Ok flags
 with_words flags (item d ds) = do
   word ← text_of d
-  more ← with_word flags word
+  more ← or_fault BadWord (with_word flags word)
   with_words more ds
 
-abbrev pub flags_in : Data → Result Flags What
-flags_in d = do
-  value ← member_in (codes "flags") d
+abbrev pub flags_in : List ℕ → Data → Result Flags What
+flags_in name d = do
+  value ← member_in name d
   words ← or_fault WrongType (as_array value)
   texts ← must WrongType (are_texts words)
   with_words no_flags words
+
+-- ---- fields
+
+abbrev pub as_field : {A : Type 0} → (A → Field) → Result A What → Result Field What
+as_field make reading = do
+  value ← reading
+  Ok (make value)
+
+-- the field of that kind
+abbrev pub field_in : List ℕ → Kind → Data → Result Field What
+field_in name kind.Number d = as_field field.Number (number_in name d)
+field_in name kind.MaybeNumber d = as_field field.MaybeNumber (maybe_number_in name d)
+field_in name kind.Text d = as_field field.Text (row_text_in name d)
+field_in name kind.MaybeText d = as_field field.MaybeText (maybe_row_text_in name d)
+field_in name kind.Yes d = as_field field.Yes (yes_in name d)
+field_in name kind.Flags d = as_field field.Flags (flags_in name d)
+field_in name kind.Status d = as_field field.Status (status_in name d)
+field_in name kind.Serials d = as_field field.Serials (serials_in name d)
+field_in name kind.MaybeSerials d = as_field field.MaybeSerials (maybe_serials_in name d)
+field_in name kind.Numbers d = as_field field.Numbers (numbers_in name d)
+
+-- these fields and then those of the form that are left, in its order, or the first fault
+abbrev pub fields_from : List Field → Blanks → Data → Result (List Field) What
+fields_from front [] d = Ok front
+fields_from front (f ∷ fs) d = do
+  x ← field_in f.0 f.1 d
+  fields_from (front ++ x ∷ []) fs d

@@ -1,14 +1,6 @@
 pub mod Faults
 pub mod Steps
-pub mod Named
-pub mod FlagWords
-pub mod StatusWords
 pub mod Fields
 pub mod Members
-pub mod PartLines
-pub mod BomLines
-pub mod YardLines
-pub mod StockLines
-pub mod Verbs
 pub mod Reading
 pub mod Writing

@@ -1,13 +1,8 @@
 -- The names of an object's members.
-use Rattle.std.specs.Prelude.{ℕ, List, [], ◌∷◌, ◌||◌, ◌&&◌, Bool, true, false, Option, Some, None}
-use Rattle.std.specs.Str.{bytes_eq}
+use Rattle.std.specs.Prelude.{ℕ, List, ◌&&◌, Bool, true, Option, Some, None}
 use Rattle.serde_json.specs.Data.{Data, Members, no_members, member}
 use Rattle.serde_json.specs.Find.{as_object}
-
--- this name stands in the list
-abbrev pub is_among : List ℕ → List (List ℕ) → Bool
-is_among name [] = false
-is_among name (n ∷ ns) = bytes_eq name n || is_among name ns
+use Rattle.part_core.specs.Forms.{is_among}
 
 abbrev pub all_known : List (List ℕ) → Members → Bool
 all_known names no_members = true

@@ -1,18 +1,19 @@
-//! The fields of an object, each by its kind. A field that must be there is `NoField` where it is
-//! missing. Null is a value of another type but for fields that may be missing or null.
+//! The fields of an object, each by its kind, in the order of a form. A field that must be there is
+//! `NoField` where it is missing. Null is a value of another type but for fields that may be missing or
+//! null.
 ghost use Rattle.std.specs.Prelude.{◌≡◌, [], MatchResult, Ok, Err, option_map};
 ghost use Rattle.serde_json.specs.View.{view, items_view};
+ghost use Rattle.part_core.specs.Flags.{no_flags};
+ghost use Rattle.part_core.specs.Forms.{shown_fields};
 ghost use Rattle.part_core.specs.Serials as texts;
 ghost use Rattle.desk_wire.specs.Steps.{Gives, Fails};
-ghost use Rattle.desk_wire.specs.FlagWords.{no_flags};
-ghost use Rattle.desk_wire.specs.Fields.{number_of, text_of, row_text_of, listed, serials_of, key_of, given, member_in, number_in, maybe_number_in, text_in, name_in, maybe_batch_in, yes_in, key_in, day_in, serials_in, maybe_serials_in, status_in, with_numbers, items_in, are_texts, with_words, flags_in};
+ghost use Rattle.desk_wire.specs.Fields.{number_of, text_of, row_text_of, listed, serials_of, key_of, given, member_in, number_in, maybe_number_in, text_in, row_text_in, maybe_row_text_in, yes_in, key_in, day_in, serials_in, maybe_serials_in, status_in, with_numbers, numbers_in, are_texts, with_words, flags_in, field_in, fields_from};
 
 use crate::fault::{Bad, What};
-use crate::flag_words::{NO_FLAGS, with_word};
-use crate::status_words::status_named;
 use desk_core::Key;
 use part_core::{
-    Batch, Day, Flags, Id, Ids, Name, SerialFault, Serials, Status, Text, read_serials,
+    Day, Field, Flags, Id, Ids, Kind, NO_FLAGS, SerialFault, Serials, Status, Text, named,
+    read_serials,
 };
 use serde_json::Value;
 use std::alloc::{AllocError, Global};
@@ -99,7 +100,7 @@ pub fn number(object: &Value, name: &str) -> Result<u64, What>
 }
 
 /// Such a number, or none where it is missing or null.
-pub fn maybe_number(object: &Value, name: &str) -> Result<Option<u64>, What>
+fn maybe_number(object: &Value, name: &str) -> Result<Option<u64>, What>
     ensures { result ≡ maybe_number_in name.now (view object.now) }
 {
     match given(object, name) {
@@ -117,26 +118,26 @@ pub fn text<'a>(object: &'a Value, name: &str) -> Result<&'a str, What>
     text_of(value)
 }
 
-/// The name of what is made.
-pub fn name(alloc: Global, object: &Value) -> Result<Name, Bad>
-    ensures { Gives result (name_in (view object.now)) }
+/// A text that may stand in a row.
+fn row_text(alloc: Global, object: &Value, name: &str) -> Result<Text, Bad>
+    ensures { Gives result (row_text_in name.now (view object.now)) }
 {
-    let value = member(object, "name")?;
+    let value = member(object, name)?;
     row_text_of(alloc, value)
 }
 
-/// The batch of what came, or none where it is missing or null.
-pub fn maybe_batch(alloc: Global, object: &Value) -> Result<Option<Batch>, Bad>
-    ensures { Gives result (maybe_batch_in (view object.now)) }
+/// Such a text, or none where it is missing or null.
+fn maybe_row_text(alloc: Global, object: &Value, name: &str) -> Result<Option<Text>, Bad>
+    ensures { Gives result (maybe_row_text_in name.now (view object.now)) }
 {
-    match given(object, "batch") {
+    match given(object, name) {
         None => Ok(None),
         Some(value) => Ok(Some(row_text_of(alloc, value)?)),
     }
 }
 
 /// True or false, and false where it is missing.
-pub fn yes(object: &Value, name: &str) -> Result<bool, What>
+fn yes(object: &Value, name: &str) -> Result<bool, What>
     ensures { result ≡ yes_in name.now (view object.now) }
 {
     match object.get(name) {
@@ -164,29 +165,29 @@ pub fn day(object: &Value) -> Result<Day, What>
 }
 
 /// Serials as a text lists them.
-pub fn serials(alloc: Global, object: &Value) -> Result<Serials, Bad>
-    ensures { Gives result (serials_in (view object.now)) }
+fn serials(alloc: Global, object: &Value, name: &str) -> Result<Serials, Bad>
+    ensures { Gives result (serials_in name.now (view object.now)) }
 {
-    let value = member(object, "serials")?;
+    let value = member(object, name)?;
     serials_of(alloc, value)
 }
 
 /// Such serials, or none where they are missing or null.
-pub fn maybe_serials(alloc: Global, object: &Value) -> Result<Option<Serials>, Bad>
-    ensures { Gives result (maybe_serials_in (view object.now)) }
+fn maybe_serials(alloc: Global, object: &Value, name: &str) -> Result<Option<Serials>, Bad>
+    ensures { Gives result (maybe_serials_in name.now (view object.now)) }
 {
-    match given(object, "serials") {
+    match given(object, name) {
         None => Ok(None),
         Some(value) => Ok(Some(serials_of(alloc, value)?)),
     }
 }
 
 /// The status of that name: else `BadWord`.
-pub fn status(object: &Value) -> Result<Status, What>
-    ensures { result ≡ status_in (view object.now) }
+fn status(object: &Value, name: &str) -> Result<Status, What>
+    ensures { result ≡ status_in name.now (view object.now) }
 {
-    let text = text(object, "status")?;
-    status_named(text).ok_or(What::BadWord)
+    let text = text(object, name)?;
+    named::<Status>(text).ok_or(What::BadWord)
 }
 
 fn numbers(alloc: Global, values: &[Value]) -> Result<Vec<Id>, Bad>
@@ -203,10 +204,10 @@ fn numbers(alloc: Global, values: &[Value]) -> Result<Vec<Id>, Bad>
 }
 
 /// An array of numbers, in its order.
-pub fn items(alloc: Global, object: &Value) -> Result<Ids, Bad>
-    ensures { Gives result (items_in (view object.now)) }
+fn ids(alloc: Global, object: &Value, name: &str) -> Result<Ids, Bad>
+    ensures { Gives result (numbers_in name.now (view object.now)) }
 {
-    let value = member(object, "items")?;
+    let value = member(object, name)?;
     let values = value.as_array().ok_or(What::WrongType)?;
     let numbers = numbers(alloc, values)?;
     Ok(Ids::new(numbers))
@@ -229,19 +230,51 @@ fn with_words(values: &[Value]) -> Result<Flags, What>
     let mut flags = NO_FLAGS;
     for value in values {
         let word = text_of(value)?;
-        flags = with_word(flags, word)?;
+        flags = flags.with_word(word).ok_or(What::BadWord)?;
     }
     Ok(flags)
 }
 
 /// An array of words, each of which sets one flag: `BadWord` where one is no flag's or comes twice.
-pub fn flags(object: &Value) -> Result<Flags, What>
-    ensures { result ≡ flags_in (view object.now) }
+fn flags(object: &Value, name: &str) -> Result<Flags, What>
+    ensures { result ≡ flags_in name.now (view object.now) }
 {
-    let value = member(object, "flags")?;
+    let value = member(object, name)?;
     let values = value.as_array().ok_or(What::WrongType)?;
     if !are_texts(values) {
         return Err(What::WrongType);
     }
     with_words(values)
+}
+
+/// The field of that kind.
+fn field(alloc: Global, object: &Value, name: &str, kind: Kind) -> Result<Field, Bad>
+    ensures { Gives result (field_in name.now kind (view object.now)) }
+{
+    match kind {
+        Kind::Number => Ok(Field::Number(number(object, name)?)),
+        Kind::MaybeNumber => Ok(Field::MaybeNumber(maybe_number(object, name)?)),
+        Kind::Text => Ok(Field::Text(row_text(alloc, object, name)?)),
+        Kind::MaybeText => Ok(Field::MaybeText(maybe_row_text(alloc, object, name)?)),
+        Kind::Yes => Ok(Field::Yes(yes(object, name)?)),
+        Kind::Flags => Ok(Field::Flags(flags(object, name)?)),
+        Kind::Status => Ok(Field::Status(status(object, name)?)),
+        Kind::Serials => Ok(Field::Serials(serials(alloc, object, name)?)),
+        Kind::MaybeSerials => Ok(Field::MaybeSerials(maybe_serials(alloc, object, name)?)),
+        Kind::Numbers => Ok(Field::Numbers(ids(alloc, object, name)?)),
+    }
+}
+
+/// The fields of a form, in its order, or the first fault.
+pub fn fields(alloc: Global, object: &Value, blanks: &[(&str, Kind)]) -> Result<Vec<Field>, Bad>
+    ensures { MatchResult result
+        (λ fields. fields_from [] (shown_fields blanks.now) (view object.now) ≡ Ok fields.items)
+        (λ bad. Fails bad (fields_from [] (shown_fields blanks.now) (view object.now))) }
+{
+    let mut fields = Vec::new(alloc);
+    for (name, kind) in blanks {
+        let field = field(alloc, object, name, *kind)?;
+        fields.push(field).map_err(AllocError::from)?;
+    }
+    Ok(fields)
 }

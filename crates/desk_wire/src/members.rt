@@ -1,8 +1,10 @@
 //! The names of an object's members.
-ghost use Rattle.std.specs.Prelude.{◌≡◌, map};
+ghost use Rattle.std.specs.Prelude.{◌≡◌, ◌++◌, map};
 ghost use Rattle.serde_json.specs.View.{view};
-ghost use Rattle.desk_wire.specs.Members.{is_among, knows_all};
+ghost use Rattle.part_core.specs.Forms.{is_among, names_of, shown_fields};
+ghost use Rattle.desk_wire.specs.Members.{knows_all};
 
+use part_core::Kind;
 use serde_json::Value;
 
 fn is_among(name: &str, names: &[&str]) -> bool
@@ -16,16 +18,36 @@ fn is_among(name: &str, names: &[&str]) -> bool
     false
 }
 
+fn is_field(name: &str, blanks: &[(&str, Kind)]) -> bool
+    ensures { result ≡ is_among name.now (names_of (shown_fields blanks.now)) }
+{
+    for (known, _) in blanks {
+        if name == *known {
+            return true;
+        }
+    }
+    false
+}
+
+#[tactic(auto, using(crate::proofs::MemberNames::is_among_both))]
+fn is_known(name: &str, names: &[&str], blanks: &[(&str, Kind)]) -> bool
+    ensures { result ≡ is_among name.now
+        (map (λ name. name.now) names.now ++ names_of (shown_fields blanks.now)) }
+{
+    is_among(name, names) || is_field(name, blanks)
+}
+
 #[tactic(auto, using(crate::proofs::MemberNames::knows_all_members))]
-/// Each member of the object has one of these names.
-pub fn knows_all(names: &[&str], object: &Value) -> bool
-    ensures { result ≡ knows_all (map (λ name. name.now) names.now) (view object.now) }
+/// Each member of the object has one of these names, or is one of these fields.
+pub fn knows_all(names: &[&str], blanks: &[(&str, Kind)], object: &Value) -> bool
+    ensures { result ≡ knows_all
+        (map (λ name. name.now) names.now ++ names_of (shown_fields blanks.now)) (view object.now) }
 {
     let Some(members) = object.as_object() else {
         return true;
     };
     for name in members.keys() {
-        if !is_among(name.as_str(), names) {
+        if !is_known(name.as_str(), names, blanks) {
             return false;
         }
     }

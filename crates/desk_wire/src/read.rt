@@ -1,15 +1,16 @@
 //! A line, as what it asks.
 ghost use Rattle.std.specs.Prelude.{◌≡◌, Ok, Err, Some, MatchResult};
 ghost use Rattle.serde_json.specs.View.{view};
+ghost use Rattle.part_core.specs.Forms.{shown};
 ghost use Rattle.desk_wire.specs.Steps.{Gives, GivesAt, Fails, or_fault};
-ghost use Rattle.desk_wire.specs.Reading.{parsed, object_of, verb_in, request_of, is_report, report_of, asked_of};
+ghost use Rattle.desk_wire.specs.Reading.{LinesAreCommands, parsed, object_of, form_in, command_in, request_of, is_report, report_of, asked_of};
 ghost use Rattle.desk_wire.specs.Reading as reading;
 
 use crate::fault::{Bad, ReadError, What, WireFault};
-use crate::fields::{day, key, member, number, text, text_of};
+use crate::fields::{day, fields, key, member, number, text, text_of};
 use crate::members::knows_all;
-use crate::verb::{Verb, command, members, verb_named};
-use desk_core::Request;
+use desk_core::{Command, Request};
+use part_core::{Form, Formed};
 use report_core::{ReportName, report_named};
 use serde_json::Value;
 use std::alloc::Global;
@@ -54,24 +55,37 @@ fn object(alloc: Global, bytes: &[u8]) -> Result<Value, Bad>
     Ok(value)
 }
 
-fn verb(object: &Value) -> Result<Verb, What>
-    ensures { result ≡ verb_in (view object.now) }
+/// The form of the object's verb, where the form has each member of the object.
+fn form<C: Formed>(object: &Value) -> Result<&'static Form, What>
+    ensures { MatchResult result
+        (λ form. form_in C.forms_of (view object.now) ≡ Ok (shown form.now))
+        (λ what. form_in C.forms_of (view object.now) ≡ Err what) }
 {
     let value = member(object, "do")?;
-    let name = text_of(value)?;
-    verb_named(name).ok_or(What::UnknownCommand)
+    let verb = text_of(value)?;
+    let form = C::form(verb).ok_or(What::UnknownCommand)?;
+    if !knows_all(&["do", "key", "day"], form.fields, object) {
+        return Err(What::UnknownField);
+    }
+    Ok(form)
+}
+
+/// The command of that form whose fields are the object's, or the first fault of a field.
+fn command<C: Formed>(alloc: Global, object: &Value, form: &Form) -> Result<C, Bad>
+    ensures { Gives result (command_in C.command_of (shown form.now) (view object.now)) }
+{
+    let fields = fields(alloc, object, form.fields)?;
+    let command = C::from_fields(form.verb, fields).ok_or(What::UnknownCommand)?;
+    Ok(command)
 }
 
 fn request(alloc: Global, object: &Value) -> Result<Request, Bad>
     ensures { Gives result (request_of (view object.now)) }
 {
-    let verb = verb(object)?;
-    if !knows_all(members(verb), object) {
-        return Err(Bad::Wrong(What::UnknownField));
-    }
+    let form = form::<Command>(object)?;
     let key = key(alloc, object)?;
     let day = day(object)?;
-    let command = command(alloc, verb, object)?;
+    let command = command::<Command>(alloc, object, form)?;
     Ok(Request { key, day, command })
 }
 
@@ -85,7 +99,7 @@ fn is_report(object: &Value) -> bool
 fn report(object: &Value) -> Result<Asked, What>
     ensures { result ≡ report_of (view object.now) }
 {
-    if !knows_all(&["of", "report"], object) {
+    if !knows_all(&["of", "report"], &[], object) {
         return Err(What::UnknownField);
     }
     let of = number(object, "of")?;
@@ -141,3 +155,9 @@ pub fn read_request(alloc: Global, bytes: &[u8], line: u64) -> Result<Request, R
         Err(Bad::Wrong(what)) => Err(ReadError::Wrong(WireFault { line, what })),
     }
 }
+
+/// The law that the fields of a form, once they are read, are always a command of the form's verb: a
+/// line with the fields of its verb is never `UnknownCommand`.
+pub fn lines_are_commands<C: Formed>()
+    ensures { LinesAreCommands C.forms_of C.verb_of C.fields_of C.command_of }
+{}
