@@ -1,13 +1,15 @@
 -- The changes of a sheet, one by one, in the table and in the transaction.
-use Rattle.std.proofs.Common.{◌≡◌, ◌≢◌, ◌⊎◌, inl, inr, ℕ, ◌+◌, ◌<◌, ◌^◌, ℤ, pos, List, [], ◌∷◌, map, drop, length, get_or, Option, Some, None, Result, Ok, Err, OnOk, Bool, true, false, IsSome, refl, sym, ap, subst, ◌∙◌}
+use Rattle.std.proofs.Common.{◌≡◌, ◌≢◌, ◌⊎◌, inl, inr, ℕ, ◌+◌, ◌<◌, ◌^◌, ℤ, pos, List, [], ◌∷◌, map, drop, length, get_or, Option, Some, None, Result, Ok, Err, OnOk, IfErr, Bool, true, false, IsSome, refl, sym, ap, subst, ◌∙◌}
 use Rattle.std.specs.Prelude.{◌||◌, All, option_copied}
+use Rattle.std.specs.Result.{IsErrAnd}
 use Rattle.std.specs.List.{AllByRecursion}
 use Rattle.std.specs.Ordering.{is_eq}
 use Rattle.std.specs.FinMap.{get, insert, remove}
 use Rattle.std.proofs.lemmas.List.{drop_more}
 use Rattle.std.proofs.lemmas.List.Elements.{recursion_from_All, All-from_recursion}
 use Rattle.sqlite.specs.Order.{Row}
-use Rattle.sqlite.specs.State.{State}
+use Rattle.sqlite.specs.Effect.{Database}
+use Rattle.sqlite.specs.State.{State, IsUnchanged}
 use Rattle.sqlite.specs.Tree.{without_rowid}
 use Rattle.part_core.specs.Columns.{IsSmall, AreSmall}
 use Rattle.part_core.specs.Filled.{StandUnderKeys}
@@ -19,9 +21,13 @@ use Rattle.part_core.specs.declared.sheet.Pending.{Pending}
 use Rattle.part_core.proofs.Keys.{key_eq-self}
 use Rattle.table_store.specs.declared.name.TableName.{TableName}
 use Rattle.table_store.specs.Stored.{values_of}
-use Rattle.table_store.specs.Transactions.{StaysInside}
+use Rattle.table_store.specs.Schema.{position}
+use Rattle.table_store.specs.Transactions.{MayUndo, StaysInside}
+use Rattle.table_store.specs.declared.fault.TableFault.{TableFault}
+use Rattle.table_store.specs.declared.fault.TableFault.TheVariants.{Memory, Store, NoTable, BadRow}
 use Rattle.table_store.specs.Values.{HasTables, AreDropped, HasSet, with_row}
-use Rattle.table_store.specs.Written.{tree_of, IsReady, Holds, Writes, Suits, Takes, changes_of, given_all}
+use Rattle.table_store.specs.Written.{tree_of, IsReady, Holds, MayStop, Writes, Suits, Takes, changes_of, given_all}
+use Rattle.table_store.proofs.Inside.{same_tables}
 use Rattle.table_store.proofs.Holding.{keyed-dropped, holds-put, holds-removed, own-given, given-difference}
 
 -- ---- one change
@@ -68,6 +74,38 @@ stays-on old now new a b = record { was_open = a.was_open; is_open = b.is_open; 
 pub stays-here : (s : State) → IsReady s → StaysInside s s
 stays-here s ready = record { was_open = ready.1; is_open = ready.1; now_is = refl; committed_is = refl; mode = ready.0.1 }
 
+-- where no row is written yet
+pub nothing-written : (table : TableName) (s : State) → IsReady s → Writes table s s
+nothing-written table s ready = record { rows = refl; others = λ other differs. refl; tables = ready.0.0; shown = stays-here s ready }
+
+-- what a call answers with an error is so of that error
+pub if_err_as : {T E : Type 0} (Q : E → Type 0) (r : Result T E) (e : E) → IsErrAnd r (λ d. d ≡ e) → Q e → IfErr r Q
+if_err_as Q (Ok x) e h q = tt
+if_err_as Q (Err d) e h q = subst Q (sym h) q
+
+-- a fault after some rows of the table were written
+pub stopped : {T : Type 0} (table : TableName) (old now new : State) (r : Result T TableFault) (fault : TableFault) → IsErrAnd r (λ d. d ≡ fault) → Writes table old now → MayUndo now new fault → IfErr r (MayStop table old new)
+stopped table old now new r fault is wrote may = if_err_as (MayStop table old new) r fault is (go fault may)
+  where
+    later : IsUnchanged now new → Writes table old new
+    later same = record {
+      rows = refl;
+      others = λ other differs. ap (λ (db : Database). db.trees (position other)) same.0.now_is ∙ wrote.others other differs;
+      tables = same_tables now new same.0.now_is wrote.tables;
+      shown = record { was_open = wrote.shown.was_open; is_open = same.0.is_open; now_is = refl; committed_is = same.0.committed_is ∙ wrote.shown.committed_is; mode = same.0.mode ∙ wrote.shown.mode };
+    }
+
+    go : (fault : TableFault) → MayUndo now new fault → MayStop table old new fault
+    go Memory same = later same
+    go (Store failed) (inl same) = inr (later same)
+    go (Store failed) (inr back) = inl (record {
+      was_open = λ up. wrote.shown.was_open;
+      undone = λ up. let at = back.undone up in (at.0 ∙ wrote.shown.committed_is, at.1 ∙ wrote.shown.committed_is);
+      autocommit = back.autocommit;
+    })
+    go (NoTable failed) same = later same
+    go (BadRow failed) same = later same
+
 -- ---- the changes that a sheet lists
 
 either : (b : Bool) → (b || true) ≡ true
@@ -113,6 +151,10 @@ module _ {X K : Type 0} (digits : K → List ℕ) where
       each (q ∷ qs) h = (h.0, each qs h.1)
 
 -- ---- the changes of a sheet, in their order
+
+pub midway-writes : {X : Type 0} (Is : List Row → Table X → Type 0) (key_of : X → List ℕ) (table : TableName) (left all : List (List ℕ × Option X)) (old now : State) → IsMidway Is key_of table left all old now
+    → Writes table old now
+midway-writes Is key_of table left all old now m = record { rows = refl; others = m.others; tables = m.ready.0.0; shown = m.stays }
 
 module _ {X : Type 0} (Is : List Row → Table X → Type 0) (columns : X → List Column) (key_of : X → List ℕ) (table : TableName) where
   pub midway-start : (all : List (List ℕ × Option X)) (s : State) → IsReady s → IsMidway Is key_of table all all s s

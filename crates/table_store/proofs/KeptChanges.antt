@@ -44,6 +44,9 @@ pub record IsAdding {X : Type 0} (Is : List Row → Table X → Type 0) (key_of 
   pub rows : (rows : Table X) → StandUnderKeys key_of rows → AreNew all rows → Is (tree_of Kept old) rows
       → (mid : Table X) × StandUnderKeys key_of mid × AreNew left mid × Is (tree_of Kept now) mid × (given_all left mid ≡ given_all all rows)
 
+pub adding-writes : {X : Type 0} (Is : List Row → Table X → Type 0) (key_of : X → List ℕ) (left all : List (List ℕ × Option X)) (old now : State) → IsAdding Is key_of left all old now → Writes Kept old now
+adding-writes Is key_of left all old now m = record { rows = refl; others = m.others; tables = m.ready.0.0; shown = m.stays }
+
 module _ {X : Type 0} (Is : List Row → Table X → Type 0) (columns : X → List Column) (key_of : X → List ℕ) where
   own-added : (rows : Table X) (k : List ℕ) (o : Option X) → StandUnderKeys key_of rows → KeptTakes columns key_of k o → StandUnderKeys key_of (given k o rows)
   own-added rows k None own takes = absurd takes

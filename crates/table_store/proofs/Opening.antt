@@ -6,10 +6,12 @@ use Rattle.sqlite.specs.Schema.{Schema}
 use Rattle.sqlite.specs.Tree.{Trees, IsTable}
 use Rattle.sqlite_catalog.specs.Listing.{IsSound}
 use Rattle.sqlite_catalog.proofs.LayoutLemmas.{table_shape}
+use Rattle.sqlite_catalog.proofs.ReadLemmas.{lists_once}
 use Rattle.sqlite_rules.specs.Lists.{Has}
 use Rattle.sqlite_trees.specs.Objects.{catalog_tree, IsListed}
 use Rattle.sqlite_trees.specs.View.{View, doubt, IsClean, IsOrdered, IsShaped}
 use Rattle.sqlite_trees.specs.declared.store.Shape.TheVariants as shape
+use Rattle.table_store.specs.Opened.{IsForeign}
 use Rattle.table_store.specs.Schema.{position, desk_schema}
 use Rattle.table_store.specs.Values.{HasTables}
 use Rattle.table_store.specs.declared.name.TableName.{TableName}
@@ -58,7 +60,20 @@ desk_shaped s desk shaped = record {
       subst (λ t. IsShaped shape.Table (s.now.trees t)) it.2 (shaped it.0 (subst (λ (d : Schema). Has d.tables it.0) (sym desk) it.1));
 }
 
+-- trees that list the desk's schema list no other
+not_foreign : (trees : Trees) → IsSound desk_schema trees → ¬ IsForeign trees
+not_foreign trees own (schema, sound, other) = other (lists_once (trees catalog_tree) schema desk_schema sound.lists own.lists)
+
 module _ {C E : Type 0} (shows : C → State) where
+  -- nor are they another's whose schema was found to be the desk's
+  pub own_told : (r : Result C E) (conn : C) (trees : Trees) → IfOk r (λ c. c ≡ conn) → IfOk r (λ c. (shows c).now.schema ≡ desk_schema)
+      → (HasCleanDisk (shows conn) → IsSound (shows conn).now.schema (shows conn).now.trees) → (HasCleanDisk (shows conn) → (shows conn).now.trees ≡ trees) → IfOk r (λ c. HasCleanDisk (shows c) → ¬ IsForeign trees)
+  own_told (Ok c) conn trees same desk sound is = λ clean.
+      let here : HasCleanDisk (shows conn) = subst (λ x. HasCleanDisk (shows x)) same clean in
+      let own : (shows conn).now.schema ≡ desk_schema = subst (λ x. (shows x).now.schema ≡ desk_schema) same desk in
+      not_foreign trees (subst (IsSound desk_schema) (is here) (subst (λ s. IsSound s (shows conn).now.trees) own (sound here)))
+  own_told (Err e) conn trees same desk sound is = tt
+
   -- a connection whose schema was found to be the desk's has its tables
   pub tables_told : (r : Result C E) (conn : C) → IfOk r (λ c. c ≡ conn) → IfOk r (λ c. (shows c).now.schema ≡ desk_schema)
       → (HasCleanDisk (shows conn) → (table : Table) → Has (shows conn).now.schema.tables table → IsShaped shape.Table ((shows conn).now.trees table.tree))

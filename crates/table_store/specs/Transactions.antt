@@ -1,6 +1,6 @@
 -- What ends a transaction, and what it leaves.
-use Rattle.std.specs.Prelude.{◌≡◌, true, false, IsTrue}
-use Rattle.sqlite.specs.State.{State, Fails, Shows}
+use Rattle.std.specs.Prelude.{◌≡◌, ◌⊎◌, true, false, IsTrue}
+use Rattle.sqlite.specs.State.{State, Fails, IsRolledBack, IsUnchanged, Shows}
 use Rattle.table_store.specs.declared.fault.Cause.{Cause}
 use Rattle.table_store.specs.declared.fault.Cause.TheVariants as cause
 use Rattle.table_store.specs.declared.fault.TableFault.{TableFault}
@@ -25,6 +25,12 @@ pub record IsBack (old new : State) : Type 0 where
 -- the transaction is still open, and its tables may have changed
 abbrev pub StaysInside : State → State → Type 0
 StaysInside old new = Shows old new new.now old.committed true
+
+-- what a fault leaves of a call that asks the database once: one of the database may have undone the transaction, and
+-- before any other nothing was asked
+abbrev pub MayUndo : State → State → TableFault → Type 0
+MayUndo old new (Store failed) = IsUnchanged old new ⊎ IsRolledBack old new
+MayUndo old new _ = IsUnchanged old new
 
 -- the fault is one of the database
 abbrev pub IsOfStore : TableFault → Type 0

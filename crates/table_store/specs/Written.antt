@@ -12,18 +12,16 @@ use Rattle.part_core.specs.declared.column.Column.TheVariants.{Whole, Text}
 use Rattle.part_core.specs.declared.sheet.Pending.{Pending}
 use Rattle.table_store.specs.Schema.{position}
 use Rattle.table_store.specs.Stored.{row_of, values_of}
-use Rattle.table_store.specs.Transactions.{IsBack, StaysInside}
+use Rattle.table_store.specs.Transactions.{IsBack}
 use Rattle.table_store.specs.Values.{IsLoaded, IsRow, IsInside, HasSet, AreDropped}
+use Rattle.table_store.specs.declared.fault.TableFault.{TableFault}
+use Rattle.table_store.specs.declared.fault.TableFault.TheVariants.{Store}
 use Rattle.table_store.specs.declared.name.TableName.{TableName}
 use Rattle.table_store.specs.declared.name.TableName.TheVariants.{Kept}
 
 -- within a transaction, and the database answers
 abbrev pub IsReady : State → Type 0
 IsReady s = IsInside s × IsTrue s.is_open
-
--- after a fault within a transaction: it is undone, or still open
-abbrev pub IsStopped : State → State → Type 0
-IsStopped old new = IsBack old new ⊎ StaysInside old new
 
 -- the rows of a table
 abbrev pub tree_of : TableName → State → List Row
@@ -32,6 +30,12 @@ tree_of table s = s.now.trees (position table)
 -- within the transaction no other table has changed
 abbrev pub Writes : TableName → State → State → Type 0
 Writes table old new = HasSet table (tree_of table new) old new
+
+-- what a fault leaves of a call that writes rows of a table: one of the database may have undone the transaction, and else
+-- it is still open, and no other table has changed
+abbrev pub MayStop : TableName → State → State → TableFault → Type 0
+MayStop table old new (Store failed) = IsBack old new ⊎ Writes table old new
+MayStop table old new _ = Writes table old new
 
 module _ {R : Type 0} (columns_of : R → List Column) where
   -- a load of the tree shows these rows of the machine, in the order of their keys

@@ -1,14 +1,14 @@
 //! The answers that are kept go into their table, whose key is a word and whose rows stay as they are.
-ghost use Rattle.std.specs.Prelude.{◌≡◌, ◌⊎◌, IfErr, IfOk, OnOk, OnErr, All, None, option_copied};
+ghost use Rattle.std.specs.Prelude.{◌≡◌, IfErr, IfOk, OnOk, OnErr, All, None, option_copied};
 ghost use Rattle.std.specs.FinMap.{get, insert};
 ghost use Rattle.sqlite.specs.Held.{state};
-ghost use Rattle.sqlite.specs.State.{HasCleanDisk, IsUnchanged, IsRolledBack, KeepsCommit, Survives};
+ghost use Rattle.sqlite.specs.State.{HasCleanDisk, KeepsCommit, Survives};
 ghost use Rattle.part_core.specs.Columns.{IsSmall, AreSmall};
 ghost use Rattle.part_core.specs.Filled.{StandUnderKeys};
 ghost use Rattle.part_core.specs.Sheet.{Table, given, now_of};
-ghost use Rattle.table_store.specs.Transactions.{IsOfMemoryOrStore};
+ghost use Rattle.table_store.specs.Transactions.{IsOfMemoryOrStore, MayUndo};
 ghost use Rattle.table_store.specs.declared.name.TableName.TheVariants.{Kept};
-ghost use Rattle.table_store.specs.Written.{tree_of, IsReady, IsStopped, IsTableOf, Writes, SuitKept, KeptTakes, StayAsTheyAre, AreNew, changes_of, given_all};
+ghost use Rattle.table_store.specs.Written.{tree_of, IsReady, IsTableOf, MayStop, Writes, SuitKept, KeptTakes, StayAsTheyAre, AreNew, changes_of, given_all};
 
 use crate::fault::TableFault;
 use crate::name::TableName;
@@ -37,8 +37,7 @@ fn add_row<S: Alter, R: Stored>(
         (tree_of Kept (state S.Store conn.new))
         (insert rows (R.key_of row.now) row.now)) }
     ensures failed { HasCleanDisk (state S.Store conn.new)
-        → OnErr result (IsUnchanged (state S.Store conn.old) (state S.Store conn.new)
-        ⊎ IsRolledBack (state S.Store conn.old) (state S.Store conn.new)) }
+        → IfErr result (MayUndo (state S.Store conn.old) (state S.Store conn.new)) }
     ensures fault { IfErr result IsOfMemoryOrStore }
     ensures crash { Survives (state S.Store conn.old) (state S.Store conn.new) (λ _. ⊥) }
 {
@@ -67,8 +66,7 @@ fn add_change<S: Alter, R: Stored>(
         (tree_of Kept (state S.Store conn.new))
         (given (R.digits change.now.key.now) (option_copied change.now.row) rows)) }
     ensures failed { HasCleanDisk (state S.Store conn.new)
-        → OnErr result (IsUnchanged (state S.Store conn.old) (state S.Store conn.new)
-        ⊎ IsRolledBack (state S.Store conn.old) (state S.Store conn.new)) }
+        → IfErr result (MayUndo (state S.Store conn.old) (state S.Store conn.new)) }
     ensures fault { IfErr result IsOfMemoryOrStore }
     ensures crash { Survives (state S.Store conn.old) (state S.Store conn.new) (λ _. ⊥) }
 {
@@ -98,7 +96,7 @@ fn add_changes<S: Alter, R: Stored>(
         (tree_of Kept (state S.Store conn.new))
         (given_all (changes_of R.digits changes.now) rows)) }
     ensures failed { HasCleanDisk (state S.Store conn.new)
-        → OnErr result (IsStopped (state S.Store conn.old) (state S.Store conn.new)) }
+        → IfErr result (MayStop Kept (state S.Store conn.old) (state S.Store conn.new)) }
     ensures fault { IfErr result IsOfMemoryOrStore }
     ensures crash { Survives (state S.Store conn.old) (state S.Store conn.new) (λ _. ⊥) }
 {
@@ -109,8 +107,8 @@ fn add_changes<S: Alter, R: Stored>(
 }
 
 /// The rows of a sheet that are new since its rows were last kept go into the table `kept`, within the transaction that
-/// the caller began. It takes no row away and changes none, so none may have gone or changed. After a fault the
-/// transaction is undone or still open, and the caller's `rollback` ends it.
+/// the caller began. It takes no row away and changes none, so none may have gone or changed. A fault leaves what one of
+/// `write_pending` does.
 pub fn write_kept<S: Alter, R: Stored>(
     alloc: Global,
     conn: &mut Connection<S>,
@@ -130,7 +128,7 @@ pub fn write_kept<S: Alter, R: Stored>(
     ensures set { HasCleanDisk (state S.Store conn.new)
         → OnOk result (Writes Kept (state S.Store conn.old) (state S.Store conn.new)) }
     ensures failed { HasCleanDisk (state S.Store conn.new)
-        → OnErr result (IsStopped (state S.Store conn.old) (state S.Store conn.new)) }
+        → IfErr result (MayStop Kept (state S.Store conn.old) (state S.Store conn.new)) }
     ensures commit { HasCleanDisk (state S.Store conn.new)
         → KeepsCommit (state S.Store conn.old) (state S.Store conn.new) }
     ensures fault { IfErr result IsOfMemoryOrStore }

@@ -21,6 +21,3 @@ pub use read::{has_no_row, load_kept, load_sheet};
 pub use rows::{drop_row, load_rows, put_row};
 pub use transaction::{begin, commit, rollback};
 pub use write::{write_pending, write_row};
-
-#[cfg(test)]
-mod tests;

@@ -47,7 +47,7 @@ impl TableName {
     }
 
     /// The table at a place, in the order in which they are made.
-    pub(crate) fn at(place: usize) -> TableName
+    pub fn at(place: usize) -> TableName
         requires { place < 13 }
         ensures { position result ≡ place }
     {

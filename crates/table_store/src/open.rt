@@ -13,7 +13,7 @@ ghost use Rattle.sqlite_rules.specs.Lists.{Has};
 ghost use Rattle.sqlite_trees.specs.View.{doubt, IsClean, IsShaped};
 ghost use Rattle.sqlite_trees.specs.declared.store.Shape.TheVariants as shape;
 ghost use Rattle.sqlite.specs.Steps.{IsFresh};
-ghost use Rattle.table_store.specs.Opened.{IsAtRest, FailsToOpen};
+ghost use Rattle.table_store.specs.Opened.{IsAtRest, IsForeign, FailsToOpen};
 ghost use Rattle.table_store.specs.Schema.{desk_schema, schema_up_to};
 ghost use Rattle.table_store.specs.Transactions.{IsOfStore};
 ghost use Rattle.table_store.specs.Values.{HasTables};
@@ -122,6 +122,8 @@ pub fn open_tables<S: Alter + Drop>(
 ) -> Result<Connection<S>, (TableFault, S)>
     ensures tables { IfOk result (λ c. HasCleanDisk (state S.Store c)
         → HasTables (state S.Store c)) }
+    ensures own { IfOk result (λ c. HasCleanDisk (state S.Store c)
+        → ¬ IsForeign (state S.Store conn).committed.trees) }
     ensures rest { IfOk result (λ c. HasCleanDisk (state S.Store c)
         → IsAtRest (state S.Store c)) }
     ensures same { IfOk result (λ c. HasCleanDisk (state S.Store c)

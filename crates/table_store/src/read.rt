@@ -9,7 +9,7 @@ ghost use Rattle.sqlite_value.specs.declared.value.Value.TheVariants.{Int, Text}
 ghost use Rattle.part_core.specs.Columns.{Finds, Misses};
 ghost use Rattle.table_store.specs.Faults.{NamesTable};
 ghost use Rattle.table_store.specs.Stored.{column_of, columns_in, row_of, values_of, AreLoaded, FailsToLoad, FailsToRead};
-ghost use Rattle.table_store.specs.Transactions.{IsBadRow, IsOfReading, IsOfStore};
+ghost use Rattle.table_store.specs.Transactions.{IsBadRow, IsOfReading, IsOfStore, MayUndo};
 ghost use Rattle.table_store.specs.Values.{HasTables, RiseByWord};
 ghost use Rattle.table_store.specs.Written.{tree_of, AreItsRows, IsTableOfNone, IsTableOfNoneOwn, Suits, SuitKept};
 ghost use Rattle.table_store.specs.declared.name.TableName.TheVariants.{Kept};
@@ -184,8 +184,7 @@ pub fn load_kept<S: Alter, R: Stored>(
     ensures same { HasCleanDisk (state S.Store conn.new)
         → OnOk result (IsUnchanged (state S.Store conn.old) (state S.Store conn.new)) }
     ensures failed { HasCleanDisk (state S.Store conn.new)
-        → OnErr result (IsUnchanged (state S.Store conn.old) (state S.Store conn.new)
-        ⊎ IsRolledBack (state S.Store conn.old) (state S.Store conn.new)) }
+        → IfErr result (MayUndo (state S.Store conn.old) (state S.Store conn.new)) }
     ensures fault { IfErr result IsOfReading }
     ensures named { IfErr result (NamesTable Kept) }
     ensures crash { Survives (state S.Store conn.old) (state S.Store conn.new) (λ _. ⊥) }

@@ -5,7 +5,7 @@ ghost use Rattle.sqlite.specs.State.{HasCleanDisk, IsUnchanged, IsRolledBack, Su
 ghost use Rattle.sqlite.specs.Tree.{without_rowid};
 ghost use Rattle.sqlite.specs.Values.{bound};
 ghost use Rattle.table_store.specs.Schema.{position};
-ghost use Rattle.table_store.specs.Transactions.{IsOfMemoryOrStore, IsOfStore};
+ghost use Rattle.table_store.specs.Transactions.{IsOfStore};
 ghost use Rattle.table_store.specs.Values.{IsRow, AreDropped, with_row, HasTables, IsInside, IsLoaded, HasSet};
 
 use crate::fault::{Failed, TableFault};
@@ -30,7 +30,7 @@ pub fn put_row<S: Alter>(
     ensures failed { HasCleanDisk (state S.Store conn.new)
         → OnErr result (IsUnchanged (state S.Store conn.old) (state S.Store conn.new)
         ⊎ IsRolledBack (state S.Store conn.old) (state S.Store conn.new)) }
-    ensures fault { IfErr result IsOfMemoryOrStore }
+    ensures fault { IfErr result IsOfStore }
     ensures crash { Survives (state S.Store conn.old) (state S.Store conn.new) (λ _. ⊥) }
 {
     match conn.execute(table.put_text(), values) {
@@ -55,7 +55,7 @@ pub fn drop_row<S: Alter>(
     ensures failed { HasCleanDisk (state S.Store conn.new)
         → OnErr result (IsUnchanged (state S.Store conn.old) (state S.Store conn.new)
         ⊎ IsRolledBack (state S.Store conn.old) (state S.Store conn.new)) }
-    ensures fault { IfErr result IsOfMemoryOrStore }
+    ensures fault { IfErr result IsOfStore }
     ensures crash { Survives (state S.Store conn.old) (state S.Store conn.new) (λ _. ⊥) }
 {
     match conn.execute(table.drop_text(), &[ValueRef::Int(key)]) {

@@ -2,7 +2,7 @@
 ghost use Rattle.std.specs.Prelude.{◌≡◌, ◌⊎◌, ◌∷◌, ◌<◌, ◌^◌, [], ℕ, Some, map, IfErr, IfOk, OnOk, OnErr, All, option_copied};
 ghost use Rattle.std.specs.FinMap.{insert, remove};
 ghost use Rattle.sqlite.specs.Held.{state};
-ghost use Rattle.sqlite.specs.State.{HasCleanDisk, IsUnchanged, IsRolledBack, KeepsCommit, Survives};
+ghost use Rattle.sqlite.specs.State.{HasCleanDisk, KeepsCommit, Survives};
 ghost use Rattle.sqlite.specs.Values.{bound, bound_value};
 ghost use Rattle.sqlite_value.specs.Value.{owned};
 ghost use Rattle.part_core.specs.Columns.{IsSmall, AreSmall};
@@ -10,9 +10,9 @@ ghost use Rattle.part_core.specs.Filled.{StandUnderKeys};
 ghost use Rattle.part_core.specs.Rows.{StayThere};
 ghost use Rattle.part_core.specs.Sheet.{Table, given, now_of};
 ghost use Rattle.table_store.specs.Stored.{value_of, column_of, columns_in};
-ghost use Rattle.table_store.specs.Transactions.{IsOfMemoryOrStore};
+ghost use Rattle.table_store.specs.Transactions.{IsOfMemoryOrStore, IsOfStore, MayUndo};
 ghost use Rattle.table_store.specs.Values.{AreDropped};
-ghost use Rattle.table_store.specs.Written.{tree_of, IsReady, IsStopped, IsTableOf, Writes, Suits, Takes, changes_of, given_all};
+ghost use Rattle.table_store.specs.Written.{tree_of, IsReady, IsTableOf, MayStop, Writes, Suits, Takes, changes_of, given_all};
 
 use crate::fault::TableFault;
 use crate::name::TableName;
@@ -48,8 +48,8 @@ pub(crate) fn values_of(alloc: Global, columns: &[Column]) -> Result<Vec<ValueRe
     Ok(values)
 }
 
-/// Puts a row of the machine under its number, in the place of the one that stands there. After a fault the
-/// transaction is undone or as it was.
+/// Puts a row of the machine under its number, in the place of the one that stands there. After `Memory` nothing has
+/// changed, and after `Store` the transaction may be undone.
 pub fn write_row<S: Alter, R: Stored + Row<Key = u64>>(
     alloc: Global,
     conn: &mut Connection<S>,
@@ -68,8 +68,7 @@ pub fn write_row<S: Alter, R: Stored + Row<Key = u64>>(
         (tree_of table (state S.Store conn.new))
         (insert rows (R.key_of row.now) row.now)) }
     ensures failed { HasCleanDisk (state S.Store conn.new)
-        → OnErr result (IsUnchanged (state S.Store conn.old) (state S.Store conn.new)
-        ⊎ IsRolledBack (state S.Store conn.old) (state S.Store conn.new)) }
+        → IfErr result (MayUndo (state S.Store conn.old) (state S.Store conn.new)) }
     ensures fault { IfErr result IsOfMemoryOrStore }
     ensures crash { Survives (state S.Store conn.old) (state S.Store conn.new) (λ _. ⊥) }
 {
@@ -97,9 +96,8 @@ fn remove_row<S: Alter, R: Stored + Row<Key = u64>>(
         (tree_of table (state S.Store conn.new))
         (remove rows (number ∷ []))) }
     ensures failed { HasCleanDisk (state S.Store conn.new)
-        → OnErr result (IsUnchanged (state S.Store conn.old) (state S.Store conn.new)
-        ⊎ IsRolledBack (state S.Store conn.old) (state S.Store conn.new)) }
-    ensures fault { IfErr result IsOfMemoryOrStore }
+        → IfErr result (MayUndo (state S.Store conn.old) (state S.Store conn.new)) }
+    ensures fault { IfErr result IsOfStore }
     ensures crash { Survives (state S.Store conn.old) (state S.Store conn.new) (λ _. ⊥) }
 {
     drop_row(conn, table, number as i64)
@@ -125,8 +123,7 @@ fn write_change<S: Alter, R: Stored + Row<Key = u64>>(
         (tree_of table (state S.Store conn.new))
         (given (R.digits change.now.key.now) (option_copied change.now.row) rows)) }
     ensures failed { HasCleanDisk (state S.Store conn.new)
-        → OnErr result (IsUnchanged (state S.Store conn.old) (state S.Store conn.new)
-        ⊎ IsRolledBack (state S.Store conn.old) (state S.Store conn.new)) }
+        → IfErr result (MayUndo (state S.Store conn.old) (state S.Store conn.new)) }
     ensures fault { IfErr result IsOfMemoryOrStore }
     ensures crash { Survives (state S.Store conn.old) (state S.Store conn.new) (λ _. ⊥) }
 {
@@ -156,7 +153,7 @@ fn write_changes<S: Alter, R: Stored + Row<Key = u64>>(
         (tree_of table (state S.Store conn.new))
         (given_all (changes_of R.digits changes.now) rows)) }
     ensures failed { HasCleanDisk (state S.Store conn.new)
-        → OnErr result (IsStopped (state S.Store conn.old) (state S.Store conn.new)) }
+        → IfErr result (MayStop table (state S.Store conn.old) (state S.Store conn.new)) }
     ensures fault { IfErr result IsOfMemoryOrStore }
     ensures crash { Survives (state S.Store conn.old) (state S.Store conn.new) (λ _. ⊥) }
 {
@@ -167,8 +164,11 @@ fn write_changes<S: Alter, R: Stored + Row<Key = u64>>(
 }
 
 /// The changes of a sheet since its rows were last kept go into its table, within the transaction that the caller
-/// began: each row that there is now is put, and each that there was is dropped. After a fault the transaction is
-/// undone or still open, and the caller's `rollback` ends it.
+/// began: each row that there is now is put, and each that there was is dropped.
+///
+/// Each row is written before the next is made ready, so that the values of one row are held at a time. After `Memory`
+/// the rows before it stand in the table, and the transaction is still open: the caller's `rollback` takes them back.
+/// After `Store` the transaction may be undone already.
 pub fn write_pending<S: Alter, R: Stored + Row<Key = u64>>(
     alloc: Global,
     conn: &mut Connection<S>,
@@ -191,7 +191,7 @@ pub fn write_pending<S: Alter, R: Stored + Row<Key = u64>>(
     ensures set { HasCleanDisk (state S.Store conn.new)
         → OnOk result (Writes table (state S.Store conn.old) (state S.Store conn.new)) }
     ensures failed { HasCleanDisk (state S.Store conn.new)
-        → OnErr result (IsStopped (state S.Store conn.old) (state S.Store conn.new)) }
+        → IfErr result (MayStop table (state S.Store conn.old) (state S.Store conn.new)) }
     ensures commit { HasCleanDisk (state S.Store conn.new)
         → KeepsCommit (state S.Store conn.old) (state S.Store conn.new) }
     ensures fault { IfErr result IsOfMemoryOrStore }

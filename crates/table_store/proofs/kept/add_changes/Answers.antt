@@ -4,8 +4,8 @@ use Rattle.sqlite.specs.State.{HasCleanDisk}
 use Rattle.sqlite.proofs.StateLemmas.{survives_then}
 use Rattle.table_store.specs.Written.{IsTableOf, KeptTakes, changes_of}
 use Rattle.table_store.specs.declared.name.TableName.TheVariants.{Kept}
-use Rattle.table_store.proofs.Changes.{left-more, holds-at}
-use Rattle.table_store.proofs.KeptChanges.{IsAdding, adding-start, adding-more}
+use Rattle.table_store.proofs.Changes.{left-more, holds-at, stopped}
+use Rattle.table_store.proofs.KeptChanges.{IsAdding, adding-start, adding-more, adding-writes}
 use Rattle.table_store.proofs.kept.add_changes.Goals as goal
 
 pub loop-change-init : goal.loop-change-init
@@ -35,3 +35,13 @@ loop-change-preserved g c =
           (left-more g.R.Row.digits c.args.changes.now c.loop-change.change-index p c.loop-change-test.true c.change-item.is) (c.loop-change.invariant.adding before))
           (c.in_ok-add_change.ensures.set clean) (c.in_ok-add_change.ensures.made clean);
     }
+
+pub returns-in_err-add_change-clause-failed : goal.returns-in_err-add_change-clause-failed
+returns-in_err-add_change-clause-failed g c clean =
+    let old = state g.S.Store c.args.conn.now in
+    let now = state g.S.Store c.loop-change.conn in
+    let new = state g.S.Store c.add_change.new.conn in
+    let before : HasCleanDisk now = omega (arith, clean, c.add_change.ensures.crash.clean) in
+    stopped Kept old now new c.from_residual.result c.in_err-add_change.field-0.0 c.from_residual.ensures.1
+    (adding-writes (IsTableOf g.R.Stored.row_from g.R.Stored.columns_of Kept) g.R.Row.key_of (changes_of g.R.Row.digits (drop c.loop-change.change-index c.args.changes.now)) (changes_of g.R.Row.digits c.args.changes.now) old now (c.loop-change.invariant.adding before))
+    (c.in_err-add_change.ensures.failed clean)

@@ -2,9 +2,10 @@ use Rattle.std.proofs.Common.{sym, subst, arith}
 use Rattle.std.specs.Prelude.{All}
 use Rattle.sqlite.specs.Held.{state}
 use Rattle.part_core.specs.Sheet.{now_of}
-use Rattle.table_store.specs.Written.{tree_of, IsTableOf, KeptTakes, AreNew, changes_of}
+use Rattle.table_store.specs.Written.{tree_of, IsTableOf, MayStop, KeptTakes, AreNew, changes_of}
 use Rattle.table_store.specs.declared.name.TableName.TheVariants.{Kept}
-use Rattle.table_store.proofs.Changes.{now-held}
+use Rattle.table_store.specs.declared.fault.TableFault.TheVariants.{Memory}
+use Rattle.table_store.proofs.Changes.{if_err_as, nothing-written, now-held}
 use Rattle.table_store.proofs.KeptChanges.{kept-takes-all, all-new, own-kept}
 use Rattle.table_store.proofs.kept.write_kept.Goals as goal
 
@@ -24,3 +25,8 @@ returns-clause-written g c clean =
     (c.add_changes.ensures.made clean kept (own-kept g.R.Row.digits now kept c.requires.added g.R.Row.key_of c.requires.own)
     (subst (λ ps. AreNew (changes_of g.R.Row.digits ps) kept) (sym c.as_slice.ensures.value) (all-new g.R.Row.digits now kept c.requires.added changes c.in_ok-changes.ensures.once c.in_ok-changes.ensures.exact))
     (c.requires.kept (omega (arith, clean, c.add_changes.ensures.crash.clean))))
+
+pub returns-in_err-changes-clause-failed : goal.returns-in_err-changes-clause-failed
+returns-in_err-changes-clause-failed g c clean =
+    let old = state g.S.Store c.args.conn.now in
+    if_err_as (MayStop Kept old old) c.from_residual.result Memory c.from_residual.ensures.1 (nothing-written Kept old (c.requires.ready clean))

@@ -1,10 +1,16 @@
+use Rattle.std.proofs.Common.{◌∙◌}
 use Rattle.sqlite.specs.Held.{state}
 use Rattle.sqlite_trees.specs.View.{doubt}
-use Rattle.table_store.proofs.Opening.{tables_told, harmless_by}
+use Rattle.table_store.proofs.Opening.{own_told, tables_told, harmless_by}
 use Rattle.table_store.proofs.open.open_tables.Goals as goal
 
 pub returns-in-Ok-clause-tables : goal.returns-in-Ok-clause-tables
 returns-in-Ok-clause-tables g c = tables_told (state g.S.Store) c.compared.result c.in-Ok.conn c.compared.ensures.same c.compared.ensures.desk c.in-Ok.ensures.shaped
+
+pub returns-in-Ok-clause-own : goal.returns-in-Ok-clause-own
+returns-in-Ok-clause-own g c =
+    own_told (state g.S.Store) c.compared.result c.in-Ok.conn (state g.S.Store c.args.conn).committed.trees c.compared.ensures.same c.compared.ensures.desk c.in-Ok.ensures.sound
+    (λ clean. c.in-Ok.ensures.same clean ∙ c.given_back.ensures.trees (c.in-Ok.ensures.live clean))
 
 pub returns-in-Ok-clause-harmless : goal.returns-in-Ok-clause-harmless
 returns-in-Ok-clause-harmless g c =

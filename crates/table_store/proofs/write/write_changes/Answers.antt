@@ -3,7 +3,7 @@ use Rattle.sqlite.specs.Held.{state}
 use Rattle.sqlite.specs.State.{HasCleanDisk}
 use Rattle.sqlite.proofs.StateLemmas.{survives_then}
 use Rattle.table_store.specs.Written.{IsTableOf, Takes, changes_of}
-use Rattle.table_store.proofs.Changes.{IsMidway, midway-start, midway-more, left-more, holds-at}
+use Rattle.table_store.proofs.Changes.{IsMidway, midway-start, midway-more, midway-writes, left-more, holds-at, stopped}
 use Rattle.table_store.proofs.write.write_changes.Goals as goal
 
 pub loop-change-init : goal.loop-change-init
@@ -33,3 +33,13 @@ loop-change-preserved g c =
           (left-more g.R.Row.digits c.args.changes.now c.loop-change.change-index p c.loop-change-test.true c.change-item.is) (c.loop-change.invariant.midway before))
           (c.in_ok-write_change.ensures.set clean) (c.in_ok-write_change.ensures.made clean);
     }
+
+pub returns-in_err-write_change-clause-failed : goal.returns-in_err-write_change-clause-failed
+returns-in_err-write_change-clause-failed g c clean =
+    let old = state g.S.Store c.args.conn.now in
+    let now = state g.S.Store c.loop-change.conn in
+    let new = state g.S.Store c.write_change.new.conn in
+    let before : HasCleanDisk now = omega (arith, clean, c.write_change.ensures.crash.clean) in
+    stopped c.args.table old now new c.from_residual.result c.in_err-write_change.field-0.0 c.from_residual.ensures.1
+    (midway-writes (IsTableOf g.R.Stored.row_from g.R.Stored.columns_of c.args.table) g.R.Row.key_of c.args.table (changes_of g.R.Row.digits (drop c.loop-change.change-index c.args.changes.now)) (changes_of g.R.Row.digits c.args.changes.now) old now (c.loop-change.invariant.midway before))
+    (c.in_err-write_change.ensures.failed clean)

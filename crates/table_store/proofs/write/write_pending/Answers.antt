@@ -2,8 +2,9 @@ use Rattle.std.proofs.Common.{sym, subst, arith}
 use Rattle.std.specs.Prelude.{All}
 use Rattle.sqlite.specs.Held.{state}
 use Rattle.part_core.specs.Sheet.{now_of}
-use Rattle.table_store.specs.Written.{tree_of, IsTableOf, Takes, changes_of}
-use Rattle.table_store.proofs.Changes.{takes-all, now-held}
+use Rattle.table_store.specs.Written.{tree_of, IsTableOf, MayStop, Takes, changes_of}
+use Rattle.table_store.specs.declared.fault.TableFault.TheVariants.{Memory}
+use Rattle.table_store.proofs.Changes.{if_err_as, nothing-written, takes-all, now-held}
 use Rattle.table_store.proofs.write.write_pending.Goals as goal
 
 pub write_changes-requires-clause-takes : goal.write_changes-requires-clause-takes
@@ -17,3 +18,8 @@ returns-clause-written g c clean =
     now-held g.R.Row.digits (now_of c.args.sheet.now) c.args.sheet.now.kept (IsTableOf g.R.Stored.row_from g.R.Stored.columns_of c.args.table (tree_of c.args.table (state g.S.Store c.write_changes.new.conn))) c.write_changes.result
     c.in_ok-changes.changes.items c.as_slice.result.now c.as_slice.ensures.value c.in_ok-changes.ensures.rows c.in_ok-changes.ensures.exact
     (c.write_changes.ensures.made clean c.args.sheet.now.kept c.requires.own.1 (c.requires.kept (omega (arith, clean, c.write_changes.ensures.crash.clean))))
+
+pub returns-in_err-changes-clause-failed : goal.returns-in_err-changes-clause-failed
+returns-in_err-changes-clause-failed g c clean =
+    let old = state g.S.Store c.args.conn.now in
+    if_err_as (MayStop c.args.table old old) c.from_residual.result Memory c.from_residual.ensures.1 (nothing-written c.args.table old (c.requires.ready clean))
