@@ -10,14 +10,14 @@ use Rattle.part_core.specs.Filled.{StandUnderKeys}
 use Rattle.part_core.specs.Sheet.{Rows, Table, key_cmp, now_of}
 use Rattle.part_core.proofs.FilledTables.{filled-own}
 use Rattle.part_core.proofs.Keys.{keys_exact, keys_total}
-use Rattle.desk_core.specs.KeptColumns.{kept_columns}
+use Rattle.desk_core.specs.KeptColumns.{kept_columns, kept_from}
 use Rattle.desk_core.specs.Machine.{IsSoundState, State, StandsKept}
 use Rattle.desk_core.specs.declared.kept.Kept.{Kept as KeptRow}
 use Rattle.desk_store.specs.MetaColumns.{meta_columns, meta_from, meta_of, only}
 use Rattle.desk_store.specs.Saving.{HaveSmallNumbers}
 use Rattle.desk_store.specs.declared.meta.MetaRow.{MetaRow}
 use Rattle.table_store.specs.Written.{IsTableOf, StayAsTheyAre}
-use Rattle.table_store.specs.declared.name.TableName.TheVariants.{Meta}
+use Rattle.table_store.specs.declared.name.TableName.TheVariants.{Meta, Kept}
 
 module _ (sheet source : Rows KeptRow) (same : sheet ≡ source) where
   pub own_words : ((k : List ℕ) (row : KeptRow) → get (now_of source) k ≡ Some row → StandsKept k row) → StandUnderKeys (λ (r : KeptRow). r.word) (now_of sheet)
@@ -25,6 +25,12 @@ module _ (sheet source : Rows KeptRow) (same : sheet ≡ source) where
 
   pub stay_kept : StayAsTheyAre source.kept (now_of source) → StayAsTheyAre sheet.kept (now_of sheet)
   stay_kept h = subst (λ (s : Rows KeptRow). StayAsTheyAre s.kept (now_of s)) (sym same) h
+
+  pub kept_there : (tree : List Row) → IsTableOf kept_from kept_columns Kept tree source.kept → IsTableOf kept_from kept_columns Kept tree sheet.kept
+  kept_there tree h = subst (λ (s : Rows KeptRow). IsTableOf kept_from kept_columns Kept tree s.kept) (sym same) h
+
+  pub now_there : (tree : List Row) → IsTableOf kept_from kept_columns Kept tree (now_of sheet) → IsTableOf kept_from kept_columns Kept tree (now_of source)
+  now_there tree h = subst (λ (s : Rows KeptRow). IsTableOf kept_from kept_columns Kept tree (now_of s)) same h
 
 -- answers have no numbers
 pub small_answers : (t : Table KeptRow) → AreSmall kept_columns t

@@ -3,7 +3,6 @@ pub mod Suiting
 pub mod Sheets
 pub mod Midway
 pub mod Kept
-pub mod Running
 pub mod Runs
 pub mod Starting
 pub mod Loads
@@ -12,4 +11,4 @@ pub mod Opens
 pub mod Readings
 pub mod Exporting
 pub mod Sent
-pub mod Answering
+pub mod Breaking

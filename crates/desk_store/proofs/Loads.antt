@@ -1,14 +1,16 @@
 -- The rows that were read are those of a sound state, and of no other.
-use Rattle.std.proofs.Common.{◌≡◌, ℕ, ◌≤◌, List, [], ◌∷◌, map, length, sym, ap, subst, ◌∙◌}
+use Rattle.std.proofs.Common.{◌≡◌, ℕ, ◌≤◌, List, [], ◌∷◌, map, length, Ok, Err, sym, ap, subst, ◌∙◌}
 use Rattle.std.proofs.Math.Bridge.{le_prop}
 use Rattle.std.proofs.Math.Path.{to_path_p}
 use Rattle.std.proofs.lemmas.List.{length-map}
 use Rattle.std.specs.FinMap as table
+use Rattle.sqlite.specs.Effect.{Database}
 use Rattle.sqlite.specs.Order.{Row}
+use Rattle.sqlite.specs.State as sqlite
+use Rattle.sqlite.proofs.StateLemmas.{survives_then}
 use Rattle.sqlite.specs.Tree.{Trees}
 use Rattle.part_core.specs.Counter.{IsNext, Numbering}
-use Rattle.part_core.specs.Filled.{filled, StandUnderKeys}
-use Rattle.part_core.specs.Rows.{StandRight}
+use Rattle.part_core.specs.Filled.{filled}
 use Rattle.part_core.specs.Sheet.{Table}
 use Rattle.part_core.specs.declared.limits.Limits.{Limits}
 use Rattle.forest.specs.EntryColumns.{entry_columns, entry_from}
@@ -20,18 +22,18 @@ use Rattle.desk_core.specs.Shops.{state_of}
 use Rattle.desk_core.specs.declared.shop.Shop.{Shop}
 use Rattle.desk_core.specs.declared.shop.assemble.Tables.{Tables}
 use Rattle.desk_store.specs.Books.{TablesAre}
-use Rattle.desk_store.specs.Loading.{AreBooksOf, AreNotMade, AreTables, AreTheRows, meta_in}
+use Rattle.desk_store.specs.Loading.{AreBooksOf, AreSheets, AreTables, AreTheRows, IsMetaRow, Reads, meta_in}
 use Rattle.desk_store.specs.MetaColumns.{meta_columns, meta_from, meta_of, only}
-use Rattle.desk_store.specs.Opening.{AreNoBooks}
+use Rattle.desk_store.specs.Opening.{AreNoBooks, IsOfOtherVersion, WhyBut, WhyUnread}
+use Rattle.desk_store.specs.declared.fault.OpenFault.{OpenFault}
+use Rattle.desk_store.specs.declared.fault.OpenFault.TheVariants as why
 use Rattle.desk_store.specs.declared.meta.MetaRow.{MetaRow}
+use Rattle.desk_store.proofs.Readings.{HasRead, fails-later, gives-first, has-read, read-then, reads-ok, was-clean}
+use Rattle.desk_store.proofs.Sheets.{own_keys}
 use Rattle.table_store.specs.Schema.{position}
 use Rattle.table_store.specs.Stored.{values_of}
 use Rattle.table_store.specs.Written.{IsTableOf}
-use Rattle.table_store.specs.declared.name.TableName.TheVariants.{History, Meta}
-
--- rows that stand right stand under their keys
-under-keys : {X : Type 0} (number : X → ℕ) (next : ℕ) (t : Table X) → StandRight number next t → StandUnderKeys (λ x. number x ∷ []) t
-under-keys number next t right k x e = (right k x e).own
+use Rattle.table_store.specs.declared.name.TableName.TheVariants.{Meta, Categories, Locations, Parts, Lines, Substitutes, Items, History, Orders, OrderLines, Builds, Allocations, Kept}
 
 -- limits with the same numbers are one
 same-limits : (a b : Limits) → a.numbers ≡ b.numbers → a.entries ≡ b.entries → a ≡ b
@@ -57,53 +59,51 @@ module _ (trees : Trees) (t : Tables) (are : AreTables trees t) where
   -- the row of the counter is that of the tables' state
   counted-meta : t.entries ≡ length t.history.items → meta_of (state_from t) ≡ meta_in t
   counted-meta e =
-      let many = as-many (trees (position History)) t.history.items are.stock.history_are in
+      let many = as-many (trees (position History)) t.history.items are.sheets.stock.history_are in
       let count : table.len (state_from t).stock.history ≡ t.entries = many ∙ sym e in
       λ i. record { one = 1; version = 1; next = t.next; entries = count i; max_numbers = t.limits.numbers; max_entries = t.limits.entries }
 
   -- they are the tables of the state that is made of them
-  pub tables-are : AreNotMade trees → AreSoundTables t → TablesAre (state_from t) trees
-  tables-are bare sound = record {
-    meta = subst (λ m. IsTableOf meta_from meta_columns Meta (trees (position Meta)) (only m)) (sym (counted-meta sound.entries)) are.meta.table;
-    categories = are.catalogue.categories_are.its.table_of;
-    locations = are.stock.locations_are.its.table_of;
-    parts = are.catalogue.parts_are.its.table_of;
-    lines = are.bills.lines_are.its.table_of;
-    substitutes = are.bills.substitutes_are.its.table_of;
-    items = are.stock.items_are.its.table_of;
-    history = are.stock.history_are.its.table_of;
-    orders = bare.orders;
-    order_lines = bare.order_lines;
-    builds = bare.builds;
-    allocations = bare.allocations;
-    kept = are.answers.table_of;
-  }
+  pub tables-are : AreSoundTables t → TablesAre (state_from t) trees
+  tables-are sound Meta = subst (λ m. IsTableOf meta_from meta_columns Meta (trees (position Meta)) (only m)) (sym (counted-meta sound.entries)) are.meta.table
+  tables-are sound Categories = are.sheets.catalogue.categories_are.its.table_of
+  tables-are sound Locations = are.sheets.stock.locations_are.its.table_of
+  tables-are sound Parts = are.sheets.catalogue.parts_are.its.table_of
+  tables-are sound Lines = are.sheets.bills.lines_are.its.table_of
+  tables-are sound Substitutes = are.sheets.bills.substitutes_are.its.table_of
+  tables-are sound Items = are.sheets.stock.items_are.its.table_of
+  tables-are sound History = are.sheets.stock.history_are.its.table_of
+  tables-are sound Orders = are.sheets.not_made.orders
+  tables-are sound OrderLines = are.sheets.not_made.order_lines
+  tables-are sound Builds = are.sheets.not_made.builds
+  tables-are sound Allocations = are.sheets.not_made.allocations
+  tables-are sound Kept = are.sheets.answers.table_of
 
   module _ (s : State) (sound : IsSoundState s) (has : TablesAre s trees) where
     -- each sheet of such a state has the rows that were read
     same-meta : meta_of s ≡ meta_in t
-    same-meta = are.meta.sole (meta_of s) has.meta
+    same-meta = are.meta.sole (meta_of s) (has Meta)
 
     same-parts : s.parts ≡ (state_from t).parts
     same-parts =
-        let categories = are.catalogue.categories_are.its.only s.parts.categories (under-keys _ _ _ sound.bills.catalogue.categories) has.categories in
-        let parts = are.catalogue.parts_are.its.only s.parts.parts (under-keys _ _ _ sound.bills.catalogue.parts) has.parts in
+        let categories = are.sheets.catalogue.categories_are.its.only s.parts.categories (own_keys _ _ _ sound.bills.catalogue.categories) (has Categories) in
+        let parts = are.sheets.catalogue.parts_are.its.only s.parts.parts (own_keys _ _ _ sound.bills.catalogue.parts) (has Parts) in
         λ i. record { categories = categories i; parts = parts i }
 
     same-bills : s.bills ≡ (state_from t).bills
     same-bills =
-        let lines = are.bills.lines_are.its.only s.bills.lines (under-keys _ _ _ sound.bills.line_rows) has.lines in
-        let substitutes = are.bills.substitutes_are.its.only s.bills.substitutes (under-keys _ _ _ sound.bills.substitute_rows) has.substitutes in
+        let lines = are.sheets.bills.lines_are.its.only s.bills.lines (own_keys _ _ _ sound.bills.line_rows) (has Lines) in
+        let substitutes = are.sheets.bills.substitutes_are.its.only s.bills.substitutes (own_keys _ _ _ sound.bills.substitute_rows) (has Substitutes) in
         λ i. record { lines = lines i; substitutes = substitutes i }
 
     same-history : s.stock.history ≡ (state_from t).stock.history
     same-history =
-        are.stock.history_are.its.only s.stock.history (keyed-own (λ e. e.number) s.stock.history sound.stock.items.stock.history.own) has.history
+        are.sheets.stock.history_are.its.only s.stock.history (keyed-own (λ e. e.number) s.stock.history sound.stock.items.stock.history.own) (has History)
 
     same-stock : s.stock ≡ (state_from t).stock
     same-stock =
-        let locations = are.stock.locations_are.its.only s.stock.locations (under-keys _ _ _ sound.stock.items.locations.rows) has.locations in
-        let items = are.stock.items_are.its.only s.stock.items (under-keys _ _ _ sound.stock.items.rows) has.items in
+        let locations = are.sheets.stock.locations_are.its.only s.stock.locations (own_keys _ _ _ sound.stock.items.locations.rows) (has Locations) in
+        let items = are.sheets.stock.items_are.its.only s.stock.items (own_keys _ _ _ sound.stock.items.rows) (has Items) in
         let history = same-history in
         λ i. record { locations = locations i; items = items i; history = history i }
 
@@ -116,7 +116,7 @@ module _ (trees : Trees) (t : Tables) (are : AreTables trees t) where
         λ i. record { next = next i; limits = limits i }
 
     same-answers : s.answers ≡ (state_from t).answers
-    same-answers = are.answers.only s.answers (λ k row e. (sound.answers k row e).own) has.kept
+    same-answers = are.sheets.answers.only s.answers (λ k row e. (sound.answers k row e).own) (has Kept)
 
     -- no other sound state has these tables
     pub same-state : s ≡ state_from t
@@ -134,7 +134,7 @@ module _ (trees : Trees) (t : Tables) (are : AreTables trees t) where
       next = subst (λ (c : Numbering). IsNext c.limits c.next) same-counter within;
       entries =
           sym (ap (λ (m : MetaRow). m.entries) same-meta) ∙ ap (λ (h : Table Entry). table.len h) same-history
-          ∙ as-many (trees (position History)) t.history.items are.stock.history_are;
+          ∙ as-many (trees (position History)) t.history.items are.sheets.stock.history_are;
       state = subst IsSoundState same-state sound;
     }
 
@@ -143,8 +143,53 @@ module _ (trees : Trees) (t : Tables) (are : AreTables trees t) where
   unsound-tables not s sound within has = not (are-sound s sound has within)
 
 -- the shop that is made of sound tables has their books
-pub books-of : (trees : Trees) (t : Tables) (shop : Shop) → AreNotMade trees → AreTables trees t → state_of shop ≡ state_from t → AreSoundTables t → AreBooksOf trees shop
-books-of trees t shop bare are is sound = record {
-  tables = subst (λ s. TablesAre s trees) (sym is) (tables-are trees t are bare sound);
+pub books-of : (trees : Trees) (t : Tables) (shop : Shop) → AreTables trees t → state_of shop ≡ state_from t → AreSoundTables t → AreBooksOf trees shop
+books-of trees t shop are is sound = record {
+  tables = subst (λ s. TablesAre s trees) (sym is) (tables-are trees t are sound);
   one = λ s right has. same-state trees t are s right has ∙ sym is;
 }
+
+-- ---- the row of the counter comes first
+
+-- what tells why where nothing is foreign tells it where this isn't so
+pub why-else : (Else : Trees → Type 0) (trees : Trees) (e : OpenFault) → ¬ Else trees → WhyUnread trees e → WhyBut Else trees e
+why-else Else trees why.Memory not said = tt
+why-else Else trees (why.Store failed) not said = tt
+why-else Else trees why.Foreign not said = absurd said
+why-else Else trees (why.Damaged told) not said = (said.0, said.1, not)
+
+-- the row that the tables' counter has is the one that was found
+counted : (row : MetaRow) (t : Tables) (limits : Limits) → row.one ≡ 1 → row.version ≡ 1 → t.next ≡ row.next → t.entries ≡ row.entries → t.limits ≡ limits → limits.numbers ≡ row.max_numbers → limits.entries ≡ row.max_entries → meta_in t ≡ row
+counted row t limits one version next entries same numbers most =
+    let first = sym one in
+    let form = sym version in
+    let max_numbers : t.limits.numbers ≡ row.max_numbers = ap (λ (l : Limits). l.numbers) same ∙ numbers in
+    let max_entries : t.limits.entries ≡ row.max_entries = ap (λ (l : Limits). l.entries) same ∙ most in
+    λ i. record { one = first i; version = form i; next = next i; entries = entries i; max_numbers = max_numbers i; max_entries = max_entries i }
+
+module _ (a b c : sqlite.State) (found : MetaRow × Limits) (counter : Reads (λ trees found. IsMetaRow trees found.0) (WhyBut IsOfOtherVersion) a b (Ok found)) where
+  first : HasRead a b
+  first = has-read (λ trees found. IsMetaRow trees found.0) (WhyBut IsOfOtherVersion) a b found counter
+
+  pub tables-read : (t : Tables) → Reads AreSheets WhyUnread b c (Ok t) → t.next ≡ found.0.next → t.entries ≡ found.0.entries → t.limits ≡ found.1 → found.1.numbers ≡ found.0.max_numbers → found.1.entries ≡ found.0.max_entries
+      → Reads AreTables (WhyBut IsOfOtherVersion) a c (Ok t)
+  tables-read t sheets next entries limits numbers most =
+      let later = has-read AreSheets WhyUnread b c t sheets in
+      reads-ok AreTables (WhyBut IsOfOtherVersion) a c t (read-then a b c first later) (λ clean.
+      let row = counter.gives (was-clean b c _ later.crash clean) in
+      record {
+        meta = subst (IsMetaRow a.now.trees) (sym (counted found.0 t found.1 row.one row.version next entries limits numbers most)) row;
+        sheets = gives-first AreSheets WhyUnread a b c t first sheets clean;
+      })
+
+  pub tables-unread : (e : OpenFault) → Reads AreSheets WhyUnread b c (Err e) → Reads AreTables (WhyBut IsOfOtherVersion) a c (Err e)
+  tables-unread e sheets = record {
+    gives = λ clean. tt;
+    why = λ clean.
+        let before = was-clean b c _ sheets.crash clean in
+        why-else IsOfOtherVersion a.now.trees e (counter.gives before).this
+        (subst (λ (d : Database). WhyUnread d.trees e) (first.same before).0.now_is (sheets.why clean));
+    same = λ clean. tt;
+    failed = λ clean. fails-later a b c (first.same (was-clean b c _ sheets.crash clean)) (sheets.failed clean);
+    crash = survives_then a b c _ _ _ (λ _ db none. none) (λ _ db none. none) first.crash sheets.crash;
+  }

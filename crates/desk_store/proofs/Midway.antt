@@ -1,21 +1,22 @@
 -- How the tables of a transaction go over from one state to another.
-use Rattle.std.proofs.Common.{◌≡◌, ◌≢◌, ◌⊎◌, inl, inr, ℕ, ◌+◌, ◌≤◌, Bool, true, false, [], ◌∷◌, get_or, Result, Ok, Err, OnOk, OnErr, IfErr, refl, sym, ap, ◌∙◌, subst, arith, IsTrue}
-use Rattle.std.specs.Prelude.{if◌then◌else◌, nat_lt}
-use Rattle.std.proofs.lemmas.Bool.{cases_lt, lt-ltb}
-use Rattle.std.proofs.lemmas.Bool.Decides.{nat_tests}
+use Rattle.std.proofs.Common.{List, ◌≡◌, ◌≢◌, ◌⊎◌, inl, inr, ℕ, ◌+◌, ◌<◌, ◌≤◌, Bool, true, false, get_or, Result, Ok, Err, OnOk, OnErr, IfErr, refl, sym, ap, ◌∙◌, subst, arith, IsTrue}
+use Rattle.std.proofs.lemmas.Bool.{cases_lt}
+use Rattle.std.specs.Result.{IsErrAnd}
+use Rattle.sqlite.proofs.StateLemmas.{survives_then}
 use Rattle.sqlite.specs.State as sqlite
 use Rattle.sqlite.specs.State.{IsRolledBack, IsUnchanged, KeepsCommit, Shows}
 use Rattle.sqlite.specs.Effect.{Database}
+use Rattle.sqlite.specs.Order.{Row}
 use Rattle.sqlite.specs.Tree.{Trees}
 use Rattle.sqlite_trees.specs.View.{IsShaped}
 use Rattle.sqlite_trees.specs.declared.store.Shape.TheVariants.{Table}
 use Rattle.desk_core.specs.Machine.{State}
-use Rattle.desk_store.specs.Books.{HoldsBooks, TablesAre}
-use Rattle.desk_store.specs.Saving.{IsMidway, IsTableIn, IsUnderWay, turn}
-use Rattle.table_store.specs.Schema.{position}
-use Rattle.table_store.specs.Transactions.{IsBack, Stops, StopsBy}
+use Rattle.desk_store.specs.Books.{HoldsBooks, IsTableIn, TablesAre}
+use Rattle.desk_store.specs.Saving.{Goes, IsMidway, IsUnderWay}
+use Rattle.table_store.specs.Schema.{all_names, position}
+use Rattle.table_store.specs.Transactions.{IsBack, IsOfMemoryOrStore, MayUndo, Stops, StopsBy}
 use Rattle.table_store.specs.Values.{HasTables}
-use Rattle.table_store.specs.Written.{Writes, tree_of}
+use Rattle.table_store.specs.Written.{IsReady, Writes, tree_of}
 use Rattle.table_store.specs.declared.fault.Cause.{Cause}
 use Rattle.table_store.specs.declared.fault.Cause.TheVariants as cause
 use Rattle.table_store.specs.declared.fault.TableFault.{TableFault}
@@ -23,97 +24,91 @@ use Rattle.table_store.specs.declared.fault.TableFault.TheVariants.{Memory, Stor
 use Rattle.table_store.specs.declared.name.TableName.{TableName}
 use Rattle.table_store.specs.declared.name.TableName.TheVariants.{Meta, Categories, Locations, Parts, Lines, Substitutes, Items, History, Orders, OrderLines, Builds, Allocations, Kept}
 
--- ---- turns
+-- ---- the order of the tables
 
-abbrev in_turn : ℕ → TableName
-in_turn n = get_or (Categories ∷ Parts ∷ Lines ∷ Substitutes ∷ Locations ∷ Items ∷ History ∷ Kept ∷ Meta ∷ Orders ∷ OrderLines ∷ Builds ∷ Allocations ∷ []) n Meta
+in_own_place : (t : TableName) → get_or all_names (position t) Meta ≡ t
+in_own_place Meta = refl
+in_own_place Categories = refl
+in_own_place Locations = refl
+in_own_place Parts = refl
+in_own_place Lines = refl
+in_own_place Substitutes = refl
+in_own_place Items = refl
+in_own_place History = refl
+in_own_place Orders = refl
+in_own_place OrderLines = refl
+in_own_place Builds = refl
+in_own_place Allocations = refl
+in_own_place Kept = refl
 
-in_own_turn : (t : TableName) → in_turn (turn t) ≡ t
-in_own_turn Meta = refl
-in_own_turn Categories = refl
-in_own_turn Locations = refl
-in_own_turn Parts = refl
-in_own_turn Lines = refl
-in_own_turn Substitutes = refl
-in_own_turn Items = refl
-in_own_turn History = refl
-in_own_turn Orders = refl
-in_own_turn OrderLines = refl
-in_own_turn Builds = refl
-in_own_turn Allocations = refl
-in_own_turn Kept = refl
+one_place : (t u : TableName) → position t ≡ position u → t ≡ u
+one_place t u e = sym (in_own_place t) ∙ ap (λ n. get_or all_names n Meta) e ∙ in_own_place u
 
-one_turn : (t u : TableName) → turn t ≡ turn u → t ≡ u
-one_turn t u e = sym (in_own_turn t) ∙ ap in_turn e ∙ in_own_turn u
-
-not_below : (n m : ℕ) → m ≤ n → nat_lt n m ≡ false
-not_below n m h = grind (arith, nat_tests)
+within : (t : TableName) → position t < 13
+within Meta = omega arith
+within Categories = omega arith
+within Locations = omega arith
+within Parts = omega arith
+within Lines = omega arith
+within Substitutes = omega arith
+within Items = omega arith
+within History = omega arith
+within Orders = omega arith
+within OrderLines = omega arith
+within Builds = omega arith
+within Allocations = omega arith
+within Kept = omega arith
 
 -- ---- one table
 
-module _ (old new : State) (count : ℕ) (table : TableName) (d e : sqlite.State) (at : turn table ≡ count) (way : IsUnderWay old new count d) (wrote : Writes table d e)
-    (is : IsTableIn new table (tree_of table e)) where
-  as_before : (t : TableName) (s : State) → turn t ≢ count → IsTableIn s t (tree_of t d) → IsTableIn s t (tree_of t e)
-  as_before t s apart h = subst (IsTableIn s t) (sym (wrote.others t (λ same. apart (ap turn same ∙ at)))) h
+module _ (old new : State) (table : TableName) (d e : sqlite.State) (way : IsUnderWay old new (position table) d) (ready : IsReady e)
+    (others : (other : TableName) → other ≢ table → tree_of other e ≡ tree_of other d) (is : IsTableIn new table (tree_of table e)) where
+  as_before : (t : TableName) (s : State) → position t ≢ position table → IsTableIn s t (tree_of t d) → IsTableIn s t (tree_of t e)
+  as_before t s apart h = subst (IsTableIn s t) (sym (others t (λ same. apart (ap position same)))) h
 
-  at_turn : (t : TableName) → turn t ≡ count → IsTableIn new t (tree_of t e)
-  at_turn t same = subst (λ u. IsTableIn new u (tree_of u e)) (one_turn table t (at ∙ sym same)) is
-
-  abbrev Picked : TableName → Bool → Type 0
-  Picked t b = IsTableIn (if b then new else old) t (tree_of t e)
-
-  each_table : (t : TableName) → Picked t (nat_lt (turn t) (count + 1))
-  each_table t = elim (cases_lt (turn t) count) [
-    | inl low ↦
-        subst (Picked t) (sym (lt-ltb (turn t) (count + 1) (omega (arith, low))))
-        (as_before t new (λ same. omega (arith, low, same)) (subst (λ b. IsTableIn (if b then new else old) t (tree_of t d)) (lt-ltb (turn t) count low) (way.midway t)))
-    | inr high ↦ elim (cases_lt count (turn t)) [
-      | inl above ↦
-          subst (Picked t) (sym (not_below (turn t) (count + 1) (omega (arith, above))))
-          (as_before t old (λ same. omega (arith, above, same)) (subst (λ b. IsTableIn (if b then new else old) t (tree_of t d)) (not_below (turn t) count high) (way.midway t)))
-      | inr low ↦
-          let same : turn t ≡ count = omega (arith, high, low) in
-          subst (Picked t) (sym (lt-ltb (turn t) (count + 1) (omega (arith, same)))) (at_turn t same)
-    ]
+  written : (t : TableName) → position t < position table + 1 → IsTableIn new t (tree_of t e)
+  written t low = elim (cases_lt (position t) (position table)) [
+    | inl before ↦ as_before t new (λ same. omega (arith, before, same)) (way.midway.written t before)
+    | inr high ↦
+        let same : position t ≡ position table = omega (arith, low, high) in
+        subst (λ u. IsTableIn new u (tree_of u e)) (one_place table t (sym same)) is
   ]
 
-  -- the table whose turn it is was written
-  pub one_more : IsUnderWay old new (count + 1) e
-  one_more = record { ready = ((wrote.tables, wrote.shown.mode), wrote.shown.is_open); midway = each_table }
+  left : (t : TableName) → position table + 1 ≤ position t → IsTableIn old t (tree_of t e)
+  left t above = as_before t old (λ same. omega (arith, above, same)) (way.midway.left t (omega (arith, above)))
+
+  -- the table whose turn it is has become the new state's
+  pub one_more : IsUnderWay old new (position table + 1) e
+  one_more = record { ready = ready; midway = record { written = written; left = left } }
+
+-- the table whose turn it is was written
+pub one_written : (old new : State) (table : TableName) (d e : sqlite.State) → IsUnderWay old new (position table) d → Writes table d e → IsTableIn new table (tree_of table e)
+    → IsUnderWay old new (position table + 1) e
+one_written old new table d e way wrote is = one_more old new table d e way ((wrote.tables, wrote.shown.mode), wrote.shown.is_open) wrote.others is
+
+pub survives_same : (d : sqlite.State) → sqlite.Survives d d (λ _. ⊥)
+survives_same d = record { clean = omega arith; shield = λ s. s; counts = omega arith; limit = refl; closes = λ clean up. inl up; crash = λ clean db may. inl may }
+
+-- nothing is written of a table that has the same rows in both states
+pub none_written : (old new : State) (table given : TableName) (d : sqlite.State) → table ≡ given → ((tree : List Row) → IsTableIn old given tree → IsTableIn new given tree)
+    → (sqlite.HasCleanDisk d → IsUnderWay old new (position table) d) → Goes old new (position table + 1) d d (Ok tt)
+none_written old new table given d is same way = record {
+  under_way = λ clean.
+      let here = way clean in
+      one_more old new table d d here here.ready (λ other differs. refl)
+      (subst (λ t. IsTableIn new t (tree_of t d)) (sym is) (same (tree_of given d) (subst (λ t. IsTableIn old t (tree_of t d)) is (here.midway.left table (omega arith)))));
+  commit = λ clean. record { was_open = λ up. up; committed = λ up. refl };
+  fault = tt;
+  crash = survives_same d;
+}
 
 -- ---- the first and the last
 
 pub none_yet : (old new : State) (trees : Trees) → TablesAre old trees → IsMidway old new 0 trees
-none_yet old new trees h Meta = h.meta
-none_yet old new trees h Categories = h.categories
-none_yet old new trees h Locations = h.locations
-none_yet old new trees h Parts = h.parts
-none_yet old new trees h Lines = h.lines
-none_yet old new trees h Substitutes = h.substitutes
-none_yet old new trees h Items = h.items
-none_yet old new trees h History = h.history
-none_yet old new trees h Orders = h.orders
-none_yet old new trees h OrderLines = h.order_lines
-none_yet old new trees h Builds = h.builds
-none_yet old new trees h Allocations = h.allocations
-none_yet old new trees h Kept = h.kept
+none_yet old new trees h = record { written = λ t low. absurd (omega (arith, low)); left = λ t above. h t }
 
-pub all_of_them : (old new : State) (trees : Trees) → IsMidway old new 9 trees → TablesAre new trees
-all_of_them old new trees h = record {
-  meta = h Meta;
-  categories = h Categories;
-  locations = h Locations;
-  parts = h Parts;
-  lines = h Lines;
-  substitutes = h Substitutes;
-  items = h Items;
-  history = h History;
-  orders = h Orders;
-  order_lines = h OrderLines;
-  builds = h Builds;
-  allocations = h Allocations;
-  kept = h Kept;
-}
+pub all_of_them : (old new : State) (trees : Trees) → IsMidway old new 13 trees → TablesAre new trees
+all_of_them old new trees h = λ t. h.written t (within t)
 
 -- ---- the transaction
 
@@ -126,7 +121,7 @@ begun old new d e holds shown tables = record {
 
 -- what was committed holds the new state's tables
 pub committed : (old new : State) (d e : sqlite.State) → ((db : Trees) → IsTrue e.is_open → e.may_leave db → db ≡ e.committed.trees)
-    → IsUnderWay old new 9 d → Shows d e d.now d.now false → HasTables e → HoldsBooks new e
+    → IsUnderWay old new 13 d → Shows d e d.now d.now false → HasTables e → HoldsBooks new e
 committed old new d e settled way shown tables =
     let all : TablesAre new d.now.trees = all_of_them old new d.now.trees way.midway in
     record {
@@ -178,10 +173,25 @@ pub keeps_unless : {A : Type 0} (a b : sqlite.State) (r : Result A TableFault) �
 keeps_unless a b (Ok x) h = tt
 keeps_unless a b (Err fault) h = keeps_failed a b fault h
 
--- after a step that a fault of the database undid, or that changed nothing
-pub keeps_row : {A E : Type 0} (table : TableName) (a b : sqlite.State) (r : Result A E) → OnOk r (Writes table a b) → OnErr r (IsUnchanged a b ⊎ IsRolledBack a b) → KeepsCommit a b
+-- after a step that changed nothing, or that a fault of the database undid
+keeps_same : (a b : sqlite.State) → IsUnchanged a b → KeepsCommit a b
+keeps_same a b same = keeps_shown a b a.now a.in_transaction same.0
+
+keeps_fault : (a b : sqlite.State) (fault : TableFault) → MayUndo a b fault → KeepsCommit a b
+keeps_fault a b Memory same = keeps_same a b same
+keeps_fault a b (Store failed) (inl same) = keeps_same a b same
+keeps_fault a b (Store failed) (inr back) = keeps_undone a b back
+keeps_fault a b (NoTable failed) same = keeps_same a b same
+keeps_fault a b (BadRow failed) same = keeps_same a b same
+
+pub keeps_row : {A : Type 0} (table : TableName) (a b : sqlite.State) (r : Result A TableFault) → OnOk r (Writes table a b) → IfErr r (MayUndo a b) → KeepsCommit a b
 keeps_row table a b (Ok x) wrote failed = keeps_shown a b b.now true wrote.shown
-keeps_row table a b (Err e) wrote failed = elim failed [ inl same ↦ keeps_shown a b a.now a.in_transaction same.0 | inr back ↦ keeps_undone a b back ]
+keeps_row table a b (Err fault) wrote failed = keeps_fault a b fault failed
+
+-- after a look at the tables
+pub keeps_look : {A E : Type 0} (a b : sqlite.State) (r : Result A E) → OnOk r (IsUnchanged a b) → OnErr r (IsUnchanged a b ⊎ IsRolledBack a b) → KeepsCommit a b
+keeps_look a b (Ok x) same failed = keeps_same a b same
+keeps_look a b (Err e) same failed = elim failed [ inl same ↦ keeps_same a b same | inr back ↦ keeps_undone a b back ]
 
 -- where a call changed what was committed only if it failed
 pub keeps_later : {A E : Type 0} (a b c : sqlite.State) (r : Result A E) → KeepsCommit a b → OnErr r (KeepsCommit b c) → OnErr r (KeepsCommit a c)
@@ -196,3 +206,15 @@ both_ok (Err e) f p q = tt
 pub when_err : {A E P : Type 0} (r : Result A E) → P → OnErr r P
 when_err (Ok x) p = tt
 when_err (Err e) p = p
+
+-- ---- a call that ends early
+
+pub goes_fault : (old new : State) (n count : ℕ) (a b c : sqlite.State) (r : Result (Unit {0}) TableFault) (fault : TableFault) → IsErrAnd r (λ d. d ≡ fault) → sqlite.Survives a b (λ _. ⊥) → (sqlite.HasCleanDisk b → KeepsCommit a b)
+    → Goes old new n b c (Err fault) → Goes old new count a c r
+goes_fault old new n count a b c (Ok x) fault is before kept goes = absurd is
+goes_fault old new n count a b c (Err e) fault is before kept goes = record {
+  under_way = λ clean. tt;
+  commit = λ clean. keeps_then a b c (kept (omega (arith, clean, goes.crash.clean))) (goes.commit clean);
+  fault = subst IsOfMemoryOrStore (sym is) goes.fault;
+  crash = survives_then a b c (λ _. ⊥) (λ _. ⊥) (λ _. ⊥) (λ _ db h. h) (λ _ db h. h) before goes.crash;
+}

@@ -1,15 +1,21 @@
 -- Calls that read the tables, one after another.
-use Rattle.std.proofs.Common.{◌≡◌, inl, Ok, Err, sym, subst, arith}
+use Rattle.std.proofs.Common.{List, Option, ◌≡◌, ◌⊎◌, inl, inr, Ok, Err, sym, subst, ◌∙◌, arith}
 use Rattle.sqlite.proofs.Callers.{unchanged_then}
 use Rattle.sqlite.proofs.StateLemmas.{survives_then}
 use Rattle.sqlite.specs.Effect.{Database}
-use Rattle.sqlite.specs.State.{State, HasCleanDisk, IsUnchanged, Survives}
+use Rattle.sqlite.specs.State.{State, HasCleanDisk, IsRolledBack, IsUnchanged, Survives}
 use Rattle.sqlite.specs.Tree.{Trees}
 use Rattle.sqlite_trees.specs.View.{IsShaped}
 use Rattle.sqlite_trees.specs.declared.store.Shape.TheVariants.{Table}
 use Rattle.desk_store.specs.Loading.{Reads}
 use Rattle.desk_store.specs.declared.fault.OpenFault.{OpenFault}
+use Rattle.part_core.specs.declared.column.Column.{Column}
 use Rattle.table_store.specs.Schema.{desk_schema, position}
+use Rattle.table_store.specs.Stored.{FailsToLoad}
+use Rattle.table_store.specs.Transactions.{MayUndo}
+use Rattle.table_store.specs.declared.fault.TableFault.{TableFault}
+use Rattle.table_store.specs.declared.fault.TableFault.TheVariants.{Memory, Store, NoTable, BadRow}
+use Rattle.table_store.specs.declared.name.TableName.{TableName}
 use Rattle.table_store.specs.Values.{HasTables}
 
 -- the tables were read, and nothing has changed
@@ -27,6 +33,30 @@ read-then a b c one two = record {
   same = λ clean. unchanged_then a b c (one.same (was-clean b c _ two.crash clean)) (two.same clean);
   crash = survives_then a b c _ _ _ (λ _ db none. none) (λ _ db none. none) one.crash two.crash;
 }
+
+-- what a fault of the tables leaves
+pub may_undo : (a b : State) (fault : TableFault) → MayUndo a b fault → IsUnchanged a b ⊎ IsRolledBack a b
+may_undo a b Memory same = inl same
+may_undo a b (Store failed) may = may
+may_undo a b (NoTable failed) same = inl same
+may_undo a b (BadRow failed) same = inl same
+
+pub fails_to_load : {R : Type 0} (from : List Column → Option R) (table : TableName) (a b : State) (fault : TableFault) → FailsToLoad from table a b fault → IsUnchanged a b ⊎ IsRolledBack a b
+fails_to_load from table a b Memory same = inl same
+fails_to_load from table a b (Store failed) may = may
+fails_to_load from table a b (NoTable failed) never = absurd never
+fails_to_load from table a b (BadRow failed) bad = inl bad.1
+
+-- what fails after a look fails of what was there before it
+pub fails-later : (a b c : State) → IsUnchanged a b → IsUnchanged b c ⊎ IsRolledBack b c → IsUnchanged a c ⊎ IsRolledBack a c
+fails-later a b c one (inl same) = inl (unchanged_then a b c one same)
+fails-later a b c one (inr back) = inr (record {
+  was_open = λ up. one.0.was_open;
+  undone = λ up. let at = back.undone up in (at.0 ∙ one.0.committed_is, at.1 ∙ one.0.committed_is);
+  autocommit = back.autocommit;
+  unmarked = back.unmarked;
+  counts = record { changes = back.counts.changes ∙ one.1.changes; last_rowid = back.counts.last_rowid ∙ one.1.last_rowid };
+})
 
 -- the tables are still there
 pub still-tables : (a b : State) → HasRead a b → (HasCleanDisk a → HasTables a) → HasCleanDisk b → HasTables b

@@ -1,11 +1,12 @@
 -- A run of requests goes on by one.
 use Rattle.std.proofs.Common.{◌≡◌, ◌↔◌, ◌⊎◌, inl, inr, Bool, true, false, List, [], ◌∷◌, ◌++◌, length, Option, Some, None, Result, Ok, Err, IsSome, is_some, refl, sym, ap, ◌∙◌, subst, arith}
+use Rattle.std.specs.Prelude.{IfSome}
 use Rattle.sqlite_trees.specs.declared.store.Store.{Ghosts}
 use Rattle.sqlite.specs.Held.{state}
 use Rattle.sqlite.specs.State.{HasCleanDisk, Survives}
 use Rattle.sqlite.specs.Tree.{Trees}
 use Rattle.part_core.specs.declared.answer.Answer.{Answer}
-use Rattle.desk_core.specs.Machine.{Outcome, State, run, step}
+use Rattle.desk_core.specs.Machine.{IsAnew, Outcome, State, run, step}
 use Rattle.desk_core.specs.Shops.{state_of}
 use Rattle.desk_core.specs.declared.command.Request.{Request}
 use Rattle.desk_store.specs.Books.{TablesAre}
@@ -106,13 +107,16 @@ closes_push false now after (Err (Refused x) ∷ os) o h by = closes_push false 
 closes_push false now after (Ok a ∷ os) o h by = closes_push false now after os o h by
 
 -- what is closed stays closed
+stays_shut : (os : List (Result Answer Fault)) (after : Bool) → Closes true os after → after ≡ true
+stays_shut [] after h = h
+stays_shut (Err Closed ∷ os) after h = stays_shut os after h
+stays_shut (Err Store ∷ os) after h = absurd h
+stays_shut (Err Memory ∷ os) after h = absurd h
+stays_shut (Err (Refused x) ∷ os) after h = absurd h
+stays_shut (Ok a ∷ os) after h = absurd h
+
 shut : (os : List (Result Answer Fault)) → Closes true os false → ⊥
-shut [] h = cc
-shut (Err Closed ∷ os) h = shut os h
-shut (Err Store ∷ os) h = h
-shut (Err Memory ∷ os) h = h
-shut (Err (Refused x) ∷ os) h = h
-shut (Ok a ∷ os) h = h
+shut os h = let bad = stays_shut os false h in cc
 
 -- ---- the request at which it stopped
 
@@ -148,6 +152,39 @@ stopped_same (r1 ∷ rs) (Err Closed ∷ os) r len = stopped_same rs os r (omega
 stopped_same (r1 ∷ rs) (Err Memory ∷ os) r len = stopped_same rs os r (omega (arith, len))
 stopped_same (r1 ∷ rs) (Err (Refused x) ∷ os) r len = stopped_same rs os r (omega (arith, len))
 stopped_same (r1 ∷ rs) (Ok a ∷ os) r len = stopped_same rs os r (omega (arith, len))
+
+-- ---- the database fails at a request that the step accepts anew
+
+at_request : (s t : State) (r : Request) (o : Result Answer Fault) → Tells s r o t → IfSome (stopped_at (r ∷ []) (o ∷ [])) (IsAnew t)
+at_request s t r (Ok a) d = tt
+at_request s t r (Err (Refused x)) d = tt
+at_request s t r (Err Memory) d = tt
+at_request s t r (Err Store) d = subst (λ (u : State). IsAnew u r) (sym d.0) d.1
+at_request s t r (Err Closed) d = tt
+
+when_closed : (s t : State) (r : Request) (o : Result Answer Fault) → o ≡ Err Closed → Tells s r o t → t ≡ s
+when_closed s t r (Err Closed) e d = d
+when_closed s t r (Err Store) e d = cc
+when_closed s t r (Err Memory) e d = cc
+when_closed s t r (Err (Refused x)) e d = cc
+when_closed s t r (Ok a) e d = cc
+
+-- once it has failed no request changes anything
+pub stopped_anew : (s t : State) (rs : List Request) (os : List (Result Answer Fault)) (r : Request) (o : Result Answer Fault) (before now after : Bool) → length rs ≡ length os → Closes before os now → ClosesBy o now after
+    → Tells s r o t → IfSome (stopped_at rs os) (IsAnew s) → IfSome (stopped_at (rs ++ r ∷ []) (os ++ o ∷ [])) (IsAnew t)
+stopped_anew s t [] [] r o before now after len closes by d h = at_request s t r o d
+stopped_anew s t [] (o1 ∷ os) r o before now after len closes by d h = absurd (omega (arith, len))
+stopped_anew s t (r1 ∷ rs) [] r o before now after len closes by d h = absurd (omega (arith, len))
+stopped_anew s t (r1 ∷ rs) (Err Closed ∷ os) r o true now after len closes by d h = stopped_anew s t rs os r o true now after (omega (arith, len)) closes by d h
+stopped_anew s t (r1 ∷ rs) (Err Closed ∷ os) r o false now after len closes by d h = absurd closes
+stopped_anew s t (r1 ∷ rs) (Err Store ∷ os) r o true now after len closes by d h = absurd closes
+stopped_anew s t (r1 ∷ rs) (Err Store ∷ os) r o false now after len closes by d h = subst (λ (u : State). IsAnew u r1) (sym (when_closed s t r o (by.closed.1 (stays_shut os now closes)) d)) h
+stopped_anew s t (r1 ∷ rs) (Err Memory ∷ os) r o true now after len closes by d h = absurd closes
+stopped_anew s t (r1 ∷ rs) (Err Memory ∷ os) r o false now after len closes by d h = stopped_anew s t rs os r o false now after (omega (arith, len)) closes by d h
+stopped_anew s t (r1 ∷ rs) (Err (Refused x) ∷ os) r o true now after len closes by d h = absurd closes
+stopped_anew s t (r1 ∷ rs) (Err (Refused x) ∷ os) r o false now after len closes by d h = stopped_anew s t rs os r o false now after (omega (arith, len)) closes by d h
+stopped_anew s t (r1 ∷ rs) (Ok a ∷ os) r o true now after len closes by d h = absurd closes
+stopped_anew s t (r1 ∷ rs) (Ok a ∷ os) r o false now after len closes by d h = stopped_anew s t rs os r o false now after (omega (arith, len)) closes by d h
 
 -- what a call of a closed desk leaves is what was left
 pub left_closed : (s : State) (rs : List Request) (os : List (Result Answer Fault)) (r : Request) (o : Result Answer Fault) (trees : Trees) → length rs ≡ length os → o ≡ Err Closed

@@ -1,32 +1,109 @@
--- What a sheet of a sound shop brings to the table that it is written into.
-use Rattle.std.proofs.Common.{◌≡◌, ◌⊎◌, inr, ℕ, List, [], ◌∷◌, Option, sym, subst}
-use Rattle.sqlite.specs.Order.{Row}
-use Rattle.part_core.specs.Columns.{AreSmall}
+-- What the sheets of a shop bring to the tables that they are written into: one law for each table.
+use Rattle.std.proofs.Common.{◌≡◌, inl, inr, ℕ, List, [], ◌∷◌, Option, sym, subst}
+use Rattle.part_core.specs.CategoryColumns.{category_columns, category_from}
 use Rattle.part_core.specs.Filled.{StandUnderKeys}
-use Rattle.part_core.specs.Rows.{StandRight, StayThere}
-use Rattle.part_core.specs.Sheet.{Rows, Table, now_of}
+use Rattle.part_core.specs.Numbered.{number_digits}
+use Rattle.part_core.specs.PartColumns.{part_columns, part_from}
+use Rattle.part_core.specs.declared.category.Category.{Category}
+use Rattle.part_core.specs.declared.part.Part.{Part}
+use Rattle.part_core.specs.Rows.{StandRight}
+use Rattle.part_core.specs.Sheet.{Rows, Table}
 use Rattle.part_core.specs.declared.column.Column.{Column}
-use Rattle.table_store.specs.Values.{AreDropped}
-use Rattle.table_store.specs.Written.{IsTableOf}
+use Rattle.bom_core.specs.BillColumns.{line_columns, line_from, substitute_columns, substitute_from}
+use Rattle.bom_core.specs.declared.line.Line.{Line}
+use Rattle.bom_core.specs.declared.substitute.Substitute.{Substitute}
+use Rattle.forest.specs.EntryColumns.{entry_columns, entry_from}
+use Rattle.forest.specs.ItemColumns.{item_columns, item_from}
+use Rattle.forest.specs.declared.entry.Entry.{Entry}
+use Rattle.forest.specs.declared.item.Item.{Item}
+use Rattle.yard_core.specs.LocationColumns.{location_columns, location_from}
+use Rattle.yard_core.specs.declared.location.Location.{Location}
+use Rattle.yard_core.proofs.OwnKeys.{keyed-own}
+use Rattle.desk_core.specs.Machine.{State}
+use Rattle.desk_core.specs.Shops.{kept_state, state_of}
+use Rattle.desk_core.specs.declared.shop.Shop.{Shop}
+use Rattle.desk_store.specs.Saving.{IsSheetIn, MayFollow}
+use Rattle.desk_store.proofs.Suiting.{category-suits, entry-suits, item-suits, line-suits, location-suits, part-suits, substitute-suits}
 use Rattle.table_store.specs.declared.name.TableName.{TableName}
+use Rattle.table_store.specs.declared.name.TableName.TheVariants.{Categories, Locations, Parts, Lines, Substitutes, Items, History}
 
 -- rows that stand right stand under their numbers
 pub own_keys : {X : Type 0} (number : X → ℕ) (next : ℕ) (t : Table X) → StandRight number next t → StandUnderKeys (λ x. number x ∷ []) t
 own_keys number next t h k x is = (h k x is).own
 
-module _ {X : Type 0} (sheet source : Rows X) (same : sheet ≡ source) where
-  pub own_both : (key : X → List ℕ) → StandUnderKeys key source.kept → StandUnderKeys key (now_of source) → StandUnderKeys key (now_of sheet) × StandUnderKeys key sheet.kept
-  own_both key old new = subst (λ (s : Rows X). StandUnderKeys key (now_of s) × StandUnderKeys key s.kept) (sym same) (new, old)
+-- a sheet that is lent is the shop's
+pub at_table : {R : Type 0} {from : List Column → Option R} {columns : R → List Column} {key : R → List ℕ} {digits : ℕ → List ℕ} {old new : State} (table given : TableName) (sheet source : Rows R) → table ≡ given → sheet ≡ source
+    → IsSheetIn from columns key digits old new given source → IsSheetIn from columns key digits old new table sheet
+at_table {from} {columns} {key} {digits} {old} {new} table given sheet source is same h =
+    subst (λ t. IsSheetIn from columns key digits old new t sheet) (sym is) (subst (IsSheetIn from columns key digits old new given) (sym same) h)
 
-  pub small_both : (columns : X → List Column) → AreSmall columns source.kept → AreSmall columns (now_of source) → AreSmall columns (now_of sheet) × AreSmall columns sheet.kept
-  small_both columns old new = subst (λ (s : Rows X). AreSmall columns (now_of s) × AreSmall columns s.kept) (sym same) (new, old)
+module _ (shop : Shop) (f : MayFollow (kept_state shop) (state_of shop)) where
+  pub category-sheet : IsSheetIn category_from category_columns (λ (x : Category). x.number ∷ []) number_digits (kept_state shop) (state_of shop) Categories shop.catalogue.categories
+  category-sheet = record {
+    suits = category-suits;
+    own = (own_keys (λ (x : Category). x.number) _ _ f.after.bills.catalogue.categories, own_keys (λ (x : Category). x.number) _ _ f.before.bills.catalogue.categories);
+    small = (f.small_after.categories, f.small_before.categories);
+    stays = inr f.stays.parts.categories;
+    was = λ tree h. h;
+    is = λ tree h. h;
+  }
 
-  pub stay_both : (table : TableName) → StayThere source.kept (now_of source) → AreDropped table ⊎ StayThere sheet.kept (now_of sheet)
-  stay_both table h = inr (subst (λ (s : Rows X). StayThere s.kept (now_of s)) (sym same) h)
+  pub part-sheet : IsSheetIn part_from part_columns (λ (x : Part). x.number ∷ []) number_digits (kept_state shop) (state_of shop) Parts shop.catalogue.parts
+  part-sheet = record {
+    suits = part-suits;
+    own = (own_keys (λ (x : Part). x.number) _ _ f.after.bills.catalogue.parts, own_keys (λ (x : Part). x.number) _ _ f.before.bills.catalogue.parts);
+    small = (f.small_after.parts, f.small_before.parts);
+    stays = inr f.stays.parts.parts;
+    was = λ tree h. h;
+    is = λ tree h. h;
+  }
 
-  module _ (from : List Column → Option X) (columns : X → List Column) (table : TableName) (tree : List Row) where
-    pub kept_there : IsTableOf from columns table tree source.kept → IsTableOf from columns table tree sheet.kept
-    kept_there h = subst (λ (s : Rows X). IsTableOf from columns table tree s.kept) (sym same) h
+  pub line-sheet : IsSheetIn line_from line_columns (λ (x : Line). x.number ∷ []) number_digits (kept_state shop) (state_of shop) Lines shop.boms.lines
+  line-sheet = record {
+    suits = line-suits;
+    own = (own_keys (λ (x : Line). x.number) _ _ f.after.bills.line_rows, own_keys (λ (x : Line). x.number) _ _ f.before.bills.line_rows);
+    small = (f.small_after.lines, f.small_before.lines);
+    stays = inl tt;
+    was = λ tree h. h;
+    is = λ tree h. h;
+  }
 
-    pub now_there : IsTableOf from columns table tree (now_of sheet) → IsTableOf from columns table tree (now_of source)
-    now_there h = subst (λ (s : Rows X). IsTableOf from columns table tree (now_of s)) same h
+  pub substitute-sheet : IsSheetIn substitute_from substitute_columns (λ (x : Substitute). x.number ∷ []) number_digits (kept_state shop) (state_of shop) Substitutes shop.boms.substitutes
+  substitute-sheet = record {
+    suits = substitute-suits;
+    own = (own_keys (λ (x : Substitute). x.number) _ _ f.after.bills.substitute_rows, own_keys (λ (x : Substitute). x.number) _ _ f.before.bills.substitute_rows);
+    small = (f.small_after.substitutes, f.small_before.substitutes);
+    stays = inl tt;
+    was = λ tree h. h;
+    is = λ tree h. h;
+  }
+
+  pub location-sheet : IsSheetIn location_from location_columns (λ (x : Location). x.number ∷ []) number_digits (kept_state shop) (state_of shop) Locations shop.yard.locations
+  location-sheet = record {
+    suits = location-suits;
+    own = (own_keys (λ (x : Location). x.number) _ _ f.after.stock.items.locations.rows, own_keys (λ (x : Location). x.number) _ _ f.before.stock.items.locations.rows);
+    small = (f.small_after.locations, f.small_before.locations);
+    stays = inr f.stays.stock.locations;
+    was = λ tree h. h;
+    is = λ tree h. h;
+  }
+
+  pub item-sheet : IsSheetIn item_from item_columns (λ (x : Item). x.number ∷ []) number_digits (kept_state shop) (state_of shop) Items shop.yard.items
+  item-sheet = record {
+    suits = item-suits;
+    own = (own_keys (λ (x : Item). x.number) _ _ f.after.stock.items.rows, own_keys (λ (x : Item). x.number) _ _ f.before.stock.items.rows);
+    small = (f.small_after.items, f.small_before.items);
+    stays = inr f.stays.stock.items;
+    was = λ tree h. h;
+    is = λ tree h. h;
+  }
+
+  pub entry-sheet : IsSheetIn entry_from entry_columns (λ (x : Entry). x.number ∷ []) number_digits (kept_state shop) (state_of shop) History shop.yard.history
+  entry-sheet = record {
+    suits = entry-suits;
+    own = (keyed-own (λ (x : Entry). x.number) _ f.after.stock.items.stock.history.own, keyed-own (λ (x : Entry). x.number) _ f.before.stock.items.stock.history.own);
+    small = (f.small_after.history, f.small_before.history);
+    stays = inr f.stays.stock.history;
+    was = λ tree h. h;
+    is = λ tree h. h;
+  }

@@ -1,11 +1,13 @@
 -- The tables of a new desk.
-use Rattle.std.proofs.Common.{◌≡◌, List, [], Option, sym, ap, ◌∙◌, subst}
+use Rattle.std.proofs.Common.{◌≡◌, List, [], Option, IsTrue, sym, ap, ◌∙◌, subst}
 use Rattle.std.specs.FinMap.{empty}
 use Rattle.sqlite.specs.Effect.{Database}
+use Rattle.sqlite.specs.Held.{Held, state}
 use Rattle.sqlite.specs.Order.{Row}
 use Rattle.sqlite.specs.State as sqlite
 use Rattle.sqlite.specs.Tree.{Trees}
-use Rattle.sqlite_trees.specs.View.{IsShaped}
+use Rattle.sqlite_trees.specs.View.{IsClean, IsRolledBack as IsUndone, IsShaped}
+use Rattle.sqlite_trees.specs.declared.store.Store.{Ghosts}
 use Rattle.sqlite_trees.specs.declared.store.Shape.TheVariants.{Table}
 use Rattle.part_core.specs.CategoryColumns.{category_columns, category_from}
 use Rattle.part_core.specs.PartColumns.{part_columns, part_from}
@@ -21,7 +23,7 @@ use Rattle.desk_core.specs.Machine.{start}
 use Rattle.desk_store.specs.Books.{TablesAre}
 use Rattle.desk_store.specs.MetaColumns.{meta_columns, meta_from, meta_of, only}
 use Rattle.desk_store.specs.Opening.{IsOfCreating, MayBeMade, open_fault_of}
-use Rattle.desk_store.specs.Saving.{IsMidway, IsUnderWay}
+use Rattle.desk_store.specs.Saving.{IsUnderWay}
 use Rattle.desk_store.specs.declared.fault.OpenFault.{OpenFault}
 use Rattle.desk_store.specs.declared.fault.OpenFault.TheVariants.{Foreign}
 use Rattle.table_store.specs.Making.{IsFresh}
@@ -40,10 +42,10 @@ pub no_rows : {X : Type 0} (from : List Column → Option X) (columns : X → Li
 no_rows from columns table tree none = record { holds = holds-empty columns table tree none; read = each-empty (IsRead from columns) }
 
 -- beside the row of the counter a new desk's tables have nothing
-pub started : (limits : Limits) (d e : sqlite.State) → IsFresh d → Writes Meta d e → IsTableOf meta_from meta_columns Meta (tree_of Meta e) (only (meta_of (start limits))) → IsUnderWay (start limits) (start limits) 9 e
-started limits d e fresh wrote meta = record { ready = ((wrote.tables, wrote.shown.mode), wrote.shown.is_open); midway = each_one }
+pub started : (limits : Limits) (d e : sqlite.State) → IsFresh d → Writes Meta d e → IsTableOf meta_from meta_columns Meta (tree_of Meta e) (only (meta_of (start limits))) → IsUnderWay (start limits) (start limits) 13 e
+started limits d e fresh wrote meta = record { ready = ((wrote.tables, wrote.shown.mode), wrote.shown.is_open); midway = record { written = λ table low. each_one table; left = λ table above. each_one table } }
   where
-    each_one : IsMidway (start limits) (start limits) 9 e.now.trees
+    each_one : TablesAre (start limits) e.now.trees
     each_one Meta = meta
     each_one Categories = no_rows category_from category_columns Categories (tree_of Categories e) (wrote.others Categories (λ e. cc) ∙ fresh.empty Categories)
     each_one Locations = no_rows location_from location_columns Locations (tree_of Locations e) (wrote.others Locations (λ e. cc) ∙ fresh.empty Locations)
@@ -108,3 +110,11 @@ may_be_made limits trees a b (BadRow failed) stops made = absurd stops
 
 pub told_made : (limits : Limits) (trees : Trees) (a b : sqlite.State) (fault : TableFault) (told : OpenFault) → told ≡ open_fault_of fault → Stops a b fault → TablesAre (start limits) trees → MayBeMade limits trees told
 told_made limits trees a b fault told e stops made = subst (MayBeMade limits trees) (sym e) (may_be_made limits trees a b fault stops made)
+
+-- the store that a connection hands back has the tables of the last commit, which is the one that was before where nothing
+-- was committed since
+pub handed : {S : Type 0} (g : Ghosts S) (h : Held S) (store : S) → IsUndone (g.view h.store) (g.view store) → IsClean (g.view store) → (before : sqlite.State) → sqlite.KeepsCommit before (state g h) → IsTrue (g.view store).is_open
+    → (g.view store).trees ≡ before.committed.trees
+handed g h store undone clean before keeps up =
+    let was = (undone.kept clean).was_open up in
+    (undone.undone up).0 ∙ ap (λ (db : Database). db.trees) (keeps.committed was)

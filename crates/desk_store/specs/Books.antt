@@ -1,5 +1,6 @@
 -- The books of a desk: which tables of the file hold a state of the machine, and what a crash leaves of them.
-use Rattle.std.specs.Prelude.{◌≡◌, []}
+use Rattle.std.specs.Prelude.{◌≡◌, List, []}
+use Rattle.sqlite.specs.Order.{Row}
 use Rattle.sqlite.specs.State as sqlite
 use Rattle.sqlite.specs.Tree.{Trees}
 use Rattle.part_core.specs.CategoryColumns.{category_columns, category_from}
@@ -15,24 +16,29 @@ use Rattle.table_store.specs.Opened.{IsAtRest}
 use Rattle.table_store.specs.Schema.{position}
 use Rattle.table_store.specs.Values.{HasTables}
 use Rattle.table_store.specs.Written.{IsTableOf}
+use Rattle.table_store.specs.declared.name.TableName.{TableName}
 use Rattle.table_store.specs.declared.name.TableName.TheVariants.{Meta, Categories, Locations, Parts, Lines, Substitutes, Items, History, Orders, OrderLines, Builds, Allocations, Kept}
 
--- the tables hold this state: each the rows of its sheet, read as they are, and the one row of `meta`
-pub record TablesAre (s : State) (trees : Trees) : Type 0 where
-  pub meta : IsTableOf meta_from meta_columns Meta (trees (position Meta)) (only (meta_of s))
-  pub categories : IsTableOf category_from category_columns Categories (trees (position Categories)) s.parts.categories
-  pub locations : IsTableOf location_from location_columns Locations (trees (position Locations)) s.stock.locations
-  pub parts : IsTableOf part_from part_columns Parts (trees (position Parts)) s.parts.parts
-  pub lines : IsTableOf line_from line_columns Lines (trees (position Lines)) s.bills.lines
-  pub substitutes : IsTableOf substitute_from substitute_columns Substitutes (trees (position Substitutes)) s.bills.substitutes
-  pub items : IsTableOf item_from item_columns Items (trees (position Items)) s.stock.items
-  pub history : IsTableOf entry_from entry_columns History (trees (position History)) s.stock.history
-  -- no order and no build is made yet
-  pub orders : trees (position Orders) ≡ []
-  pub order_lines : trees (position OrderLines) ≡ []
-  pub builds : trees (position Builds) ≡ []
-  pub allocations : trees (position Allocations) ≡ []
-  pub kept : IsTableOf kept_from kept_columns Kept (trees (position Kept)) s.answers
+-- the tree is this table of the state: the rows of its sheet, read as they are, or the one row of `meta`; no order and no
+-- build is made yet
+abbrev pub IsTableIn : State → TableName → List Row → Type 0
+IsTableIn s Meta tree = IsTableOf meta_from meta_columns Meta tree (only (meta_of s))
+IsTableIn s Categories tree = IsTableOf category_from category_columns Categories tree s.parts.categories
+IsTableIn s Locations tree = IsTableOf location_from location_columns Locations tree s.stock.locations
+IsTableIn s Parts tree = IsTableOf part_from part_columns Parts tree s.parts.parts
+IsTableIn s Lines tree = IsTableOf line_from line_columns Lines tree s.bills.lines
+IsTableIn s Substitutes tree = IsTableOf substitute_from substitute_columns Substitutes tree s.bills.substitutes
+IsTableIn s Items tree = IsTableOf item_from item_columns Items tree s.stock.items
+IsTableIn s History tree = IsTableOf entry_from entry_columns History tree s.stock.history
+IsTableIn s Orders tree = tree ≡ []
+IsTableIn s OrderLines tree = tree ≡ []
+IsTableIn s Builds tree = tree ≡ []
+IsTableIn s Allocations tree = tree ≡ []
+IsTableIn s Kept tree = IsTableOf kept_from kept_columns Kept tree s.answers
+
+-- the tables hold this state
+abbrev pub TablesAre : State → Trees → Type 0
+TablesAre s trees = (table : TableName) → IsTableIn s table (trees (position table))
 
 -- between two transactions the database holds this state, and a crash leaves it
 pub record HoldsBooks (s : State) (d : sqlite.State) : Type 0 where

@@ -25,13 +25,13 @@ use Rattle.desk_core.specs.declared.shop.Shop.{Shop}
 use Rattle.desk_core.specs.declared.shop.assemble.Tables.{Tables}
 use Rattle.desk_store.specs.Books.{TablesAre}
 use Rattle.desk_store.specs.MetaColumns.{meta_columns, meta_from, only}
+use Rattle.desk_store.specs.Opening.{IsOfOtherVersion}
 use Rattle.desk_store.specs.declared.fault.OpenFault.{OpenFault}
 use Rattle.desk_store.specs.declared.fault.OpenFault.TheVariants as why
 use Rattle.desk_store.specs.declared.meta.MetaRow.{MetaRow}
 use Rattle.table_store.specs.Schema.{position}
 use Rattle.table_store.specs.Stored.{AreLoaded}
 use Rattle.table_store.specs.Written.{AreItsRows, IsTableOf}
-use Rattle.table_store.specs.declared.fault.Cause.TheVariants.{BadRow}
 use Rattle.table_store.specs.declared.name.TableName.{TableName}
 use Rattle.table_store.specs.declared.name.TableName.TheVariants.{Meta, Categories, Locations, Parts, Lines, Substitutes, Items, History, Orders, OrderLines, Builds, Allocations, Kept}
 
@@ -44,22 +44,6 @@ pub record Reads {X : Type 0} (Gives : Trees → X → Type 0) (Why : Trees → 
   pub same : HasCleanDisk new → OnOk r (IsUnchanged old new)
   pub failed : HasCleanDisk new → OnErr r (IsUnchanged old new ⊎ IsRolledBack old new)
   pub crash : Survives old new (λ _. ⊥)
-
--- of a fault that isn't one of memory or of the database: the tables are damaged, since this holds of them
-abbrev pub Blames : Type 0 → OpenFault → Type 0
-Blames P why.Memory = Unit {0}
-Blames P (why.Store failed) = Unit {0}
-Blames P why.Foreign = ⊥
-Blames P (why.Damaged None) = P
-Blames P (why.Damaged (Some failed)) = ⊥
-
--- the same of a fault that names the table, of which this holds
-abbrev pub BlamesTable : TableName → Type 0 → OpenFault → Type 0
-BlamesTable table P why.Memory = Unit {0}
-BlamesTable table P (why.Store failed) = Unit {0}
-BlamesTable table P why.Foreign = ⊥
-BlamesTable table P (why.Damaged None) = ⊥
-BlamesTable table P (why.Damaged (Some failed)) = P × (failed.cause ≡ BadRow table)
 
 -- ---- the rows of the tables
 
@@ -94,19 +78,25 @@ pub record AreNotMade (trees : Trees) : Type 0 where
 
 -- ---- the row of the counter
 
--- the tree of `meta` is the table of this row alone, which has the key 1 and the version 1, and of no other
+-- the tree of `meta` is the table of this row alone, which has the key 1 and the version 1, and of no other; so no row
+-- there has another version
 pub record IsMetaRow (trees : Trees) (row : MetaRow) : Type 0 where
   pub table : IsTableOf meta_from meta_columns Meta (trees (position Meta)) (only row)
   pub sole : (other : MetaRow) → IsTableOf meta_from meta_columns Meta (trees (position Meta)) (only other) → other ≡ row
   pub one : row.one ≡ 1
   pub version : row.version ≡ 1
+  pub this : ¬ IsOfOtherVersion trees
+
+-- each of these rows has the version 1
+abbrev pub AreOfThisVersion : List MetaRow → Type 0
+AreOfThisVersion rows = (row : MetaRow) → Contains rows row → row.version ≡ 1
 
 -- why these rows of `meta` aren't one row with the key 1 and the version 1
 abbrev pub IsNoMeta : List MetaRow → OpenFault → Type 0
 IsNoMeta rows why.Memory = ⊥
 IsNoMeta rows (why.Store failed) = ⊥
 IsNoMeta rows why.Foreign = (row : MetaRow) × Contains rows row × (row.version ≢ 1)
-IsNoMeta rows (why.Damaged None) = (row : MetaRow) → row.one ≡ 1 → rows ≢ row ∷ []
+IsNoMeta rows (why.Damaged None) = ((row : MetaRow) → row.one ≡ 1 → rows ≢ row ∷ []) × AreOfThisVersion rows
 IsNoMeta rows (why.Damaged (Some failed)) = ⊥
 
 -- the row that the counter of these tables has
@@ -115,13 +105,18 @@ meta_in t = record { one = 1; version = 1; next = t.next; entries = t.entries; m
 
 -- ---- all tables
 
--- these rows are those of the tables
-pub record AreTables (trees : Trees) (t : Tables) : Type 0 where
-  pub meta : IsMetaRow trees (meta_in t)
+-- these rows are those of the tables beside `meta`
+pub record AreSheets (trees : Trees) (t : Tables) : Type 0 where
+  pub not_made : AreNotMade trees
   pub catalogue : ArePartRows trees t.categories.items t.parts.items
   pub bills : AreBillRows trees t.lines.items t.substitutes.items
   pub stock : AreStockRows trees t.locations.items t.items.items t.history.items
   pub answers : AreAnswers trees t.answers.items
+
+-- these rows are those of the tables
+pub record AreTables (trees : Trees) (t : Tables) : Type 0 where
+  pub meta : IsMetaRow trees (meta_in t)
+  pub sheets : AreSheets trees t
 
 -- the tables are those of the shop's state, and of no other sound state
 pub record AreBooksOf (trees : Trees) (shop : Shop) : Type 0 where

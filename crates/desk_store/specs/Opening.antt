@@ -64,12 +64,20 @@ abbrev pub IsDamage : Trees → Option Failed → Type 0
 IsDamage trees None = Unit {0}
 IsDamage trees (Some failed) = NamesBroken trees failed
 
--- what it tells of the tables that there is no desk
+-- what it tells of the tables that there is no desk: they are foreign in this sense, or damaged and not foreign
+abbrev pub WhyBut : (Trees → Type 0) → Trees → OpenFault → Type 0
+WhyBut AreForeign trees Memory = Unit {0}
+WhyBut AreForeign trees (Store failed) = Unit {0}
+WhyBut AreForeign trees Foreign = AreForeign trees
+WhyBut AreForeign trees (Damaged told) = AreNoBooks trees × IsDamage trees told × ¬ AreForeign trees
+
+-- the tables are foreign where they are another schema's, or of another version
 abbrev pub WhyNot : Trees → OpenFault → Type 0
-WhyNot trees Memory = Unit {0}
-WhyNot trees (Store failed) = Unit {0}
-WhyNot trees Foreign = IsForeign trees ⊎ IsOfOtherVersion trees
-WhyNot trees (Damaged told) = AreNoBooks trees × IsDamage trees told
+WhyNot = WhyBut (λ trees. IsForeign trees ⊎ IsOfOtherVersion trees)
+
+-- what it tells of tables whose schema and version aren't looked at
+abbrev pub WhyUnread : Trees → OpenFault → Type 0
+WhyUnread = WhyBut (λ trees. ⊥)
 
 -- a fault that the making of a desk may end with
 abbrev pub IsOfCreating : OpenFault → Type 0

@@ -4,7 +4,7 @@ use Rattle.sqlite.specs.Tree.{Trees}
 use Rattle.part_core.specs.declared.answer.Answer.{Answer}
 use Rattle.part_core.specs.declared.refusal.CoreFault.{CoreFault}
 use Rattle.part_core.specs.declared.refusal.CoreFault.TheVariants as core
-use Rattle.desk_core.specs.Machine.{State, Outcome, check, repeated, step}
+use Rattle.desk_core.specs.Machine.{State, IsAnew, Outcome, step}
 use Rattle.desk_core.specs.declared.command.Request.{Request}
 use Rattle.desk_store.specs.Books.{TablesAre}
 use Rattle.desk_store.specs.declared.fault.Fault.{Fault}
@@ -14,10 +14,6 @@ use Rattle.desk_store.specs.declared.fault.Fault.TheVariants.{Refused, Memory, S
 abbrev pub fault_of : CoreFault → Fault
 fault_of (core.Refused refusal) = Refused refusal
 fault_of core.Memory = Memory
-
--- the step accepts the request, and not as a repeat
-abbrev pub IsAnew : State → Request → Type 0
-IsAnew s r = (repeated r s ≡ None) × (check s r ≡ None)
 
 -- what is told of a request is its step; or it ended otherwise, which leaves the state as it was
 abbrev pub Tells : State → Request → Result Answer Fault → State → Type 0

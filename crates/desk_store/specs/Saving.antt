@@ -1,66 +1,56 @@
 -- A state goes into the tables in the place of another, one table after the other.
-use Rattle.std.specs.Prelude.{◌≡◌, ◌<◌, ◌^◌, ℕ, All, List, [], if◌then◌else◌, nat_lt}
+use Rattle.std.specs.Prelude.{◌⊎◌, ◌<◌, ◌≤◌, ◌^◌, ℕ, All, List, Option, Result, IfErr, OnOk}
 use Rattle.sqlite.specs.Order.{Row}
 use Rattle.sqlite.specs.State as sqlite
+use Rattle.sqlite.specs.State.{HasCleanDisk, KeepsCommit, Survives}
 use Rattle.sqlite.specs.Tree.{Trees}
-use Rattle.part_core.specs.CategoryColumns.{category_columns, category_from}
-use Rattle.part_core.specs.Columns.{IsSmall}
-use Rattle.part_core.specs.PartColumns.{part_columns, part_from}
-use Rattle.bom_core.specs.BillColumns.{line_columns, line_from, substitute_columns, substitute_from}
-use Rattle.forest.specs.EntryColumns.{entry_columns, entry_from}
-use Rattle.forest.specs.ItemColumns.{item_columns, item_from}
-use Rattle.yard_core.specs.LocationColumns.{location_columns, location_from}
-use Rattle.desk_core.specs.KeptColumns.{kept_columns, kept_from}
+use Rattle.part_core.specs.Columns.{AreSmall, IsSmall}
+use Rattle.part_core.specs.Filled.{StandUnderKeys}
+use Rattle.part_core.specs.Rows.{StayThere}
+use Rattle.part_core.specs.Sheet.{Rows, now_of}
+use Rattle.part_core.specs.declared.column.Column.{Column}
 use Rattle.desk_core.specs.Machine.{IsSoundState, State}
 use Rattle.desk_core.specs.Small.{HasSmallRows}
 use Rattle.desk_core.specs.Staying.{AllStay}
-use Rattle.desk_store.specs.MetaColumns.{meta_columns, meta_from, meta_of, only}
+use Rattle.desk_store.specs.Books.{IsTableIn}
+use Rattle.desk_store.specs.MetaColumns.{meta_columns, meta_of}
 use Rattle.table_store.specs.Schema.{position}
-use Rattle.table_store.specs.Written.{IsReady, IsTableOf}
+use Rattle.table_store.specs.Transactions.{IsOfMemoryOrStore}
+use Rattle.table_store.specs.Values.{AreDropped}
+use Rattle.table_store.specs.Written.{IsReady, IsTableOf, Suits}
+use Rattle.table_store.specs.declared.fault.TableFault.{TableFault}
 use Rattle.table_store.specs.declared.name.TableName.{TableName}
-use Rattle.table_store.specs.declared.name.TableName.TheVariants.{Meta, Categories, Locations, Parts, Lines, Substitutes, Items, History, Orders, OrderLines, Builds, Allocations, Kept}
 
--- the tree is this table of the state
-abbrev pub IsTableIn : State → TableName → List Row → Type 0
-IsTableIn s Meta tree = IsTableOf meta_from meta_columns Meta tree (only (meta_of s))
-IsTableIn s Categories tree = IsTableOf category_from category_columns Categories tree s.parts.categories
-IsTableIn s Locations tree = IsTableOf location_from location_columns Locations tree s.stock.locations
-IsTableIn s Parts tree = IsTableOf part_from part_columns Parts tree s.parts.parts
-IsTableIn s Lines tree = IsTableOf line_from line_columns Lines tree s.bills.lines
-IsTableIn s Substitutes tree = IsTableOf substitute_from substitute_columns Substitutes tree s.bills.substitutes
-IsTableIn s Items tree = IsTableOf item_from item_columns Items tree s.stock.items
-IsTableIn s History tree = IsTableOf entry_from entry_columns History tree s.stock.history
-IsTableIn s Orders tree = tree ≡ []
-IsTableIn s OrderLines tree = tree ≡ []
-IsTableIn s Builds tree = tree ≡ []
-IsTableIn s Allocations tree = tree ≡ []
-IsTableIn s Kept tree = IsTableOf kept_from kept_columns Kept tree s.answers
+-- ---- tables that are written
 
--- the turn in which a table is written; the last four have no rows yet, and aren't
-abbrev pub turn : TableName → ℕ
-turn Categories = 0
-turn Parts = 1
-turn Lines = 2
-turn Substitutes = 3
-turn Locations = 4
-turn Items = 5
-turn History = 6
-turn Kept = 7
-turn Meta = 8
-turn Orders = 9
-turn OrderLines = 10
-turn Builds = 11
-turn Allocations = 12
-
--- the first so many tables in turn are those of the new state, and the others those of the old one
-abbrev pub IsMidway : State → State → ℕ → Trees → Type 0
-IsMidway old new count trees =
-    (table : TableName) → IsTableIn (if nat_lt (turn table) count then new else old) table (trees (position table))
+-- the first so many tables are those of the new state, and the others those of the old one
+pub record IsMidway (old new : State) (count : ℕ) (trees : Trees) : Type 0 where
+  pub written : (table : TableName) → position table < count → IsTableIn new table (trees (position table))
+  pub left : (table : TableName) → count ≤ position table → IsTableIn old table (trees (position table))
 
 -- so it is within a transaction, and the database answers
 pub record IsUnderWay (old new : State) (count : ℕ) (d : sqlite.State) : Type 0 where
   pub ready : IsReady d
   pub midway : IsMidway old new count d.now.trees
+
+-- A call that ends where so many tables are written. It commits nothing, and a crash leaves nothing new.
+pub record Goes (old new : State) (count : ℕ) (d e : sqlite.State) (r : Result (Unit {0}) TableFault) : Type 0 where
+  pub under_way : HasCleanDisk e → OnOk r (IsUnderWay old new count e)
+  pub commit : HasCleanDisk e → KeepsCommit d e
+  pub fault : IfErr r IsOfMemoryOrStore
+  pub crash : Survives d e (λ _. ⊥)
+
+-- ---- what is written
+
+module _ {R : Type 0} (row_from : List Column → Option R) (columns_of : R → List Column) (key_of : R → List ℕ) (digits : ℕ → List ℕ) where
+  -- the sheet has the rows of this table in the two states, as it was kept and as it is now, and the table takes them
+  pub record IsSheetIn (old new : State) (table : TableName) (sheet : Rows R) : Type 0 where
+    pub suits : Suits columns_of key_of digits table
+    pub own : StandUnderKeys key_of (now_of sheet) × StandUnderKeys key_of sheet.kept
+    pub small : AreSmall columns_of (now_of sheet) × AreSmall columns_of sheet.kept
+    pub stays : AreDropped table ⊎ StayThere sheet.kept (now_of sheet)
+    pub was : (tree : List Row) → IsTableIn old table tree → IsTableOf row_from columns_of table tree sheet.kept
+    pub is : (tree : List Row) → IsTableOf row_from columns_of table tree (now_of sheet) → IsTableIn new table tree
 
 -- no number that a row may have is too large for a file
 pub record HaveSmallNumbers (s : State) : Type 0 where

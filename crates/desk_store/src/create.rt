@@ -1,7 +1,7 @@
 //! A desk in a database that has nothing.
 ghost use Rattle.std.specs.Prelude.{◌≡◌, ◌≢◌, ◌⊎◌, false, None, IfOk, IfErr, OnOk, IsTrue};
 ghost use Rattle.sqlite.specs.Held.{state};
-ghost use Rattle.sqlite.specs.State.{HasCleanDisk, Survives};
+ghost use Rattle.sqlite.specs.State.{HasCleanDisk, KeepsCommit, Survives};
 ghost use Rattle.sqlite.specs.Tree.{Trees};
 ghost use Rattle.sqlite_trees.specs.View.{IsClean};
 ghost use Rattle.desk_core.specs.Machine.{IsSoundState, start};
@@ -16,8 +16,8 @@ ghost use Rattle.table_store.specs.Written.{IsReady};
 
 use crate::desk::Desk;
 use crate::fault::OpenFault;
+use crate::laws::numbers_are_small;
 use crate::meta::MetaRow;
-use crate::save::numbers_are_small;
 use desk_core::Shop;
 use part_core::Limits;
 use sqlite::{Alter, Connection};
@@ -36,6 +36,8 @@ fn make_tables<S: Alter>(conn: &mut Connection<S>) -> Result<(), TableFault>
         → OnOk result (IsReady (state S.Store conn.new)) }
     ensures fresh { HasCleanDisk (state S.Store conn.new)
         → OnOk result (IsFresh (state S.Store conn.new)) }
+    ensures commit { HasCleanDisk (state S.Store conn.new)
+        → KeepsCommit (state S.Store conn.old) (state S.Store conn.new) }
     ensures fault { IfErr result IsOfStore }
     ensures crash { Survives (state S.Store conn.old) (state S.Store conn.new) (λ _. ⊥) }
 {
@@ -60,7 +62,9 @@ fn make<S: Alter>(
     requires nothing { state_of shop.now ≡ start limits }
     requires sound { IsSoundState (state_of shop.now) }
     ensures made { HasCleanDisk (state S.Store conn.new)
-        → OnOk result (IsUnderWay (start limits) (start limits) 9 (state S.Store conn.new)) }
+        → OnOk result (IsUnderWay (start limits) (start limits) 13 (state S.Store conn.new)) }
+    ensures commit { HasCleanDisk (state S.Store conn.new)
+        → KeepsCommit (state S.Store conn.old) (state S.Store conn.new) }
     ensures fault { IfErr result IsOfMemoryOrStore }
     ensures crash { Survives (state S.Store conn.old) (state S.Store conn.new) (λ _. ⊥) }
 {
@@ -72,8 +76,8 @@ fn make<S: Alter>(
 impl<S: Alter + Drop> Desk<S> {
     /// Makes the tables, and in them the books of a workshop that has nothing yet.
     ///
-    /// `Foreign` where the database has a table already. The store is handed back beside a fault; after `Store` it is to
-    /// be opened again, and a crash leaves the database as it was or the new desk's.
+    /// `Foreign` where the database has a table already. The store is handed back beside a fault, with the tables as they
+    /// were; after `Store` it is to be opened again, and a crash leaves the database as it was or the new desk's.
     pub fn create(
         alloc: Global,
         conn: Connection<S>,
@@ -85,7 +89,13 @@ impl<S: Alter + Drop> Desk<S> {
         ensures open { IfOk result (λ desk. desk.failed ≡ None) }
         ensures foreign { IfErr result (λ e. e.0 ≡ OpenFault.Foreign
             → (state S.Store conn).now.schema ≢ schema_up_to 0) }
+        ensures bare { IfOk result (λ _. (state S.Store conn).now.schema ≡ schema_up_to 0) }
+        ensures other { IfErr result (λ e. (state S.Store conn).now.schema ≢ schema_up_to 0
+            → e.0 ≡ OpenFault.Foreign) }
         ensures kind { IfErr result (λ e. IsOfCreating e.0) }
+        ensures kept { IfErr result (λ e. IsClean (S.Store.view e.1)
+            → IsTrue (S.Store.view e.1).is_open
+            → (S.Store.view e.1).trees ≡ (state S.Store conn).committed.trees) }
         ensures crash { IfErr result (λ e. IsClean (S.Store.view e.1) → (trees : Trees)
             → S.Store.recovers e.1 trees
             → (state S.Store conn).may_leave trees ⊎ MayBeMade limits trees e.0) }

@@ -4,7 +4,7 @@
 //! transaction, and answered once that is committed. A refusal and a kept answer touch no table. Where memory ends, the
 //! shop and the tables are as they were. Where the database fails, the desk is closed: no later request is run, and what
 //! the file then holds, the tables before or after that request, is found by opening it again.
-ghost use Rattle.std.specs.Prelude.{◌≡◌, ◌↔◌, ◌⊎◌, ℕ, None, IsSome, is_some, length, IfOk, IfErr, OnErr, OnOk, Err};
+ghost use Rattle.std.specs.Prelude.{◌≡◌, ◌↔◌, ◌⊎◌, ◌+◌, ℕ, None, IfSome, IsSome, is_some, length, IfOk, IfErr, OnErr, OnOk, Err};
 ghost use Rattle.sqlite.specs.Held.{state};
 ghost use Rattle.sqlite.specs.State.{HasCleanDisk, Survives};
 ghost use Rattle.sqlite.specs.Tree.{Trees};
@@ -12,7 +12,7 @@ ghost use Rattle.bom_core.specs.Walks.{IsAcyclic};
 ghost use Rattle.forest.specs.Forest.{Balanced};
 ghost use Rattle.yard_core.specs.Stock.{forest_and_history};
 ghost use Rattle.stock_core.specs.Sound.{SerialsStandOnce};
-ghost use Rattle.desk_core.specs.Machine.{run, step};
+ghost use Rattle.desk_core.specs.Machine.{AreDrawn, IsAnew, answers_of, entries_in, entries_of, ids_of, run, step};
 ghost use Rattle.desk_core.specs.Shops.{state_of};
 ghost use Rattle.desk_store.specs.Books.{TablesAre};
 ghost use Rattle.desk_store.specs.Desks.{IsDesk};
@@ -20,7 +20,7 @@ ghost use Rattle.desk_store.specs.Outcomes.{AreLeft, Closes, Tells, answered, st
 
 use crate::fault::Fault;
 use crate::save::save;
-use desk_core::{Request, Shop, rows_stay};
+use desk_core::{Accepted, Request, Shop};
 use part_core::Answer;
 use sqlite::{Alter, Connection};
 use std::alloc::{AllocError, Global};
@@ -86,13 +86,11 @@ impl<S: Alter> Desk<S> {
         if self.failed.is_some() {
             return Err(Fault::Closed);
         }
-        let kept = self.shop.answers().len();
-        let answer = self.shop.decide(request)?;
-        // A repeat changes nothing; whatever else has a key is kept.
-        if request.key.is_some() && self.shop.answers().len() == kept {
-            return Ok(answer);
-        }
-        rows_stay();
+        let answer = match self.shop.accept(request)? {
+            Accepted::Anew(answer) => answer,
+            // A repeat has changed nothing.
+            Accepted::Again(answer) => return Ok(answer),
+        };
         match save(self.alloc, &mut self.conn, &self.shop) {
             Ok(()) => Ok(answer),
             Err(TableFault::Memory) => {
@@ -130,6 +128,18 @@ impl<S: Alter> Desk<S> {
             → HasCleanDisk (state S.Store self.new.conn) → (trees : Trees)
             → (state S.Store self.new.conn).may_leave trees
             → AreLeft (state_of self.new.shop) (stopped_at requests.now outcomes.items) trees) }
+        ensures drawn { IfOk result (λ outcomes.
+            let answers = answers_of (state_of self.old.shop)
+            (answered requests.now outcomes.items) in
+            AreDrawn (state_of self.old.shop).counter.next (ids_of answers)
+            (state_of self.new.shop).counter.next) }
+        ensures written { IfOk result (λ outcomes.
+            let answers = answers_of (state_of self.old.shop)
+            (answered requests.now outcomes.items) in
+            entries_in (state_of self.new.shop)
+            ≡ entries_in (state_of self.old.shop) + entries_of answers) }
+        ensures stopped { IfOk result (λ outcomes.
+            IfSome (stopped_at requests.now outcomes.items) (IsAnew (state_of self.new.shop))) }
         ensures balanced { (part : ℕ)
             → Balanced part (forest_and_history (state_of self.new.shop).stock) }
         ensures serials { SerialsStandOnce (state_of self.new.shop).parts

@@ -5,6 +5,7 @@ mod create;
 mod desk;
 mod export;
 mod fault;
+mod laws;
 mod load;
 mod meta;
 mod open;

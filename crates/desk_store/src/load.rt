@@ -2,15 +2,18 @@
 //!
 //! Each table is read whole, and none is changed. Whatever keeps the rows from being a desk's is told of the tables, so
 //! that a damaged file is one that no desk has left.
-ghost use Rattle.std.specs.Prelude.{◌≡◌, ◌∷◌, [], IfOk, IfErr};
+ghost use Rattle.std.specs.Prelude.{◌≡◌, ◌∷◌, [], List, IfOk, IfErr};
 ghost use Rattle.sqlite.specs.Held.{state};
 ghost use Rattle.sqlite.specs.State.{HasCleanDisk};
 ghost use Rattle.part_core.specs.Numbered.{number_digits};
-ghost use Rattle.desk_core.specs.Machine.{IsSoundState};
+ghost use Rattle.sqlite.specs.Order.{Row};
+ghost use Rattle.sqlite.specs.Tree.{Trees};
+ghost use Rattle.desk_core.specs.Machine.{IsSoundState, State};
 ghost use Rattle.desk_core.specs.Shops.{state_of};
+ghost use Rattle.desk_store.specs.Books.{IsTableIn};
 ghost use Rattle.desk_store.specs.Loading.{AreAnswers, AreBillRows, AreBooksOf, AreNotMade, ArePartRows, AreStockRows};
-ghost use Rattle.desk_store.specs.Loading.{AreTables, AreTheRows, Blames, BlamesTable, IsMetaRow, IsNoMeta, Reads};
-ghost use Rattle.desk_store.specs.Opening.{WhyNot};
+ghost use Rattle.desk_store.specs.Loading.{AreSheets, AreTables, AreTheRows, IsMetaRow, IsNoMeta, Reads};
+ghost use Rattle.desk_store.specs.Opening.{IsBroken, IsOfOtherVersion, WhyBut, WhyUnread};
 ghost use Rattle.table_store.specs.Schema.{position};
 ghost use Rattle.table_store.specs.Values.{HasTables};
 ghost use Rattle.table_store.specs.Written.{IsTableOfNone, Suits};
@@ -33,12 +36,13 @@ fn load_rows<S: Alter, R: Stored>(
 ) -> Result<Vec<R>, OpenFault>
     requires tables { HasCleanDisk (state S.Store conn.old) → HasTables (state S.Store conn.old) }
     requires suits { Suits R.columns_of R.key_of number_digits table }
+    requires breaks { (trees : Trees)
+        → IsTableOfNone R.row_from R.columns_of table (trees (position table))
+        → IsBroken table trees }
     ensures { Reads
         (λ trees rows. AreTheRows R.row_from R.columns_of R.key_of table
         (trees (position table)) rows.items)
-        (λ trees. BlamesTable table
-        (IsTableOfNone R.row_from R.columns_of table (trees (position table))))
-        (state S.Store conn.old) (state S.Store conn.new) result }
+        WhyUnread (state S.Store conn.old) (state S.Store conn.new) result }
 {
     match load_sheet::<S, R>(alloc, conn, table) {
         Ok(rows) => Ok(rows),
@@ -49,7 +53,7 @@ fn load_rows<S: Alter, R: Stored>(
 /// The answers that are kept.
 fn load_answers<S: Alter>(alloc: Global, conn: &mut Connection<S>) -> Result<Vec<Kept>, OpenFault>
     requires { HasCleanDisk (state S.Store conn.old) → HasTables (state S.Store conn.old) }
-    ensures { Reads (λ trees rows. AreAnswers trees rows.items) WhyNot
+    ensures { Reads (λ trees rows. AreAnswers trees rows.items) WhyUnread
         (state S.Store conn.old) (state S.Store conn.new) result }
 {
     match load_kept::<S, Kept>(alloc, conn) {
@@ -60,9 +64,9 @@ fn load_answers<S: Alter>(alloc: Global, conn: &mut Connection<S>) -> Result<Vec
 
 /// That a table has no row. `Damaged` where it has one.
 fn check_bare<S: Alter>(conn: &mut Connection<S>, table: TableName) -> Result<(), OpenFault>
-    requires { HasCleanDisk (state S.Store conn.old) → HasTables (state S.Store conn.old) }
-    ensures { Reads (λ trees _. trees (position table) ≡ [])
-        (λ trees. Blames (¬ (trees (position table) ≡ [])))
+    requires tables { HasCleanDisk (state S.Store conn.old) → HasTables (state S.Store conn.old) }
+    requires bare { (s : State) (tree : List Row) → IsTableIn s table tree → tree ≡ [] }
+    ensures { Reads (λ trees _. trees (position table) ≡ []) WhyUnread
         (state S.Store conn.old) (state S.Store conn.new) result }
 {
     match has_no_row(conn, table) {
@@ -75,7 +79,7 @@ fn check_bare<S: Alter>(conn: &mut Connection<S>, table: TableName) -> Result<()
 /// That no order and no build is made yet.
 fn check_not_made<S: Alter>(conn: &mut Connection<S>) -> Result<(), OpenFault>
     requires { HasCleanDisk (state S.Store conn.old) → HasTables (state S.Store conn.old) }
-    ensures { Reads (λ trees _. AreNotMade trees) WhyNot
+    ensures { Reads (λ trees _. AreNotMade trees) WhyUnread
         (state S.Store conn.old) (state S.Store conn.new) result }
 {
     check_bare(conn, TableName::Orders)?;
@@ -105,10 +109,12 @@ fn meta_in(rows: &[MetaRow]) -> Result<MetaRow, OpenFault>
 /// The row of the counter.
 fn load_meta<S: Alter>(alloc: Global, conn: &mut Connection<S>) -> Result<MetaRow, OpenFault>
     requires { HasCleanDisk (state S.Store conn.old) → HasTables (state S.Store conn.old) }
-    ensures { Reads IsMetaRow WhyNot (state S.Store conn.old) (state S.Store conn.new) result }
+    ensures { Reads IsMetaRow (WhyBut IsOfOtherVersion) (state S.Store conn.old) (state S.Store conn.new) result }
 {
-    let rows = load_rows::<S, MetaRow>(alloc, conn, TableName::Meta)?;
-    meta_in(rows.as_slice())
+    match load_sheet::<S, MetaRow>(alloc, conn, TableName::Meta) {
+        Ok(rows) => meta_in(rows.as_slice()),
+        Err(fault) => Err(OpenFault::from(fault)),
+    }
 }
 
 /// The row of the counter, and the limits that it has.
@@ -117,7 +123,7 @@ fn load_counter<S: Alter>(
     conn: &mut Connection<S>,
 ) -> Result<(MetaRow, Limits), OpenFault>
     requires { HasCleanDisk (state S.Store conn.old) → HasTables (state S.Store conn.old) }
-    ensures row { Reads (λ trees found. IsMetaRow trees found.0) WhyNot
+    ensures row { Reads (λ trees found. IsMetaRow trees found.0) (WhyBut IsOfOtherVersion)
         (state S.Store conn.old) (state S.Store conn.new) result }
     ensures numbers { IfOk result (λ found. found.1.numbers ≡ found.0.max_numbers) }
     ensures entries { IfOk result (λ found. found.1.entries ≡ found.0.max_entries) }
@@ -135,7 +141,7 @@ fn load_catalogue<S: Alter>(
     conn: &mut Connection<S>,
 ) -> Result<(Vec<Category>, Vec<Part>), OpenFault>
     requires { HasCleanDisk (state S.Store conn.old) → HasTables (state S.Store conn.old) }
-    ensures { Reads (λ trees rows. ArePartRows trees rows.0.items rows.1.items) WhyNot
+    ensures { Reads (λ trees rows. ArePartRows trees rows.0.items rows.1.items) WhyUnread
         (state S.Store conn.old) (state S.Store conn.new) result }
 {
     let categories = load_rows::<S, Category>(alloc, conn, TableName::Categories)?;
@@ -149,7 +155,7 @@ fn load_bills<S: Alter>(
     conn: &mut Connection<S>,
 ) -> Result<(Vec<Line>, Vec<Substitute>), OpenFault>
     requires { HasCleanDisk (state S.Store conn.old) → HasTables (state S.Store conn.old) }
-    ensures { Reads (λ trees rows. AreBillRows trees rows.0.items rows.1.items) WhyNot
+    ensures { Reads (λ trees rows. AreBillRows trees rows.0.items rows.1.items) WhyUnread
         (state S.Store conn.old) (state S.Store conn.new) result }
 {
     let lines = load_rows::<S, Line>(alloc, conn, TableName::Lines)?;
@@ -163,7 +169,7 @@ fn load_stock<S: Alter>(
     conn: &mut Connection<S>,
 ) -> Result<(Vec<Location>, Vec<Item>, Vec<Entry>), OpenFault>
     requires { HasCleanDisk (state S.Store conn.old) → HasTables (state S.Store conn.old) }
-    ensures { Reads (λ trees rows. AreStockRows trees rows.0.items rows.1.items rows.2.items) WhyNot
+    ensures { Reads (λ trees rows. AreStockRows trees rows.0.items rows.1.items rows.2.items) WhyUnread
         (state S.Store conn.old) (state S.Store conn.new) result }
 {
     let locations = load_rows::<S, Location>(alloc, conn, TableName::Locations)?;
@@ -172,12 +178,21 @@ fn load_stock<S: Alter>(
     Ok((locations, items, history))
 }
 
-/// The rows of all tables that a state has rows in.
-fn load_tables<S: Alter>(alloc: Global, conn: &mut Connection<S>) -> Result<Tables, OpenFault>
+/// The rows of all tables beside the row of the counter.
+fn load_sheets<S: Alter>(
+    alloc: Global,
+    conn: &mut Connection<S>,
+    row: MetaRow,
+    limits: Limits,
+) -> Result<Tables, OpenFault>
     requires { HasCleanDisk (state S.Store conn.old) → HasTables (state S.Store conn.old) }
-    ensures { Reads AreTables WhyNot (state S.Store conn.old) (state S.Store conn.new) result }
+    ensures sheets { Reads AreSheets WhyUnread
+        (state S.Store conn.old) (state S.Store conn.new) result }
+    ensures next { IfOk result (λ tables. tables.next ≡ row.next) }
+    ensures entries { IfOk result (λ tables. tables.entries ≡ row.entries) }
+    ensures limits { IfOk result (λ tables. tables.limits ≡ limits) }
 {
-    let (row, limits) = load_counter(alloc, conn)?;
+    check_not_made(conn)?;
     let (categories, parts) = load_catalogue(alloc, conn)?;
     let (lines, substitutes) = load_bills(alloc, conn)?;
     let (locations, items, history) = load_stock(alloc, conn)?;
@@ -197,14 +212,27 @@ fn load_tables<S: Alter>(alloc: Global, conn: &mut Connection<S>) -> Result<Tabl
     })
 }
 
+/// The rows of all tables. The row of the counter comes first: a file of another version is `Foreign`, whatever else is
+/// in it.
+fn load_tables<S: Alter>(alloc: Global, conn: &mut Connection<S>) -> Result<Tables, OpenFault>
+    requires { HasCleanDisk (state S.Store conn.old) → HasTables (state S.Store conn.old) }
+    ensures { Reads AreTables (WhyBut IsOfOtherVersion)
+        (state S.Store conn.old) (state S.Store conn.new) result }
+{
+    let (row, limits) = load_counter(alloc, conn)?;
+    match load_sheets(alloc, conn, row, limits) {
+        Ok(tables) => Ok(tables),
+        Err(fault) => Err(fault),
+    }
+}
+
 /// The shop whose state the tables have.
 pub(crate) fn load<S: Alter>(alloc: Global, conn: &mut Connection<S>) -> Result<Shop, OpenFault>
     requires { HasCleanDisk (state S.Store conn.old) → HasTables (state S.Store conn.old) }
     ensures sound { IfOk result (λ shop. IsSoundState (state_of shop)) }
-    ensures read { Reads AreBooksOf WhyNot
+    ensures read { Reads AreBooksOf (WhyBut IsOfOtherVersion)
         (state S.Store conn.old) (state S.Store conn.new) result }
 {
-    check_not_made(conn)?;
     let tables = load_tables(alloc, conn)?;
     match Shop::assemble(alloc, tables) {
         Ok(shop) => Ok(shop),

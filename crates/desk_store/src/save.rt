@@ -3,97 +3,68 @@
 //! The tables are those of the state that is kept, and become those of the state now: each sheet writes the rows that
 //! changed, and the row of the counter is written whole. No table is written outside the transaction, so what a crash
 //! leaves has all of it or none.
-ghost use Rattle.std.specs.Prelude.{◌≡◌, ◌⊎◌, ◌<◌, ◌^◌, IfErr, OnErr, OnOk, Ok, Err};
+//!
+//! The tables are written in their order: where the first so many are those of the state now, one more becomes so. A
+//! further table needs an arm of `write_table`, and the law that its sheet is one of the state.
+ghost use Rattle.std.specs.Prelude.{◌≡◌, ◌⊎◌, ◌+◌, false, IfErr, OnErr, OnOk, Ok, Err};
 ghost use Rattle.sqlite.specs.Held.{state};
 ghost use Rattle.sqlite.specs.State.{HasCleanDisk, KeepsCommit, Survives};
 ghost use Rattle.desk_core.specs.Machine.{IsSoundState};
 ghost use Rattle.desk_core.specs.Shops.{kept_state, state_of};
 ghost use Rattle.desk_core.specs.Staying.{AllStay};
 ghost use Rattle.desk_store.specs.Books.{HoldsBooks, TablesAre};
-ghost use Rattle.desk_store.specs.Saving.{HaveSmallNumbers, IsUnderWay, MayFollow};
+ghost use Rattle.desk_store.specs.Saving.{Goes, IsSheetIn, IsUnderWay, MayFollow};
+ghost use Rattle.table_store.specs.Schema.{position};
 ghost use Rattle.table_store.specs.Transactions.{IsOfMemoryOrStore};
 ghost use Rattle.table_store.specs.declared.fault.TableFault.TheVariants.{Memory};
+ghost use Rattle.table_store.specs.declared.name.TableName.TheVariants.{Meta, Kept as KeptTable};
 
+use crate::laws::may_follow;
 use crate::meta::MetaRow;
-use bom_core::{Line, Substitute};
-use desk_core::{Kept, Shop, rows_are_small};
-use forest::{Entry, Item};
-use part_core::{Category, Part};
+use desk_core::{Kept, Shop};
+use part_core::{Row, Sheet, Stored};
 use sqlite::{Alter, Connection};
 use std::alloc::Global;
 use table_store::{
     TableFault, TableName, begin, commit, rollback, write_kept, write_pending, write_row,
 };
-use yard_core::Location;
 
-/// The categories and the parts are written.
-fn write_catalogue<S: Alter>(
+/// A table whose sheet is one of the shop's is written.
+fn write_sheet<S: Alter, R: Stored + Row<Key = u64>>(
+    alloc: Global,
+    conn: &mut Connection<S>,
+    shop: &Shop,
+    table: TableName,
+    sheet: &Sheet<R>,
+) -> Result<(), TableFault>
+    requires under_way { HasCleanDisk (state S.Store conn.old)
+        → IsUnderWay (kept_state shop.now) (state_of shop.now) (position table)
+        (state S.Store conn.old) }
+    requires sheet { IsSheetIn R.row_from R.columns_of R.key_of R.digits
+        (kept_state shop.now) (state_of shop.now) table sheet.now }
+    ensures { Goes (kept_state shop.now) (state_of shop.now) (position table + 1)
+        (state S.Store conn.old) (state S.Store conn.new) result }
+{
+    write_pending::<S, R>(alloc, conn, table, sheet)
+}
+
+/// The row of the counter is written.
+fn write_counter<S: Alter>(
     alloc: Global,
     conn: &mut Connection<S>,
     shop: &Shop,
 ) -> Result<(), TableFault>
     requires follows { MayFollow (kept_state shop.now) (state_of shop.now) }
     requires under_way { HasCleanDisk (state S.Store conn.old)
-        → IsUnderWay (kept_state shop.now) (state_of shop.now) 0 (state S.Store conn.old) }
-    ensures under_way { HasCleanDisk (state S.Store conn.new)
-        → OnOk result (IsUnderWay (kept_state shop.now) (state_of shop.now) 2
-        (state S.Store conn.new)) }
-    ensures commit { HasCleanDisk (state S.Store conn.new)
-        → KeepsCommit (state S.Store conn.old) (state S.Store conn.new) }
-    ensures fault { IfErr result IsOfMemoryOrStore }
-    ensures crash { Survives (state S.Store conn.old) (state S.Store conn.new) (λ _. ⊥) }
+        → IsUnderWay (kept_state shop.now) (state_of shop.now) (position Meta)
+        (state S.Store conn.old) }
+    ensures { Goes (kept_state shop.now) (state_of shop.now) (position Meta + 1)
+        (state S.Store conn.old) (state S.Store conn.new) result }
 {
-    let catalogue = shop.catalogue();
-    write_pending::<S, Category>(alloc, conn, TableName::Categories, catalogue.categories())?;
-    write_pending::<S, Part>(alloc, conn, TableName::Parts, catalogue.parts())
+    write_row::<S, MetaRow>(alloc, conn, TableName::Meta, &MetaRow::of(shop))
 }
 
-/// The lines of bills and their substitutes are written.
-fn write_bills<S: Alter>(
-    alloc: Global,
-    conn: &mut Connection<S>,
-    shop: &Shop,
-) -> Result<(), TableFault>
-    requires follows { MayFollow (kept_state shop.now) (state_of shop.now) }
-    requires under_way { HasCleanDisk (state S.Store conn.old)
-        → IsUnderWay (kept_state shop.now) (state_of shop.now) 2 (state S.Store conn.old) }
-    ensures under_way { HasCleanDisk (state S.Store conn.new)
-        → OnOk result (IsUnderWay (kept_state shop.now) (state_of shop.now) 4
-        (state S.Store conn.new)) }
-    ensures commit { HasCleanDisk (state S.Store conn.new)
-        → KeepsCommit (state S.Store conn.old) (state S.Store conn.new) }
-    ensures fault { IfErr result IsOfMemoryOrStore }
-    ensures crash { Survives (state S.Store conn.old) (state S.Store conn.new) (λ _. ⊥) }
-{
-    let boms = shop.boms();
-    write_pending::<S, Line>(alloc, conn, TableName::Lines, boms.lines())?;
-    write_pending::<S, Substitute>(alloc, conn, TableName::Substitutes, boms.substitutes())
-}
-
-/// The locations, the items and the history are written.
-fn write_yard<S: Alter>(
-    alloc: Global,
-    conn: &mut Connection<S>,
-    shop: &Shop,
-) -> Result<(), TableFault>
-    requires follows { MayFollow (kept_state shop.now) (state_of shop.now) }
-    requires under_way { HasCleanDisk (state S.Store conn.old)
-        → IsUnderWay (kept_state shop.now) (state_of shop.now) 4 (state S.Store conn.old) }
-    ensures under_way { HasCleanDisk (state S.Store conn.new)
-        → OnOk result (IsUnderWay (kept_state shop.now) (state_of shop.now) 7
-        (state S.Store conn.new)) }
-    ensures commit { HasCleanDisk (state S.Store conn.new)
-        → KeepsCommit (state S.Store conn.old) (state S.Store conn.new) }
-    ensures fault { IfErr result IsOfMemoryOrStore }
-    ensures crash { Survives (state S.Store conn.old) (state S.Store conn.new) (λ _. ⊥) }
-{
-    let yard = shop.yard();
-    write_pending::<S, Location>(alloc, conn, TableName::Locations, yard.locations())?;
-    write_pending::<S, Item>(alloc, conn, TableName::Items, yard.items())?;
-    write_pending::<S, Entry>(alloc, conn, TableName::History, yard.journal())
-}
-
-/// The answers that are kept and the row of the counter are written.
+/// The answers that are kept are written.
 fn write_answers<S: Alter>(
     alloc: Global,
     conn: &mut Connection<S>,
@@ -101,17 +72,45 @@ fn write_answers<S: Alter>(
 ) -> Result<(), TableFault>
     requires follows { MayFollow (kept_state shop.now) (state_of shop.now) }
     requires under_way { HasCleanDisk (state S.Store conn.old)
-        → IsUnderWay (kept_state shop.now) (state_of shop.now) 7 (state S.Store conn.old) }
-    ensures under_way { HasCleanDisk (state S.Store conn.new)
-        → OnOk result (IsUnderWay (kept_state shop.now) (state_of shop.now) 9
-        (state S.Store conn.new)) }
-    ensures commit { HasCleanDisk (state S.Store conn.new)
-        → KeepsCommit (state S.Store conn.old) (state S.Store conn.new) }
-    ensures fault { IfErr result IsOfMemoryOrStore }
-    ensures crash { Survives (state S.Store conn.old) (state S.Store conn.new) (λ _. ⊥) }
+        → IsUnderWay (kept_state shop.now) (state_of shop.now) (position KeptTable)
+        (state S.Store conn.old) }
+    ensures { Goes (kept_state shop.now) (state_of shop.now) (position KeptTable + 1)
+        (state S.Store conn.old) (state S.Store conn.new) result }
 {
-    write_kept::<S, Kept>(alloc, conn, shop.answers())?;
-    write_row::<S, MetaRow>(alloc, conn, TableName::Meta, &MetaRow::of(shop))
+    write_kept::<S, Kept>(alloc, conn, shop.answers())
+}
+
+/// One table is written, where those before it are. No order and no build is made yet: their tables have no rows.
+fn write_table<S: Alter>(
+    alloc: Global,
+    conn: &mut Connection<S>,
+    shop: &Shop,
+    table: TableName,
+) -> Result<(), TableFault>
+    requires follows { MayFollow (kept_state shop.now) (state_of shop.now) }
+    requires under_way { HasCleanDisk (state S.Store conn.old)
+        → IsUnderWay (kept_state shop.now) (state_of shop.now) (position table)
+        (state S.Store conn.old) }
+    ensures { Goes (kept_state shop.now) (state_of shop.now) (position table + 1)
+        (state S.Store conn.old) (state S.Store conn.new) result }
+{
+    match table {
+        TableName::Meta => write_counter(alloc, conn, shop),
+        TableName::Categories => {
+            write_sheet(alloc, conn, shop, table, shop.catalogue().categories())
+        }
+        TableName::Locations => write_sheet(alloc, conn, shop, table, shop.yard().locations()),
+        TableName::Parts => write_sheet(alloc, conn, shop, table, shop.catalogue().parts()),
+        TableName::Lines => write_sheet(alloc, conn, shop, table, shop.boms().lines()),
+        TableName::Substitutes => write_sheet(alloc, conn, shop, table, shop.boms().substitutes()),
+        TableName::Items => write_sheet(alloc, conn, shop, table, shop.yard().items()),
+        TableName::History => write_sheet(alloc, conn, shop, table, shop.yard().journal()),
+        TableName::Orders => Ok(()),
+        TableName::OrderLines => Ok(()),
+        TableName::Builds => Ok(()),
+        TableName::Allocations => Ok(()),
+        TableName::Kept => write_answers(alloc, conn, shop),
+    }
 }
 
 /// Every table is written.
@@ -123,18 +122,13 @@ fn write_tables<S: Alter>(
     requires follows { MayFollow (kept_state shop.now) (state_of shop.now) }
     requires under_way { HasCleanDisk (state S.Store conn.old)
         → IsUnderWay (kept_state shop.now) (state_of shop.now) 0 (state S.Store conn.old) }
-    ensures under_way { HasCleanDisk (state S.Store conn.new)
-        → OnOk result (IsUnderWay (kept_state shop.now) (state_of shop.now) 9
-        (state S.Store conn.new)) }
-    ensures commit { HasCleanDisk (state S.Store conn.new)
-        → KeepsCommit (state S.Store conn.old) (state S.Store conn.new) }
-    ensures fault { IfErr result IsOfMemoryOrStore }
-    ensures crash { Survives (state S.Store conn.old) (state S.Store conn.new) (λ _. ⊥) }
+    ensures { Goes (kept_state shop.now) (state_of shop.now) 13
+        (state S.Store conn.old) (state S.Store conn.new) result }
 {
-    write_catalogue(alloc, conn, shop)?;
-    write_bills(alloc, conn, shop)?;
-    write_yard(alloc, conn, shop)?;
-    write_answers(alloc, conn, shop)
+    for place in 0..13 {
+        write_table(alloc, conn, shop, TableName::at(place))?;
+    }
+    Ok(())
 }
 
 #[tactic(auto, using(crate::proofs::Starting::of_store))]
@@ -156,19 +150,10 @@ fn write<S: Alter>(alloc: Global, conn: &mut Connection<S>, shop: &Shop) -> Resu
     commit(conn)
 }
 
-/// The numbers of a shop that rows may have are below 2 to the 63, now and as last kept.
-pub(crate) fn numbers_are_small(shop: &Shop)
-    ensures now { HaveSmallNumbers (state_of shop.now) }
-    ensures kept { HaveSmallNumbers (kept_state shop.now) }
-{
-    let _limits = shop.counter().limits();
-    let _largest = shop.counter().largest();
-}
-
 /// Makes the tables those of the shop now, where they are those of the shop as it is kept.
 ///
-/// `Memory` where a growth was refused, after which nothing has changed. After `Store` no transaction is open, and a
-/// crash leaves the tables before or after.
+/// `Memory` where a growth was refused, after which nothing has changed. After `Store` a crash leaves the tables before or
+/// after.
 pub fn save<S: Alter>(
     alloc: Global,
     conn: &mut Connection<S>,
@@ -183,12 +168,13 @@ pub fn save<S: Alter>(
         → OnOk result (HoldsBooks (state_of shop.now) (state S.Store conn.new)) }
     ensures memory { HasCleanDisk (state S.Store conn.new) → result ≡ Err Memory
         → HoldsBooks (kept_state shop.now) (state S.Store conn.new) }
+    ensures free { HasCleanDisk (state S.Store conn.new)
+        → (state S.Store conn.new).in_transaction ≡ false }
     ensures fault { IfErr result IsOfMemoryOrStore }
     ensures crash { Survives (state S.Store conn.old) (state S.Store conn.new)
         (λ trees. TablesAre (state_of shop.now) trees) }
 {
-    rows_are_small();
-    numbers_are_small(shop);
+    may_follow(shop);
     match write(alloc, conn, shop) {
         Ok(()) => Ok(()),
         Err(TableFault::Memory) => {

@@ -11,7 +11,7 @@ use Rattle.desk_core.specs.Shops.{state_of}
 use Rattle.desk_store.specs.MetaColumns.{meta_columns, meta_from, meta_of, only}
 use Rattle.desk_store.specs.declared.meta.MetaRow.{MetaRow}
 use Rattle.desk_store.proofs.Kept.{small_meta}
-use Rattle.desk_store.proofs.Midway.{both_ok}
+use Rattle.desk_store.proofs.Midway.{both_ok, keeps_row, keeps_then}
 use Rattle.desk_store.proofs.Starting.{no_rows, started}
 use Rattle.desk_store.proofs.Suiting.{meta-suits}
 use Rattle.table_store.specs.Written.{IsTableOf, tree_of}
@@ -42,3 +42,11 @@ pub returns-clause-crash : goal.returns-clause-crash
 returns-clause-crash g c =
     survives_then (state g.S.Store c.args.conn.now) (state g.S.Store c.make_tables.new.conn) (state g.S.Store c.write_row.new.conn) (λ _. ⊥) (λ _. ⊥) (λ _. ⊥) (λ _ db h. h) (λ _ db h. h)
     c.make_tables.ensures.crash c.write_row.ensures.crash
+
+pub returns-clause-commit : goal.returns-clause-commit
+returns-clause-commit g c clean =
+    let d0 = state g.S.Store c.args.conn.now in
+    let d1 = state g.S.Store c.make_tables.new.conn in
+    let d2 = state g.S.Store c.write_row.new.conn in
+    let clean1 : HasCleanDisk d1 = omega (arith, clean, c.write_row.ensures.crash.clean) in
+    keeps_then d0 d1 d2 (c.make_tables.ensures.commit clean1) (keeps_row Meta d1 d2 c.write_row.result (c.write_row.ensures.set clean) (c.write_row.ensures.failed clean))

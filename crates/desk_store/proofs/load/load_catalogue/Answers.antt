@@ -6,3 +6,9 @@ load_rows-requires-clause-suits g c = category-suits
 
 pub load_rows-requires-2-clause-suits : goal.load_rows-requires-2-clause-suits
 load_rows-requires-2-clause-suits g c = part-suits
+
+pub load_rows-requires-clause-breaks : goal.load_rows-requires-clause-breaks
+load_rows-requires-clause-breaks g c trees none = none
+
+pub load_rows-requires-2-clause-breaks : goal.load_rows-requires-2-clause-breaks
+load_rows-requires-2-clause-breaks g c trees none = none

@@ -9,3 +9,12 @@ load_rows-requires-2-clause-suits g c = item-suits
 
 pub load_rows-requires-3-clause-suits : goal.load_rows-requires-3-clause-suits
 load_rows-requires-3-clause-suits g c = entry-suits
+
+pub load_rows-requires-clause-breaks : goal.load_rows-requires-clause-breaks
+load_rows-requires-clause-breaks g c trees none = none
+
+pub load_rows-requires-2-clause-breaks : goal.load_rows-requires-2-clause-breaks
+load_rows-requires-2-clause-breaks g c trees none = none
+
+pub load_rows-requires-3-clause-breaks : goal.load_rows-requires-3-clause-breaks
+load_rows-requires-3-clause-breaks g c trees none = none

@@ -1,25 +1,9 @@
 use Rattle.std.proofs.Common.{arith}
 use Rattle.sqlite.specs.Held.{state}
 use Rattle.sqlite.specs.State.{HasCleanDisk}
-use Rattle.desk_core.specs.Shops.{kept_state, state_of}
-use Rattle.desk_store.proofs.Kept.{small_meta}
+use Rattle.desk_core.specs.Shops.{kept_state}
 use Rattle.desk_store.proofs.Midway.{undone}
 use Rattle.desk_store.proofs.save.save.Goals as goal
-
-pub write-requires-clause-follows : goal.write-requires-clause-follows
-write-requires-clause-follows g c =
-    let old = kept_state c.args.shop.now in
-    let new = state_of c.args.shop.now in
-    let before = c.numbers_are_small.ensures.kept in
-    let after = c.numbers_are_small.ensures.now in
-    record {
-      before = c.requires.before;
-      after = c.requires.after;
-      stays = c.requires.stays;
-      small_before = c.rows_are_small.ensures old c.requires.before before.next before.max_entries;
-      small_after = c.rows_are_small.ensures new c.requires.after after.next after.max_entries;
-      counted = small_meta new c.requires.after after;
-    }
 
 pub returns-in_ok-rollback-in-Err-Memory-clause-memory : goal.returns-in_ok-rollback-in-Err-Memory-clause-memory
 returns-in_ok-rollback-in-Err-Memory-clause-memory g c clean same =
@@ -30,3 +14,9 @@ returns-in_ok-rollback-in-Err-Memory-clause-memory g c clean same =
     let clean0 : HasCleanDisk d0 = omega (arith, clean1, c.write.ensures.crash.clean) in
     undone (kept_state c.args.shop.now) d0 d1 d2 (λ db up may. g.met.S.Store.settled c.rollback.new.conn.store db up may) (c.requires.books clean0) (c.in-Err-Memory.ensures.commit clean1)
     (c.rollback.ensures.back clean) (c.in_ok-rollback-in-Err-Memory.ensures.open clean)
+
+pub returns-in_err-rollback-in-Err-Memory-clause-free : goal.returns-in_err-rollback-in-Err-Memory-clause-free
+returns-in_err-rollback-in-Err-Memory-clause-free g c clean = (c.rollback.ensures.back clean).autocommit
+
+pub returns-in_ok-rollback-in-Err-Memory-clause-free : goal.returns-in_ok-rollback-in-Err-Memory-clause-free
+returns-in_ok-rollback-in-Err-Memory-clause-free g c clean = (c.rollback.ensures.back clean).autocommit

@@ -1,33 +1,40 @@
-use Rattle.std.proofs.Common.{arith}
+use Rattle.std.proofs.Common.{refl, ◌+◌, sym, subst, arith}
 use Rattle.sqlite.specs.Held.{state}
 use Rattle.sqlite.specs.State.{HasCleanDisk}
 use Rattle.sqlite.proofs.StateLemmas.{survives_then}
-use Rattle.desk_store.proofs.Midway.{keeps_then}
+use Rattle.desk_core.specs.Shops.{kept_state, state_of}
+use Rattle.desk_store.specs.Saving.{IsUnderWay}
+use Rattle.desk_store.proofs.Midway.{goes_fault, keeps_then, survives_same}
 use Rattle.desk_store.proofs.save.write_tables.Goals as goal
 
-pub returns-in_err-write_bills-clause-commit : goal.returns-in_err-write_bills-clause-commit
-returns-in_err-write_bills-clause-commit g c clean =
-    let clean1 : HasCleanDisk (state g.S.Store c.write_catalogue.new.conn) = omega (arith, clean, c.write_bills.ensures.crash.clean) in
-    keeps_then (state g.S.Store c.args.conn.now) (state g.S.Store c.write_catalogue.new.conn) (state g.S.Store c.write_bills.new.conn) (c.write_catalogue.ensures.commit clean1) (c.write_bills.ensures.commit clean)
+pub loop-place-init : goal.loop-place-init
+loop-place-init g c =
+    let d = state g.S.Store c.args.conn.now in
+    record {
+      crash = survives_same d;
+      commit = λ clean. record { was_open = λ up. up; committed = λ up. refl };
+      under_way = c.requires.under_way;
+    }
 
-pub returns-in_err-write_bills-clause-crash : goal.returns-in_err-write_bills-clause-crash
-returns-in_err-write_bills-clause-crash g c = survives_then (state g.S.Store c.args.conn.now) (state g.S.Store c.write_catalogue.new.conn) (state g.S.Store c.write_bills.new.conn) (λ _. ⊥) (λ _. ⊥) (λ _. ⊥) (λ _ db h. h) (λ _ db h. h) (c.write_catalogue.ensures.crash) c.write_bills.ensures.crash
+pub write_table-requires-clause-under_way : goal.write_table-requires-clause-under_way
+write_table-requires-clause-under_way g c clean =
+    subst (λ n. IsUnderWay (kept_state c.args.shop.now) (state_of c.args.shop.now) n (state g.S.Store c.loop-place.conn)) (sym c.at.ensures) (c.loop-place.invariant.under_way clean)
 
-pub returns-in_err-write_yard-clause-commit : goal.returns-in_err-write_yard-clause-commit
-returns-in_err-write_yard-clause-commit g c clean =
-    let clean2 : HasCleanDisk (state g.S.Store c.write_bills.new.conn) = omega (arith, clean, c.write_yard.ensures.crash.clean) in
-    let clean1 : HasCleanDisk (state g.S.Store c.write_catalogue.new.conn) = omega (arith, clean2, c.write_bills.ensures.crash.clean) in
-    keeps_then (state g.S.Store c.args.conn.now) (state g.S.Store c.write_bills.new.conn) (state g.S.Store c.write_yard.new.conn) (keeps_then (state g.S.Store c.args.conn.now) (state g.S.Store c.write_catalogue.new.conn) (state g.S.Store c.write_bills.new.conn) (c.write_catalogue.ensures.commit clean1) (c.write_bills.ensures.commit clean2)) (c.write_yard.ensures.commit clean)
+pub loop-place-preserved : goal.loop-place-preserved
+loop-place-preserved g c =
+    let d = state g.S.Store c.args.conn.now in
+    let m = state g.S.Store c.loop-place.conn in
+    let e = state g.S.Store c.write_table.new.conn in
+    let went = c.in_ok-write_table.ensures in
+    record {
+      crash = survives_then d m e (λ _. ⊥) (λ _. ⊥) (λ _. ⊥) (λ _ db h. h) (λ _ db h. h) c.loop-place.invariant.crash went.crash;
+      commit = λ clean.
+          let before : HasCleanDisk m = omega (arith, clean, went.crash.clean) in
+          keeps_then d m e (c.loop-place.invariant.commit before) (went.commit clean);
+      under_way = λ clean. subst (λ n. IsUnderWay (kept_state c.args.shop.now) (state_of c.args.shop.now) (n + 1) e) c.at.ensures (went.under_way clean);
+    }
 
-pub returns-in_err-write_yard-clause-crash : goal.returns-in_err-write_yard-clause-crash
-returns-in_err-write_yard-clause-crash g c = survives_then (state g.S.Store c.args.conn.now) (state g.S.Store c.write_bills.new.conn) (state g.S.Store c.write_yard.new.conn) (λ _. ⊥) (λ _. ⊥) (λ _. ⊥) (λ _ db h. h) (λ _ db h. h) (survives_then (state g.S.Store c.args.conn.now) (state g.S.Store c.write_catalogue.new.conn) (state g.S.Store c.write_bills.new.conn) (λ _. ⊥) (λ _. ⊥) (λ _. ⊥) (λ _ db h. h) (λ _ db h. h) (c.write_catalogue.ensures.crash) c.write_bills.ensures.crash) c.write_yard.ensures.crash
-
-pub returns-clause-commit : goal.returns-clause-commit
-returns-clause-commit g c clean =
-    let clean3 : HasCleanDisk (state g.S.Store c.write_yard.new.conn) = omega (arith, clean, c.write_answers.ensures.crash.clean) in
-    let clean2 : HasCleanDisk (state g.S.Store c.write_bills.new.conn) = omega (arith, clean3, c.write_yard.ensures.crash.clean) in
-    let clean1 : HasCleanDisk (state g.S.Store c.write_catalogue.new.conn) = omega (arith, clean2, c.write_bills.ensures.crash.clean) in
-    keeps_then (state g.S.Store c.args.conn.now) (state g.S.Store c.write_yard.new.conn) (state g.S.Store c.write_answers.new.conn) (keeps_then (state g.S.Store c.args.conn.now) (state g.S.Store c.write_bills.new.conn) (state g.S.Store c.write_yard.new.conn) (keeps_then (state g.S.Store c.args.conn.now) (state g.S.Store c.write_catalogue.new.conn) (state g.S.Store c.write_bills.new.conn) (c.write_catalogue.ensures.commit clean1) (c.write_bills.ensures.commit clean2)) (c.write_yard.ensures.commit clean3)) (c.write_answers.ensures.commit clean)
-
-pub returns-clause-crash : goal.returns-clause-crash
-returns-clause-crash g c = survives_then (state g.S.Store c.args.conn.now) (state g.S.Store c.write_yard.new.conn) (state g.S.Store c.write_answers.new.conn) (λ _. ⊥) (λ _. ⊥) (λ _. ⊥) (λ _ db h. h) (λ _ db h. h) (survives_then (state g.S.Store c.args.conn.now) (state g.S.Store c.write_bills.new.conn) (state g.S.Store c.write_yard.new.conn) (λ _. ⊥) (λ _. ⊥) (λ _. ⊥) (λ _ db h. h) (λ _ db h. h) (survives_then (state g.S.Store c.args.conn.now) (state g.S.Store c.write_catalogue.new.conn) (state g.S.Store c.write_bills.new.conn) (λ _. ⊥) (λ _. ⊥) (λ _. ⊥) (λ _ db h. h) (λ _ db h. h) (c.write_catalogue.ensures.crash) c.write_bills.ensures.crash) c.write_yard.ensures.crash) c.write_answers.ensures.crash
+pub returns-in_err-write_table : goal.returns-in_err-write_table
+returns-in_err-write_table g c =
+    goes_fault (kept_state c.args.shop.now) (state_of c.args.shop.now) _ 13 (state g.S.Store c.args.conn.now) (state g.S.Store c.loop-place.conn) (state g.S.Store c.write_table.new.conn) c.from_residual.result c.in_err-write_table.field-0.0
+    c.from_residual.ensures.1 c.loop-place.invariant.crash c.loop-place.invariant.commit c.in_err-write_table.ensures

@@ -1,8 +1,11 @@
-use Rattle.std.proofs.Common.{◌≡◌, ◌+◌, ◌++◌, ◌∷◌, [], is_some, length, take, sym, ap, ◌∙◌, arith}
+use Rattle.std.proofs.Common.{◌≡◌, ◌+◌, ◌++◌, ◌∷◌, [], is_some, length, take, sym, ap, ◌∙◌, subst, arith}
 use Rattle.std.proofs.lemmas.Grind.{common_steps}
-use Rattle.std.proofs.lemmas.List.{take_more}
+use Rattle.std.proofs.lemmas.List.{take_all, take_more}
+use Rattle.desk_core.specs.Machine.{AreDrawn, answers_of, entries_in, entries_of, ids_of}
 use Rattle.desk_core.specs.Shops.{state_of}
-use Rattle.desk_store.proofs.Runs.{ClosesBy, closes_push, left_at, run_push}
+use Rattle.desk_core.proofs.Steps.{told_in}
+use Rattle.desk_store.specs.Outcomes.{answered, told}
+use Rattle.desk_store.proofs.Runs.{ClosesBy, closes_push, left_at, run_push, stopped_anew}
 use Rattle.desk_store.proofs.desk.Desk.run_list.Goals as goal
 
 pub loop-request-preserved : goal.loop-request-preserved
@@ -21,6 +24,8 @@ loop-request-preserved g c =
       desk = c.run-outcome.ensures.desk;
       ran = rw (c.push_reserved.ensures.items, more)
           (run_push (state_of c.args.self.now.shop) (take i requests) outcomes (state_of before.shop) request o (state_of after.shop) long c.loop-request.invariant.ran c.run-outcome.ensures.tells);
+      stopped = rw (c.push_reserved.ensures.items, more)
+          (stopped_anew (state_of before.shop) (state_of after.shop) (take i requests) outcomes request o (is_some c.args.self.now.failed) (is_some before.failed) (is_some after.failed) long c.loop-request.invariant.closes by c.run-outcome.ensures.tells c.loop-request.invariant.stopped);
       count = grind (arith, common_steps, c.push_reserved.ensures.items);
       room = grind (arith, common_steps);
       closes = rw c.push_reserved.ensures.items (closes_push (is_some c.args.self.now.failed) (is_some before.failed) (is_some after.failed) outcomes o c.loop-request.invariant.closes by);
@@ -28,3 +33,19 @@ loop-request-preserved g c =
           (left_at g.S.Store (take i requests) outcomes request o c.args.self.now.failed before after long c.loop-request.invariant.closes by c.loop-request.invariant.desk c.run-outcome.ensures.desk
           c.run-outcome.ensures.tells c.run-outcome.ensures.crash c.run-outcome.ensures.idle c.loop-request.invariant.left);
     }
+
+pub returns-clause-drawn : goal.returns-clause-drawn
+returns-clause-drawn g c =
+    let old = state_of c.args.self.now.shop in
+    let outcomes = c.loop-request.outcomes.items in
+    let all : take c.loop-request.request-index c.args.requests.now ≡ c.args.requests.now = take_all c.loop-request.request-index c.args.requests.now (omega arith) in
+    subst (λ rs. AreDrawn old.counter.next (ids_of (answers_of old (answered rs outcomes))) (state_of c.loop-request.self.shop).counter.next) all
+    (told_in old c.requires.sound (answered (take c.loop-request.request-index c.args.requests.now) outcomes) (state_of c.loop-request.self.shop) (told outcomes) c.loop-request.invariant.ran).drawn
+
+pub returns-clause-written : goal.returns-clause-written
+returns-clause-written g c =
+    let old = state_of c.args.self.now.shop in
+    let outcomes = c.loop-request.outcomes.items in
+    let all : take c.loop-request.request-index c.args.requests.now ≡ c.args.requests.now = take_all c.loop-request.request-index c.args.requests.now (omega arith) in
+    subst (λ rs. entries_in (state_of c.loop-request.self.shop) ≡ entries_in old + entries_of (answers_of old (answered rs outcomes))) all
+    (told_in old c.requires.sound (answered (take c.loop-request.request-index c.args.requests.now) outcomes) (state_of c.loop-request.self.shop) (told outcomes) c.loop-request.invariant.ran).written

@@ -1,8 +1,9 @@
+use Rattle.std.specs.Prelude.{IfSome}
 use Rattle.std.proofs.Common.{◌≡◌, ◌≤◌, None, is_some, length, take, vec_capacity}
 use Rattle.sqlite.specs.Held.{state}
 use Rattle.sqlite.specs.State.{HasCleanDisk}
 use Rattle.sqlite.specs.Tree.{Trees}
-use Rattle.desk_core.specs.Machine.{run}
+use Rattle.desk_core.specs.Machine.{IsAnew, run}
 use Rattle.desk_core.specs.Shops.{state_of}
 use Rattle.desk_store.specs.Desks.{IsDesk}
 use Rattle.desk_store.specs.Outcomes.{AreLeft, Closes, answered, stopped_at, told}
@@ -15,6 +16,7 @@ invariant-loop-request g l =
     record {
       desk : IsDesk g.S.Store l.self;
       ran : run (state_of l.fn.self.shop) (answered requests outcomes) ≡ (state_of l.self.shop, told outcomes);
+      stopped : IfSome (stopped_at requests outcomes) (IsAnew (state_of l.self.shop));
       count : length outcomes ≡ l.request-index;
       room : length l.requests ≤ vec_capacity l.outcomes;
       closes : Closes (is_some l.fn.self.failed) outcomes (is_some l.self.failed);

@@ -1,0 +1,18 @@
+use Rattle.desk_core.specs.Shops.{kept_state, state_of}
+use Rattle.desk_store.proofs.Kept.{small_meta}
+use Rattle.desk_store.proofs.laws.may_follow.Goals as goal
+
+pub returns : goal.returns
+returns c =
+    let old = kept_state c.args.shop.now in
+    let new = state_of c.args.shop.now in
+    let before = c.numbers_are_small.ensures.kept in
+    let after = c.numbers_are_small.ensures.now in
+    record {
+      before = c.requires.before;
+      after = c.requires.after;
+      stays = c.requires.stays;
+      small_before = c.rows_are_small.ensures old c.requires.before before.next before.max_entries;
+      small_after = c.rows_are_small.ensures new c.requires.after after.next after.max_entries;
+      counted = small_meta new c.requires.after after;
+    }
