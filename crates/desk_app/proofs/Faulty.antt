@@ -6,9 +6,9 @@ use Rattle.std.proofs.lemmas.Slice.Eq.{bytes_eq-Decides}
 use Rattle.clap.specs.Words.{kind_of, Kinds, IsAmong, HasKind, fault_of, is_simple, is_simple_and_free, Text}
 use Rattle.clap.specs.declared.error.Error.{Error}
 use Rattle.clap.specs.declared.error.kind.ErrorKind.{ErrorKind}
-use Rattle.clap.specs.declared.error.kind.ErrorKind.TheVariants.{DisplayHelp, OutOfMemory}
+use Rattle.clap.specs.declared.error.kind.ErrorKind.TheVariants.{DisplayHelp, DisplayVersion, OutOfMemory}
 use Rattle.clap.proofs.OnLiterals.{clap_on_literals}
-use Rattle.desk_app.specs.Words.{asks_run, asks_help, faults, command_line, Places, run, wish}
+use Rattle.desk_app.specs.Words.{asks_run, asks_help, asks_version, IsShown, faults, command_line, Places, run, wish}
 
 nothing_more : (places : Places) (name : Text) → faults places (name ∷ []) ≡ []
 unfolding faults clap_on_literals
@@ -25,6 +25,14 @@ long_help places name = refl
 short_help : (places : Places) (name : Text) → faults places (name ∷ codes "-h" ∷ []) ≡ DisplayHelp ∷ []
 unfolding faults clap_on_literals
 short_help places name = refl
+
+long_version : (places : Places) (name : Text) → faults places (name ∷ codes "--version" ∷ []) ≡ DisplayVersion ∷ []
+unfolding faults clap_on_literals
+long_version places name = refl
+
+short_version : (places : Places) (name : Text) → faults places (name ∷ codes "-V" ∷ []) ≡ DisplayVersion ∷ []
+unfolding faults clap_on_literals
+short_version places name = refl
 
 nothing_wished : (places : Places) (name : Text) → wish places (name ∷ []) ≡ Some (run None)
 unfolding wish clap_on_literals
@@ -74,6 +82,20 @@ help_is_found places (name ∷ []) h = absurd (cc)
 help_is_found places (name ∷ word ∷ []) h = help_word places name word _ _ refl refl h
 help_is_found places (name ∷ word ∷ more ∷ words) h = absurd (cc)
 
+version_word : (places : Places) (name word : Text) (long short : Bool) → bytes_eq word (codes "--version") ≡ long → bytes_eq word (codes "-V") ≡ short → (long || short) ≡ true
+    → faults places (name ∷ word ∷ []) ≡ DisplayVersion ∷ []
+version_word places name word true short e f h =
+    subst (λ (w : List ℕ). faults places (name ∷ w ∷ []) ≡ DisplayVersion ∷ []) (sym ((bytes_eq-Decides word (codes "--version")).0 e)) (long_version places name)
+version_word places name word false true e f h =
+    subst (λ (w : List ℕ). faults places (name ∷ w ∷ []) ≡ DisplayVersion ∷ []) (sym ((bytes_eq-Decides word (codes "-V")).0 f)) (short_version places name)
+version_word places name word false false e f h = absurd (cc)
+
+pub version_is_found : (places : Places) (words : List Text) → asks_version words ≡ true → faults places words ≡ DisplayVersion ∷ []
+version_is_found places [] h = absurd (cc)
+version_is_found places (name ∷ []) h = absurd (cc)
+version_is_found places (name ∷ word ∷ []) h = version_word places name word _ _ refl refl h
+version_is_found places (name ∷ word ∷ more ∷ words) h = absurd (cc)
+
 found_alone : (k l : ErrorKind) (kinds : Kinds) → kinds ≡ l ∷ [] → IsAmong k kinds → k ≡ l
 found_alone k l kinds e h = elim (subst (IsAmong k) e h) [
   | inl same ↦ same
@@ -85,8 +107,9 @@ pub found : (kinds : Kinds) (e : Error) → HasKind kinds e → (kind_of e ≢ O
 found kinds e (inl memory) q = absurd (q memory)
 found kinds e (inr among) q = among
 
-pub help_remembers : (k : ErrorKind) → DisplayHelp ≡ k → k ≢ OutOfMemory
-help_remembers k e h = absurd (cc)
+pub shown_remembers : (k : ErrorKind) → IsShown k → k ≢ OutOfMemory
+shown_remembers k (inl help) h = absurd (cc)
+shown_remembers k (inr version) h = absurd (cc)
 
 pub nothing_among : (k : ErrorKind) (kinds : Kinds) → kinds ≡ [] → IsAmong k kinds → ⊥
 nothing_among k kinds e h = subst (IsAmong k) e h
@@ -94,8 +117,15 @@ nothing_among k kinds e h = subst (IsAmong k) e h
 pub no_run : (places : Places) (words : List Text) (k : ErrorKind) → IsAmong k (faults places words) → asks_run words ≡ true → ⊥
 no_run places words k h a = nothing_among k (faults places words) (run_is_free places words a) h
 
-pub no_help : (places : Places) (words : List Text) (k : ErrorKind) → IsAmong k (faults places words) → (k ≢ DisplayHelp) → asks_help words ≡ true → ⊥
-no_help places words k h q a = q (found_alone k DisplayHelp (faults places words) (help_is_found places words a) h)
+-- what is found where help or the version is asked for, alone
+pub is_help : (places : Places) (words : List Text) (k : ErrorKind) → IsAmong k (faults places words) → asks_help words ≡ true → k ≡ DisplayHelp
+is_help places words k h a = found_alone k DisplayHelp (faults places words) (help_is_found places words a) h
+
+pub is_version : (places : Places) (words : List Text) (k : ErrorKind) → IsAmong k (faults places words) → asks_version words ≡ true → k ≡ DisplayVersion
+is_version places words k h a = found_alone k DisplayVersion (faults places words) (version_is_found places words a) h
 
 pub not_free : (places : Places) (words : List Text) → faults places words ≡ [] → asks_help words ≡ true → ⊥
 not_free places words h a = let e : [] ≡ DisplayHelp ∷ [] = sym h ∙ help_is_found places words a in absurd (cc)
+
+pub versions_not_free : (places : Places) (words : List Text) → faults places words ≡ [] → asks_version words ≡ true → ⊥
+versions_not_free places words h a = let e : [] ≡ DisplayVersion ∷ [] = sym h ∙ version_is_found places words a in absurd (cc)

@@ -8,3 +8,6 @@ pub mod Numbers
 pub mod Parsed
 pub mod RunOn
 pub mod Told
+pub mod Closing
+pub mod Taking
+pub mod Leaving

@@ -188,7 +188,7 @@ left_next (Some xs) (Some ys) (Some zs) w w' s s' s'' n f line trees (done, e, a
       tables = subst (λ v. TablesAre v trees) after h;
     })
 
--- a desk that stays open leaves the tables that it shows; one that the database closed, also those after the line
+-- books that stay open leave the tables of their state; those that the database closed, also the ones after the line
 pub left_cut : {F : Type 0} (stop : Stop) (o r r' w w' w'' : Option (List ℕ)) (s s' s'' : State) (n : ℕ) (f : Bool) (line : List ℕ) (trees : Trees) (old new : Option F)
     → Running o r w w' s s' n f → TakesLine r true line r' → CutShort stop w' w'' s' s'' n line → StaysOpen {F = F} {X = Bool} old new (Err stop) → old ≡ None
     → (new ≡ None → TablesAre s'' trees) → IsLeftAt s'' n line trees → IsLeft o s s'' trees
@@ -208,11 +208,11 @@ Keeps-refl : (w : Option (List ℕ)) → Keeps w w
 Keeps-refl None = tt
 Keeps-refl (Some x) = refl
 
-pub cut_by_desk : (stop : Stop) (w : Option (List ℕ)) (s s' : State) (n : ℕ) (line : List ℕ) → CutLine stop s s' n line → CutShort stop w w s s' n line
-cut_by_desk ReadFailed w s s' n line h = absurd h
-cut_by_desk WriteFailed w s s' n line h = absurd h
-cut_by_desk Memory w s s' n line h = (h, Keeps-refl w)
-cut_by_desk Store w s s' n line h = (h, Keeps-refl w)
+pub cut_by_books : (stop : Stop) (w : Option (List ℕ)) (s s' : State) (n : ℕ) (line : List ℕ) → CutLine stop s s' n line → CutShort stop w w s s' n line
+cut_by_books ReadFailed w s s' n line h = absurd h
+cut_by_books WriteFailed w s s' n line h = absurd h
+cut_by_books Memory w s s' n line h = (h, Keeps-refl w)
+cut_by_books Store w s s' n line h = (h, Keeps-refl w)
 
 pub stopped_start : (stop : Stop) (o w : Option (List ℕ)) (s : State) → stop ≡ Memory → Stopped stop o w w s s
 stopped_start stop None w s h = tt

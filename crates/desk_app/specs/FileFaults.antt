@@ -1,19 +1,73 @@
 -- Why the file has no desk.
-use Rattle.std.specs.Prelude.{codes, ℕ, List, Option, None, Some}
-use Rattle.desk_store.specs.Opening.{open_fault_text}
+use Rattle.std.specs.Prelude.{◌≡◌, ◌≢◌, codes, ◌++◌, ℕ, List, Option, None, Some, option_map}
+use Rattle.sqlite.specs.State.{State}
+use Rattle.sqlite.specs.declared.error.Error.{Error}
+use Rattle.sqlite.specs.declared.error.Error.TheVariants.{SqliteFailure}
+use Rattle.sqlite.specs.declared.error.ErrorCode.TheVariants as code
+use Rattle.sqlite.specs.Tree.{Trees}
+use Rattle.desk_core.specs.Machine as machine
+use Rattle.desk_store.specs.Books.{TablesAre}
+use Rattle.table_store.specs.Schema.{desk_schema, schema_up_to}
+use Rattle.desk_store.specs.Opening.{open_fault_text, WhyNot}
 use Rattle.desk_store.specs.declared.fault.OpenFault.{OpenFault}
 use Rattle.desk_store.specs.declared.fault.OpenFault.TheVariants as open_fault
 use Rattle.desk_app.specs.declared.database.FileFault.{FileFault}
-use Rattle.desk_app.specs.declared.database.FileFault.TheVariants.{Memory, Device, Database, Desk}
+use Rattle.desk_app.specs.declared.database.FileFault.TheVariants.{Memory, NoFile, NoFolder, NotAllowed, Device, InUse, NoDatabase, Database, OtherTables, OtherVersion, Desk}
+use Rattle.desk_app.specs.declared.database.Refused.{Refused}
+use Rattle.desk_app.specs.Empty.{IsEmpty}
 
--- a fault of the desk, as one of the file: want of memory is told alike
+-- the database has nothing in it: no table, no index and no view
+abbrev pub IsBare : State → Type 0
+IsBare d = d.now.schema ≡ schema_up_to 0
+
+-- a fault of the desk, as one of the file: want of memory is told alike, and tables that are a desk's and Foreign are of
+-- another version
 abbrev pub file_fault_of : OpenFault → FileFault
 file_fault_of open_fault.Memory = Memory
+file_fault_of open_fault.Foreign = OtherVersion
 file_fault_of fault = Desk fault
+
+-- what an open of the database answers, as a fault of the file
+abbrev pub file_fault_at : Error → FileFault
+file_fault_at (SqliteFailure code.OutOfMemory) = Memory
+file_fault_at (SqliteFailure code.DatabaseBusy) = InUse
+file_fault_at (SqliteFailure code.NotADatabase) = NoDatabase
+file_fault_at (SqliteFailure code.DatabaseCorrupt) = NoDatabase
+file_fault_at error = Database error
+
+-- a fault that the making of a desk may end with
+abbrev pub IsOfMaking : FileFault → Type 0
+IsOfMaking Memory = Unit {0}
+IsOfMaking (Desk (open_fault.Store failed)) = Unit {0}
+IsOfMaking _ = ⊥
+
+-- what a crash leaves beside the database as it was: a new desk's tables, where the database failed
+abbrev pub MayBeNew : Trees → FileFault → Type 0
+MayBeNew trees (Desk (open_fault.Store failed)) = (s : machine.State) × IsEmpty s × TablesAre s trees
+MayBeNew trees _ = ⊥
+
+-- what it tells of a database that isn't bare and has no desk
+abbrev pub TellsWhy : State → FileFault → Type 0
+TellsWhy d Memory = Unit {0}
+TellsWhy d OtherTables = d.now.schema ≢ desk_schema
+TellsWhy d OtherVersion = (d.now.schema ≡ desk_schema) × WhyNot d.committed.trees open_fault.Foreign
+TellsWhy d (Desk fault) = (d.now.schema ≡ desk_schema) × WhyNot d.committed.trees fault
+TellsWhy d _ = ⊥
 
 -- a fault as text; of what a device or the database answers their libraries state none
 abbrev pub file_fault_text : FileFault → Option (List ℕ)
 file_fault_text Memory = Some (codes "no memory for the desk")
+file_fault_text NoFile = Some (codes "it is no file, but a folder or a device")
+file_fault_text NoFolder = Some (codes "its folder isn't there")
+file_fault_text NotAllowed = Some (codes "the file or its folder may not be read and written")
 file_fault_text (Device error) = None
+file_fault_text InUse = Some (codes "another program has it open")
+file_fault_text NoDatabase = Some (codes "it is no database, or a damaged one")
 file_fault_text (Database error) = None
+file_fault_text OtherTables = Some (codes "it is a database, and no workshop's")
+file_fault_text OtherVersion = Some (codes "it is a workshop's of another version")
 file_fault_text (Desk fault) = open_fault_text fault
+
+-- the path, and then why
+abbrev pub refused_text : Refused → Option (List ℕ)
+refused_text refused = option_map (λ text. refused.path.now ++ (codes ": " ++ text)) (file_fault_text refused.fault)

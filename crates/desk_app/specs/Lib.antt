@@ -4,4 +4,6 @@ pub mod Runs
 pub mod Printed
 pub mod Words
 pub mod Statuses
+pub mod Empty
 pub mod FileFaults
+pub mod Closed

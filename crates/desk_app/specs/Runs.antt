@@ -102,7 +102,7 @@ Finished None w w' s s' all = Unit {0}
 Finished (Some text) w w' s s' all = RunWhole text w w' s s' all
 
 -- the first of these lines were run, and their answers written whole; the others were not run. So it is where no line
--- came, and where the desk kept none.
+-- came, and where the books kept none.
 pub record StoppedBetween (lines : List (List ℕ)) (w w' : Option (List ℕ)) (s s' : State) : Type 0 where
   pub done : List (List ℕ)
   pub rest : List (List ℕ)
@@ -150,7 +150,7 @@ pub record CutWriting (w w' : Option (List ℕ)) (s s' : State) (number : ℕ) (
   pub answer : line_out s number line ≡ front ++ more
   pub written : Appends w w' front
 
--- a request that the desk did not answer, or whose answer was not told: it was run or not, for want of memory; where the
+-- a request that the books did not answer, or whose answer was not told: it was run or not, for want of memory; where the
 -- database failed it was not
 abbrev pub CutRequest : Stop → State → State → Req → Type 0
 CutRequest Memory s s' r = (s' ≡ s) ⊎ (s' ≡ (step s r).0)
@@ -164,10 +164,10 @@ CutLine Store s s' number line = s' ≡ s
 CutLine _ s s' number line = ⊥
 
 -- neither the reader nor the writer stops it
-abbrev pub IsOfDesk : Stop → Type 0
-IsOfDesk Memory = Unit {0}
-IsOfDesk Store = Unit {0}
-IsOfDesk _ = ⊥
+abbrev pub IsOfBooks : Stop → Type 0
+IsOfBooks Memory = Unit {0}
+IsOfBooks Store = Unit {0}
+IsOfBooks _ = ⊥
 
 -- it is the reader that stops it, or want of memory
 abbrev pub IsOfReading : Stop → Type 0
@@ -175,7 +175,7 @@ IsOfReading ReadFailed = Unit {0}
 IsOfReading Memory = Unit {0}
 IsOfReading _ = ⊥
 
--- a desk that wasn't closed isn't, unless the database failed; where it failed, the desk is closed
+-- books that weren't closed aren't, unless the database failed; where it failed, they are closed
 abbrev pub StaysOpen : {F X : Type 0} → Option F → Option F → Result X Stop → Type 0
 StaysOpen old new (Ok x) = old ≡ None → new ≡ None
 StaysOpen old new (Err ReadFailed) = old ≡ None → new ≡ None
@@ -204,7 +204,7 @@ pub record HasNext (lines : List (List ℕ)) (s s' : State) (trees : Trees) : Ty
   pub state : s' ≡ run_after s 1 done
   pub tables : TablesAre (run_after s 1 (done ++ next ∷ [])) trees
 
--- what a crash leaves of a desk that a run over these bytes left in this state: its tables or, where the database failed,
+-- what a crash leaves of books that a run over these bytes left in this state: its tables or, where the database failed,
 -- those after the line that came next; of unknown bytes, after some line
 abbrev pub IsLeft : Option (List ℕ) → State → State → Trees → Type 0
 IsLeft None s s' trees = TablesAre s' trees ⊎ ((number : ℕ) × (line : List ℕ) × TablesAre (line_after s' number line) trees)

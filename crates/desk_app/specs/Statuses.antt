@@ -19,9 +19,7 @@ status_of Store = 3
 -- where there is no desk
 abbrev pub status_of_fault : FileFault → ℕ
 status_of_fault file.Memory = 4
-status_of_fault (file.Device error) = 3
-status_of_fault (file.Database error) = 3
-status_of_fault (file.Desk fault) = 3
+status_of_fault _ = 3
 
 -- at once, unless the words ask for a desk
 abbrev pub early_status : Asked → Option ℕ

@@ -11,7 +11,8 @@ use Rattle.clap.specs.Walk.{texts}
 use Rattle.clap.specs.declared.builder.action.ArgAction.TheVariants.{Set}
 use Rattle.clap.specs.declared.builder.value_parser.ValueParser.TheVariants.{Names}
 use Rattle.clap.specs.declared.error.Error.{Error}
-use Rattle.clap.specs.declared.error.kind.ErrorKind.TheVariants.{DisplayHelp, OutOfMemory, ValueValidation}
+use Rattle.clap.specs.declared.error.kind.ErrorKind.TheVariants.{DisplayHelp, DisplayVersion, OutOfMemory, ValueValidation}
+use Rattle.clap.specs.declared.error.kind.ErrorKind.{ErrorKind}
 use Rattle.clap.specs.declared.parser.matches.ArgMatches.{ArgMatches}
 use Rattle.report_core.specs.Names.{report_named}
 use Rattle.report_core.specs.declared.name.ReportName.{ReportName}
@@ -33,6 +34,13 @@ asks_help [] = false
 asks_help (name ∷ []) = false
 asks_help (name ∷ word ∷ []) = bytes_eq word (codes "--help") || bytes_eq word (codes "-h")
 asks_help (name ∷ word ∷ more ∷ words) = false
+
+-- one word more, which is a flag of the version
+abbrev pub asks_version : List (List ℕ) → Bool
+asks_version [] = false
+asks_version (name ∷ []) = false
+asks_version (name ∷ word ∷ []) = bytes_eq word (codes "--version") || bytes_eq word (codes "-V")
+asks_version (name ∷ word ∷ more ∷ words) = false
 
 -- `run --db=FILE`
 abbrev pub run_on : Text → Text → List Text
@@ -93,9 +101,9 @@ export_line names =
     with_rule (with_rule (new_app (codes "export")) (needed file_rule)) (among names.at (word_rule (codes "table")))
 
 abbrev pub top_line : App
-top_line = on_top (λ shape. record shape { disable_help_subcommand = true }) (new_app (codes "invdesk"))
+top_line = on_top (λ shape. record shape { disable_help_subcommand = true; has_version = true }) (new_app (codes "invdesk"))
 
--- the program's command line, as `clap` sees it: three subcommands, and none of help
+-- the program's command line, as `clap` sees it: it has a version, and three subcommands, none of them of help
 abbrev pub command_line : Places → App
 command_line places =
     with_subcommand (with_subcommand (with_subcommand top_line run_line.top) (report_line places.reports).top)
@@ -110,7 +118,7 @@ IsExportLine app = (names : Listing table_names) × (app ≡ export_line names)
 abbrev pub IsCommandLine : App → Type 0
 IsCommandLine app = (places : Places) × (app ≡ command_line places)
 
--- what `clap` finds wrong, or finds that help is asked for
+-- what `clap` finds wrong, or finds that help or the version is asked for
 unfoldable pub faults : Places → List Text → Kinds
 faults places words = fault_of (command_line places) words
 
@@ -221,14 +229,18 @@ pub record Parses (words : List Text) (r : Result ArgMatches Error) : Type 0 whe
   pub fails : FailsBy (faults places words) r
   pub wish : IfOk r (λ m. wish_met (subcommand_rows_of m) ≡ wish places words)
 
+-- help, or the version: what is printed because it is asked for
+abbrev pub IsShown : ErrorKind → Type 0
+IsShown kind = (kind ≡ DisplayHelp) ⊎ (kind ≡ DisplayVersion)
+
 abbrev pub AnswersAt : Places → List Text → Asked → Type 0
 AnswersAt places words (Run file) = (faults places words ≡ []) × (wish places words ≡ wish_of (Run file))
 AnswersAt places words (Report file name number) =
     (faults places words ≡ []) × (wish places words ≡ wish_of (Report file name number))
 AnswersAt places words (Export file table) = (faults places words ≡ []) × (wish places words ≡ wish_of (Export file table))
-AnswersAt places words (Help e) = (kind_of e ≡ DisplayHelp) × IsAmong DisplayHelp (faults places words)
+AnswersAt places words (Help e) = IsShown (kind_of e) × IsAmong (kind_of e) (faults places words)
 AnswersAt places words (Wrong e) =
-    ((kind_of e ≢ DisplayHelp) × (kind_of e ≢ OutOfMemory) × IsAmong (kind_of e) (faults places words))
+    ((¬ IsShown (kind_of e)) × (kind_of e ≢ OutOfMemory) × IsAmong (kind_of e) (faults places words))
     ⊎ ((faults places words ≡ []) × (wish places words ≡ None) × (kind_of e ≡ ValueValidation))
 AnswersAt places words Unreadable = ⊥
 AnswersAt places words Memory = Unit {0}
@@ -257,11 +269,12 @@ RunsOn path (Wrong e) = ⊥
 RunsOn path Unreadable = ⊥
 RunsOn path Memory = Unit {0}
 
-abbrev pub Helps : Asked → Type 0
-Helps (Run file) = ⊥
-Helps (Report file name number) = ⊥
-Helps (Export file table) = ⊥
-Helps (Help e) = Unit {0}
-Helps (Wrong e) = ⊥
-Helps Unreadable = ⊥
-Helps Memory = Unit {0}
+-- help or the version, by its kind, unless memory ran out
+abbrev pub HelpsBy : ErrorKind → Asked → Type 0
+HelpsBy kind (Run file) = ⊥
+HelpsBy kind (Report file name number) = ⊥
+HelpsBy kind (Export file table) = ⊥
+HelpsBy kind (Help e) = kind_of e ≡ kind
+HelpsBy kind (Wrong e) = ⊥
+HelpsBy kind Unreadable = ⊥
+HelpsBy kind Memory = Unit {0}

@@ -1,21 +1,36 @@
-//! The file that keeps a workshop.
+//! The file that keeps a workshop, and why it has no desk.
 ghost use Rattle.std.specs.Prelude.{◌≡◌, false, IfOk};
 
 use desk_store::OpenFault;
 use sqlite::{Connection, Error, ErrorCode, File, FileStore};
 use std::alloc::AllocError;
+use std::fs::OpenOptions;
 use std::{fmt, fs, io};
 
-/// Why there is no desk. As text it is one line, for a person.
+/// Why there is no desk. As text it is the reason alone, for a person.
 #[derive(Debug, Drop)]
 pub enum FileFault {
     /// A growth was refused.
     Memory,
+    /// The path is a folder's, or another's that is no file.
+    NoFile,
+    /// The folder of the path isn't there.
+    NoFolder,
+    /// The file, its log or its folder may not be read or written.
+    NotAllowed,
     /// The file can't be looked at.
     Device(io::Error),
-    /// The file is no database, or can't be opened as one.
+    /// Another program has the file open.
+    InUse,
+    /// The file is no database, or a database that is damaged.
+    NoDatabase,
+    /// The database can't be opened.
     Database(Error),
-    /// The database has no desk.
+    /// The database has other tables than a desk's.
+    OtherTables,
+    /// The tables are those of another version.
+    OtherVersion,
+    /// The database has no desk: it failed, or its rows are damaged.
     Desk(OpenFault),
 }
 
@@ -37,7 +52,41 @@ impl From<OpenFault> for FileFault {
     fn from(fault: OpenFault) -> Self {
         match fault {
             OpenFault::Memory => FileFault::Memory,
+            OpenFault::Foreign => FileFault::OtherVersion,
             fault => FileFault::Desk(fault),
+        }
+    }
+}
+
+impl From<Error> for FileFault {
+    ghost use Rattle.desk_app.specs.FileFaults.{file_fault_at};
+
+    ghost from_gives = { λ from fault. fault ≡ file_fault_at from };
+
+    fn from(error: Error) -> Self {
+        match error {
+            Error::SqliteFailure(ErrorCode::OutOfMemory) => FileFault::Memory,
+            Error::SqliteFailure(ErrorCode::DatabaseBusy) => FileFault::InUse,
+            Error::SqliteFailure(ErrorCode::NotADatabase | ErrorCode::DatabaseCorrupt) => {
+                FileFault::NoDatabase
+            }
+            error => FileFault::Database(error),
+        }
+    }
+}
+
+impl From<io::Error> for FileFault {
+    ghost from_gives = { λ _ _. Unit {0} };
+
+    fn from(error: io::Error) -> Self {
+        match error.kind() {
+            io::ErrorKind::OutOfMemory => FileFault::Memory,
+            io::ErrorKind::IsADirectory => FileFault::NoFile,
+            io::ErrorKind::NotFound | io::ErrorKind::NotADirectory => FileFault::NoFolder,
+            io::ErrorKind::PermissionDenied | io::ErrorKind::ReadOnlyFilesystem => {
+                FileFault::NotAllowed
+            }
+            _ => FileFault::Device(error),
         }
     }
 }
@@ -50,36 +99,73 @@ impl fmt::Display for FileFault {
     fn fmt<W: fmt::Write>(&self, f: &mut fmt::Formatter<W>) -> fmt::Result {
         match self {
             FileFault::Memory => f.write_str("no memory for the desk"),
-            FileFault::Device(error) => write!(f, "the file: {error}"),
+            FileFault::NoFile => f.write_str("it is no file, but a folder or a device"),
+            FileFault::NoFolder => f.write_str("its folder isn't there"),
+            FileFault::NotAllowed => {
+                f.write_str("the file or its folder may not be read and written")
+            }
+            FileFault::Device(error) => write!(f, "{error}"),
+            FileFault::InUse => f.write_str("another program has it open"),
+            FileFault::NoDatabase => f.write_str("it is no database, or a damaged one"),
             FileFault::Database(error) => write!(f, "the database answered: {error}"),
+            FileFault::OtherTables => f.write_str("it is a database, and no workshop's"),
+            FileFault::OtherVersion => f.write_str("it is a workshop's of another version"),
             FileFault::Desk(fault) => write!(f, "{fault}"),
         }
     }
 }
 
-/// Whether there is no file of that path, or one without a byte.
-fn is_new(rt: &HostRuntime, path: &str) -> Result<bool, FileFault> {
-    match fs::metadata(rt, path) {
-        Ok(file) => Ok(file.len() == 0),
-        Err(error) => match error.kind() {
-            io::ErrorKind::NotFound => Ok(true),
-            io::ErrorKind::OutOfMemory => Err(FileFault::Memory),
-            _ => Err(FileFault::Device(error)),
-        },
+/// A file without a desk, and why. As text it is one line, for a person.
+#[derive(Debug, Drop)]
+pub struct Refused<'a> {
+    pub path: &'a str,
+    pub fault: FileFault,
+}
+
+impl fmt::Display for Refused<'_> {
+    ghost use Rattle.desk_app.specs.FileFaults.{refused_text};
+
+    ghost output = { refused_text };
+
+    fn fmt<W: fmt::Write>(&self, f: &mut fmt::Formatter<W>) -> fmt::Result {
+        let (path, fault) = (self.path, &self.fault);
+        write!(f, "{path}: {fault}")
     }
 }
 
-/// Opens the file, which is made where there is none, and whether it is new.
-pub fn connect(
-    rt: &HostRuntime,
-    path: &str,
-) -> Result<(Connection<FileStore<File>>, bool), FileFault>
-    ensures { IfOk result (λ found. found.0.in_transaction ≡ false) }
+/// Opens a file to be read and written, as a database is, and makes it where it isn't there.
+fn may_be_opened(rt: &HostRuntime, path: &str) -> io::Result<()> {
+    OpenOptions::new()
+        .read(true)
+        .write(true)
+        .create(true)
+        .open(rt, path)?;
+    Ok(())
+}
+
+/// Why the file can't be opened, as the system tells it, if it does.
+fn look_at(rt: &HostRuntime, path: &str) -> Result<(), FileFault> {
+    if let Ok(found) = fs::metadata(rt, path)
+        && !found.is_file()
+    {
+        return Err(FileFault::NoFile);
+    }
+    may_be_opened(rt, path)?;
+    let log = format!(in rt.alloc(); "{path}-wal")?;
+    may_be_opened(rt, log.as_str())?;
+    Ok(())
+}
+
+/// Opens the file, which is made where there is none.
+pub fn connect(rt: &HostRuntime, path: &str) -> Result<Connection<FileStore<File>>, FileFault>
+    ensures { IfOk result (λ conn. conn.in_transaction ≡ false) }
 {
-    let is_new = is_new(rt, path)?;
     match Connection::open(rt, path) {
-        Ok(conn) => Ok((conn, is_new)),
-        Err(Error::SqliteFailure(ErrorCode::OutOfMemory)) => Err(FileFault::Memory),
-        Err(error) => Err(FileFault::Database(error)),
+        Ok(conn) => Ok(conn),
+        Err(Error::SqliteFailure(ErrorCode::CannotOpen)) => {
+            look_at(rt, path)?;
+            Err(FileFault::Database(Error::SqliteFailure(ErrorCode::CannotOpen)))
+        }
+        Err(error) => Err(FileFault::from(error)),
     }
 }

@@ -1,55 +1,118 @@
 //! A desk in a database, and what is printed of it.
-ghost use Rattle.std.specs.Prelude.{◌≡◌, ◌↔◌, ◌⊎◌, Bool, false, true, None, IfOk, IfErr, IsSome};
+ghost use Rattle.std.specs.Prelude.{◌≡◌, ◌≢◌, ◌↔◌, ◌⊎◌, Bool, false, true, None, IfOk, IfErr, IsSome, IsTrue};
 ghost use Rattle.std.specs.Io.KnownBytes.{Appends, Keeps};
 ghost use Rattle.std.specs.String.{string_bytes};
 ghost use Rattle.sqlite.specs.Held.{state};
 ghost use Rattle.sqlite.specs.State.{HasCleanDisk};
-ghost use Rattle.desk_core.specs.Machine.{IsSoundState, start};
+ghost use Rattle.sqlite.specs.Tree.{Trees};
+ghost use Rattle.sqlite_trees.specs.View.{IsClean};
+ghost use Rattle.desk_core.specs.Machine.{IsSoundState, State};
 ghost use Rattle.desk_core.specs.Shops.{state_of};
 ghost use Rattle.desk_store.specs.Books.{TablesAre};
 ghost use Rattle.desk_store.specs.Desks.{IsDesk};
 ghost use Rattle.desk_store.specs.Exports.{AppendsFront, table_text};
 ghost use Rattle.report_core.specs.Reports.{report_lines};
+ghost use Rattle.table_store.specs.Schema.{desk_schema};
+ghost use Rattle.desk_app.specs.Empty.{AreLargest, IsEmpty};
+ghost use Rattle.desk_app.specs.FileFaults.{IsBare, IsOfMaking, MayBeNew, TellsWhy};
 ghost use Rattle.desk_app.specs.Printed.{IsPrinted, printed};
 
+use crate::database::FileFault;
 use crate::end::{RunEnd, Stop};
 use crate::run::Told;
 use crate::send::send;
 use desk_core::Shop;
-use desk_store::{Desk, ExportFault, OpenFault};
+use desk_store::{Desk, ExportFault};
 use desk_wire::refused_text;
 use part_core::{CoreFault, Limits};
 use report_core::{ReportName, report};
 use sqlite::{Alter, Connection};
 use std::alloc::Global;
 use std::io::Write;
-use table_store::TableName;
+use table_store::{TableName, has_tables, is_bare};
 
-/// The desk that the database has; a new one, with the largest limits, where the database is new.
+/// A new desk, with the largest limits, in a database that has nothing.
+fn make_desk<S: Alter + Drop>(
+    alloc: Global,
+    conn: Connection<S>,
+    limits: Limits,
+) -> Result<Desk<S>, (FileFault, S)>
+    requires bare { IsBare (state S.Store conn) }
+    requires largest { AreLargest limits }
+    requires free { HasCleanDisk (state S.Store conn)
+        → (state S.Store conn).in_transaction ≡ false }
+    ensures desk { IfOk result (λ desk. IsDesk S.Store desk) }
+    ensures open { IfOk result (λ desk. desk.failed ≡ None) }
+    ensures new { IfOk result (λ desk. IsEmpty (state_of desk.shop)) }
+    ensures unmade { IfErr result (λ e. IsOfMaking e.0) }
+    ensures crash { IfErr result (λ e. IsClean (S.Store.view e.1) → (trees : Trees)
+        → S.Store.recovers e.1 trees → (state S.Store conn).may_leave trees
+        ⊎ MayBeNew trees e.0) }
+{
+    match Desk::create(alloc, conn, limits) {
+        Ok(desk) => Ok(desk),
+        Err((fault, store)) => Err((FileFault::from(fault), store)),
+    }
+}
+
+/// The desk whose tables the database has.
+fn open_desk<S: Alter + Drop>(alloc: Global, conn: Connection<S>) -> Result<Desk<S>, (FileFault, S)>
+    requires { (state S.Store conn).now.schema ≡ desk_schema }
+    ensures desk { IfOk result (λ desk. IsDesk S.Store desk) }
+    ensures open { IfOk result (λ desk. desk.failed ≡ None) }
+    ensures found { IfOk result (λ desk. HasCleanDisk (state S.Store desk.conn)
+        → TablesAre (state_of desk.shop) (state S.Store conn).committed.trees) }
+    ensures one { IfOk result (λ desk. HasCleanDisk (state S.Store desk.conn)
+        → (s : State) → IsSoundState s → TablesAre s (state S.Store conn).committed.trees
+        → s ≡ state_of desk.shop) }
+    ensures why { IfErr result (λ e. IsClean (S.Store.view e.1)
+        → TellsWhy (state S.Store conn) e.0) }
+    ensures kept { IfErr result (λ e. IsClean (S.Store.view e.1)
+        → IsTrue (S.Store.view e.1).is_open
+        → (S.Store.view e.1).trees ≡ (state S.Store conn).committed.trees) }
+    ensures crash { IfErr result (λ e. IsClean (S.Store.view e.1) → (trees : Trees)
+        → S.Store.recovers e.1 trees → (state S.Store conn).may_leave trees) }
+{
+    match Desk::open(alloc, conn) {
+        Ok(desk) => Ok(desk),
+        Err((fault, store)) => Err((FileFault::from(fault), store)),
+    }
+}
+
+/// The desk that the database has. Where it has nothing, a new one with the largest limits. The store is handed back
+/// beside a fault.
 pub fn take_desk<S: Alter + Drop>(
     alloc: Global,
     conn: Connection<S>,
-    is_new: bool,
-) -> Result<Desk<S>, OpenFault>
+) -> Result<Desk<S>, (FileFault, S)>
     requires { HasCleanDisk (state S.Store conn) → (state S.Store conn).in_transaction ≡ false }
     ensures desk { IfOk result (λ desk. IsDesk S.Store desk) }
     ensures open { IfOk result (λ desk. desk.failed ≡ None) }
-    ensures new { is_new ≡ true → IfOk result (λ desk.
-        state_of desk.shop ≡ start (state_of desk.shop).counter.limits) }
-    ensures found { is_new ≡ false → IfOk result (λ desk. HasCleanDisk (state S.Store desk.conn)
+    ensures new { IsBare (state S.Store conn) → IfOk result (λ desk.
+        IsEmpty (state_of desk.shop)) }
+    ensures found { ¬ IsBare (state S.Store conn) → IfOk result (λ desk.
+        HasCleanDisk (state S.Store desk.conn)
         → TablesAre (state_of desk.shop) (state S.Store conn).committed.trees) }
+    ensures one { ¬ IsBare (state S.Store conn) → IfOk result (λ desk.
+        HasCleanDisk (state S.Store desk.conn) → (s : State) → IsSoundState s
+        → TablesAre s (state S.Store conn).committed.trees → s ≡ state_of desk.shop) }
+    ensures unmade { IsBare (state S.Store conn) → IfErr result (λ e. IsOfMaking e.0) }
+    ensures why { ¬ IsBare (state S.Store conn) → IfErr result (λ e. IsClean (S.Store.view e.1)
+        → TellsWhy (state S.Store conn) e.0) }
+    ensures crash { IfErr result (λ e. IsClean (S.Store.view e.1) → (trees : Trees)
+        → S.Store.recovers e.1 trees → (state S.Store conn).may_leave trees
+        ⊎ (IsBare (state S.Store conn) × MayBeNew trees e.0)) }
+    ensures kept { ¬ IsBare (state S.Store conn) → IfErr result (λ e.
+        IsClean (S.Store.view e.1) → IsTrue (S.Store.view e.1).is_open
+        → (S.Store.view e.1).trees ≡ (state S.Store conn).committed.trees) }
 {
-    if is_new {
-        match Desk::create(alloc, conn, Limits::LARGEST) {
-            Ok(desk) => Ok(desk),
-            Err((fault, _store)) => Err(fault),
-        }
-    } else {
-        match Desk::open(alloc, conn) {
-            Ok(desk) => Ok(desk),
-            Err((fault, _store)) => Err(fault),
-        }
+    if is_bare(&conn) {
+        return make_desk(alloc, conn, Limits::LARGEST);
     }
+    if !has_tables(&conn) {
+        return Err((FileFault::OtherTables, conn.into_store()));
+    }
+    open_desk(alloc, conn)
 }
 
 /// What is printed for a report of a shop.
@@ -90,6 +153,7 @@ pub fn print_report<S: Alter, W: Write>(
     ensures nothing { (result ≡ RunEnd.Memory) ⊎ (result ≡ RunEnd.Store)
         → Keeps (W.contents writer.old) (W.contents writer.new) }
     ensures closed { (result ≡ RunEnd.Store) ↔ IsSome desk.now.failed }
+    ensures never { result ≢ RunEnd.ReadFailed }
 {
     let Ok(shop) = desk.shop() else {
         return RunEnd::Store;
@@ -115,6 +179,7 @@ pub fn print_export<S: Alter, W: Write>(desk: &Desk<S>, table: TableName, writer
     ensures nothing { (result ≡ RunEnd.Memory) ⊎ (result ≡ RunEnd.Store)
         → Keeps (W.contents writer.old) (W.contents writer.new) }
     ensures closed { (result ≡ RunEnd.Store) ↔ IsSome desk.now.failed }
+    ensures never { result ≢ RunEnd.ReadFailed }
 {
     match desk.export(table, writer) {
         Ok(()) => RunEnd::Done(true),

@@ -1,32 +1,29 @@
-//! A run over the lines of a reader. After each line the desk holds the state after all lines so far,
-//! and their answers are written whole. A line is run, and what it changes is committed, before its
-//! answer is written: where the writer fails that line is run, and a front of its answer is written.
-//! No line is run after a failure. Where it is the database that failed, the desk is closed, and its
-//! tables are those before that line or after it.
+//! A run over the lines of a reader. After each line the books hold the state after all lines so far,
+//! and their answers are written whole. A line is run, and what it changes is kept, before its answer
+//! is written: where the writer fails that line is run, and a front of its answer is written. No line
+//! is run after a failure. Where a database has failed, the books are closed, and its tables are those
+//! before that line or after it.
 ghost use Rattle.std.specs.Prelude.{◌≡◌, ◌≢◌, ◌⊎◌, ◌≤◌, ℕ, List, Bool, None, false, length, true, IfOk, OnOk, IfErr, OnErr, Err, IsSome};
 ghost use Rattle.std.specs.String.{string_bytes};
 ghost use Rattle.std.specs.Io.KnownBytes.{Appends};
-ghost use Rattle.sqlite.specs.Held.{state};
-ghost use Rattle.sqlite.specs.State.{HasCleanDisk};
 ghost use Rattle.sqlite.specs.Tree.{Trees};
 ghost use Rattle.desk_core.specs.Machine.{IsSoundState, step};
 ghost use Rattle.desk_core.specs.Shops.{state_of};
 ghost use Rattle.desk_store.specs.Books.{TablesAre};
-ghost use Rattle.desk_store.specs.Desks.{IsDesk};
 ghost use Rattle.desk_app.specs.declared.end.Stop.{Stop};
 ghost use Rattle.desk_app.specs.Ends.{end_of};
 ghost use Rattle.report_core.specs.Reports.{report_lines};
-ghost use Rattle.desk_app.specs.Runs.{by_outcome, by_report, is_blank, line_step, line_after, line_out, is_fine, CutLine, CutRequest, CutShort, Finished, IsLeft, IsLeftAt, IsOfDesk, StaysOpen, Stopped};
+ghost use Rattle.desk_app.specs.Runs.{by_outcome, by_report, is_blank, line_step, line_after, line_out, is_fine, CutLine, CutRequest, CutShort, Finished, IsLeft, IsLeftAt, IsOfBooks, StaysOpen, Stopped};
 
+use crate::books::Books;
 use crate::end::{RunEnd, Stop};
 use crate::lines::Lines;
 use crate::send::send;
 use desk_core::{Request, Shop};
-use desk_store::{Desk, Fault};
+use desk_store::Fault;
 use desk_wire::{Asked, ReadError, answer_text, fault_text, read_line, refused_text, report_text};
 use part_core::CoreFault;
 use report_core::{ReportName, report};
-use sqlite::Alter;
 use std::alloc::Global;
 use std::io::{Read, Write};
 
@@ -48,24 +45,20 @@ fn is_blank(line: &[u8]) -> bool
 }
 
 /// Runs a request, and tells its outcome.
-fn tell_outcome<S: Alter>(
-    alloc: Global,
-    desk: &mut Desk<S>,
-    request: &Request,
-) -> Result<Told, Stop>
-    requires { IsDesk S.Store desk.old }
-    ensures ok { IfOk result (λ told. by_outcome (step (state_of desk.old.shop) request.now)
-        ≡ (state_of desk.new.shop, string_bytes told.text, told.fine)) }
-    ensures cut { IfErr result (λ stop. CutRequest stop (state_of desk.old.shop)
-        (state_of desk.new.shop) request.now) }
-    ensures desk { IsDesk S.Store desk.new }
-    ensures stays_open { StaysOpen desk.old.failed desk.new.failed result }
-    ensures left { desk.old.failed ≡ None → HasCleanDisk (state S.Store desk.new.conn)
-        → (trees : Trees) → (state S.Store desk.new.conn).may_leave trees
-        → TablesAre (state_of desk.new.shop) trees
-        ⊎ TablesAre (step (state_of desk.new.shop) request.now).0 trees }
+fn tell_outcome<B: Books>(alloc: Global, books: &mut B, request: &Request) -> Result<Told, Stop>
+    requires { B.are_kept books.old }
+    ensures ok { IfOk result (λ told. by_outcome (step (B.state_in books.old) request.now)
+        ≡ (B.state_in books.new, string_bytes told.text, told.fine)) }
+    ensures cut { IfErr result (λ stop. CutRequest stop (B.state_in books.old)
+        (B.state_in books.new) request.now) }
+    ensures kept { B.are_kept books.new }
+    ensures stays_open { StaysOpen (B.failure_of books.old) (B.failure_of books.new) result }
+    ensures left { B.failure_of books.old ≡ None → (trees : Trees)
+        → B.may_leave books.new trees
+        → TablesAre (B.state_in books.new) trees
+        ⊎ TablesAre (step (B.state_in books.new) request.now).0 trees }
 {
-    match desk.run(request) {
+    match books.run(request) {
         Ok(answer) => Ok(Told {
             text: answer_text(alloc, &answer)?,
             fine: true,
@@ -100,21 +93,21 @@ fn tell_report(alloc: Global, shop: &Shop, name: ReportName, of: u64) -> Result<
     }
 }
 
-/// Tells the report of that name, of the shop that an open desk holds.
-fn tell_of_desk<S: Alter>(
+/// Tells the report of that name, of the shop that the books hold.
+fn tell_of_books<B: Books>(
     alloc: Global,
-    desk: &Desk<S>,
+    books: &B,
     name: ReportName,
     of: u64,
 ) -> Result<Told, Stop>
-    requires { IsSoundState (state_of desk.now.shop) }
+    requires { B.are_kept books.now }
     ensures ok { IfOk result (λ told.
-        by_report (state_of desk.now.shop) (report_lines name of (state_of desk.now.shop))
-        ≡ (state_of desk.now.shop, string_bytes told.text, told.fine)) }
-    ensures stop { IfErr result IsOfDesk }
-    ensures closed { result ≡ Err Stop.Store → IsSome desk.now.failed }
+        by_report (B.state_in books.now) (report_lines name of (B.state_in books.now))
+        ≡ (B.state_in books.now, string_bytes told.text, told.fine)) }
+    ensures stop { IfErr result IsOfBooks }
+    ensures closed { result ≡ Err Stop.Store → IsSome (B.failure_of books.now) }
 {
-    match desk.shop() {
+    match books.shop() {
         Ok(shop) => tell_report(alloc, shop, name, of),
         Err(_) => Err(Stop::Store),
     }
@@ -122,22 +115,22 @@ fn tell_of_desk<S: Alter>(
 
 #[tactic(auto, unfolding(crate::specs::Runs::line_step))]
 /// Runs one line that isn't blank, and tells what is answered.
-fn tell<S: Alter>(alloc: Global, desk: &mut Desk<S>, number: u64, line: &[u8]) -> Result<Told, Stop>
+fn tell<B: Books>(alloc: Global, books: &mut B, number: u64, line: &[u8]) -> Result<Told, Stop>
     requires filled { is_blank line.now ≡ false }
-    requires desk { IsDesk S.Store desk.old }
-    ensures ok { IfOk result (λ told. line_step (state_of desk.old.shop) number line.now
-        ≡ (state_of desk.new.shop, string_bytes told.text, told.fine)) }
-    ensures cut { IfErr result (λ stop. CutLine stop (state_of desk.old.shop)
-        (state_of desk.new.shop) number line.now) }
-    ensures desk { IsDesk S.Store desk.new }
-    ensures stays_open { StaysOpen desk.old.failed desk.new.failed result }
-    ensures left { desk.old.failed ≡ None → HasCleanDisk (state S.Store desk.new.conn)
-        → (trees : Trees) → (state S.Store desk.new.conn).may_leave trees
-        → IsLeftAt (state_of desk.new.shop) number line.now trees }
+    requires kept { B.are_kept books.old }
+    ensures ok { IfOk result (λ told. line_step (B.state_in books.old) number line.now
+        ≡ (B.state_in books.new, string_bytes told.text, told.fine)) }
+    ensures cut { IfErr result (λ stop. CutLine stop (B.state_in books.old)
+        (B.state_in books.new) number line.now) }
+    ensures kept { B.are_kept books.new }
+    ensures stays_open { StaysOpen (B.failure_of books.old) (B.failure_of books.new) result }
+    ensures left { B.failure_of books.old ≡ None → (trees : Trees)
+        → B.may_leave books.new trees
+        → IsLeftAt (B.state_in books.new) number line.now trees }
 {
     match read_line(alloc, line, number) {
-        Ok(Asked::Request(request)) => tell_outcome(alloc, desk, &request),
-        Ok(Asked::Report { name, of }) => tell_of_desk(alloc, desk, name, of),
+        Ok(Asked::Request(request)) => tell_outcome(alloc, books, &request),
+        Ok(Asked::Report { name, of }) => tell_of_books(alloc, books, name, of),
         Err(ReadError::Wrong(fault)) => Ok(Told {
             text: fault_text(alloc, fault)?,
             fine: false,
@@ -148,56 +141,56 @@ fn tell<S: Alter>(alloc: Global, desk: &mut Desk<S>, number: u64, line: &[u8]) -
 
 /// Runs one line, of which as much is here as is held, and writes its answer. True where nothing
 /// was refused or faulty.
-fn answer<S: Alter, W: Write>(
+fn answer<B: Books, W: Write>(
     alloc: Global,
     writer: &mut W,
-    desk: &mut Desk<S>,
+    books: &mut B,
     number: u64,
     line: &[u8],
 ) -> Result<bool, Stop>
     requires short { length line.now ≤ 65537 }
-    requires desk { IsDesk S.Store desk.old }
-    ensures fine { IfOk result (λ fine. fine ≡ is_fine (state_of desk.old.shop) number line.now) }
-    ensures ok { OnOk result (state_of desk.new.shop
-        ≡ line_after (state_of desk.old.shop) number line.now) }
+    requires kept { B.are_kept books.old }
+    ensures fine { IfOk result (λ fine. fine ≡ is_fine (B.state_in books.old) number line.now) }
+    ensures ok { OnOk result (B.state_in books.new
+        ≡ line_after (B.state_in books.old) number line.now) }
     ensures out { OnOk result (Appends (W.contents writer.old) (W.contents writer.new)
-        (line_out (state_of desk.old.shop) number line.now)) }
+        (line_out (B.state_in books.old) number line.now)) }
     ensures cut { IfErr result (λ stop.
         CutShort stop (W.contents writer.old) (W.contents writer.new)
-        (state_of desk.old.shop) (state_of desk.new.shop) number line.now) }
-    ensures desk { IsDesk S.Store desk.new }
-    ensures stays_open { StaysOpen desk.old.failed desk.new.failed result }
-    ensures left { desk.old.failed ≡ None → HasCleanDisk (state S.Store desk.new.conn)
-        → (trees : Trees) → (state S.Store desk.new.conn).may_leave trees
-        → IsLeftAt (state_of desk.new.shop) number line.now trees }
+        (B.state_in books.old) (B.state_in books.new) number line.now) }
+    ensures kept { B.are_kept books.new }
+    ensures stays_open { StaysOpen (B.failure_of books.old) (B.failure_of books.new) result }
+    ensures left { B.failure_of books.old ≡ None → (trees : Trees)
+        → B.may_leave books.new trees
+        → IsLeftAt (B.state_in books.new) number line.now trees }
 {
     if is_blank(line) {
         return Ok(true);
     }
-    let told = tell(alloc, desk, number, line)?;
+    let told = tell(alloc, books, number, line)?;
     send(writer, told.text.as_bytes())?;
     Ok(told.fine)
 }
 
 /// Answers each line of the reader: true where nothing was refused or faulty.
-fn answer_all<S: Alter, R: Read, W: Write>(
+fn answer_all<B: Books, R: Read, W: Write>(
     alloc: Global,
     reader: &mut R,
     writer: &mut W,
-    desk: &mut Desk<S>,
+    books: &mut B,
 ) -> Result<bool, Stop>
-    requires { IsDesk S.Store desk.old }
+    requires { B.are_kept books.old }
     ensures done { IfOk result (λ all. Finished (R.remaining reader.old) (W.contents writer.old)
-        (W.contents writer.new) (state_of desk.old.shop) (state_of desk.new.shop) all) }
+        (W.contents writer.new) (B.state_in books.old) (B.state_in books.new) all) }
     ensures stopped { IfErr result (λ stop.
         Stopped stop (R.remaining reader.old) (W.contents writer.old)
-        (W.contents writer.new) (state_of desk.old.shop) (state_of desk.new.shop)) }
-    ensures desk { IsDesk S.Store desk.new }
-    ensures stays_open { StaysOpen desk.old.failed desk.new.failed result }
-    ensures left { desk.old.failed ≡ None → HasCleanDisk (state S.Store desk.new.conn)
-        → (trees : Trees) → (state S.Store desk.new.conn).may_leave trees
-        → IsLeft (R.remaining reader.old) (state_of desk.old.shop)
-        (state_of desk.new.shop) trees }
+        (W.contents writer.new) (B.state_in books.old) (B.state_in books.new)) }
+    ensures kept { B.are_kept books.new }
+    ensures stays_open { StaysOpen (B.failure_of books.old) (B.failure_of books.new) result }
+    ensures left { B.failure_of books.old ≡ None → (trees : Trees)
+        → B.may_leave books.new trees
+        → IsLeft (R.remaining reader.old) (B.state_in books.old)
+        (B.state_in books.new) trees }
 {
     let mut lines = Lines::new(alloc)?;
     let mut line = Vec::new(alloc);
@@ -206,35 +199,35 @@ fn answer_all<S: Alter, R: Read, W: Write>(
         if !lines.next_line(reader, &mut line)? {
             return Ok(all);
         }
-        let fine = answer(alloc, writer, desk, number, &line)?;
+        let fine = answer(alloc, writer, books, number, &line)?;
         all = all && fine;
     }
     Err(Stop::ReadFailed)
 }
 
 /// Answers each line of the reader, one line each but for blank lines.
-pub fn run_lines<S: Alter, R: Read, W: Write>(
+pub fn run_lines<B: Books, R: Read, W: Write>(
     alloc: Global,
     reader: &mut R,
     writer: &mut W,
-    desk: &mut Desk<S>,
+    books: &mut B,
 ) -> RunEnd
-    requires { IsDesk S.Store desk.old }
+    requires { B.are_kept books.old }
     ensures done { (all : Bool) → result ≡ RunEnd.Done all
         → Finished (R.remaining reader.old) (W.contents writer.old)
-        (W.contents writer.new) (state_of desk.old.shop) (state_of desk.new.shop) all }
+        (W.contents writer.new) (B.state_in books.old) (B.state_in books.new) all }
     ensures stopped { (stop : Stop) → result ≡ end_of stop
         → Stopped stop (R.remaining reader.old) (W.contents writer.old)
-        (W.contents writer.new) (state_of desk.old.shop) (state_of desk.new.shop) }
-    ensures desk { IsDesk S.Store desk.new }
-    ensures stays_open { desk.old.failed ≡ None → result ≢ RunEnd.Store → desk.new.failed ≡ None }
-    ensures closed { result ≡ RunEnd.Store → IsSome desk.new.failed }
-    ensures left { desk.old.failed ≡ None → HasCleanDisk (state S.Store desk.new.conn)
-        → (trees : Trees) → (state S.Store desk.new.conn).may_leave trees
-        → IsLeft (R.remaining reader.old) (state_of desk.old.shop)
-        (state_of desk.new.shop) trees }
+        (W.contents writer.new) (B.state_in books.old) (B.state_in books.new) }
+    ensures kept { B.are_kept books.new }
+    ensures stays_open { B.failure_of books.old ≡ None → result ≢ RunEnd.Store → B.failure_of books.new ≡ None }
+    ensures closed { result ≡ RunEnd.Store → IsSome (B.failure_of books.new) }
+    ensures left { B.failure_of books.old ≡ None → (trees : Trees)
+        → B.may_leave books.new trees
+        → IsLeft (R.remaining reader.old) (B.state_in books.old)
+        (B.state_in books.new) trees }
 {
-    match answer_all(alloc, reader, writer, desk) {
+    match answer_all(alloc, reader, writer, books) {
         Ok(all) => RunEnd::Done(all),
         Err(stop) => stop.end(),
     }

@@ -7,7 +7,7 @@ ghost use Rattle.report_core.specs.Names.{report_named};
 ghost use Rattle.desk_app.specs.Words.{file_rule, word_rule, run_line, IsReportLine, IsExportLine, IsCommandLine};
 ghost use Rattle.desk_app.specs.Words.{number_of, is_number, table_named, report_in, export_in, wish_met};
 ghost use Rattle.desk_app.specs.Words.{given_in, rows_in, AsksFor, Tells, Parses, file_of};
-ghost use Rattle.desk_app.specs.Words.{asks_run, asks_help, run_on, run_with, is_path, Answers, Runs, RunsOn, Helps};
+ghost use Rattle.desk_app.specs.Words.{asks_run, asks_help, asks_version, run_on, run_with, is_path, Answers, Runs, RunsOn, HelpsBy};
 
 use clap::error::ErrorKind;
 use clap::{Arg, ArgAction, ArgMatches, Command, Error};
@@ -25,7 +25,7 @@ pub enum Asked<'a> {
     Report(&'a str, ReportName, u64),
     /// A table of the desk in the file is printed.
     Export(&'a str, TableName),
-    /// Help is printed.
+    /// Help, or the version, is printed.
     Help(Error),
     /// The words are wrong.
     Wrong(Error),
@@ -47,6 +47,15 @@ impl<'a> Asked<'a> {
         }
     }
 }
+
+/// The version of the program.
+const VERSION: &str = "0.3";
+
+const RUN_EXAMPLE: &str = "Example: invdesk run --db workshop.db < requests";
+
+const REPORT_EXAMPLE: &str = "Example: invdesk report --db workshop.db ledger 2";
+
+const EXPORT_EXAMPLE: &str = "Example: invdesk export --db workshop.db items";
 
 /// The names of the reports.
 const REPORTS: [&str; 5] = ["ledger", "stock", "where_used", "history", "content"];
@@ -96,6 +105,7 @@ fn run_command<'a>(alloc: Global) -> Result<Command<'a>, AllocError>
 {
     Command::new(alloc, "run")
         .about("Answers each line of the standard input")
+        .after_help(RUN_EXAMPLE)
         .arg(file(alloc))
 }
 
@@ -108,6 +118,7 @@ fn report_command<'a>(alloc: Global) -> Result<Command<'a>, AllocError>
     let number = word(alloc, "number", "NUMBER").help("The number of the part or of the item");
     Command::new(alloc, "report")
         .about("Prints a report")
+        .after_help(REPORT_EXAMPLE)
         .arg(file(alloc).required(true))?
         .arg(name)?
         .arg(number)
@@ -121,6 +132,7 @@ fn export_command<'a>(alloc: Global) -> Result<Command<'a>, AllocError>
         .help("The name of the table");
     Command::new(alloc, "export")
         .about("Prints a table as comma-separated values")
+        .after_help(EXPORT_EXAMPLE)
         .arg(file(alloc).required(true))?
         .arg(table)
 }
@@ -131,6 +143,7 @@ fn command<'a>(alloc: Global) -> Result<Command<'a>, AllocError>
     Command::new(alloc, "invdesk")
         .about("Keeps an inventory: requests in, one line of JSON each, and answers out")
         .disable_help_subcommand(true)
+        .version(VERSION)
         .subcommand(run_command(alloc)?)?
         .subcommand(report_command(alloc)?)?
         .subcommand(export_command(alloc)?)
@@ -278,13 +291,17 @@ pub fn read_words<'a, S: AsStr>(alloc: Global, words: &'a [S]) -> Asked<'a>
         → RunsOn file result }
     ensures runs_with { (name file : List ℕ) → is_path file ≡ true
         → map S.text words.now ≡ run_with name file → RunsOn file result }
-    ensures helps { asks_help (map S.text words.now) ≡ true → Helps result }
+    ensures helps { asks_help (map S.text words.now) ≡ true
+        → HelpsBy ErrorKind.DisplayHelp result }
+    ensures versions { asks_version (map S.text words.now) ≡ true
+        → HelpsBy ErrorKind.DisplayVersion result }
 {
     match parse(alloc, words) {
         Ok(matches) => told_by(alloc, &matches),
         Err(e) => match e.kind() {
             ErrorKind::OutOfMemory => Asked::Memory,
             ErrorKind::DisplayHelp => Asked::Help(e),
+            ErrorKind::DisplayVersion => Asked::Help(e),
             _ => Asked::Wrong(e),
         },
     }

@@ -2,14 +2,15 @@
 //! each to the standard output. Its books are kept in a file, or, where none is named, in memory alone.
 #![tactic(auto)]
 
-ghost use Rattle.std.specs.Prelude.{◌≡◌, false};
+ghost use Rattle.sqlite.specs.Files.{over_files};
+ghost use Rattle.desk_store.specs.Desks.{IsDesk};
 
 use desk_app::{
-    Asked, DEVICE, FileFault, MEMORY, RunEnd, connect, early_status, print_export, print_report,
-    read_words, run_lines, status_of, status_of_fault, take_desk,
+    Asked, DEVICE, FileFault, MEMORY, Refused, RunEnd, connect, early_status, print_export,
+    print_report, read_words, run_in_memory, run_lines, status_of, status_of_fault, take_desk,
 };
-use desk_store::OpenFault;
-use sqlite::{Alter, Connection};
+use desk_store::Desk;
+use sqlite::{File, FileStore};
 use std::env::{self, Env};
 use std::io::{self, Input};
 use std::process::ExitCode;
@@ -45,50 +46,58 @@ fn at_once<R: Print + Eprint>(rt: &R, asked: &Asked<'_>) -> Option<u8> {
     }
 }
 
-/// Does what the words ask for, with the desk of the database.
-fn act<S: Alter + Drop>(
-    rt: &HostRuntime,
-    conn: Connection<S>,
-    is_new: bool,
-    asked: &Asked<'_>,
-) -> Result<RunEnd, OpenFault>
-    requires { conn.in_transaction ≡ false }
+/// Does what the words ask for, on the desk.
+fn act(rt: &HostRuntime, asked: &Asked<'_>, desk: &mut Desk<FileStore<File>>) -> RunEnd
+    requires { IsDesk over_files desk.old }
+    ensures { IsDesk over_files desk.new }
 {
     let alloc = rt.alloc();
-    let mut desk = take_desk(alloc, conn, is_new)?;
     let mut writer = io::writer(rt);
-    Ok(match asked {
-        Asked::Report(_, name, number) => {
-            print_report(alloc, &desk, *name, *number, &mut writer)
-        }
-        Asked::Export(_, table) => print_export(&desk, *table, &mut writer),
-        _ => run_lines(alloc, &mut rt.reader(), &mut writer, &mut desk),
-    })
+    match asked {
+        Asked::Report(_, name, number) => print_report(alloc, desk, *name, *number, &mut writer),
+        Asked::Export(_, table) => print_export(desk, *table, &mut writer),
+        _ => run_lines(alloc, &mut rt.reader(), &mut writer, desk),
+    }
 }
 
-/// Does what the words ask for, with the desk of the file, or with a new one in memory.
-fn act_on(rt: &HostRuntime, asked: &Asked<'_>) -> Result<RunEnd, FileFault> {
-    match asked.file() {
-        Some(path) => {
-            let (conn, is_new) = connect(rt, path)?;
-            Ok(act(rt, conn, is_new, asked)?)
-        }
-        None => {
-            let conn = Connection::open_in_memory(rt.alloc())?;
-            Ok(act(rt, conn, true, asked)?)
+/// Closes the desk after work that ended so.
+fn closed(desk: Desk<FileStore<File>>, end: RunEnd) -> RunEnd {
+    match desk.close().close() {
+        Ok(()) => end,
+        Err(_) => RunEnd::Store,
+    }
+}
+
+/// Does what the words ask for, with the desk of the file.
+fn act_on_file(rt: &HostRuntime, path: &str, asked: &Asked<'_>) -> Result<RunEnd, FileFault> {
+    let conn = connect(rt, path)?;
+    let mut desk = match take_desk(rt.alloc(), conn) {
+        Ok(desk) => desk,
+        Err((fault, _store)) => return Err(fault),
+    };
+    let end = act(rt, asked, &mut desk);
+    Ok(closed(desk, end))
+}
+
+/// Does what the words ask for with a file, and says why not, where the file is the reason.
+fn status_on_file(rt: &HostRuntime, path: &str, asked: &Asked<'_>) -> u8 {
+    match act_on_file(rt, path, asked) {
+        Ok(end) => status_of(end),
+        Err(fault) => {
+            let status = status_of_fault(&fault);
+            let refused = Refused { path, fault };
+            // Where the standard error fails too, the status alone tells.
+            let _ = eprintln!(rt; "invdesk: {refused}");
+            status
         }
     }
 }
 
-/// Does what the words ask for, and says why not, where the file is the reason.
+/// Does what the words ask for, with the desk of the file, or with a new one in memory.
 fn status_after(rt: &HostRuntime, asked: &Asked<'_>) -> u8 {
-    match act_on(rt, asked) {
-        Ok(end) => status_of(end),
-        Err(fault) => {
-            // Where the standard error fails too, the status alone tells.
-            let _ = eprintln!(rt; "invdesk: {fault}");
-            status_of_fault(&fault)
-        }
+    match asked.file() {
+        Some(path) => status_on_file(rt, path, asked),
+        None => status_of(run_in_memory(rt.alloc(), &mut rt.reader(), &mut io::writer(rt))),
     }
 }
 

@@ -1,6 +1,6 @@
-use Rattle.std.proofs.Common.{ap, refl, true, ◌≡◌, ◌∙◌}
+use Rattle.std.proofs.Common.{ap, codes, refl, true, ◌≡◌, ◌∙◌}
 use Rattle.std.proofs.lemmas.Result.{IfOk-weaker}
-use Rattle.clap.specs.Words.{app_of, with_subcommand}
+use Rattle.clap.specs.Words.{app_of, new_app, with_subcommand}
 use Rattle.clap.specs.Simple.{app_of_fields, on_top}
 use Rattle.desk_app.specs.Words.{Places, top_line, run_line, report_line, export_line}
 use Rattle.desk_app.proofs.CommandLines.{line_added}
@@ -11,9 +11,12 @@ returns c =
     let report = c.in_ok-report_command.ensures in
     let export = c.in_ok-export_command.ensures in
     let places : Places = record { reports = report.0; tables = export.0 } in
-    let top_is : app_of c.disable_help_subcommand.result ≡ top_line = ap app_of_fields c.disable_help_subcommand.ensures
+    let quiet_is : app_of c.disable_help_subcommand.result ≡ on_top (λ shape. record shape { disable_help_subcommand = true }) (new_app (codes "invdesk")) =
+    ap app_of_fields c.disable_help_subcommand.ensures
     ∙ ap (on_top (λ shape. record shape { disable_help_subcommand = true })) (ap app_of_fields c.about.ensures ∙ c.new.ensures.app) in
-    let one = line_added c.disable_help_subcommand.result c.in_ok-run_command.field-0 c.in_ok-subcommand.field-0 top_line run_line c.in_ok-subcommand.ensures refl top_is c.in_ok-run_command.ensures in
+    let top_is : app_of c.version.result ≡ top_line = ap app_of_fields c.version.ensures
+    ∙ ap (on_top (λ shape. record shape { has_version = true })) quiet_is in
+    let one = line_added c.version.result c.in_ok-run_command.field-0 c.in_ok-subcommand.field-0 top_line run_line c.in_ok-subcommand.ensures refl top_is c.in_ok-run_command.ensures in
     let two = line_added c.in_ok-subcommand.field-0 c.in_ok-report_command.field-0 c.in_ok-subcommand-2.field-0 (with_subcommand top_line run_line.top) (report_line report.0) c.in_ok-subcommand-2.ensures refl one report.1 in
     IfOk-weaker c.subcommand-3.result _ _ (λ r added. (
       places,

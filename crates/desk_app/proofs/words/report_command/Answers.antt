@@ -10,7 +10,7 @@ use Rattle.desk_app.proofs.words.report_command.Goals as goal
 pub returns : goal.returns
 returns c =
     let names : Listing report_names = record { at = c.as_slice.result; are = search rules } in
-    let line_is : app_of c.about.result ≡ new_app (codes "report") = ap app_of_fields c.about.ensures ∙ c.new.ensures.app in
+    let line_is : app_of c.after_help.result ≡ new_app (codes "report") = ap app_of_fields c.after_help.ensures ∙ ap app_of_fields c.about.ensures ∙ c.new.ensures.app in
     let file_is : rule_of c.required.result ≡ needed file_rule = ap rule_of c.required.ensures ∙ ap needed c.file.ensures.rule in
     let file_local : c.required.result.global ≡ false = ap (λ (a : Arg). a.global) c.required.ensures ∙ c.file.ensures.local in
     let given = c.value_parser.ensures.given in
@@ -20,7 +20,7 @@ returns c =
     ap (λ (a : Arg). a.global) c.help-name.ensures ∙ (ap (λ (a : Arg). a.global) c.value_parser.ensures.others ∙ c.word.ensures.local) in
     let number_is : rule_of c.help-number.result ≡ word_rule (codes "number") = ap rule_of c.help-number.ensures ∙ c.word-2.ensures.rule in
     let number_local : c.help-number.result.global ≡ false = ap (λ (a : Arg). a.global) c.help-number.ensures ∙ c.word-2.ensures.local in
-    let one = rule_added c.about.result c.required.result c.in_ok-arg.field-0 (new_app (codes "report")) (needed file_rule) c.in_ok-arg.ensures file_local line_is file_is in
+    let one = rule_added c.after_help.result c.required.result c.in_ok-arg.field-0 (new_app (codes "report")) (needed file_rule) c.in_ok-arg.ensures file_local line_is file_is in
     let two = rule_added c.in_ok-arg.field-0 c.help-name.result c.in_ok-arg-2.field-0 (with_rule (new_app (codes "report")) (needed file_rule)) (among c.as_slice.result (word_rule (codes "name"))) c.in_ok-arg-2.ensures name_local one name_is in
     IfOk-weaker c.arg-3.result _ _ (λ r added. (
       names,

@@ -1,0 +1,97 @@
+//! The books that lines are run on: a desk, or a shop alone.
+ghost use Rattle.std.specs.Prelude.{◌≡◌, ◌↔◌, ◌⊎◌, Option, None, IfOk, OnErr, Err, IsSome};
+ghost use Rattle.sqlite.specs.Held.{state};
+ghost use Rattle.sqlite.specs.State.{HasCleanDisk};
+ghost use Rattle.sqlite.specs.Tree.{Trees};
+ghost use Rattle.table_store.specs.declared.fault.Failed.{Failed};
+ghost use Rattle.desk_core.specs.Machine.{IsSoundState, State, step};
+ghost use Rattle.desk_core.specs.Shops.{state_of};
+ghost use Rattle.desk_store.specs.Books.{TablesAre};
+ghost use Rattle.desk_store.specs.Desks.{IsDesk};
+ghost use Rattle.desk_store.specs.Outcomes.{Tells};
+
+use desk_core::{Request, Shop};
+use desk_store::{Desk, Fault};
+use part_core::Answer;
+use sqlite::Alter;
+
+/// Books that requests are run on, and reports are made of.
+pub trait Books {
+    // the state of the machine that they hold
+    ghost state_in: { Self → State };
+
+    // what holds of them before a call and after it
+    ghost are_kept: { Self → Type 0 };
+
+    // the fault of the database that has closed them, if one has
+    ghost failure_of: { Self → Option Failed };
+
+    // the tables that a crash may leave of them
+    ghost may_leave: { Self → Trees → Type 0 };
+
+    /// Runs one request. What it changes is kept before it is answered.
+    fn run(&mut self, request: &Request) -> Result<Answer, Fault>
+        requires { are_kept self.old }
+        ensures kept { are_kept self.new }
+        ensures tells { Tells (state_in self.old) request.now result (state_in self.new) }
+        ensures closed { (result ≡ Err Fault.Closed) ↔ IsSome (failure_of self.old) }
+        ensures store { IsSome (failure_of self.new)
+            ↔ ((result ≡ Err Fault.Store) ⊎ IsSome (failure_of self.old)) }
+        ensures left { failure_of self.old ≡ None → (trees : Trees) → may_leave self.new trees
+            → TablesAre (state_in self.new) trees
+            ⊎ TablesAre (step (state_in self.new) request.now).0 trees };
+
+    /// The shop that holds their state: `Closed` where a fault has closed them.
+    fn shop(&self) -> Result<&Shop, Fault>
+        requires { are_kept self.now }
+        ensures shop { IfOk result (λ shop. state_of shop.now ≡ state_in self.now) }
+        ensures sound { IfOk result (λ shop. IsSoundState (state_of shop.now)) }
+        ensures closed { OnErr result (IsSome (failure_of self.now)) };
+
+    // where no fault has closed them, a crash leaves the tables of their state
+    ghost leave_their_tables: { (books : Self) → are_kept books → failure_of books ≡ None
+        → (trees : Trees) → may_leave books trees → TablesAre (state_in books) trees };
+}
+
+impl<S: Alter> Books for Desk<S> {
+    ghost state_in = { λ desk. state_of desk.shop };
+
+    ghost are_kept = { IsDesk S.Store };
+
+    ghost failure_of = { λ desk. desk.failed };
+
+    ghost may_leave = { λ desk trees. HasCleanDisk (state S.Store desk.conn)
+        × (state S.Store desk.conn).may_leave trees };
+
+    fn run(&mut self, request: &Request) -> Result<Answer, Fault> {
+        Desk::run(self, request)
+    }
+
+    fn shop(&self) -> Result<&Shop, Fault> {
+        Desk::shop(self)
+    }
+
+    ghost leave_their_tables = { λ desk kept none trees may.
+        (kept.books none may.0).left trees may.1 };
+}
+
+// A shop alone ends with the run: nothing of it outlives a crash, and no database can fail under it.
+impl Books for Shop {
+    ghost state_in = { state_of };
+
+    ghost are_kept = { λ shop. IsSoundState (state_of shop) };
+
+    ghost failure_of = { λ _. None };
+
+    ghost may_leave = { λ _ _. ⊥ };
+
+    fn run(&mut self, request: &Request) -> Result<Answer, Fault> {
+        Ok(self.decide(request)?)
+    }
+
+    fn shop(&self) -> Result<&Shop, Fault> {
+        Ok(self)
+    }
+
+    ghost leave_their_tables = { λ shop kept none trees may. absurd may };
+}
