@@ -1,4 +1,5 @@
-//! Tests that cross crates: the worked examples, readers, writers and disks that fail, and files that are damaged.
+//! Tests that cross crates: the worked examples, readers, writers and disks that fail, files that are damaged, and the
+//! words of the program.
 #![tactic(auto)]
 
 #[cfg(test)]
@@ -18,16 +19,10 @@ mod flushes;
 #[cfg(test)]
 mod lines;
 #[cfg(test)]
-mod nested;
-#[cfg(test)]
 mod outcomes;
 #[cfg(test)]
 mod play;
 #[cfg(test)]
-mod requests;
-#[cfg(test)]
-mod rows;
-#[cfg(test)]
-mod sheets;
-#[cfg(test)]
 mod stops;
+#[cfg(test)]
+mod words;

@@ -28,7 +28,7 @@ fn of_bom(command: BomCommand) -> Result<Request, Fail> {
     request(Command::Bom(command))
 }
 
-fn of_stock(command: StockCommand) -> Result<Request, Fail> {
+pub fn of_stock(command: StockCommand) -> Result<Request, Fail> {
     request(Command::Stock(command))
 }
 
@@ -94,17 +94,21 @@ pub fn substitute(line: u64, part: u64) -> Result<Request, Fail> {
 
 // ---- stock
 
+pub fn found_of(part: u64, location: u64, new: NewStock) -> Result<Request, Fail> {
+    of_stock(StockCommand::Found {
+        part,
+        location,
+        new,
+    })
+}
+
 pub fn found(part: u64, location: u64, quantity: u64) -> Result<Request, Fail> {
     let new = NewStock {
         quantity,
         batch: None,
         serials: None,
     };
-    of_stock(StockCommand::Found {
-        part,
-        location,
-        new,
-    })
+    found_of(part, location, new)
 }
 
 /// A piece with a serial.
@@ -115,11 +119,7 @@ pub fn found_one(alloc: Global, part: u64, location: u64, serial: &str) -> Resul
         batch: None,
         serials: Some(Serials::new(serials)),
     };
-    of_stock(StockCommand::Found {
-        part,
-        location,
-        new,
-    })
+    found_of(part, location, new)
 }
 
 pub fn remove(item: u64, quantity: u64) -> Result<Request, Fail> {

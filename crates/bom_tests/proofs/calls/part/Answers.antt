@@ -1,0 +1,23 @@
+use Rattle.std.proofs.Common.{sym, ap, ◌∙◌, subst}
+use Rattle.part_core.specs.Catalogues.{register_of}
+use Rattle.part_core.specs.Counter.{Numbering}
+use Rattle.part_core.specs.Catalogue.{Parts, Register}
+use Rattle.bom_core.specs.Bills.{Bills}
+use Rattle.bom_core.specs.Boms.{bills_of}
+use Rattle.bom_core.specs.Changes.{BillBooks}
+use Rattle.bom_core.specs.Sound.{IsSoundBill}
+use Rattle.bom_tests.proofs.Grown.{sound-part, same_books, same_register}
+use Rattle.bom_tests.proofs.calls.part.Goals as goal
+
+pub returns : goal.returns
+returns c =
+    let bills = bills_of c.args.boms.now in
+    let old = register_of c.args.catalogue.now c.args.counter.now in
+    let now = register_of c.add_part.new.self c.add_part.new.counter in
+    let sound : IsSoundBill now.parts bills now.counter.next = sound-part _ old now _ bills c.requires.sound c.in_ok-number.ensures.acts in
+    record {
+      parts_kept = same_register _ _ _ _ (c.keep.ensures.kept ∙ sym c.keep.ensures.now) (c.keep-2.ensures.kept ∙ sym c.keep-2.ensures.now);
+      bills_kept = same_books _ _ _ _ (ap (λ (b : BillBooks). b.bills) c.requires.bills_kept) (c.keep-2.ensures.kept ∙ sym c.keep-2.ensures.now);
+      sound = subst (λ p. IsSoundBill p bills c.keep-2.new.self.next) (sym c.keep.ensures.now)
+          (subst (λ n. IsSoundBill now.parts bills n) (sym (ap (λ (n : Numbering). n.next) c.keep-2.ensures.now)) sound);
+    }

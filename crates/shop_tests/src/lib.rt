@@ -1,0 +1,17 @@
+//! Tests of a shop: its runs, reports, rows and what is pending in it.
+#![tactic(auto)]
+
+#[cfg(test)]
+mod limits;
+#[cfg(test)]
+mod nested;
+#[cfg(test)]
+mod outcomes;
+#[cfg(test)]
+mod reports;
+#[cfg(test)]
+mod requests;
+#[cfg(test)]
+mod rows;
+#[cfg(test)]
+mod sheets;

@@ -1,0 +1,7 @@
+//! Tests of yards and stock that rows make.
+#![tactic(auto)]
+
+#[cfg(test)]
+mod stock;
+#[cfg(test)]
+mod yards;

@@ -1,0 +1,43 @@
+use Rattle.std.proofs.Common.{◌≡◌, ℕ, List, [], ◌∷◌, Option, Some, None, IsSome, sym, ap, subst}
+use Rattle.std.specs.Prelude.{All}
+use Rattle.std.specs.FinMap.{empty, get, get-empty}
+use Rattle.sqlite.specs.Held.{state}
+use Rattle.part_core.specs.declared.category.Category.{Category}
+use Rattle.part_core.specs.CategoryColumns.{category_columns, category_from}
+use Rattle.part_core.specs.Columns.{IsSmall}
+use Rattle.part_core.specs.Filled.{StandUnderKeys}
+use Rattle.part_core.specs.Rows.{EachRow}
+use Rattle.part_core.specs.Sheet.{Table, key_cmp}
+use Rattle.part_core.proofs.FilledTables.{filled-own}
+use Rattle.part_core.proofs.RowLemmas.{each-empty}
+use Rattle.table_store.specs.Written.{tree_of, IsTableOf}
+use Rattle.table_store.specs.declared.name.TableName.TheVariants.{Categories}
+use Rattle.table_store.proofs.Tables.{table-empty}
+use Rattle.table_tests.proofs.sheets.writes.Goals as goal
+
+abbrev key : Category → List ℕ
+key row = row.number ∷ []
+
+abbrev IsLow : Category → Type 0
+IsLow row = All IsSmall (category_columns row)
+
+pub written-requires-clause-own : goal.written-requires-clause-own
+written-requires-clause-own g c = (c.in_ok-sheet.ensures.own, subst (StandUnderKeys key) (sym c.in_ok-sheet.ensures.kept) (filled-own key []))
+
+pub written-requires-clause-small : goal.written-requires-clause-small
+written-requires-clause-small g c = (c.in_ok-sheet.ensures.small, subst (EachRow IsLow) (sym c.in_ok-sheet.ensures.kept) (each-empty IsLow))
+
+nothing-there : (kept : Table Category) (k : List ℕ) → kept ≡ empty → IsSome (get kept k) → ⊥
+nothing-there kept k e some = let none = subst IsSome (ap (λ (t : Table Category). get t k) e) some in absurd (missing (get empty k) (get-empty key_cmp k) none)
+  where
+    missing : (o : Option Category) → o ≡ None → IsSome o → ⊥
+    missing None e some = cc
+    missing (Some x) e some = cc
+
+pub written-requires-clause-stays : goal.written-requires-clause-stays
+written-requires-clause-stays g c k some = absurd (nothing-there c.in_ok-sheet.sheet.kept k c.in_ok-sheet.ensures.kept some)
+
+pub written-requires-clause-kept : goal.written-requires-clause-kept
+written-requires-clause-kept g c clean =
+    let tree = tree_of Categories (state g.S.Store c.fresh.new.conn) in
+    subst (IsTableOf category_from category_columns Categories tree) (sym c.in_ok-sheet.ensures.kept) (table-empty category_from category_columns Categories tree ((c.in_ok-fresh.ensures.fresh clean).empty Categories))

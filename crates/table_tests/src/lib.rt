@@ -1,0 +1,9 @@
+//! Tests of the tables of a file, over a store in memory.
+#![tactic(auto)]
+
+#[cfg(test)]
+mod opening;
+#[cfg(test)]
+mod sheets;
+#[cfg(test)]
+mod tables;

@@ -1,0 +1,5 @@
+//! Tests of lines of JSON: what they ask, what is wrong with them, and the lines that are answered.
+#![tactic(auto)]
+
+#[cfg(test)]
+mod lines;
