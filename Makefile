@@ -1,6 +1,10 @@
 PROGRAM = crates/invdesk/out/invdesk
 PREFIX ?= /usr/local
 
+# A first look: the first example, run before any proof, in about three minutes. It is slow, and nothing is proved of it.
+try:
+	cd crates/invdesk && rt try < stdin
+
 # The program, built once it is proved, on the first example.
 run:
 	cd crates/invdesk && rt run < stdin
@@ -16,8 +20,8 @@ build:
 install: build
 	install -D $(PROGRAM) $(PREFIX)/bin/invdesk
 
-# Lines per second and peak memory over 10,000 and 20,000 lines of each kind, files beside Python's sqlite3, and how
-# calls of the libraries grow.
+# Lines per second and peak memory over 20,000 and 40,000 lines of each kind, in memory and with a file; files beside
+# Python's sqlite3, a C program and the kit's sqlite alone; and how calls of the libraries grow.
 bench: build
 	python3 tools/bench.py $(PROGRAM)
 	python3 tools/bench_file.py $(PROGRAM)
@@ -31,4 +35,4 @@ file: build
 refuse:
 	python3 tools/refuse.py $(CRATES)
 
-.PHONY: run test build install bench file refuse
+.PHONY: try run test build install bench file refuse

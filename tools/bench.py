@@ -1,17 +1,19 @@
 #!/usr/bin/env python3
-"""Runs the program on lines of each kind, twice: on 10,000 lines and on 20,000, or on as many lines among 10,000 rows
-and among 20,000. Prints lines per second and peak memory of each run, and by what factor the time grows; among rows
-also by what factor the time of the lines alone grows, without that of the rows that they are among.
+"""Runs the program on lines of each kind, twice: on 20,000 lines and on 40,000, in memory and with a file on a memory
+disk, or on as many lines among 10,000 rows and among 20,000. Prints lines per second and peak memory of each run, and by
+what factor the time grows; among rows also by what factor the time of the lines alone grows, without that of the rows
+that they are among.
 
 usage: tools/bench.py PROGRAM"""
 import itertools
 import resource
 import subprocess
 import sys
+import tempfile
 import time
 
 DAY = '"day":"2030-01-02"'
-COUNTS = (10_000, 20_000)
+COUNTS = (20_000, 40_000)
 ROWS = (10_000, 20_000)
 LOCATION = f'{{{DAY},"do":"add_location","name":"A"}}'
 PART = f'{{{DAY},"do":"add_part","flags":["component","trackable"],"name":"Screw"}}'
@@ -134,11 +136,11 @@ LINES = (found_and_remove, transfer, found_with_serial, add_part, add_line, keye
 AMONG = ((loose_items, transfers), (robot_with_motors, installs), (robot_of_motors, write_offs), (bill, where_used))
 
 
-def run(name, lines):
+def run(name, lines, *words):
     """Gives the seconds that the lines take."""
     text = "".join(line + "\n" for line in lines).encode()
     begin = time.monotonic()
-    done = subprocess.run([sys.argv[1]], input=text, stdout=subprocess.PIPE, check=False)
+    done = subprocess.run([sys.argv[1], *words], input=text, stdout=subprocess.PIPE, check=False)
     seconds = time.monotonic() - begin
     answers = done.stdout.count(b"\n")
     # The most of any run so far: the runs grow.
@@ -151,6 +153,12 @@ def run(name, lines):
     return seconds
 
 
+def run_on_file(name, lines):
+    """Gives the seconds that the lines take with a file, which is new."""
+    with tempfile.TemporaryDirectory(dir="/dev/shm") as folder:
+        return run(f"{name} --db", lines, "run", "--db", f"{folder}/x.db")
+
+
 def tell(name, small, large, what):
     print(f"{name}: {large / small:.2f} times the time for twice the {what}", flush=True)
 
@@ -158,6 +166,8 @@ def tell(name, small, large, what):
 for kind in LINES:
     times = [run(f"{kind.__name__}({count})", kind(count)) for count in COUNTS]
     tell(kind.__name__, *times, "lines")
+    times = [run_on_file(f"{kind.__name__}({count})", kind(count)) for count in COUNTS]
+    tell(f"{kind.__name__} --db", *times, "lines")
 for rows, lines in AMONG:
     name = f"{lines.__name__} among {rows.__name__}"
     before = [run(f"{rows.__name__}({count})", rows(count)) for count in ROWS]

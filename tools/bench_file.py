@@ -1,20 +1,28 @@
 #!/usr/bin/env python3
-"""Times the program on a file: finds and removals on a disk and on a memory disk, beside the same three writes for each
-request by Python's sqlite3, in WAL with synchronous FULL; the opening of a file of 100,000 rows, half of them items and
-half their entries; and transfers of single pieces among 1,000 items and among 20,000. Prints seconds, ratios and peak
-memory.
+"""Times the program on a file: 20,000 and 40,000 finds and removals, on a disk and on a memory disk. Beside them, in the
+same run, the same three writes for each request: by Python's sqlite3; by a C program with prepared statements over the
+system's library, where there is a `cc` and that library; and by the kit's `sqlite` alone. All are in WAL with
+synchronous FULL. Then the opening of a file of 50,000 and of 100,000 rows, half of them items and half their entries,
+and transfers of single pieces among 1,000 items and among 20,000. Prints seconds, ratios and peak memory.
+
+The program over the kit's sqlite, tools/bench/three_writes.rt.txt, is no crate of the repository: a folder of its own
+gets it, and there `rt run` proves that it is safe and builds it, in some minutes.
 
 usage: tools/bench_file.py PROGRAM"""
+import os
 import pathlib
 import resource
+import shutil
 import sqlite3
 import subprocess
 import sys
 import tempfile
 import time
 
+BENCH = pathlib.Path(__file__).resolve().parent / "bench"
+KIT_CRATES = "anyhow sqlite sqlite_value sqlite_sql sqlite_schema sqlite_trees sqlite_disk sqlite_catalog"
 DAY = '"day":"2030-01-02"'
-COUNT = 10_000
+COUNTS = (20_000, 40_000)
 START = f"""{{{DAY},"do":"add_location","name":"A"}}
 {{{DAY},"do":"add_part","flags":["component"],"name":"Screw"}}
 """
@@ -41,12 +49,15 @@ def timed(words, lines):
     return seconds
 
 
-def by_sqlite(path):
+def by_python(path, count):
     """The same writes: an item's row, an entry and the counter, one transaction for each request."""
     conn = sqlite3.connect(path, isolation_level=None)
     conn.execute("PRAGMA journal_mode = WAL")
     conn.execute("PRAGMA synchronous = FULL")
-    conn.execute("CREATE TABLE meta (one INTEGER PRIMARY KEY, version INTEGER NOT NULL, next INTEGER NOT NULL) STRICT")
+    conn.execute(
+        "CREATE TABLE meta (one INTEGER PRIMARY KEY, version INTEGER NOT NULL, next INTEGER NOT NULL,"
+        " entries INTEGER NOT NULL, max_numbers INTEGER NOT NULL, max_entries INTEGER NOT NULL) STRICT"
+    )
     conn.execute(
         "CREATE TABLE items (id INTEGER PRIMARY KEY, part INTEGER NOT NULL, batch TEXT, serial TEXT,"
         " status INTEGER NOT NULL, quantity INTEGER NOT NULL, place INTEGER NOT NULL, ref INTEGER NOT NULL) STRICT"
@@ -56,7 +67,7 @@ def by_sqlite(path):
         " part INTEGER NOT NULL, quantity INTEGER NOT NULL, place INTEGER NOT NULL, ref INTEGER NOT NULL) STRICT"
     )
     begin = time.monotonic()
-    for entry in range(1, COUNT + 1):
+    for entry in range(1, count + 1):
         item = (entry + 1) // 2 + 2
         quantity = 100 if entry % 2 else 70
         conn.execute("BEGIN")
@@ -68,29 +79,61 @@ def by_sqlite(path):
             "INSERT OR REPLACE INTO history VALUES (?1, ?2, ?3, ?4, ?5, ?6, ?7, ?8)",
             (entry, "2030-01-02", 1, item, 2, quantity, 0, 1),
         )
-        conn.execute("INSERT OR REPLACE INTO meta VALUES (?1, ?2, ?3)", (1, 1, item + 1))
+        conn.execute(
+            "INSERT OR REPLACE INTO meta VALUES (?1, ?2, ?3, ?4, ?5, ?6)", (1, 1, item + 1, entry, 10**10, 10**10)
+        )
         conn.execute("COMMIT")
     seconds = time.monotonic() - begin
     conn.close()
     return seconds
 
 
-def in_turn():
-    for i in range(COUNT // 2):
+def c_program(folder):
+    """The program in C, or none where it can't be built."""
+    built = str(folder / "three_writes")
+    words = ["cc", "-O2", "-o", built, str(BENCH / "three_writes.c"), "-lsqlite3"]
+    if not shutil.which("cc") or subprocess.run(words, stderr=subprocess.DEVNULL, check=False).returncode:
+        return None
+    return built
+
+
+def kit_program(folder):
+    """The program over the kit's sqlite, or none where it isn't built."""
+    crate = folder / "kit" / "crates" / "three_writes"
+    (crate / "src").mkdir(parents=True)
+    (folder / "kit" / "crates.txt").write_text(f"three_writes: {KIT_CRATES}\n")
+    shutil.copy(BENCH / "three_writes.rt.txt", crate / "src" / "main.rt")
+    subprocess.run(["rt", "run", "--", str(folder / "once.db"), "1"], cwd=crate, capture_output=True, check=False)
+    built = crate / "out" / "three_writes"
+    return str(built) if os.access(built, os.X_OK) else None
+
+
+def by_program(program, path, count):
+    """The seconds that a program tells; it tells them as such or in nanoseconds."""
+    told = subprocess.run([program, path, str(count)], capture_output=True, text=True, check=True).stdout.strip()
+    return float(told) if "." in told else int(told) / 1e9
+
+
+def in_turn(count):
+    for i in range(count // 2):
         yield found(100)
         yield remove(i + 3)
 
 
-def beside_sqlite(folder, name):
-    path = str(folder / "turns.db")
-    timed(("run", "--db", path), START)
-    ours = timed(("run", "--db", path), "".join(in_turn()))
-    theirs = by_sqlite(str(folder / "sqlite.db"))
-    print(
-        f"{COUNT} finds and removals on {name}: {ours:.2f} s, {COUNT / ours:.0f} a second;"
-        f" Python's sqlite3 {theirs:.2f} s; {ours / theirs:.2f} times its time",
-        flush=True,
-    )
+def beside_others(folder, name, programs):
+    """The program beside the others, on each count."""
+    others = {"Python's sqlite3": by_python}
+    for what, program in programs.items():
+        if program:
+            others[what] = lambda path, count, program=program: by_program(program, path, count)
+    for count in COUNTS:
+        path = str(folder / f"turns-{count}.db")
+        timed(("run", "--db", path), START)
+        ours = timed(("run", "--db", path), "".join(in_turn(count)))
+        print(f"{count} finds and removals on {name}: {ours:.2f} s, {count / ours:.0f} a second", flush=True)
+        for at, (what, act) in enumerate(others.items()):
+            theirs = act(str(folder / f"other-{at}-{count}.db"), count)
+            print(f"    {what}: {theirs:.2f} s; the program has {theirs / ours:.2f} of its speed", flush=True)
 
 
 def opening(folder):
@@ -112,7 +155,9 @@ def among(folder):
 
 
 with tempfile.TemporaryDirectory(dir=".") as disk, tempfile.TemporaryDirectory(dir="/dev/shm") as memory:
-    beside_sqlite(pathlib.Path(disk), "a disk")
-    beside_sqlite(pathlib.Path(memory), "a memory disk")
-    opening(pathlib.Path(memory))
-    among(pathlib.Path(memory))
+    disk, memory = pathlib.Path(disk).resolve(), pathlib.Path(memory)
+    programs = {"C": c_program(disk), "the kit's sqlite alone": kit_program(disk)}
+    beside_others(disk, "a disk", programs)
+    beside_others(memory, "a memory disk", programs)
+    opening(memory)
+    among(memory)

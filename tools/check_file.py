@@ -1,17 +1,25 @@
 #!/usr/bin/env python3
-"""Runs the program on files and looks at them with Python's sqlite3: that the tables are STRICT and have their columns,
-that a file is kept between two runs, that exports and reports are what the tables have, and that a file is refused
-whose rows were changed, one change for each clause of what a sound state is.
+"""Runs the program on files and looks at them with Python's sqlite3: that after each word the named file alone, copied
+away from its log, has the books; that the tables are STRICT and have their columns; that a file is kept between two
+runs, and not changed by a report or an export; that exports and reports are what the tables have; that a first start
+that was killed, or met a full disk, starts again; and that a file is refused, with its name and the reason, that isn't a
+workshop's, or whose rows were changed, one change for each clause of what a sound state is.
 
 usage: tools/check_file.py PROGRAM"""
 import contextlib
 import csv
 import io
+import os
 import pathlib
+import random
+import resource
+import shutil
+import signal
 import sqlite3
 import subprocess
 import sys
 import tempfile
+import time
 
 COLUMNS = {
     "meta": "one version next entries max_numbers max_entries",
@@ -79,10 +87,14 @@ DAMAGES = [
     ("DROP TABLE builds", "a table that is missing"),
     ("CREATE TABLE more (id INTEGER PRIMARY KEY) STRICT", "a table more"),
 ]
+STARTS = 200
+# Sizes of a full disk, in bytes.
+SIZES = (1, 41, 4096, 8192, 65536, 131072)
+NOBODY = 65534
 
 
-def run(program, *words, lines=""):
-    return subprocess.run([program, *words], input=lines, capture_output=True, text=True)
+def run(program, *words, lines="", **more):
+    return subprocess.run([program, *words], input=lines, capture_output=True, text=True, check=False, **more)
 
 
 def expect(holds, text):
@@ -99,15 +111,30 @@ def made(program, path):
 
 
 def look(path):
-    """The tables as Python's sqlite3 finds them."""
-    with contextlib.closing(sqlite3.connect(path)) as conn:
-        strict = {row[1] for row in conn.execute("PRAGMA table_list") if row[5]}
-        expect(strict == set(COLUMNS), f"the strict tables are {sorted(strict)}")
-        for table, columns in COLUMNS.items():
-            found = [row[1] for row in conn.execute(f"PRAGMA table_info({table})")]
-            expect(found == columns.split(), f"{table} has the columns {found}")
-        expect(conn.execute("PRAGMA integrity_check").fetchone() == ("ok",), "the file isn't whole")
-        return {table: conn.execute(f"SELECT * FROM {table} ORDER BY 1").fetchall() for table in COLUMNS}
+    """The tables of a copy of the file alone, as Python's sqlite3 finds them."""
+    with tempfile.TemporaryDirectory() as name:
+        copy = shutil.copy(path, name)
+        with contextlib.closing(sqlite3.connect(copy)) as conn:
+            strict = {row[1] for row in conn.execute("PRAGMA table_list") if row[5]}
+            expect(strict == set(COLUMNS), f"the strict tables are {sorted(strict)}")
+            for table, columns in COLUMNS.items():
+                found = [row[1] for row in conn.execute(f"PRAGMA table_info({table})")]
+                expect(found == columns.split(), f"{table} has the columns {found}")
+            expect(conn.execute("PRAGMA integrity_check").fetchone() == ("ok",), "the file isn't whole")
+            return {table: conn.execute(f"SELECT * FROM {table} ORDER BY 1").fetchall() for table in COLUMNS}
+
+
+def kept(program, path):
+    """The file after each word: what was answered is in the file alone, and what only reads leaves it byte for byte."""
+    tables = look(path)
+    expect(len(tables["items"]) == 4, f"the file alone has the items {tables['items']}")
+    before = pathlib.Path(path).read_bytes()
+    for words in (("report", "ledger", "3"), ("report", "ledger", "99"), ("export", "items"), ("run",)):
+        run(program, words[0], "--db", path, *words[1:])
+        expect(pathlib.Path(path).read_bytes() == before, f"{' '.join(words)} changes the file")
+        expect(look(path) == tables, f"after {' '.join(words)} the file alone isn't the books")
+    run(program, "run", "--db", path, lines='{"day":"2030-01-03","do":"add_location","name":"B"}\n')
+    expect(len(look(path)["locations"]) == 2, "what a later run added isn't in the file alone")
 
 
 def exported(program, path, tables):
@@ -121,14 +148,94 @@ def exported(program, path, tables):
 
 def damaged(program, folder, path):
     for number, (change, what) in enumerate(DAMAGES):
-        copy = str(folder / f"{number}.db")
-        with contextlib.closing(sqlite3.connect(path)) as source, contextlib.closing(sqlite3.connect(copy)) as target:
-            source.backup(target)
-            target.execute(change)
-            target.commit()
-        told = run(program, "report", "--db", copy, "ledger", "3")
-        expect(told.returncode == 3, f"{what} is taken: {told.stdout!r}")
-        print(f"{what}: {told.stderr.splitlines()[0]}")
+        told(program, changed(path, str(folder / f"{number}.db"), change), "", what)
+
+
+def killed(program, path, wait):
+    """A first start that is killed after a while."""
+    start = subprocess.Popen([program, "run", "--db", path], stdin=subprocess.PIPE, stdout=subprocess.DEVNULL)
+    time.sleep(wait)
+    start.send_signal(signal.SIGKILL)
+    start.wait()
+    with contextlib.suppress(BrokenPipeError):
+        start.stdin.close()
+
+
+def full(program, path, size):
+    """A first start on a disk that has room for files of that size alone."""
+
+    def limit():
+        resource.setrlimit(resource.RLIMIT_FSIZE, (size, size))
+        signal.signal(signal.SIGXFSZ, signal.SIG_IGN)
+
+    run(program, "run", "--db", path, lines=LINES, preexec_fn=limit)
+
+
+def started_again(program, folder):
+    """First starts that were stopped: the next start goes on, and gives the answers of an unbroken one."""
+    chance = random.Random(1)
+    wanted = run(program, "run", lines=LINES).stdout
+    for number in range(STARTS):
+        path = str(folder / f"start{number}.db")
+        if number % 2:
+            killed(program, path, chance.random() * 0.015)
+            again = run(program, "run", "--db", path, lines=LINES)
+            expect(again.returncode == 0, f"a killed first start is refused: {again.stderr}")
+            expect(again.stdout == wanted, f"after a killed first start other answers: {again.stdout!r}")
+        else:
+            full(program, path, SIZES[number // 2 % len(SIZES)])
+            again = run(program, "run", "--db", path)
+            expect(again.returncode == 0, f"a first start on a full disk is refused ever after: {again.stderr}")
+        look(path)
+
+
+def told(program, path, reason, what, **more):
+    """A file that is refused: the standard error names it, and why."""
+    report = run(program, "report", "--db", path, "ledger", "3", **more)
+    first = (report.stderr.splitlines() or [""])[0]
+    expect(report.returncode == 3 and report.stdout == "", f"{what} is taken: {report.stdout!r}")
+    expect(first.startswith(f"invdesk: {path}: ") and reason in first, f"{what} is told as {first!r}")
+    print(f"{what}: {first}")
+
+
+def changed(path, copy, change):
+    with contextlib.closing(sqlite3.connect(path)) as source, contextlib.closing(sqlite3.connect(copy)) as target:
+        source.backup(target)
+        target.execute(change)
+        target.commit()
+    return copy
+
+
+def refused(program, folder, path):
+    """Each reason why a file has no desk."""
+    told(program, str(folder), "a folder", "a folder")
+    told(program, str(folder / "no" / "w.db"), "folder isn't there", "a file in no folder")
+    told(program, f"{path}/w.db", "folder isn't there", "a file below a file")
+    text = folder / "text.db"
+    text.write_text("not a database, and long enough to be looked at as one\n" * 100)
+    told(program, str(text), "no database", "a text")
+    other = str(folder / "other.db")
+    with contextlib.closing(sqlite3.connect(other)) as conn:
+        conn.execute("CREATE TABLE note (id INTEGER PRIMARY KEY) STRICT")
+        conn.commit()
+    told(program, other, "no workshop's", "a database of others")
+    version = changed(path, str(folder / "version.db"), "UPDATE meta SET version = 2")
+    told(program, version, "another version", "a workshop's of another version")
+    flags = changed(path, str(folder / "flags.db"), "UPDATE parts SET flags = 999 WHERE id = 3")
+    told(program, flags, "the table parts", "a bad row")
+    sums = changed(path, str(folder / "sums.db"), "UPDATE items SET quantity = 99 WHERE id = 10")
+    told(program, sums, "do not fit one another", "rows that don't fit")
+    held = subprocess.Popen([program, "run", "--db", path], stdin=subprocess.PIPE, stdout=subprocess.PIPE)
+    held.stdin.write(AGAIN.encode())
+    held.stdin.flush()
+    held.stdout.readline()
+    told(program, path, "another program has it open", "a file in use")
+    held.communicate()
+    if os.geteuid() == 0:
+        locked = shutil.copy(path, folder / "locked.db")
+        os.chmod(locked, 0o600)
+        os.chmod(folder, 0o755)
+        told(program, str(locked), "may not be read and written", "a file of another user", user=NOBODY)
 
 
 def main(program):
@@ -137,13 +244,16 @@ def main(program):
         path = str(folder / "workshop.db")
         made(program, path)
         exported(program, path, look(path))
-        told = run(program, "report", "--db", path, "ledger", "3")
-        expect(told.stdout.startswith("ledger\t3\tScrew\n") and told.returncode == 0, "no ledger")
+        kept(program, path)
+        ledger = run(program, "report", "--db", path, "ledger", "3")
+        expect(ledger.stdout.startswith("ledger\t3\tScrew\n") and ledger.returncode == 0, "no ledger")
         none = run(program, "report", "--db", path, "ledger", "99")
         expect(none.stdout == '{"refused":"NoSuch"}\n' and none.returncode == 1, "a ledger of nothing")
         new = run(program, "report", "--db", str(folder / "new.db"), "ledger", "1")
         expect(new.returncode == 1, "a new file has a ledger")
         damaged(program, folder, path)
+        refused(program, folder, path)
+        started_again(program, folder)
     print("check_file: all as it should be")
 
 

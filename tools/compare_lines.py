@@ -1,0 +1,219 @@
+#!/usr/bin/env python3
+"""Makes up lines, good and bad, and compares what two programs answer them, byte for byte.
+
+The lines are the same in each run with one seed. They ask for every command and report, with each field there, absent,
+null, of another type or out of its range, members too many or twice and in any order, unknown commands, bad keys and
+days, and bytes that are no JSON. A file of lines may be given too: each is sent whole to both programs.
+
+usage: tools/compare_lines.py OLD NEW [--lines N] [--seed N] [FILE..]"""
+import argparse
+import json
+import pathlib
+import random
+import subprocess
+import sys
+
+STATUSES = "OK Attention Damaged Destroyed Rejected Lost Quarantined Returned".split()
+FLAGS = "template assembly component trackable purchaseable salable virtual".split()
+REPORTS = "ledger stock where_used history content".split()
+COMMANDS = {
+    "add_category": {"name": "text", "parent": "maybe_number"},
+    "add_location": {"name": "text", "parent": "maybe_number"},
+    "add_part": {"name": "text", "category": "maybe_number", "template": "maybe_number", "flags": "flags"},
+    "retire_part": {"part": "number"},
+    "add_line": {"assembly": "number", "component": "number", "quantity": "quantity", "optional": "yes",
+                 "consumable": "yes", "inherited": "yes", "variants": "yes"},
+    "drop_line": {"line": "number"},
+    "add_substitute": {"line": "number", "part": "number"},
+    "drop_substitute": {"substitute": "number"},
+    "found": {"part": "number", "location": "number", "quantity": "quantity", "batch": "maybe_text",
+              "serials": "maybe_serials"},
+    "add": {"item": "number", "quantity": "quantity"},
+    "remove": {"item": "number", "quantity": "quantity"},
+    "count": {"item": "number", "quantity": "quantity"},
+    "transfer": {"item": "number", "location": "number", "quantity": "quantity"},
+    "split": {"item": "number", "quantity": "quantity"},
+    "merge": {"into": "number", "items": "numbers"},
+    "serialise": {"item": "number", "quantity": "quantity", "serials": "serials"},
+    "set_status": {"item": "number", "status": "status"},
+    "install": {"item": "number", "parent": "number", "quantity": "quantity"},
+    "uninstall": {"item": "number", "location": "number"},
+    "disassemble": {"item": "number", "location": "number"},
+    "reinstate": {"item": "number", "location": "number"},
+}
+LATER = "order receive build complete_output auto_allocate release".split()
+STRANGE = [None, True, False, 0, 1, -1, 1.5, "", "x", "7", [], [1], ["x"], [None], {}, {"a": 1}, 2**64, 10**30, -0.0]
+# Numbers as they may be spelled: a number with a sign, a fraction or an exponent is none.
+SPELLED = ["1e3", "1.0", "-0", "1E0", "18446744073709551615", "18446744073709551616", "0.5", "-1"]
+
+
+class Spelled(str):
+    """A number as it is spelled on the line."""
+
+
+def text(r):
+    letters = "abcXYZ 09-_.,;\"\\/é漢\u0001\u007f\n"
+    return r.choice(["A", "B", "Screw", f"Part {r.randint(1, 10**6)}", f"Part {r.randint(1, 10**6)}", f"Hall {r.randint(1, 10**6)}", "a" * 200, "a" * 201, "é" * 100, "é" * 101, "",
+                     "".join(r.choice(letters) for _ in range(r.randint(1, 12)))])
+
+
+def serials(r):
+    return r.choice([f"S{r.randint(1, 400)}", f"{r.randint(1, 99)}", "1-3", "7-7", "9-3", "1-1000", "1-1001", "01-2",
+                     "a,b", "a,,b", ",", "", "a b", "x" * 24, "x" * 25, "3-5,A-1", "A.1,B_2,C/3", "é",
+                     "999999999999999998-999999999999999999", f"{r.randint(1, 50)}-{r.randint(1, 99)}"])
+
+
+def value(r, kind):
+    """A value of the kind, in its range most often."""
+    if kind == "number":
+        return r.choice([r.randint(1, 12)] * 8 + [r.randint(1, 400), 0, r.randint(1, 10**6), 2**64 - 1])
+    if kind == "maybe_number":
+        return r.choice([None, None, r.randint(1, 12)])
+    if kind == "quantity":
+        return r.choice([1, 1, 2, 3, r.randint(1, 1000), 10**9, 10**9 + 1, 0])
+    if kind == "text":
+        return text(r)
+    if kind == "maybe_text":
+        return r.choice([None, text(r), "B-7"])
+    if kind == "yes":
+        return r.random() < 0.5
+    if kind == "flags":
+        chosen = r.sample(FLAGS, r.randint(0, 4))
+        if r.random() < 0.1:
+            chosen.append(r.choice(FLAGS + ["Template", "", "trackable "]))
+        return chosen
+    if kind == "status":
+        return r.choice(STATUSES + ["ok", "", "Lost "])
+    if kind == "serials":
+        return serials(r)
+    if kind == "maybe_serials":
+        return r.choice([None, None, serials(r)])
+    return [r.randint(1, 400) for _ in range(r.choice([0, 1, 1, 2, 3, 5, 101]))]
+
+
+def damaged(r, members):
+    """The members with one thing wrong or unusual."""
+    at = r.randrange(len(members))
+    name, held = members[at]
+    way = r.randrange(9)
+    if way == 0:
+        del members[at]
+    elif way == 1:
+        members[at] = (name, None)
+    elif way in (2, 3):
+        members[at] = (name, r.choice(STRANGE))
+    elif way == 4:
+        members[at] = (name, Spelled(r.choice(SPELLED)))
+    elif way == 5:
+        members.append((r.choice(["of", "report", "item", "name", "Name", "side", "", "keys"]), r.choice([1, "x", None])))
+    elif way == 6:
+        members.append((name, r.choice([held] + STRANGE)))
+    elif way == 7:
+        if isinstance(held, list):
+            members[at] = (name, held + [r.choice(STRANGE)])
+        else:
+            members[at] = (name, [held])
+    else:
+        members[at] = (r.choice([name.upper(), name + "s", name[:-1]]), held)
+
+
+def spelled(held):
+    if isinstance(held, Spelled):
+        return str(held)
+    return json.dumps(held, ensure_ascii=False)
+
+
+def line_of(r, members):
+    space = r.choice(["", "", "", " "])
+    return "{" + f",{space}".join(f"{json.dumps(name)}:{space}{spelled(held)}" for name, held in members) + "}"
+
+
+def request(r):
+    verb = r.choice(list(COMMANDS))
+    members = [("do", verb)]
+    if r.random() < 0.85:
+        members += [(name, value(r, kind)) for name, kind in COMMANDS[verb].items()]
+    else:
+        members += [(name, value(r, kind)) for name, kind in COMMANDS[verb].items() if r.random() < 0.8]
+    members.append(("day", r.choice(["2030-01-02"] * 90 + ["2030-02-30", "1999-12-31", "2100-01-01", "2030-1-2", ""])))
+    if r.random() < 0.3:
+        members.append(("key", r.choice([f"k{r.randint(1, 3000)}"] * 60 + ["", "a b", "k" * 80, "k" * 81, "é"])))
+    return members
+
+
+def report(r):
+    return [("report", r.choice(REPORTS + ["Ledger", ""])), ("of", value(r, "number"))]
+
+
+def made_up(r):
+    """One line, as bytes."""
+    way = r.random()
+    members = report(r) if way < 0.05 else request(r)
+    if r.random() < 0.02:
+        members = [(n, r.choice(LATER + ["Found", "", "found "])) if n == "do" else (n, h) for n, h in members]
+    for _ in range(r.choice([0, 0, 0, 1, 1, 2])):
+        if members:
+            damaged(r, members)
+    if r.random() < 0.5:
+        r.shuffle(members)
+    line = line_of(r, members).encode()
+    if r.random() < 0.02:
+        cut = r.randrange(len(line) + 1)
+        line = r.choice([line[:cut], line + line[:cut], line[:cut] + b"\xff" + line[cut:], b"[" + line + b"]", b"null",
+                         b"", b"7", b'"x"', line[:-1] + b" " * 70_000 + b"}"])
+    return line.replace(b"\n", b" ")
+
+
+def lines(count, seed):
+    r = random.Random(seed)
+    first = [b'{"day":"2030-01-02","do":"add_location","name":"Hall"}',
+             b'{"day":"2030-01-02","do":"add_part","name":"Motor","flags":["component","trackable"]}',
+             b'{"day":"2030-01-02","do":"add_part","name":"Robot","flags":["assembly","component","trackable"]}',
+             b'{"day":"2030-01-02","do":"add_line","assembly":3,"component":2,"quantity":2}',
+             b'{"day":"2030-01-02","do":"found","part":2,"location":1,"quantity":1000}',
+             b'{"day":"2030-01-02","do":"found","part":3,"location":1,"quantity":1,"serials":"R-1"}']
+    return first + [made_up(r) for _ in range(count - len(first))]
+
+
+def answers(program, sent):
+    done = subprocess.run([program], input=sent, stdout=subprocess.PIPE, stderr=subprocess.PIPE, check=False)
+    return done.stdout, done.stderr, done.returncode
+
+
+def compare(old, new, sent, name):
+    """Whether both answer alike; the first line that they don't is printed."""
+    before, after = answers(old, sent), answers(new, sent)
+    if before == after:
+        print(f"{name}: {sent.count(10)} lines, {len(before[0])} bytes, the same")
+        return True
+    asked, a, b = sent.split(b"\n"), before[0].split(b"\n"), after[0].split(b"\n")
+    at = next((i for i, (x, y) in enumerate(zip(a, b)) if x != y), min(len(a), len(b)))
+    print(f"{name}: line {at + 1} differs (status {before[2]} and {after[2]})")
+    for shown in (asked, a, b):
+        print(f"  {shown[at][:300] if at < len(shown) else b''}")
+    return False
+
+
+def main():
+    reader = argparse.ArgumentParser(usage=__doc__)
+    reader.add_argument("old")
+    reader.add_argument("new")
+    reader.add_argument("--lines", type=int, default=20_000)
+    reader.add_argument("--seed", type=int, default=25)
+    reader.add_argument("files", nargs="*", type=pathlib.Path)
+    words = reader.parse_intermixed_args()
+    old, new = words.old, words.new
+    made = b"".join(line + b"\n" for line in lines(words.lines, words.seed))
+    same = [compare(old, new, made, f"seed {words.seed}")]
+    kinds = {}
+    for answer in answers(old, made)[0].split(b"\n"):
+        kind = answer.split(b":")[0] if answer[2:6] in (b"entr", b"repo") else answer.split(b",")[0]
+        kinds[kind.decode()] = kinds.get(kind.decode(), 0) + 1
+    for kind, count in sorted(kinds.items(), key=lambda it: -it[1]):
+        print(f"  {count:6} {kind}")
+    for file in words.files:
+        same.append(compare(old, new, file.read_bytes(), file.name))
+    sys.exit(0 if all(same) else 1)
+
+
+main()
