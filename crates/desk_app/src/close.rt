@@ -55,3 +55,11 @@ pub fn end_of_work<D: Disk + Drop>(
         Err(store) => (RunEnd::Store, Err(store)),
     }
 }
+
+/// Lets go of what closing handed back, once nothing more is to be said of it: a clause could not name what is gone.
+pub fn let_go<D: Disk + Drop>(left: Result<Files<D>, FileStore<D>>) {
+    match left {
+        Ok(files) => drop(files),
+        Err(store) => drop(store.close()),
+    }
+}

@@ -16,7 +16,7 @@ mod status;
 mod words;
 
 pub use books::Books;
-pub use close::{close_desk, end_of_work};
+pub use close::{close_desk, end_of_work, let_go};
 pub use database::{FileFault, Refused, connect};
 pub use end::RunEnd;
 pub use file::{print_export, print_report, take_desk};

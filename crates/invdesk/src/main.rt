@@ -6,8 +6,9 @@ ghost use Rattle.sqlite.specs.Files.{over_files};
 ghost use Rattle.desk_store.specs.Desks.{IsDesk};
 
 use desk_app::{
-    Asked, DEVICE, FileFault, MEMORY, Refused, RunEnd, connect, early_status, print_export,
-    print_report, read_words, run_in_memory, run_lines, status_of, status_of_fault, take_desk,
+    Asked, DEVICE, FileFault, MEMORY, Refused, RunEnd, connect, early_status, end_of_work, let_go,
+    print_export, print_report, read_words, run_in_memory, run_lines, status_of, status_of_fault,
+    take_desk,
 };
 use desk_store::Desk;
 use sqlite::{File, FileStore};
@@ -60,12 +61,13 @@ fn act(rt: &HostRuntime, asked: &Asked<'_>, desk: &mut Desk<FileStore<File>>) ->
     }
 }
 
-/// Closes the desk after work that ended so.
-fn closed(desk: Desk<FileStore<File>>, end: RunEnd) -> RunEnd {
-    match desk.close().close() {
-        Ok(()) => end,
-        Err(_) => RunEnd::Store,
-    }
+/// Closes the desk after work that ended so, and lets go of its file.
+fn closed(desk: Desk<FileStore<File>>, end: RunEnd) -> RunEnd
+    requires { IsDesk over_files desk }
+{
+    let (end, left) = end_of_work(desk, end);
+    let_go(left);
+    end
 }
 
 /// Does what the words ask for, with the desk of the file.
