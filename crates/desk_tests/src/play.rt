@@ -1,7 +1,6 @@
-//! Lines that are played on books with nothing in them: on a desk, whose file is closed and opened again before the last
-//! of them, and on a shop.
+//! Lines that are played on books with nothing in them: on a desk, which is closed and opened again before the last of
+//! them, and on a shop.
 ghost use Rattle.std.specs.Prelude.{◌≡◌, false, IfOk};
-ghost use Rattle.sqlite.specs.Files.{over_files};
 ghost use Rattle.sqlite.specs.Held.{state};
 ghost use Rattle.sqlite.specs.State.{HasCleanDisk};
 ghost use Rattle.desk_core.specs.Machine.{IsSoundState};
@@ -10,12 +9,11 @@ ghost use Rattle.desk_store.specs.Desks.{IsDesk};
 
 use crate::devices::Sink;
 use crate::outcomes::holds;
-use desk_app::{Books, RunEnd, close_desk, run_lines, take_desk};
+use desk_app::{Books, RunEnd, run_lines};
 use desk_core::Shop;
 use desk_store::Desk;
 use part_core::Limits;
-use sqlite::{Alter, Connection, FileStore, Files, Options};
-use sqlite_disk::Memory;
+use sqlite::{Alter, Connection};
 use std::alloc::Global;
 use std::test::Fail;
 
@@ -30,36 +28,13 @@ pub fn created<S: Alter + Drop>(alloc: Global, conn: Connection<S>) -> Result<De
     }
 }
 
-/// The desk of the files.
-fn taken(alloc: Global, files: Files<Memory>) -> Result<Desk<FileStore<Memory>>, Fail>
-    ensures { IfOk result (λ desk. IsDesk over_files desk) }
+/// The desk, closed and opened again.
+fn reopened<S: Alter + Drop>(alloc: Global, desk: Desk<S>) -> Result<Desk<S>, Fail>
+    ensures { IfOk result (λ desk. IsDesk S.Store desk) }
 {
-    if !files.may_be_used() {
-        return Err(Fail::from("the files are of no use"));
-    }
-    let Ok(conn) = Connection::open_files(alloc, files, Options::new(7)) else {
-        return Err(Fail::from("no file is opened"));
-    };
-    match take_desk(alloc, conn) {
+    match Desk::open(alloc, desk.close()) {
         Ok(desk) => Ok(desk),
-        Err(_) => Err(Fail::from("no desk is taken")),
-    }
-}
-
-/// The desk, closed and opened again from the database file alone.
-fn reopened(alloc: Global, desk: Desk<FileStore<Memory>>) -> Result<Desk<FileStore<Memory>>, Fail>
-    requires { IsDesk over_files desk }
-    ensures { IfOk result (λ desk. IsDesk over_files desk) }
-{
-    match close_desk(desk) {
-        Ok(files) => taken(
-            alloc,
-            Files {
-                log: Memory::new(alloc),
-                db: files.db,
-            },
-        ),
-        Err(_) => Err(Fail::from("the desk is not closed")),
+        Err(_) => Err(Fail::from("the desk is not opened again")),
     }
 }
 
@@ -89,12 +64,15 @@ pub fn plays_on<B: Books>(
 }
 
 /// Runs the lines on a desk with nothing in it, which is closed and opened again before the last of them.
-fn plays_out(alloc: Global, lines: &str, answers: &str) -> Result<(), Fail> {
-    let files = Files {
-        log: Memory::new(alloc),
-        db: Memory::new(alloc),
-    };
-    let mut desk = taken(alloc, files)?;
+fn plays_out<S: Alter + Drop>(
+    alloc: Global,
+    conn: Connection<S>,
+    lines: &str,
+    answers: &str,
+) -> Result<(), Fail>
+    requires { HasCleanDisk (state S.Store conn) → (state S.Store conn).in_transaction ≡ false }
+{
+    let mut desk = created(alloc, conn)?;
     let mut sink = Sink::new(alloc, 4096);
     let whole = lines.trim_end_matches('\n');
     let (first, last) = whole.rsplit_once('\n').unwrap_or(("", whole));
@@ -108,7 +86,8 @@ fn plays_out(alloc: Global, lines: &str, answers: &str) -> Result<(), Fail> {
 pub fn plays(alloc: Global, lines: &str, answers: &str) -> Result<(), Fail> {
     let mut shop = Shop::new(alloc, Limits::LARGEST);
     plays_on_shop(alloc, &mut shop, lines, answers)?;
-    plays_out(alloc, lines, answers)
+    let conn = Connection::open_in_memory(alloc)?;
+    plays_out(alloc, conn, lines, answers)
 }
 
 /// Runs the lines on a shop, and fails where they are answered otherwise.
