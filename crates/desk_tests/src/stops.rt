@@ -41,10 +41,13 @@ fn fresh(alloc: Global) -> Result<Files<Memory>, Fail> {
     let Ok(conn) = Connection::open_files(alloc, files, Options::new(7)) else {
         return Err(Fail::from("no file is made"));
     };
-    let Ok(desk) = Desk::create(alloc, conn, Limits::LARGEST) else {
-        return Err(Fail::from("no desk is made"));
-    };
-    Ok(desk.close().into_store().close())
+    match Desk::create(alloc, conn, Limits::LARGEST) {
+        Ok(desk) => Ok(desk.close().into_store().close()),
+        Err((_, store)) => {
+            drop(store.close());
+            Err(Fail::from("no desk is made"))
+        }
+    }
 }
 
 /// Runs the lines on the desk of the database: how it ends, and what is answered.
