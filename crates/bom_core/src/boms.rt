@@ -21,13 +21,23 @@ mod sound;
 mod substitutes;
 
 /// The lines of all bills, and their substitutes.
-#[derive(Drop)]
 pub struct Boms {
     lines: IndexedSheet<Line>,
     substitutes: IndexedSheet<Substitute>,
     alloc: Global,
     ghost numbered: { AreNumbered lines.rows },
     ghost kept_numbered: { AreNumbered lines.kept },
+}
+
+// It is written out, so that a caller does not prove again how each part is dropped.
+impl Drop for Boms {
+    fn drop(self) {
+        let Boms {
+            lines: _,
+            substitutes: _,
+            alloc: _,
+        } = self;
+    }
 }
 
 impl Boms {

@@ -5,6 +5,7 @@ use Rattle.part_core.specs.declared.field.Kind.TheVariants as kind
 use Rattle.part_core.specs.declared.field.Field.{Field}
 use Rattle.part_core.specs.declared.field.Field.TheVariants as field
 use Rattle.part_core.specs.declared.flags.Flags.{Flags}
+use Rattle.part_core.specs.declared.side.Side.{Side}
 use Rattle.part_core.specs.declared.status.Status.{Status}
 
 -- what stands in a field of the kind
@@ -16,6 +17,7 @@ Value kind.MaybeText = Option (List ℕ)
 Value kind.Yes = Bool
 Value kind.Flags = Flags
 Value kind.Status = Status
+Value kind.Side = Side
 Value kind.Serials = List (List ℕ)
 Value kind.MaybeSerials = Option (List (List ℕ))
 Value kind.Numbers = List ℕ
@@ -29,6 +31,7 @@ field_with kind.MaybeText t = field.MaybeText t
 field_with kind.Yes b = field.Yes b
 field_with kind.Flags f = field.Flags f
 field_with kind.Status s = field.Status s
+field_with kind.Side s = field.Side s
 field_with kind.Serials s = field.Serials s
 field_with kind.MaybeSerials s = field.MaybeSerials s
 field_with kind.Numbers n = field.Numbers n
@@ -42,6 +45,7 @@ value_of kind.MaybeText (field.MaybeText t) = Some t
 value_of kind.Yes (field.Yes b) = Some b
 value_of kind.Flags (field.Flags f) = Some f
 value_of kind.Status (field.Status s) = Some s
+value_of kind.Side (field.Side s) = Some s
 value_of kind.Serials (field.Serials s) = Some s
 value_of kind.MaybeSerials (field.MaybeSerials s) = Some s
 value_of kind.Numbers (field.Numbers n) = Some n

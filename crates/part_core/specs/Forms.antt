@@ -40,6 +40,7 @@ kind_of (field.MaybeText t) = kind.MaybeText
 kind_of (field.Yes b) = kind.Yes
 kind_of (field.Flags f) = kind.Flags
 kind_of (field.Status s) = kind.Status
+kind_of (field.Side s) = kind.Side
 kind_of (field.Serials s) = kind.Serials
 kind_of (field.MaybeSerials s) = kind.MaybeSerials
 kind_of (field.Numbers n) = kind.Numbers

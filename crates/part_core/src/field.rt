@@ -1,5 +1,5 @@
 //! The fields of commands, each of a kind.
-use crate::{Flags, Ids, Serials, Status, Text};
+use crate::{Flags, Ids, Serials, Side, Status, Text};
 
 /// What a field of a command asks for.
 #[derive(Clone, Copy, Debug, PartialEq, Eq)]
@@ -18,6 +18,8 @@ pub enum Kind {
     Flags,
     /// The status of an item.
     Status,
+    /// The side of an order.
+    Side,
     /// Serial numbers.
     Serials,
     /// Serial numbers, or none.
@@ -36,6 +38,7 @@ pub enum Field {
     Yes(bool),
     Flags(Flags),
     Status(Status),
+    Side(Side),
     Serials(Serials),
     MaybeSerials(Option<Serials>),
     Numbers(Ids),

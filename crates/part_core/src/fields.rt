@@ -4,7 +4,7 @@ ghost use Rattle.part_core.specs.Fields.{end, first, rest};
 ghost use Rattle.part_core.specs.declared.field.Kind.{Kind};
 
 use crate::field::Field;
-use crate::{Flags, Ids, Serials, Status, Text};
+use crate::{Flags, Ids, Serials, Side, Status, Text};
 use std::marker::Model;
 use std::vec::IntoIter;
 
@@ -100,6 +100,16 @@ impl Fields {
     {
         match self.rest.next() {
             Some(Field::Status(status)) => Some(status),
+            _ => None,
+        }
+    }
+
+    pub fn side(&mut self) -> Option<Side>
+        ensures value { result ≡ first Kind.Side self.old }
+        ensures rest { self.new ≡ rest self.old }
+    {
+        match self.rest.next() {
+            Some(Field::Side(side)) => Some(side),
             _ => None,
         }
     }

@@ -7,13 +7,13 @@
 //! neither `keep` nor `back` has to file anything. What is filed too much then is among `touched`: the filings that a
 //! change made, and those of the row that it put out of its place. `sweep` looks at each of these once more, and takes
 //! out what no row has any longer, which needs no memory.
-ghost use Rattle.std.specs.Prelude.{◌≡◌, ◌<◌, ◌^◌, ◌∷◌, [], ℕ, Bool, Some, filter, map, length, IfOk, OnOk};
+ghost use Rattle.std.specs.Prelude.{◌≡◌, ◌<◌, ◌^◌, ◌∷◌, [], ℕ, Bool, Some, filter, map, length, IfOk, OnOk, sum_by};
 ghost use Rattle.std.specs.List.{list_any};
 ghost use Rattle.std.specs.FinMap as table;
 ghost use Rattle.std.specs.Map.Iter.{ShowsInOrder, deref};
 ghost use Rattle.part_core.specs.Index.{IsExact, IsFiled, IsGrown, IsIndex, Rise, filed_under, numbers_of, rows_at};
 ghost use Rattle.part_core.specs.Indexed.{is_index_key};
-ghost use Rattle.part_core.specs.Select.{IsTest};
+ghost use Rattle.part_core.specs.Select.{IsMeasure, IsTest};
 ghost use Rattle.part_core.specs.Sheet.{now_of};
 
 use crate::indexed::Indexed;
@@ -30,11 +30,20 @@ pub(crate) struct Filing {
 }
 
 // The filings of a table's rows.
-#[derive(Drop)]
 pub(crate) struct Index {
     pub(crate) filings: BTreeSet<Filing>,
     // What is to be looked at again, since its row has changed.
     pub(crate) touched: Vec<Filing>,
+}
+
+// It is written out, so that a caller does not prove again how each part is dropped.
+impl Drop for Index {
+    fn drop(self) {
+        let Index {
+            filings: _,
+            touched: _,
+        } = self;
+    }
 }
 
 // Whether the row has the key.
@@ -194,6 +203,28 @@ impl Index {
             }
         }
         false
+    }
+
+    // The sum of a measure over the rows that are filed under the key.
+    pub(crate) fn sum_rows<R: Indexed, F: Fn(&R) -> u64>(
+        &self,
+        sheet: &Sheet<R>,
+        key: u64,
+        measure: F,
+    ) -> u128
+        requires { F.IsAlwaysCallable measure }
+        ensures rise { Rise (numbers_of (filed_under key self.now.filings.keys)) }
+        ensures sum { (f : R → ℕ) → IsMeasure F.Fn measure f → result
+            ≡ sum_by f (map (λ e. e.1)
+            (rows_at (now_of sheet.now) (numbers_of (filed_under key self.now.filings.keys)))) }
+    {
+        let mut total = 0;
+        for filing in self.under(key) {
+            if let Some(row) = sheet.get(&filing.number) {
+                total += u128::from(measure(row));
+            }
+        }
+        total
     }
 
     // The rows that are filed under the key and pass the test, in order of number. An error is one of memory.

@@ -1,10 +1,10 @@
 //! Rows that are found by what stands in them, besides by their number.
-ghost use Rattle.std.specs.Prelude.{◌≡◌, ◌∷◌, [], ℕ, Bool, List, slice_get, option_copied, IfOk, IfSome, OnOk, OnErr, map, filter};
+ghost use Rattle.std.specs.Prelude.{◌≡◌, ◌∷◌, [], ℕ, Bool, List, slice_get, option_copied, IfOk, IfSome, OnOk, OnErr, map, filter, nat_lt, sum_by};
 ghost use Rattle.std.specs.List.{list_any};
 ghost use Rattle.std.specs.FinMap as table;
 ghost use Rattle.part_core.specs.Filled.{filled, StandUnderKeys};
 ghost use Rattle.part_core.specs.Indexed.{IsFiledUnder, IsOfNumber, index_key_of};
-ghost use Rattle.part_core.specs.Select.{IsTest};
+ghost use Rattle.part_core.specs.Select.{IsMeasure, IsTest};
 ghost use Rattle.part_core.specs.Sheet.{now_of};
 
 use crate::index::Index;
@@ -55,11 +55,21 @@ fn passing<'a, R: Indexed, F: Fn(&R) -> bool>(
 
 /// A table in memory, as `Sheet`, with an index: the numbers of the rows that have an index key are found without a
 /// look at the other rows.
-#[derive(Drop)]
 pub struct IndexedSheet<R: Indexed> {
     sheet: Sheet<R>,
     index: Index,
     alloc: Global,
+}
+
+// It is written out, so that a caller does not prove again how each part is dropped.
+impl<R: Indexed> Drop for IndexedSheet<R> {
+    fn drop(self) {
+        let IndexedSheet {
+            sheet: _,
+            index: _,
+            alloc: _,
+        } = self;
+    }
 }
 
 impl<R: Indexed> Model for IndexedSheet<R> {
@@ -126,6 +136,17 @@ impl<R: Indexed> IndexedSheet<R> {
             → result ≡ list_any p (table.values (now_of self.now)) }
     {
         self.index.any_row::<R, F>(&self.sheet, key, test)
+    }
+
+    /// The sum of a measure over the rows, to which none adds that lacks the index key: a look at the rows that have
+    /// it. It takes no memory, and fits 128 bits whatever the measure gives.
+    pub fn sum_under<F: Fn(&R) -> u64>(&self, key: u64, measure: F) -> u128
+        requires { F.IsAlwaysCallable measure }
+        ensures { (f : R → ℕ) → IsMeasure F.Fn measure f
+            → IsFiledUnder R.index_keys key (λ x. nat_lt 0 (f x))
+            → result ≡ sum_by f (table.values (now_of self.now)) }
+    {
+        self.index.sum_rows::<R, F>(&self.sheet, key, measure)
     }
 
     /// Whether a row passes the test, which none does that has another number: one look-up, which takes no memory.

@@ -32,7 +32,6 @@ use std::marker::Model;
 ///
 /// A look-up is by a hash of the key, and takes the same time however many rows there are. So do `put`, `remove` and
 /// `get_mut`; `pending`, `keep` and `back` take time for what was changed. `keep` and `back` never fail.
-#[derive(Drop)]
 pub struct Sheet<R: Row> {
     // Each key with what it has now, and, once it was changed, what it had.
     slots: IndexMap<R::Key, Held<R>>,
@@ -51,6 +50,19 @@ pub struct Pending<'a, R: Row> {
     pub key: &'a R::Key,
     /// The row that stands under it now.
     pub row: Option<&'a R>,
+}
+
+// It is written out, so that a caller does not prove again how each part is dropped.
+impl<R: Row> Drop for Sheet<R> {
+    fn drop(self) {
+        let Sheet {
+            slots: _,
+            changed: _,
+            len: _,
+            kept_len: _,
+            alloc: _,
+        } = self;
+    }
 }
 
 impl<R: Row> Model for Sheet<R> {
