@@ -1,0 +1,10 @@
+pub mod AllocForms
+pub mod AllocMachine
+pub mod AllocationColumns
+pub mod Allocations
+pub mod AllocationKeys
+pub mod AllocationTables
+pub mod Covered
+pub mod Release
+pub mod RowTests
+pub mod Sound

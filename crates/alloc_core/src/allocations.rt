@@ -1,0 +1,229 @@
+//! All allocations.
+ghost use Rattle.std.specs.Prelude.{◌≡◌, ◌∷◌, [], filter, IfOk, map, OnErr, OnOk, option_copied, sum_by};
+ghost use Rattle.std.specs.FinMap as table;
+ghost use Rattle.bom_core.specs.Lines.{removed_all};
+ghost use Rattle.part_core.specs.Filled.{StandUnderKeys};
+ghost use Rattle.part_core.specs.Sheet.{now_of};
+ghost use Rattle.yard_core.specs.Yards.{stock_of};
+ghost use Rattle.alloc_core.specs.Allocations.{amount_where, is_for_sale_line, is_of_item};
+
+use crate::allocation::{Allocation, item_key};
+use crate::purpose::{Owner, build_key, order_key, output_key, sale_line_key};
+use part_core::{Id, IndexedSheet, Quantity, Sheet};
+use std::alloc::{AllocError, Global};
+use yard_core::Yard;
+
+/// What an allocation adds to the sum of an item.
+fn amount_of(item: Id, allocation: &Allocation) -> u64
+    ensures { result ≡ amount_where (is_of_item item) allocation.now }
+{
+    if allocation.item == item {
+        allocation.quantity
+    } else {
+        0
+    }
+}
+
+/// What an allocation adds to the sum of a line of a sale.
+fn amount_for(line: Id, allocation: &Allocation) -> u64
+    ensures { result ≡ amount_where (λ a. is_for_sale_line line a.purpose) allocation.now }
+{
+    if allocation.purpose.is_for_sale_line(line) {
+        allocation.quantity
+    } else {
+        0
+    }
+}
+
+/// The numbers of the rows.
+fn numbers_of(alloc: Global, rows: &[&Allocation]) -> Result<Vec<Id>, AllocError>
+    ensures { IfOk result (λ numbers. numbers.items ≡ map (λ a. a.now.number) rows.now) }
+{
+    rows.iter().map(|row| row.number).collect(alloc)
+}
+
+/// Takes out the rows of these numbers. An error is one of memory, and may have left some of them.
+fn remove_all(rows: &mut IndexedSheet<Allocation>, numbers: &[Id]) -> Result<(), AllocError>
+    ensures removed { OnOk result (now_of rows.new ≡ removed_all numbers.now (now_of rows.old)) }
+    ensures kept { rows.new.kept ≡ rows.old.kept }
+{
+    for number in numbers {
+        rows.remove(*number)?;
+    }
+    Ok(())
+}
+
+/// The rows of allocations, found by item, by order or build, and by line of a sale.
+pub struct Allocations {
+    rows: IndexedSheet<Allocation>,
+    alloc: Global,
+}
+
+// It is written out, so that a caller does not prove again how each part is dropped.
+impl Drop for Allocations {
+    fn drop(self) {
+        let Allocations {
+            rows: _,
+            alloc: _,
+        } = self;
+    }
+}
+
+impl Allocations {
+    ghost use Rattle.alloc_core.specs.Allocations.{allocated, allocated_for_sale_line, allocation_in, allocations_of, free, has_allocations, is_above_free, released_for};
+    ghost use Rattle.alloc_core.specs.AllocationTables.{allocations_from, allocations_now, kept_allocations};
+    ghost use Rattle.alloc_core.specs.Release.{release};
+
+    /// No allocation.
+    pub fn new(alloc: Global) -> Self
+        ensures now { allocations_now result ≡ table.empty }
+        ensures kept { kept_allocations result ≡ table.empty }
+    {
+        Allocations {
+            rows: IndexedSheet::new(alloc),
+            alloc,
+        }
+    }
+
+    /// The allocations of these rows, which are those that are kept. An error is one of memory.
+    pub fn assemble(alloc: Global, rows: Vec<Allocation>) -> Result<Self, AllocError>
+        ensures now { IfOk result (λ all. allocations_now all ≡ allocations_from rows.items) }
+        ensures kept { IfOk result (λ all. kept_allocations all ≡ allocations_from rows.items) }
+    {
+        let rows = IndexedSheet::filled(alloc, rows)?;
+        Ok(Allocations { rows, alloc })
+    }
+
+    /// The allocations, as a sheet.
+    pub fn rows(&self) -> &Sheet<Allocation>
+        ensures value { result.now ≡ self.now.rows }
+        ensures own { StandUnderKeys (λ a. a.number ∷ []) (allocations_now self.now) }
+    {
+        self.rows.rows()
+    }
+
+    /// The allocation of that number.
+    pub fn allocation(&self, number: Id) -> Option<&Allocation>
+        ensures { option_copied result ≡ allocation_in number (allocations_now self.now) }
+    {
+        self.rows.get(number)
+    }
+
+    /// How much of an item is allocated. It looks at the item's allocations alone, and takes no memory.
+    pub fn allocated(&self, item: Id) -> u128
+        ensures { result ≡ allocated item (allocations_now self.now) }
+    {
+        self.rows
+            .sum_under(item_key(item), |row| amount_of(item, row))
+    }
+
+    /// How much is allocated for a line of a sale. It looks at that line's allocations alone, and takes no memory.
+    pub fn allocated_for_sale_line(&self, line: Id) -> u128
+        ensures { result ≡ allocated_for_sale_line line (allocations_now self.now) }
+    {
+        self.rows
+            .sum_under(sale_line_key(line), |row| amount_for(line, row))
+    }
+
+    /// Whether some of the item is allocated. It looks at the item's allocations alone, and takes no memory.
+    pub fn has_allocations(&self, item: Id) -> bool
+        ensures { result ≡ has_allocations item (allocations_now self.now) }
+    {
+        self.rows.any_under(item_key(item), |row| row.item == item)
+    }
+
+    /// What is free of an item: what it has, less what is allocated of it. An item that isn't there has
+    /// nothing.
+    pub fn free(&self, yard: &Yard, item: Id) -> u128
+        ensures { result ≡ free item (allocations_now self.now) (stock_of yard.now) }
+    {
+        let has = match yard.item(item) {
+            Some(row) => row.quantity,
+            None => 0,
+        };
+        u128::from(has).saturating_sub(self.allocated(item))
+    }
+
+    /// Whether the amount is more than what is free of the item.
+    pub fn is_above_free(&self, yard: &Yard, item: Id, quantity: Quantity) -> bool
+        ensures { result
+            ≡ is_above_free item quantity (allocations_now self.now) (stock_of yard.now) }
+    {
+        self.free(yard, item) < u128::from(quantity)
+    }
+
+    /// The owner's allocations, in order of number. It looks at these alone. An error is one of memory.
+    pub fn owned_by(&self, owner: Owner) -> Result<Vec<&Allocation>, AllocError>
+        ensures { IfOk result (λ rows. map (λ r. r.now) rows.items
+            ≡ allocations_of owner (allocations_now self.now)) }
+    {
+        match owner {
+            Owner::Order(order) => self
+                .rows
+                .select_under(order_key(order), |row| row.purpose.is_for_order(order)),
+            Owner::Build(build) => self
+                .rows
+                .select_under(build_key(build), |row| row.purpose.is_for_build(build)),
+            Owner::Output(output) => self.rows.select_under(
+                output_key(output),
+                |row| row.purpose.is_for_output(output),
+            ),
+        }
+    }
+
+    /// An allocation comes, in place of one that had its number. An error is one of memory.
+    pub fn allocate(&mut self, row: Allocation) -> Result<(), AllocError>
+        ensures ok { OnOk result (allocations_now self.new
+            ≡ table.insert (allocations_now self.old) (row.number ∷ []) row) }
+        ensures err { OnErr result (self.new ≡ self.old) }
+        ensures kept { kept_allocations self.new ≡ kept_allocations self.old }
+    {
+        self.rows.put(row)
+    }
+
+    /// The allocation of that number goes, if there is one. An error is one of memory.
+    pub fn release(&mut self, number: Id) -> Result<(), AllocError>
+        ensures ok { OnOk result (allocations_now self.new
+            ≡ release number (allocations_now self.old)) }
+        ensures err { OnErr result (self.new ≡ self.old) }
+        ensures kept { kept_allocations self.new ≡ kept_allocations self.old }
+    {
+        self.rows.remove(number)
+    }
+
+    /// The owner's allocations go, and no other. An error is one of memory, and may have left some of them.
+    pub fn release_for(&mut self, owner: Owner) -> Result<(), AllocError>
+        ensures ok { OnOk result (allocations_now self.new
+            ≡ released_for owner (allocations_now self.old)) }
+        ensures kept { kept_allocations self.new ≡ kept_allocations self.old }
+    {
+        let numbers = self.numbers_for(owner)?;
+        remove_all(&mut self.rows, numbers.as_slice())
+    }
+
+    /// The numbers of the owner's allocations, by which they go.
+    fn numbers_for(&self, owner: Owner) -> Result<Vec<Id>, AllocError>
+        ensures { IfOk result (λ numbers. removed_all numbers.items (allocations_now self.now)
+            ≡ released_for owner (allocations_now self.now)) }
+    {
+        let _ = self.rows.rows();
+        let rows = self.owned_by(owner)?;
+        numbers_of(self.alloc, rows.as_slice())
+    }
+
+    /// What was changed stays so.
+    pub fn keep(&mut self)
+        ensures now { allocations_now self.new ≡ allocations_now self.old }
+        ensures kept { kept_allocations self.new ≡ allocations_now self.old }
+    {
+        self.rows.keep();
+    }
+
+    /// What was changed since it was last kept is taken back.
+    pub fn back(&mut self)
+        ensures now { allocations_now self.new ≡ kept_allocations self.old }
+        ensures kept { kept_allocations self.new ≡ kept_allocations self.old }
+    {
+        self.rows.back();
+    }
+}

@@ -1,0 +1,18 @@
+//! Allocations: what of an item is meant for an order or a build, before it goes there.
+//!
+//! An allocation is a row that names an item, an amount and what it is for. What is free of an item is what
+//! no allocation names. The crate knows items and bills, but neither orders nor builds: their commands stand
+//! in crates above.
+#![tactic(auto)]
+
+pub mod alloc_command;
+mod alloc_forms;
+mod allocation;
+mod allocations;
+mod opening;
+mod purpose;
+
+pub use alloc_command::AllocCommand;
+pub use allocation::Allocation;
+pub use allocations::Allocations;
+pub use purpose::{OutputNumber, Owner, Purpose};
