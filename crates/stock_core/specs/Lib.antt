@@ -12,6 +12,7 @@ pub mod Reinstate
 pub mod Remove
 pub mod Serialise
 pub mod Serials
+pub mod Serving
 pub mod SetStatus
 pub mod Sound
 pub mod Split

@@ -32,6 +32,16 @@ pub struct NewStock {
     pub serials: Option<Serials>,
 }
 
+/// Equal serials, or none.
+pub fn copy_serials(alloc: Global, serials: &Option<Serials>) -> Result<Option<Serials>, AllocError>
+    ensures { IfOk result (λ copy. copy ≡ serials.now) }
+{
+    match serials {
+        None => Ok(None),
+        Some(serials) => Ok(Some(serials.copy(alloc)?)),
+    }
+}
+
 /// How many new items there are.
 pub fn count_of(new: &NewStock) -> u64
     ensures { result ≡ count_of new.now.serials }

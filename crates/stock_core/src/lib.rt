@@ -11,12 +11,18 @@ mod asked;
 mod books;
 mod commands;
 mod opening;
+mod owners;
 mod pieces;
 mod serials;
 pub mod stock_command;
 mod stock_forms;
 
-pub use arrivals::{Arrival, NewStock};
+pub use arrivals::{
+    Arrival, NewStock, copy_serials, count_of, make_new, names_many, names_needless,
+    names_other_count, names_taken,
+};
+pub use asked::{has_more, is_available, is_loose, is_no_item, is_no_location, part_at};
+pub use books::lacks_room;
 pub use commands::add::add;
 pub use commands::count::count;
 pub use commands::disassemble::disassemble;
@@ -31,4 +37,6 @@ pub use commands::split::split;
 pub use commands::transfer::transfer;
 pub use commands::uninstall::uninstall;
 pub use opening::is_sound_stock;
+pub use owners::KnowsOwners;
+pub use pieces::take;
 pub use stock_command::StockCommand;

@@ -13,6 +13,7 @@ ghost use Rattle.yard_core.specs.Climbs.{IsByNumber};
 ghost use Rattle.yard_core.specs.Stock.{IsSound};
 ghost use Rattle.yard_core.specs.Yards.{stock_of};
 
+use crate::owners::KnowsOwners;
 use part_core::{Catalogue, Counter, Id};
 use rows::{are_drawn, are_sound_entries, are_sound_items};
 use serials::serials_stand_once;
@@ -55,8 +56,9 @@ fn is_sound_alone(yard: &Yard, counter: &Counter) -> Result<bool, AllocError>
 }
 
 /// Whether items and entries, in order of number, are right beside the catalogue. An error is one of memory.
-fn are_sound_rows(
+fn are_sound_rows<W: KnowsOwners>(
     alloc: Global,
+    owners: &W,
     catalogue: &Catalogue,
     yard: &Yard,
     items: &[&Item],
@@ -64,13 +66,13 @@ fn are_sound_rows(
 ) -> Result<bool, AllocError>
     requires { IsByNumber (map (λ x. x.now) items.now) }
     ensures { IfOk result (λ sound. IsTrue sound
-        ↔ AreSoundRows (parts_of catalogue.now) (stock_of yard.now)
+        ↔ AreSoundRows (W.owners_of owners.now) (parts_of catalogue.now) (stock_of yard.now)
         (map (λ x. x.now) items.now) (map (λ x. x.now) entries.now)) }
 {
-    if !are_sound_items(catalogue, yard, items) {
+    if !are_sound_items::<W>(owners, catalogue, yard, items) {
         return Ok(false);
     }
-    if !are_sound_entries(catalogue, yard, entries) {
+    if !are_sound_entries::<W>(owners, catalogue, yard, entries) {
         return Ok(false);
     }
     let once = serials_stand_once(alloc, catalogue, items)?;
@@ -78,39 +80,49 @@ fn are_sound_rows(
 }
 
 /// Whether sound items and their history are right beside the catalogue. An error is one of memory.
-fn is_sound_beside(
+fn is_sound_beside<W: KnowsOwners>(
     alloc: Global,
+    owners: &W,
     catalogue: &Catalogue,
     yard: &Yard,
     counter: &Counter,
 ) -> Result<bool, AllocError>
     requires { AreSoundItems (books_of yard.now counter.now) }
-    ensures { IfOk result (λ sound. IsTrue sound
-        ↔ IsSoundStock (parts_of catalogue.now) (books_of yard.now counter.now)) }
+    ensures { IfOk result (λ sound. IsTrue sound ↔ IsSoundStock (W.owners_of owners.now)
+        (parts_of catalogue.now) (books_of yard.now counter.now)) }
 {
     let _ = counter;
     let items = rows_in_order(yard.items())?;
     let entries = rows_in_order(yard.journal())?;
-    let sound = are_sound_rows(alloc, catalogue, yard, items.as_slice(), entries.as_slice())?;
+    let sound = are_sound_rows::<W>(
+        alloc,
+        owners,
+        catalogue,
+        yard,
+        items.as_slice(),
+        entries.as_slice(),
+    )?;
     Ok(sound)
 }
 
-/// Whether items, locations and history are sound beside the catalogue, the numbers that were drawn and the limits. It
-/// keeps what it sums of each part, and the serials, while it looks. An error is one of memory.
-pub fn is_sound_stock(
+/// Whether items, locations and history are sound beside the orders and builds that there are, the catalogue, the
+/// numbers that were drawn and the limits. It keeps what it sums of each part, and the serials, while it looks. An error
+/// is one of memory.
+pub fn is_sound_stock<W: KnowsOwners>(
     alloc: Global,
+    owners: &W,
     catalogue: &Catalogue,
     yard: &Yard,
     counter: &Counter,
 ) -> Result<bool, AllocError>
     requires { StandUnderKeys (λ e. e.number ∷ []) (stock_of yard.now).history }
-    ensures { IfOk result (λ sound. IsTrue sound
-        ↔ IsSoundStock (parts_of catalogue.now) (books_of yard.now counter.now)) }
+    ensures { IfOk result (λ sound. IsTrue sound ↔ IsSoundStock (W.owners_of owners.now)
+        (parts_of catalogue.now) (books_of yard.now counter.now)) }
 {
     let alone = is_sound_alone(yard, counter)?;
     if !alone {
         return Ok(false);
     }
-    let sound = is_sound_beside(alloc, catalogue, yard, counter)?;
+    let sound = is_sound_beside::<W>(alloc, owners, catalogue, yard, counter)?;
     Ok(sound)
 }

@@ -7,7 +7,8 @@ ghost use Rattle.part_core.specs.declared.limits.Limits.{Limits};
 ghost use Rattle.bom_core.specs.Boms.{bills_of};
 ghost use Rattle.yard_core.specs.Books.{Does, books_of, kept_books};
 ghost use Rattle.yard_core.specs.Stock.{empty_stock};
-ghost use Rattle.stock_core.specs.Sound.{IsSoundStock};
+ghost use Rattle.alloc_core.specs.AllocationTables.{allocations_now};
+ghost use Rattle.stock_core.specs.Sound.{IsSoundStock, IsSoundStockSomehow, Owners};
 ghost use Rattle.stock_core.specs.StockMachine.{ChecksAreInOrder, EffectsAreSound, RowsStay, checks, effect};
 
 use crate::arrivals::NewStock;
@@ -15,6 +16,7 @@ use crate::{
     add, count, disassemble, found, install, merge, reinstate, remove, serialise, set_status,
     split, transfer, uninstall,
 };
+use alloc_core::Allocations;
 use bom_core::Boms;
 use part_core::{Answer, Catalogue, CoreFault, Counter, Day, Id, Ids, Quantity, Serials, Status};
 use std::alloc::Global;
@@ -101,15 +103,17 @@ pub fn act(
     alloc: Global,
     catalogue: &Catalogue,
     boms: &Boms,
+    allocations: &Allocations,
     yard: &mut Yard,
     counter: &mut Counter,
     day: Day,
     command: &StockCommand,
 ) -> Result<Answer, CoreFault>
     requires nothing_pending { kept_books yard.old counter.old ≡ books_of yard.old counter.old }
-    requires sound { IsSoundStock (parts_of catalogue.now) (books_of yard.old counter.old) }
+    requires sound { IsSoundStockSomehow (parts_of catalogue.now) (books_of yard.old counter.old) }
     ensures does { let b = books_of yard.old counter.old in
-        Does (checks command.now day (parts_of catalogue.now) (bills_of boms.now) b)
+        Does (checks command.now day (parts_of catalogue.now) (bills_of boms.now)
+        (allocations_now allocations.now) b)
         (effect command.now day b) b result
         (books_of yard.new counter.new) }
     ensures kept { kept_books yard.new counter.new ≡ kept_books yard.old counter.old }
@@ -122,21 +126,38 @@ pub fn act(
         } => found(alloc, catalogue, yard, counter, day, *part, *location, new),
         StockCommand::Add { item, quantity } => add(alloc, yard, counter, day, *item, *quantity),
         StockCommand::Remove { item, quantity } => {
-            remove(alloc, yard, counter, day, *item, *quantity)
+            remove(alloc, allocations, yard, counter, day, *item, *quantity)
         }
         StockCommand::Count { item, quantity } => {
-            count(alloc, yard, counter, day, *item, *quantity)
+            count(alloc, allocations, yard, counter, day, *item, *quantity)
         }
         StockCommand::Transfer {
             item,
             location,
             quantity,
-        } => transfer(alloc, yard, counter, day, *item, *location, *quantity),
+        } => transfer(
+            alloc,
+            allocations,
+            yard,
+            counter,
+            day,
+            *item,
+            *location,
+            *quantity,
+        ),
         StockCommand::Split { item, quantity } => {
-            split(alloc, yard, counter, day, *item, *quantity)
+            split(alloc, allocations, yard, counter, day, *item, *quantity)
         }
         StockCommand::Merge { into, items } => {
-            merge(alloc, yard, counter, day, *into, items.as_slice())
+            merge(
+                alloc,
+                allocations,
+                yard,
+                counter,
+                day,
+                *into,
+                items.as_slice(),
+            )
         }
         StockCommand::Serialise {
             item,
@@ -145,6 +166,7 @@ pub fn act(
         } => serialise(
             alloc,
             catalogue,
+            allocations,
             yard,
             counter,
             day,
@@ -153,20 +175,29 @@ pub fn act(
             serials.as_slice(),
         ),
         StockCommand::SetStatus { item, status } => {
-            set_status(alloc, yard, counter, day, *item, *status)
+            set_status(alloc, allocations, yard, counter, day, *item, *status)
         }
         StockCommand::Install {
             item,
             parent,
             quantity,
         } => install(
-            alloc, catalogue, boms, yard, counter, day, *item, *parent, *quantity,
+            alloc,
+            catalogue,
+            boms,
+            allocations,
+            yard,
+            counter,
+            day,
+            *item,
+            *parent,
+            *quantity,
         ),
         StockCommand::Uninstall { item, location } => {
             uninstall(alloc, yard, counter, day, *item, *location)
         }
         StockCommand::Disassemble { item, location } => {
-            disassemble(alloc, yard, counter, day, *item, *location)
+            disassemble(alloc, allocations, yard, counter, day, *item, *location)
         }
         StockCommand::Reinstate { item, location } => {
             reinstate(alloc, yard, counter, day, *item, *location)
@@ -179,7 +210,8 @@ pub fn checks_are_in_order()
     ensures { ChecksAreInOrder }
 {}
 
-/// The law that what passes its checks leaves sound stock sound, and only adds to numbers and history.
+/// The law that what passes its checks leaves sound stock and sound allocations sound, and only adds to
+/// numbers and history.
 pub fn effects_are_sound()
     ensures { EffectsAreSound }
 {}
@@ -189,8 +221,8 @@ pub fn rows_stay()
     ensures { RowsStay }
 {}
 
-/// Where there is nothing yet, the stock is sound.
+/// Where there is nothing yet, the stock is sound, whatever orders and builds there are.
 pub fn no_stock_is_sound()
-    ensures { (limits : Limits)
-        → IsSoundStock no_parts (record { stock = empty_stock; counter = start limits }) }
+    ensures { (owners : Owners) (limits : Limits)
+        → IsSoundStock owners no_parts (record { stock = empty_stock; counter = start limits }) }
 {}

@@ -1,13 +1,13 @@
 //! The forms of the commands on stock. Of each command there are its form, the function that makes it of
 //! its fields, and its arms in the trait's calls.
-ghost use Rattle.std.specs.Prelude.{◌≡◌, IfOk, codes};
+ghost use Rattle.std.specs.Prelude.{◌≡◌, codes};
 ghost use Rattle.part_core.specs.FormLaws.{rows_fill, rows_made};
 ghost use Rattle.part_core.specs.FormTables.{command_by, forms_by};
 ghost use Rattle.stock_core.specs.StockForms.{stock_back, stock_distinct, stock_fields, stock_forms, stock_told, stock_verb};
 
-use crate::arrivals::NewStock;
+use crate::arrivals::{NewStock, copy_serials};
 use crate::stock_command::StockCommand;
-use part_core::{Field, Fields, Form, Formed, Kind, Serials, form_in};
+use part_core::{Field, Fields, Form, Formed, Kind, form_in};
 use std::alloc::{AllocError, Global};
 use yard_core::copy_batch;
 
@@ -83,15 +83,6 @@ const FORMS: &[Form] = &[
         fields: &[("item", Kind::Number), ("location", Kind::Number)],
     },
 ];
-
-fn copy_serials(alloc: Global, serials: &Option<Serials>) -> Result<Option<Serials>, AllocError>
-    ensures { IfOk result (λ copy. copy ≡ serials.now) }
-{
-    match serials {
-        None => Ok(None),
-        Some(serials) => Ok(Some(serials.copy(alloc)?)),
-    }
-}
 
 #[tactic(auto, unfolding(crate::specs::StockForms::stock_forms))]
 fn found(mut fields: Fields) -> Option<StockCommand>

@@ -1,9 +1,27 @@
 //! Stock that is sound, and stock with one fault each.
+ghost use Rattle.std.specs.Prelude.{◌==◌};
+
 use part_core::{Catalogue, Counter, Day, Flags, Id, Limits, Name, Part, Serial, Status};
 use std::alloc::{AllocError, Global};
 use std::test::Fail;
-use stock_core::is_sound_stock;
+use stock_core::{KnowsOwners, is_sound_stock};
 use yard_core::{Entry, Item, Kind, Location, Lot, Note, Place, Yard};
+
+// Order 4 and build 9, and no others.
+#[derive(Clone, Copy)]
+struct OneOfEach;
+
+impl KnowsOwners for OneOfEach {
+    ghost owners_of = { λ _. record { is_order = λ n. n == 4; is_build = λ n. n == 9 } };
+
+    fn is_order(&self, number: Id) -> bool {
+        number == 4
+    }
+
+    fn is_build(&self, number: Id) -> bool {
+        number == 9
+    }
+}
 
 fn name(alloc: Global, text: &str) -> Result<Name, Fail> {
     Ok(Name::new(String::from_str(alloc, text)?).ok_or("a name")?)
@@ -92,7 +110,7 @@ fn is_found_sound(
     let yard = Yard::assemble(alloc, locations, items, history)?;
     let catalogue = catalogue(alloc)?;
     let counter = drawn(limits);
-    Ok(is_sound_stock(alloc, &catalogue, &yard, &counter)?)
+    Ok(is_sound_stock(alloc, &OneOfEach, &catalogue, &yard, &counter)?)
 }
 
 // Whether item 11, of part 6 and with serial A-1, is found sound beside another one, with an entry of each.
@@ -157,14 +175,40 @@ fn looks_at_the_limit_of_entries(rt: HostRuntime) -> Result<(), Fail> {
     Ok(())
 }
 
-#[test]
-fn refuses_what_was_sent(rt: HostRuntime) -> Result<(), Fail> {
-    let alloc = rt.alloc();
-    let sent = item(alloc, 11, 6, "A-1", Place::Sent(4))?;
+// Whether an item that was found, and then went to that place with an entry of that kind, is found sound.
+fn is_gone_well(alloc: Global, place: Place, kind: Kind) -> Result<bool, Fail> {
+    let gone = item(alloc, 11, 6, "A-1", place)?;
     let found = entry(1, Kind::Found, 11, 6, Place::At(1))?;
-    let shipped = entry(2, Kind::Shipped, 11, 6, Place::At(1))?;
-    let items = vec![in alloc; sent]?;
-    let history = vec![in alloc; found, shipped]?;
-    assert!(rt; !is_found_sound(alloc, Limits::LARGEST, items, history)?);
+    let went = entry(2, kind, 11, 6, place)?;
+    let items = vec![in alloc; gone]?;
+    let history = vec![in alloc; found, went]?;
+    is_found_sound(alloc, Limits::LARGEST, items, history)
+}
+
+#[test]
+fn looks_at_orders_and_builds(rt: HostRuntime) -> Result<(), Fail> {
+    let alloc = rt.alloc();
+    for (place, kind, sound) in [
+        (Place::Sent(4), Kind::Shipped, true),
+        (Place::Sent(9), Kind::Shipped, false),
+        (Place::Sent(4), Kind::Consumed, false),
+        (Place::Used(9), Kind::Consumed, true),
+        (Place::Used(4), Kind::Consumed, false),
+    ] {
+        let found = is_gone_well(alloc, place, kind)?;
+        assert_eq!(rt; found, sound, "{place:?} {kind:?}");
+    }
+    Ok(())
+}
+
+#[test]
+fn looks_at_outputs(rt: HostRuntime) -> Result<(), Fail> {
+    let alloc = rt.alloc();
+    for (build, sound) in [(9, true), (4, false)] {
+        let output = item(alloc, 11, 6, "A-1", Place::Output(build))?;
+        let items = vec![in alloc; output]?;
+        let found = is_found_sound(alloc, Limits::LARGEST, items, Vec::new(alloc))?;
+        assert_eq!(rt; found, sound, "{build}");
+    }
     Ok(())
 }

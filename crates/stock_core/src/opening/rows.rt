@@ -6,49 +6,67 @@ ghost use Rattle.stock_core.specs.Opening.{IsDrawn};
 ghost use Rattle.stock_core.specs.Sound.{IsPlace, IsSoundEntry, IsSoundItem};
 ghost use Rattle.yard_core.specs.Yards.{stock_of};
 
+use crate::owners::KnowsOwners;
 use part_core::{Catalogue, Id, LARGEST};
 use yard_core::{Entry, Item, Place, Yard};
 
-/// Whether the row that a place names is there. There are no builds and no orders yet.
-fn is_place(yard: &Yard, place: Place) -> bool
-    ensures { IsTrue result ↔ IsPlace (stock_of yard.now) place }
+/// Whether the row that a place names is there.
+fn is_place<W: KnowsOwners>(owners: &W, yard: &Yard, place: Place) -> bool
+    ensures { IsTrue result ↔ IsPlace (W.owners_of owners.now) (stock_of yard.now) place }
 {
     match place {
         Place::At(location) => yard.location(location).is_some(),
         Place::In(item) => yard.item(item).is_some(),
-        Place::Output(_) | Place::Sent(_) | Place::Used(_) => false,
+        Place::Output(build) => owners.is_build(build),
+        Place::Sent(order) => owners.is_order(order),
+        Place::Used(build) => owners.is_build(build),
         Place::Off(_) | Place::Gone => true,
     }
 }
 
 /// Whether the part and the place of an item are there.
-fn is_sound_item(catalogue: &Catalogue, yard: &Yard, item: &Item) -> bool
-    ensures { IsTrue result
-        ↔ IsSoundItem (parts_of catalogue.now) (stock_of yard.now) item.now }
+fn is_sound_item<W: KnowsOwners>(
+    owners: &W,
+    catalogue: &Catalogue,
+    yard: &Yard,
+    item: &Item,
+) -> bool
+    ensures { IsTrue result ↔ IsSoundItem (W.owners_of owners.now)
+        (parts_of catalogue.now) (stock_of yard.now) item.now }
 {
-    catalogue.part(item.part).is_some() && is_place(yard, item.place)
+    catalogue.part(item.part).is_some() && is_place::<W>(owners, yard, item.place)
 }
 
 /// Whether the item, the part and the place of an entry are there, and it is of 1 to 1,000,000,000 pieces.
-fn is_sound_entry(catalogue: &Catalogue, yard: &Yard, entry: &Entry) -> bool
-    ensures { IsTrue result
-        ↔ IsSoundEntry (parts_of catalogue.now) (stock_of yard.now) entry.now }
+fn is_sound_entry<W: KnowsOwners>(
+    owners: &W,
+    catalogue: &Catalogue,
+    yard: &Yard,
+    entry: &Entry,
+) -> bool
+    ensures { IsTrue result ↔ IsSoundEntry (W.owners_of owners.now)
+        (parts_of catalogue.now) (stock_of yard.now) entry.now }
 {
     let note = entry.note;
     yard.item(note.item).is_some()
         && catalogue.part(note.part).is_some()
-        && is_place(yard, note.place)
+        && is_place::<W>(owners, yard, note.place)
         && note.quantity >= 1
         && note.quantity <= LARGEST
 }
 
 /// Whether the part and the place of each of the items are there.
-pub fn are_sound_items(catalogue: &Catalogue, yard: &Yard, items: &[&Item]) -> bool
-    ensures { IsTrue result ↔ All (IsSoundItem (parts_of catalogue.now) (stock_of yard.now))
-        (map (λ x. x.now) items.now) }
+pub fn are_sound_items<W: KnowsOwners>(
+    owners: &W,
+    catalogue: &Catalogue,
+    yard: &Yard,
+    items: &[&Item],
+) -> bool
+    ensures { IsTrue result ↔ All (IsSoundItem (W.owners_of owners.now)
+        (parts_of catalogue.now) (stock_of yard.now)) (map (λ x. x.now) items.now) }
 {
     for item in items {
-        if !is_sound_item(catalogue, yard, item) {
+        if !is_sound_item::<W>(owners, catalogue, yard, item) {
             return false;
         }
     }
@@ -56,12 +74,17 @@ pub fn are_sound_items(catalogue: &Catalogue, yard: &Yard, items: &[&Item]) -> b
 }
 
 /// Whether the item, the part and the place of each of the entries are there, and it is of 1 to 1,000,000,000 pieces.
-pub fn are_sound_entries(catalogue: &Catalogue, yard: &Yard, entries: &[&Entry]) -> bool
-    ensures { IsTrue result ↔ All (IsSoundEntry (parts_of catalogue.now) (stock_of yard.now))
-        (map (λ x. x.now) entries.now) }
+pub fn are_sound_entries<W: KnowsOwners>(
+    owners: &W,
+    catalogue: &Catalogue,
+    yard: &Yard,
+    entries: &[&Entry],
+) -> bool
+    ensures { IsTrue result ↔ All (IsSoundEntry (W.owners_of owners.now)
+        (parts_of catalogue.now) (stock_of yard.now)) (map (λ x. x.now) entries.now) }
 {
     for entry in entries {
-        if !is_sound_entry(catalogue, yard, entry) {
+        if !is_sound_entry::<W>(owners, catalogue, yard, entry) {
             return false;
         }
     }
