@@ -1,0 +1,152 @@
+-- What is shipped leaves orders, allocations and stock sound.
+use Rattle.std.proofs.Common.{◌≡◌, ℕ, ◌+◌, ◌≤◌, Bool, true, false, not, List, [], ◌∷◌, ◌++◌, Option, Some, None, refl, sym, ap, ◌∙◌, subst, arith, is_some, eqb-true}
+use Rattle.std.specs.Prelude.{◌==◌, filter, option_map}
+use Rattle.std.specs.FinMap as table
+use Rattle.std.proofs.lemmas.Bool.{eqb-false}
+use Rattle.part_core.specs.Catalogue.{Parts}
+use Rattle.part_core.specs.Checks.{NoneHolds, first}
+use Rattle.part_core.specs.Day.{CivilDay}
+use Rattle.part_core.specs.Rows.{EachRow, IsThere}
+use Rattle.part_core.specs.Sheet.{Table}
+use Rattle.part_core.proofs.Conditions.{none-holds}
+use Rattle.part_core.proofs.RowLemmas.{right-later, right-number}
+use Rattle.forest.specs.declared.item.Item.{Item}
+use Rattle.forest.specs.declared.place.Place.TheVariants.{Sent}
+use Rattle.forest.specs.Forest.{row_of}
+use Rattle.forest.specs.Moves.{lifted_root}
+use Rattle.alloc_core.specs.Allocations.{allocated_for_sale_line, is_for_sale_line, is_owned, released_for, sum_where}
+use Rattle.alloc_core.specs.declared.allocation.Allocation.{Allocation}
+use Rattle.alloc_core.specs.declared.purpose.Owner.{Owner}
+use Rattle.alloc_core.specs.declared.purpose.Owner.TheVariants as owner
+use Rattle.alloc_core.proofs.Covers.{IsCovered, covered-of, covered-split}
+use Rattle.alloc_core.proofs.Sound.{sound-served}
+use Rattle.alloc_core.proofs.Sums.{sum-split}
+use Rattle.part_core.proofs.TableRows.{get-without, values-without}
+use Rattle.yard_core.specs.Books.{Books, is_full}
+use Rattle.yard_core.specs.Stock.{IsLifted, item_at, tree_of}
+use Rattle.yard_core.proofs.Keeping.{lifted}
+use Rattle.stock_core.proofs.Able.{lift-loose}
+use Rattle.yard_core.proofs.Rows.{get-other}
+use Rattle.stock_core.specs.Serving.{serve, serve_each}
+use Rattle.stock_core.specs.Sound.{IsSoundStock, Owners}
+use Rattle.stock_core.specs.StockMachine.{Grows}
+use Rattle.stock_core.specs.Steps.{take}
+use Rattle.stock_core.proofs.Checked.{sound-leads}
+use Rattle.stock_core.proofs.Serving.{GoesOn, IsServed, served-all, taken-one}
+use Rattle.stock_core.proofs.Steps.{leads-sent}
+use Rattle.stock_core.proofs.Taking.{IsTaken, there-loose}
+use Rattle.stock_core.proofs.Upright.{Upright, upright-of}
+use Rattle.part_core.specs.TableRows.{mapped}
+use Rattle.order_core.specs.Orders.{OrderBooks, is_no_order, owners_beside}
+use Rattle.order_core.specs.Ship.{delivered, sale_rows, sent_for, ship, ship_checks}
+use Rattle.order_core.specs.Sound.{AreSoundBooks, AreSoundOrders, IsSoundLine}
+use Rattle.order_core.specs.declared.line.OrderLine.{OrderLine}
+use Rattle.order_core.specs.declared.order.Order.{Order}
+use Rattle.order_core.proofs.Kept.{LinesStay, part-stays, purpose-kept, some-there}
+use Rattle.part_core.proofs.Mapped.{get-mapped, right-mapped, row-mapped}
+
+turned : (n m : ℕ) → (n == m) ≡ false → (m == n) ≡ false
+turned n m e = go (m == n) refl
+  where
+    go : (d : Bool) → (m == n) ≡ d → d ≡ false
+    go true u = absurd (eqb-false n m e (sym (eqb-true m n u)))
+    go false u = refl
+
+-- an item that was taken goes to the customer
+pub sent-on : (owners : Owners) (parts : Parts) (n q order : ℕ) (day : CivilDay) (b : Books) (t : Books × ℕ) → owners.is_order order ≡ true → IsTaken owners parts n q b t
+    → GoesOn owners parts t (sent_for order day t)
+sent-on owners parts n q order day b t is_order taken =
+    let s = t.0.stock in
+    let up = taken.leads.upright in
+    let there = there-loose t.1 s taken.loose in
+    record {
+      leads = leads-sent owners parts t.0 up t.1 there day taken.loose order is_order;
+      others = λ k other.
+          let own : (item_at t.1 s).number ≡ t.1 = right-number (λ (i : Item). i.number) t.0.counter.next t.1 (item_at t.1 s) s.items up.rows there in
+          get-other (item_at t.1 s).number k (row_of (lifted_root (Sent order) (tree_of t.1 s))) s.items (ap (λ j. j == k) own ∙ turned k t.1 other);
+    }
+
+-- that is the lift of the move table: each node is recorded as shipped
+pub sent-lifted : (owners : Owners) (parts : Parts) (n q order : ℕ) (day : CivilDay) (b : Books) (t : Books × ℕ) → IsTaken owners parts n q b t
+    → IsLifted t.1 (Sent order) t.0.stock (sent_for order day t).stock
+sent-lifted owners parts n q order day b t taken = (lifted t.1 (Sent order) day t.0.stock taken.leads.upright.stock (lift-loose t.1 (Sent order) t.0.stock taken.loose tt)).1
+
+module _ (is_build : ℕ → Bool) (parts : Parts) (n : ℕ) (day : CivilDay) (b : OrderBooks) (sound : AreSoundBooks is_build parts b) (e : first (ship_checks n day b) ≡ None) where
+  abbrev owners : Owners
+  owners = owners_beside is_build b.orders
+
+  abbrev after : OrderBooks
+  after = ship n day b
+
+  abbrev own : Owner
+  own = owner.Order n
+
+  abbrev all : List Allocation
+  all = table.values b.allocations
+
+  -- the allocations that are not the order's
+  abbrev rest : List Allocation
+  rest = filter (λ a. not (is_owned own a)) all
+
+  holds : NoneHolds (ship_checks n day b)
+  holds = none-holds (ship_checks n day b) e
+
+  is_order : owners.is_order n ≡ true
+  is_order = some-there (table.get b.orders (n ∷ [])) holds.0
+
+  up : Upright owners parts b.books
+  up = upright-of owners parts b.books sound.stock
+
+  abbrev Nothing : List Allocation → Books → Type 0
+  Nothing xs c = Unit {0}
+
+  one : (a : Allocation) (xs : List Allocation) (c : Books) → Upright owners parts c → IsCovered c.stock (a ∷ (xs ++ rest)) → Nothing (a ∷ xs) c
+      → GoesOn owners parts (take a.item a.quantity day c) (serve (sent_for n day) day a c) × Nothing xs (serve (sent_for n day) day a c)
+  one a xs c upright covered ready =
+      (sent-on owners parts a.item a.quantity n day c (take a.item a.quantity day c) is_order (taken-one owners parts day (sent_for n day) a (xs ++ rest) c upright covered), tt)
+
+  pub served : IsServed owners parts b.books after.books rest
+  served = (served-all owners parts day (sent_for n day) rest Nothing one (sale_rows n b) b.books up (covered-split b.books.stock (is_owned own) all (covered-of b.allocations b.books sound.allocations)) tt).0
+
+  stock : IsSoundStock owners parts after.books × Grows b.books after.books
+  stock = sound-leads owners parts b.books after.books served.leads holds.1.1.1.1.0
+
+  lines-stay : LinesStay b.lines after.lines
+  lines-stay m l at = (delivered (sale_rows n b) l, get-mapped (delivered (sale_rows n b)) b.lines (m ∷ []) ∙ ap (option_map (delivered (sale_rows n b))) at, refl, refl)
+
+  each-line : EachRow (IsSoundLine parts after) after.lines
+  each-line k x at =
+      let was = row-mapped (delivered (sale_rows n b)) b.lines k x at in
+      let l = was.0 in
+      let h = sound.orders.each_line k l was.1 in
+      let test = λ (a : Allocation). is_for_sale_line l.number a.purpose in
+      let now : IsSoundLine parts after (delivered (sale_rows n b) l) = record {
+        order = h.order;
+        part = h.part;
+        some = h.some;
+        fits = h.fits;
+        needed = omega (arith, h.needed, ap (sum_where test) (values-without (is_owned own) b.allocations), sum-split test (is_owned own) all);
+      } in
+      subst (IsSoundLine parts after) (sym was.2) now
+
+  orders : AreSoundOrders parts after
+  orders = record {
+    orders = right-later (λ (o : Order). o.number) b.books.counter.next after.books.counter.next b.orders stock.1.numbers sound.orders.orders;
+    lines = right-later (λ (l : OrderLine). l.number) b.books.counter.next after.books.counter.next after.lines stock.1.numbers
+        (right-mapped (delivered (sale_rows n b)) (λ (l : OrderLine). l.number) (λ l. refl) b.books.counter.next b.lines sound.orders.lines);
+    each_line = each-line;
+    each_sale = λ k a at.
+        let was = (get-without (is_owned own) b.allocations k a at).0 in
+        let loose = (sound.allocations.each k a was).loose in
+        purpose-kept b after a.item a.purpose (λ order line is. refl) lines-stay (part-stays b.books.stock after.books.stock stock.1.items a.item loose) (sound.orders.each_sale k a was);
+  }
+
+  pub sound-ship : AreSoundBooks is_build parts after × Grows b.books after.books
+  sound-ship = (
+    record {
+      stock = stock.0;
+      allocations = sound-served own b.allocations b.books after.books sound.allocations stock.1.numbers served.covered;
+      orders = orders;
+    },
+    stock.1,
+  )

@@ -1,0 +1,17 @@
+pub mod AllocateSale
+pub mod CancelOrder
+pub mod CloseOrder
+pub mod IssueOrder
+pub mod NewLine
+pub mod NewOrder
+pub mod OrderColumns
+pub mod OrderForms
+pub mod OrderKeys
+pub mod OrderMachine
+pub mod OrderStores
+pub mod Orders
+pub mod Receive
+pub mod ReturnItem
+pub mod RowTests
+pub mod Ship
+pub mod Sound

@@ -1,0 +1,180 @@
+//! Stock comes by a line of a purchase.
+ghost use Rattle.std.specs.Prelude.{◌≡◌, ◌+◌, OnOk, None, nat_lt};
+ghost use Rattle.part_core.specs.Catalogues.{parts_of};
+ghost use Rattle.part_core.specs.Checks.{first};
+ghost use Rattle.part_core.specs.Day.{CivilDay};
+ghost use Rattle.stock_core.specs.Sound.{AreSoundItems};
+ghost use Rattle.stock_core.specs.Steps.{make_new};
+ghost use Rattle.yard_core.specs.Books.{books_of, is_full};
+ghost use Rattle.order_core.specs.Receive.{arrival_at, receive, receive_checks};
+ghost use Rattle.order_core.specs.OrderStores.{AreSoundSomehow, Does, kept_order_books, order_books};
+
+use crate::books::finish;
+use crate::orders::Orders;
+use alloc_core::Allocations;
+use part_core::{
+    Answer, Catalogue, CoreFault, Counter, Day, Id, Quantity, Refusal, is_bad_quantity,
+};
+use std::alloc::{AllocError, Global};
+use stock_core::{
+    Arrival, NewStock, count_of, is_no_location, lacks_room, make_new, names_many, names_needless,
+    names_other_count, names_taken,
+};
+use yard_core::{Kind, Place, Yard};
+
+/// Whether that much more beside what is done is above the most.
+fn is_over(most: Quantity, done: Quantity, more: Quantity) -> bool
+    ensures { result ≡ nat_lt most (done + more) }
+{
+    u128::from(done) + u128::from(more) > u128::from(most)
+}
+
+/// Whether the limits leave no room for it: each new item needs a number and an entry.
+fn is_full(yard: &Yard, counter: &Counter, part: Id, location: Id, new: &NewStock) -> bool
+    requires { AreSoundItems (books_of yard.now counter.now) }
+    ensures { (day : CivilDay) → result ≡ is_full
+        (make_new (arrival_at part location) new.now day (books_of yard.now counter.now)) }
+{
+    let count = count_of(new);
+    lacks_room(yard, counter, count, count)
+}
+
+/// Why nothing is received.
+fn receive_refusal(
+    catalogue: &Catalogue,
+    orders: &Orders,
+    allocations: &Allocations,
+    yard: &Yard,
+    counter: &Counter,
+    line: Id,
+    location: Id,
+    new: &NewStock,
+) -> Option<Refusal>
+    requires { AreSoundItems (books_of yard.now counter.now) }
+    ensures { (day : CivilDay) → result ≡ first (receive_checks line location new.now day
+        (parts_of catalogue.now) (order_books orders.now allocations.now yard.now counter.now)) }
+{
+    let Some(row) = orders.line(line) else {
+        return Some(Refusal::NoSuch);
+    };
+    if is_no_location(yard, location) {
+        return Some(Refusal::NoSuch);
+    }
+    if is_bad_quantity(new.quantity) || names_many(new) {
+        return Some(Refusal::BadNumber);
+    }
+    if names_needless(catalogue, row.part, new) {
+        return Some(Refusal::WrongFlag);
+    }
+    if !orders.is_in_progress(row.order) {
+        return Some(Refusal::WrongState);
+    }
+    if orders.is_sale(row.order) {
+        return Some(Refusal::Mismatch);
+    }
+    if is_over(row.quantity, row.done, new.quantity) {
+        return Some(Refusal::OverNeed);
+    }
+    if names_other_count(new) {
+        return Some(Refusal::SerialCount);
+    }
+    if names_taken(catalogue, yard, row.part, new) {
+        return Some(Refusal::SerialTaken);
+    }
+    if is_full(yard, counter, row.part, location, new) {
+        return Some(Refusal::Full);
+    }
+    None
+}
+
+/// Makes the new items, and so much more of the line is done.
+fn arrive(
+    alloc: Global,
+    catalogue: &Catalogue,
+    orders: &mut Orders,
+    allocations: &Allocations,
+    yard: &mut Yard,
+    counter: &mut Counter,
+    day: Day,
+    line: Id,
+    location: Id,
+    new: &NewStock,
+) -> Result<(), AllocError>
+    requires sound { AreSoundSomehow (order_books orders.old allocations.now yard.old counter.old) }
+    requires checked { first (receive_checks line location new.now day (parts_of catalogue.now)
+        (order_books orders.old allocations.now yard.old counter.old)) ≡ None }
+    ensures ok { OnOk result (order_books orders.new allocations.now yard.new counter.new
+        ≡ receive line location new.now day
+        (order_books orders.old allocations.now yard.old counter.old)) }
+    ensures kept { kept_order_books orders.new allocations.now yard.new counter.new
+        ≡ kept_order_books orders.old allocations.now yard.old counter.old }
+{
+    let part = match orders.line(line) {
+        Some(row) => row.part,
+        None => 0,
+    };
+    let arrival = Arrival {
+        kind: Kind::Received,
+        place: Place::At(location),
+        part,
+    };
+    make_new(alloc, yard, counter, arrival, new, day)?;
+    orders.add_done(line, new.quantity)
+}
+
+/// Takes in stock by a line of a purchase in progress: new items at a location, and a `Received` of each; so
+/// much more of the line is done. `NoSuch` where the line or the location isn't there, `BadNumber` for a
+/// quantity out of its range or more than 1,000 serials, `WrongFlag` for serials of a part that isn't
+/// trackable, `WrongState` where the order isn't in progress, `Mismatch` for a sale, `OverNeed` where the
+/// line doesn't need so many, `SerialCount` where there are more or fewer serials than pieces, `SerialTaken`
+/// where one stands twice in the list or is held in the part's family, and `Full` where there aren't so many
+/// numbers or entries left.
+pub fn receive(
+    alloc: Global,
+    catalogue: &Catalogue,
+    orders: &mut Orders,
+    allocations: &mut Allocations,
+    yard: &mut Yard,
+    counter: &mut Counter,
+    day: Day,
+    line: Id,
+    location: Id,
+    new: &NewStock,
+) -> Result<Answer, CoreFault>
+    requires nothing_pending { kept_order_books orders.old allocations.old yard.old counter.old
+        ≡ order_books orders.old allocations.old yard.old counter.old }
+    requires sound { AreSoundSomehow (order_books orders.old allocations.old yard.old counter.old) }
+    ensures does { let b = order_books orders.old allocations.old yard.old counter.old in
+        Does (receive_checks line location new.now day (parts_of catalogue.now) b)
+        (receive line location new.now day b) b result
+        (order_books orders.new allocations.new yard.new counter.new) }
+    ensures kept { kept_order_books orders.new allocations.new yard.new counter.new
+        ≡ kept_order_books orders.old allocations.old yard.old counter.old }
+{
+    let refusal = receive_refusal(
+        catalogue,
+        orders,
+        allocations,
+        yard,
+        counter,
+        line,
+        location,
+        new,
+    );
+    if let Some(refusal) = refusal {
+        return Err(CoreFault::Refused(refusal));
+    }
+    let made = arrive(
+        alloc,
+        catalogue,
+        orders,
+        allocations,
+        yard,
+        counter,
+        day,
+        line,
+        location,
+        new,
+    );
+    finish(alloc, orders, allocations, yard, counter, made)
+}
