@@ -1,5 +1,5 @@
 -- A row of kept answers stays for good, so a repeat finds it.
-use Rattle.std.proofs.Common.{◌≡◌, ◌≢◌, ℕ, Bool, true, false, List, [], ◌∷◌, ◌++◌, Option, Some, None, refl, sym, ap, ◌∙◌, subst}
+use Rattle.std.proofs.Common.{◌≡◌, ℕ, Bool, true, false, List, [], ◌∷◌, ◌++◌, Option, Some, None, refl, sym, ap, ◌∙◌, subst}
 use Rattle.std.specs.Prelude.{Ok, Err, not, if◌then◌else◌, option_and_then, IsSome}
 use Rattle.std.specs.FinMap as table
 use Rattle.std.specs.Str.{bytes_eq}
@@ -10,8 +10,8 @@ use Rattle.part_core.proofs.RowLemmas.{get-insert_new, get-insert_other}
 use Rattle.desk_core.specs.declared.command.Request.{Request}
 use Rattle.desk_core.specs.declared.kept.Kept.{Kept}
 use Rattle.desk_core.specs.CommandText.{command_text}
-use Rattle.desk_core.specs.Machine.{State, Outcome, answer_of, answer_of_same, by_check, by_repeat, check, effect, is_key_taken, is_other, kept_for, repeated, request_checks, run, step, step_anew, with_answer}
-use Rattle.desk_core.specs.Repeats.{AreKeyed, AreAccepted, IsRepeat, LaterRepeatsChangeNothing, RepeatsChangeNothing, SendingAgainEndsAlike}
+use Rattle.desk_core.specs.Machine.{State, Outcome, answer_of, answer_of_same, by_check, by_repeat, check, effect, is_other, kept_for, repeated, run, step, step_anew, with_answer}
+use Rattle.desk_core.specs.Repeats.{AreAccepted, LaterRepeatsChangeNothing, RepeatsChangeNothing, SendingAgainEndsAlike}
 use Rattle.desk_core.proofs.Steps.{effect-answers, passes_key, step-repeated}
 
 -- ---- what is kept under a key

@@ -1,6 +1,5 @@
 -- Tables are those of a sound state where their rows are sound.
-use Rattle.std.proofs.Common.{◌≡◌, ℕ, zero, suc, ◌<◌, true, List, [], ◌∷◌, length, get_or, Some, arith, refl}
-use Rattle.std.specs.Borrow.{Bor}
+use Rattle.std.proofs.Common.{◌≡◌, ℕ, zero, suc, ◌<◌, true, List, [], ◌∷◌, length, get_or, Some, arith}
 use Rattle.std.specs.FinMap as table
 use Rattle.part_core.specs.Counter.{IsNext}
 use Rattle.part_core.specs.Filled.{StandUnderKeys, filled, filled_onto}
@@ -9,6 +8,7 @@ use Rattle.part_core.specs.Sheet.{Table}
 use Rattle.part_core.proofs.FilledTables.{filled-own}
 use Rattle.part_core.proofs.RowLemmas.{each-empty, each-insert}
 use Rattle.forest.specs.declared.entry.Entry.{Entry}
+use Rattle.order_core.specs.declared.order.Order.{Order}
 use Rattle.desk_core.specs.Assembled.{AreKeys, AreSoundTables, HasSoundBooks, state_from}
 use Rattle.desk_core.specs.Key.{is_key}
 use Rattle.desk_core.specs.Machine.{StandsKept}
@@ -34,14 +34,26 @@ pub sound_tables : (t : Tables) → IsNext t.limits t.next → t.entries ≡ len
 sound_tables t next entries keys books = record {
   next = next;
   entries = entries;
-  state = record { bills = books.0; stock = books.1; answers = stand-kept t.answers.items keys };
+  state = record {
+    bills = books.bills;
+    stock = books.stock;
+    allocations = books.orders.allocations;
+    orders = books.orders.orders;
+    sales = books.orders.sales;
+    answers = stand-kept t.answers.items keys;
+  };
 }
 
 pub sound_books : (t : Tables) → AreSoundTables t → HasSoundBooks (state_from t)
-sound_books t sound = (sound.state.bills, sound.state.stock)
+sound_books t sound =
+    let s = sound.state in
+    record { bills = s.bills; stock = s.stock; orders = record { allocations = s.allocations; orders = s.orders; sales = s.sales } }
 
 pub history_own : (t : Tables) → StandUnderKeys (λ (e : Entry). e.number ∷ []) (state_from t).stock.history
 history_own t = filled-own (λ (e : Entry). e.number ∷ []) t.history.items
+
+pub orders_own : (t : Tables) → StandUnderKeys (λ (o : Order). o.number ∷ []) (state_from t).orders
+orders_own t = filled-own (λ (o : Order). o.number ∷ []) t.orders.items
 
 pub keys_from : (rows : List Kept) → ((k : ℕ) (d : Kept) → k < length rows → HasKey (get_or rows k d)) → AreKeys rows
 keys_from [] each = tt

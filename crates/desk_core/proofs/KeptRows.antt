@@ -1,5 +1,5 @@
 -- An answer is read again from its line, and a kept answer from its columns, and from no others.
-use Rattle.std.proofs.Common.{◌≡◌, ℕ, zero, suc, ◌+◌, ◌-◌, ◌*◌, ◌/◌, ◌%◌, ◌<◌, ◌≤◌, ◌^◌, Bool, true, false, cond, List, [], ◌∷◌, ◌++◌, Option, Some, None, refl, sym, ap, ◌∙◌, arith, get_or, Fits as In, w64}
+use Rattle.std.proofs.Common.{◌≡◌, ℕ, zero, suc, ◌+◌, ◌/◌, ◌%◌, ◌<◌, ◌≤◌, ◌^◌, Bool, true, false, cond, List, [], ◌∷◌, ◌++◌, Option, Some, None, refl, sym, ap, ◌∙◌, arith, get_or, Fits as In, w64}
 use Rattle.std.specs.Prelude.{codes, decimal, nat_lt, slice_get}
 use Rattle.std.specs.Str.{bytes_eq}
 use Rattle.std.proofs.lemmas.List.{append_assoc}
@@ -9,7 +9,7 @@ use Rattle.std.proofs.lemmas.Slice.Eq.{bytes_eq-Decides}
 use Rattle.part_core.specs.declared.answer.Answer.{Answer}
 use Rattle.part_core.specs.declared.column.Column.{Column}
 use Rattle.part_core.specs.declared.column.Column.TheVariants.{Text}
-use Rattle.part_core.specs.Columns.{◌>>=◌, has, must, text_at, fitting}
+use Rattle.part_core.specs.Columns.{has, must, text_at}
 use Rattle.part_core.proofs.ColumnLemmas.{bound, found, has-is, text_at-is, fitting-is, same_columns}
 use Rattle.desk_core.specs.AnswerLine.{LinesTellAnswers, answer_line, answer_of_numbers, answer_told, before, is_digit, numbers_in, numbers_text, with_digit}
 use Rattle.desk_core.specs.CommandText.{AreFit, Fits}

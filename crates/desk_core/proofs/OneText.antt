@@ -15,7 +15,9 @@ use Rattle.part_core.specs.declared.field.Field.{Field}
 use Rattle.part_core.specs.declared.field.Field.TheVariants as field
 use Rattle.part_core.specs.declared.status.Status.TheVariants.{Okay}
 use Rattle.part_core.specs.Named.{named}
+use Rattle.part_core.specs.Side.{all_sides, side_name, sides_told}
 use Rattle.part_core.specs.Status.{status_name, all_statuses, statuses_told}
+use Rattle.part_core.specs.declared.side.Side.TheVariants.{Purchase}
 use Rattle.part_core.specs.Flags.{flag_words, no_flags, with_words}
 use Rattle.part_core.proofs.FlagWords.{words_read}
 use Rattle.part_core.specs.Forms.{Blanks, Form, form_named, kind_of, AreOf, Fills, is_among, are_distinct, have_distinct, names_of, members_of}
@@ -50,6 +52,7 @@ field_in kind.Text d = field.Text (text_in_data d)
 field_in kind.Yes d = field.Yes (unwrap_or (as_bool d) false)
 field_in kind.Flags d = field.Flags (unwrap_or (option_and_then (with_words no_flags) (maybe_texts_in d)) no_flags)
 field_in kind.Status d = field.Status (unwrap_or (named status_name all_statuses (text_in_data d)) Okay)
+field_in kind.Side d = field.Side (unwrap_or (named side_name all_sides (text_in_data d)) Purchase)
 field_in kind.Serials d = field.Serials (unwrap_or (maybe_texts_in d) [])
 field_in kind.MaybeSerials d = field.MaybeSerials (maybe_texts_in d)
 field_in kind.MaybeText d = field.MaybeText (as_str d)
@@ -71,6 +74,7 @@ own_back (field.Text t) = refl
 own_back (field.Yes b) = refl
 own_back (field.Flags f) = rw (texts_back (flag_words f), words_read f) refl
 own_back (field.Status s) = rw (statuses_told s) refl
+own_back (field.Side s) = rw (sides_told s) refl
 own_back (field.Serials ts) = rw (texts_back ts) refl
 own_back (field.MaybeSerials None) = refl
 own_back (field.MaybeSerials (Some ts)) = rw (texts_back ts) refl

@@ -1,20 +1,20 @@
 -- The numbers of a sound state's rows fit a file.
-use Rattle.std.proofs.Common.{◌≡◌, ◌⊎◌, inl, inr, ℕ, zero, suc, ◌+◌, ◌*◌, ◌<◌, ◌≤◌, ◌^◌, Bool, true, false, List, [], ◌∷◌, length, map, Option, Some, None, is_some, refl, sym, ap, ◌∙◌, subst, arith}
-use Rattle.std.specs.List.{AllByRecursion}
+use Rattle.std.proofs.Common.{◌≡◌, inl, inr, ℕ, ◌+◌, ◌<◌, ◌≤◌, ◌^◌, Bool, true, false, List, [], ◌∷◌, length, Option, Some, None, is_some, refl, sym, ap, ◌∙◌, subst, arith}
+use Rattle.std.specs.Prelude.{unwrap_or}
 use Rattle.std.specs.FinMap as table
 use Rattle.std.proofs.lemmas.List.{length-map}
 use Rattle.std.proofs.lemmas.List.Elements.{All-from_recursion}
 use Rattle.part_core.specs.CategoryColumns.{category_columns}
 use Rattle.part_core.specs.Columns.{AreSmall, IsSmall, number_or_absent, text_or_absent, yes_number}
 use Rattle.part_core.specs.PartColumns.{flags_number, part_columns}
-use Rattle.part_core.specs.Quantity.{largest}
-use Rattle.part_core.specs.Rows.{EachRow, IsThere, StandRight}
+use Rattle.part_core.specs.Rows.{IsThere, StandRight}
 use Rattle.part_core.specs.SoundCatalogue.{IsSoundCatalogue}
+use Rattle.part_core.specs.Side.{side_code}
 use Rattle.part_core.specs.Status.{status_code}
+use Rattle.part_core.specs.declared.side.Side.{Side}
+use Rattle.part_core.specs.declared.side.Side.TheVariants as side
 use Rattle.part_core.specs.Sheet.{Table}
 use Rattle.part_core.specs.declared.category.Category.{Category}
-use Rattle.part_core.specs.declared.column.Column.{Column}
-use Rattle.part_core.specs.declared.column.Column.TheVariants.{Whole}
 use Rattle.part_core.specs.declared.flags.Flags.{Flags}
 use Rattle.part_core.specs.declared.part.Part.{Part}
 use Rattle.part_core.specs.declared.status.Status.{Status}
@@ -22,7 +22,6 @@ use Rattle.part_core.specs.declared.status.Status.TheVariants as status
 use Rattle.part_core.proofs.RowLemmas.{row_there, same_digit}
 use Rattle.part_core.proofs.Standing.{Stands, get-Stands}
 use Rattle.bom_core.specs.BillColumns.{line_columns, line_flags_number, substitute_columns}
-use Rattle.bom_core.specs.Sound.{IsSoundBill}
 use Rattle.bom_core.specs.declared.line.Line.{Line}
 use Rattle.bom_core.specs.declared.line.LineFlags.{LineFlags}
 use Rattle.bom_core.specs.declared.substitute.Substitute.{Substitute}
@@ -41,9 +40,22 @@ use Rattle.forest.specs.declared.place.Reason.TheVariants.{Removed, Counted, Dis
 use Rattle.yard_core.specs.LocationColumns.{location_columns}
 use Rattle.yard_core.specs.Stock.{AreItems, IsItem, IsRun, Stock}
 use Rattle.yard_core.specs.declared.location.Location.{Location}
-use Rattle.stock_core.specs.Sound.{IsPlace, IsSoundEntry, IsSoundItem, IsSoundStock}
-use Rattle.desk_core.specs.Machine.{IsSoundState, State, books_in}
-use Rattle.desk_core.specs.Small.{HasSmallRows, RowsAreSmall}
+use Rattle.alloc_core.specs.AllocationColumns.{allocation_columns, purpose_line, purpose_output, purpose_owner, purpose_side}
+use Rattle.alloc_core.specs.declared.allocation.Allocation.{Allocation}
+use Rattle.alloc_core.specs.declared.purpose.Purpose.{Purpose}
+use Rattle.alloc_core.specs.declared.purpose.Purpose.TheVariants.{Sale, Build}
+use Rattle.stock_core.specs.Sound.{IsPlace, Owners}
+use Rattle.stock_core.proofs.Taking.{there-loose}
+use Rattle.order_core.specs.OrderColumns as order_rows
+use Rattle.order_core.specs.Orders.{is_in_progress, no_order, order_in}
+use Rattle.order_core.specs.RowTests.{is_for_sale}
+use Rattle.order_core.specs.Sound.{IsSoundPurpose}
+use Rattle.order_core.specs.declared.line.OrderLine.{OrderLine}
+use Rattle.order_core.specs.declared.order.Order.{Order}
+use Rattle.order_core.specs.declared.state.OrderState.{OrderState}
+use Rattle.order_core.specs.declared.state.OrderState.TheVariants as state
+use Rattle.desk_core.specs.Machine.{IsSoundState, State, is_build, order_books_in, owners_in}
+use Rattle.desk_core.specs.Small.{RowsAreSmall}
 
 abbrev Fits : ℕ → Type 0
 Fits n = n < 2 ^ 63
@@ -135,14 +147,33 @@ place-fits (Used n) = omega arith
 place-fits (Off r) = omega arith
 place-fits Gone = omega arith
 
+side-fits : (side : Side) → Fits (side_code side)
+side-fits side.Purchase = omega arith
+side-fits side.Sale = omega arith
+
+state-fits : (state : OrderState) → Fits (order_rows.state_code state)
+state-fits state.Pending = omega arith
+state-fits state.InProgress = omega arith
+state-fits state.Complete = omega arith
+state-fits state.Cancelled = omega arith
+
+-- an order in progress is there
+there_in_progress : (t : Table Order) (n : ℕ) → is_in_progress (order_in n t).state ≡ true → IsThere t n
+there_in_progress t n = go (table.get t (n ∷ []))
+  where
+    go : (o : Option Order) → is_in_progress (unwrap_or o no_order).state ≡ true → is_some o ≡ true
+    go None e = cc
+    go (Some x) e = refl
+
 -- what a place names
-module _ (s : Stock) (locations : (n : ℕ) → IsThere s.locations n → Fits n) (items : (n : ℕ) → IsThere s.items n → Fits n) where
-  ref-fits : (q : Place) → IsPlace s q → Fits (place_ref q)
+module _ (owners : Owners) (s : Stock) (locations : (n : ℕ) → IsThere s.locations n → Fits n) (items : (n : ℕ) → IsThere s.items n → Fits n)
+    (orders : (n : ℕ) → owners.is_order n ≡ true → Fits n) (builds : (n : ℕ) → owners.is_build n ≡ true → Fits n) where
+  ref-fits : (q : Place) → IsPlace owners s q → Fits (place_ref q)
   ref-fits (At n) h = locations n h
   ref-fits (In n) h = items n h
-  ref-fits (Output n) h = absurd h
-  ref-fits (Sent n) h = absurd h
-  ref-fits (Used n) h = absurd h
+  ref-fits (Output n) h = builds n h
+  ref-fits (Sent n) h = orders n h
+  ref-fits (Used n) h = builds n h
   ref-fits (Off r) h = reason-fits r
   ref-fits Gone h = omega arith
 
@@ -191,6 +222,15 @@ module _ (s : State) (sound : IsSoundState s) (next : Fits s.counter.next) where
 
   item : (n : ℕ) → IsThere s.stock.items n → Fits n
   item = there-fits (λ (i : Item). i.number) s.counter.next s.stock.items sound.stock.items.rows next
+
+  order : (n : ℕ) → IsThere s.orders n → Fits n
+  order = there-fits (λ (o : Order). o.number) s.counter.next s.orders sound.orders.orders next
+
+  order_line : (n : ℕ) → IsThere s.order_lines n → Fits n
+  order_line = there-fits (λ (l : OrderLine). l.number) s.counter.next s.order_lines sound.orders.lines next
+
+  no-build : (n : ℕ) → is_build n ≡ true → Fits n
+  no-build n h = cc
 
   small-categories : AreSmall category_columns s.parts.categories
   small-categories k row e =
@@ -257,7 +297,7 @@ module _ (s : State) (sound : IsSoundState s) (next : Fits s.counter.next) where
                 status-fits row.lot.status,
                 (
                   items-fit (table.values s.stock.items) sound.stock.items.stock.items.items row (get-Stands s.stock.items k row e),
-                  (place-fits row.place, (ref-fits s.stock location item row.place there.place, tt)),
+                  (place-fits row.place, (ref-fits (owners_in s) s.stock location item order no-build row.place there.place, tt)),
                 ),
               ),
             ),
@@ -280,11 +320,40 @@ module _ (s : State) (sound : IsSoundState s) (next : Fits s.counter.next) where
               item row.note.item there.item,
               (
                 part row.note.part there.part,
-                (let bounds = there.quantity in omega (arith, bounds.1), (place-fits row.note.place, (ref-fits s.stock location item row.note.place there.place, tt))),
+                (let bounds = there.quantity in omega (arith, bounds.1), (place-fits row.note.place, (ref-fits (owners_in s) s.stock location item order no-build row.note.place there.place, tt))),
               ),
             ),
           ),
         ),
+      )
+
+  small-orders : AreSmall order_rows.order_columns s.orders
+  small-orders k row e =
+      All-from_recursion IsSmall (order_rows.order_columns row)
+      (own-fits (λ (o : Order). o.number) s.counter.next s.orders sound.orders.orders next k row e, (side-fits row.side, (tt, (state-fits row.state, tt))))
+
+  small-order_lines : AreSmall order_rows.line_columns s.order_lines
+  small-order_lines k row e =
+      let h = sound.orders.each_line k row e in
+      All-from_recursion IsSmall (order_rows.line_columns row) (
+        own-fits (λ (l : OrderLine). l.number) s.counter.next s.order_lines sound.orders.lines next k row e,
+        (order row.order h.order, (part row.part h.part, (omega (arith, h.fits), (omega (arith, h.fits, h.needed), tt)))),
+      )
+
+  -- what an allocation for a sale names
+  purpose-fits : (n : ℕ) (p : Purpose) → IsSoundPurpose (order_books_in s) n p → is_for_sale p ≡ true
+      → Fits (purpose_side p) × Fits (purpose_owner p) × Fits (purpose_line p) × Fits (purpose_output p)
+  purpose-fits n (Sale o l) h e = (omega arith, order o (there_in_progress s.orders o h.in_progress), order_line l h.there, omega arith)
+  purpose-fits n (Build b l output) h e = cc
+
+  small-allocations : AreSmall allocation_columns s.allocations
+  small-allocations k row e =
+      let h = sound.allocations.each k row e in
+      let p = purpose-fits row.item row.purpose (sound.orders.each_sale k row e) (sound.sales k row e) in
+      let there : IsThere s.stock.items row.item = ap (λ (o : Option Item). is_some o) (there-loose row.item s.stock h.loose) in
+      All-from_recursion IsSmall (allocation_columns row) (
+        own-fits (λ (a : Allocation). a.number) s.counter.next s.allocations sound.allocations.rows next k row e,
+        (item row.item there, (omega (arith, h.fits), (p.0, (p.1, (p.2, (p.3, tt)))))),
       )
 
 pub rows_are_small : RowsAreSmall
@@ -296,4 +365,7 @@ rows_are_small s sound next limit = record {
   locations = small-locations s sound next;
   items = small-items s sound next;
   history = small-history s sound next limit;
+  allocations = small-allocations s sound next;
+  orders = small-orders s sound next;
+  order_lines = small-order_lines s sound next;
 }

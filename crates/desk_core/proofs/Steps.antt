@@ -15,8 +15,10 @@ use Rattle.part_core.specs.declared.refusal.CoreFault.{CoreFault}
 use Rattle.part_core.specs.declared.refusal.CoreFault.TheVariants.{Refused, Memory}
 use Rattle.part_core.specs.declared.refusal.Refusal.{Refusal}
 use Rattle.part_core.specs.declared.refusal.Refusal.TheVariants.{KeyTaken}
-use Rattle.part_core.proofs.RowLemmas.{get-insert_cases}
+use Rattle.part_core.proofs.RowLemmas.{each-empty, get-insert_cases}
 use Rattle.part_core.proofs.SoundRows as catalogue
+use Rattle.part_core.proofs.Staying as parts
+use Rattle.part_core.specs.PartMachine as part
 use Rattle.bom_core.specs.BomMachine as bom
 use Rattle.bom_core.specs.Sound.{IsSoundBill}
 use Rattle.bom_core.proofs.Beside as bills
@@ -24,10 +26,22 @@ use Rattle.bom_core.proofs.SoundChanges as changes
 use Rattle.bom_core.proofs.Variants as variants
 use Rattle.yard_core.specs.YardMachine as yard
 use Rattle.yard_core.proofs.SoundRows as locations
+use Rattle.yard_core.specs.Books.{Books}
+use Rattle.yard_core.specs.declared.yard_command.YardCommand.{YardCommand}
+use Rattle.yard_core.specs.declared.yard_command.YardCommand.TheVariants.{AddLocation}
+use Rattle.alloc_core.specs.Sound.{AreSoundAllocations}
+use Rattle.alloc_core.specs.declared.allocation.Allocation.{Allocation}
+use Rattle.alloc_core.proofs.Sound as allocations
 use Rattle.stock_core.specs.Sound.{IsSoundStock}
 use Rattle.stock_core.specs.StockMachine as stock
 use Rattle.stock_core.proofs.Beside as beside
 use Rattle.stock_core.proofs.Effects as effects
+use Rattle.order_core.specs.OrderMachine as order
+use Rattle.order_core.specs.RowTests.{is_for_sale}
+use Rattle.order_core.specs.Sound.{AreSoundBooks, AreSoundOrders}
+use Rattle.order_core.proofs.Beside as orders
+use Rattle.order_core.proofs.Effects as order_effects
+use Rattle.order_core.proofs.Sales.{AreForSales, sales-released, sales-stay}
 use Rattle.desk_core.specs.declared.accepted.Accepted.{Accepted}
 use Rattle.desk_core.specs.declared.accepted.Accepted.TheVariants.{Anew, Again}
 use Rattle.desk_core.specs.declared.command.Command.{Command}
@@ -36,53 +50,100 @@ use Rattle.desk_core.specs.declared.command.Request.{Request}
 use Rattle.desk_core.specs.declared.kept.Kept.{Kept}
 use Rattle.desk_core.specs.CommandText.{command_text}
 use Rattle.desk_core.specs.Key.{is_key}
-use Rattle.desk_core.specs.Machine.{State, start, checks, check, effect, by_check, by_repeat, step_anew, step, run, Outcome, Accepts, Decides, IsAnew, answer_in, answer_of, answer_of_same, answer_anew, is_other, answers_of, answered, told, onto, ids_of, entries_in, entries_of, AreDrawn, IsSoundState, StandsKept, books_in, bill_books_in, register_in, open_parts, kept_for, repeated, is_key_taken, with_answer}
+use Rattle.desk_core.specs.Machine.{State, start, checks, check, effect, by_check, by_repeat, step_anew, step, run, Outcome, Accepts, Decides, IsAnew, answer_of, answer_of_same, answer_anew, is_other, answers_of, answered, told, onto, ids_of, entries_in, entries_of, AreDrawn, IsSoundState, StandsKept, books_in, bill_books_in, is_build, order_books_in, owners_in, register_in, open_parts, kept_for, repeated, is_key_taken, with_answer}
 
 -- ---- effects keep what is sound, and only add to numbers and history
 
 -- what holds of the stores in a sound state
 pub record AreSoundStores (s : State) : Type 0 where
   pub bills : IsSoundBill s.parts s.bills s.counter.next
-  pub stock : IsSoundStock s.parts (books_in s)
+  pub stock : IsSoundStock (owners_in s) s.parts (books_in s)
+  pub allocations : AreSoundAllocations s.allocations (books_in s)
+  pub orders : AreSoundOrders s.parts (order_books_in s)
+  pub sales : AreForSales s.allocations
 
 pub record Follows (old new : State) : Type 0 where
   pub stores : AreSoundStores new
   pub numbers : old.counter.next ≤ new.counter.next
   pub entries : entries_in old ≤ entries_in new
 
+-- items stay where a location comes
+yard-items : (c : YardCommand) (b : Books) → (yard.effect c b).stock.items ≡ b.stock.items
+yard-items (AddLocation name parent) b = refl
+
 effect-follows : (s : State) → AreSoundStores s → (day : CivilDay) (c : Command) → first (checks s day c) ≡ None → Follows s (effect s day c)
 effect-follows s sound day (command.Part c) none =
-    let more = (catalogue.sound-effect c (register_in s) sound.bills.catalogue none).1 in record {
+    let more = (catalogue.sound-effect c (register_in s) sound.bills.catalogue none).1 in
+    let after = part.effect c (register_in s) in record {
       stores = record {
         bills = bills.sound-part_effect c (register_in s) s.bills sound.bills none;
-        stock = beside.sound-part_effect c (register_in s) (books_in s) refl sound.bills.catalogue sound.stock none;
+        stock = beside.sound-part_effect (owners_in s) c (register_in s) (books_in s) refl sound.bills.catalogue sound.stock none;
+        allocations = allocations.sound-later s.allocations (books_in s) after.counter more sound.allocations;
+        orders = orders.orders-later s.parts after.parts (order_books_in s) after.counter (parts.rows-stay c (register_in s)).parts more sound.orders;
+        sales = sound.sales;
       };
       numbers = more;
       entries = omega arith;
     }
 effect-follows s sound day (command.Bom c) none =
-    let kept = changes.sound-effect c (open_parts s) s.parts (bill_books_in s) sound.bills none in record {
+    let kept = changes.sound-effect c (open_parts s) s.parts (bill_books_in s) sound.bills none in
+    let after = bom.effect c (bill_books_in s) in record {
       stores = record {
         bills = kept.0;
-        stock = beside.sound-later s.parts (books_in s) (bom.effect c (bill_books_in s)).counter kept.1 (changes.effect-limits c (bill_books_in s)) sound.stock;
+        stock = beside.sound-later (owners_in s) s.parts (books_in s) after.counter kept.1 (changes.effect-limits c (bill_books_in s)) sound.stock;
+        allocations = allocations.sound-later s.allocations (books_in s) after.counter kept.1 sound.allocations;
+        orders = orders.orders-later s.parts s.parts (order_books_in s) after.counter (λ k there. there) kept.1 sound.orders;
+        sales = sound.sales;
       };
       numbers = kept.1;
       entries = omega arith;
     }
 effect-follows s sound day (command.Yard c) none =
-    let kept = locations.sound-effect c (books_in s) sound.stock.items.locations none in record {
+    let kept = locations.sound-effect c (books_in s) sound.stock.items.locations none in
+    let same = yard-items c (books_in s) in record {
       stores = record {
         bills = bills.sound-more s.parts s.bills s.counter.next (yard.effect c (books_in s)).counter.next kept.1 sound.bills;
-        stock = beside.sound-yard_effect c s.parts (books_in s) sound.stock none;
+        stock = beside.sound-yard_effect (owners_in s) c s.parts (books_in s) sound.stock none;
+        allocations = allocations.sound-items s.allocations (books_in s) (yard.effect c (books_in s)) same kept.1 sound.allocations;
+        orders = orders.orders-items s.parts (order_books_in s) (yard.effect c (books_in s)) same kept.1 sound.orders;
+        sales = sound.sales;
       };
       numbers = kept.1;
       entries = (let same = ap (λ h. table.len h) (locations.effect-history c (books_in s)) in omega (arith, same));
     }
 effect-follows s sound day (command.Stock c) none =
-    let kept = effects.sound-effect c day s.parts s.bills (books_in s) sound.stock none in record {
+    let kept = effects.sound-effect (owners_in s) c day s.parts s.bills s.allocations (books_in s) sound.stock sound.allocations none in record {
       stores = record {
-        bills = bills.sound-more s.parts s.bills s.counter.next (stock.effect c day (books_in s)).counter.next kept.1.numbers sound.bills;
+        bills = bills.sound-more s.parts s.bills s.counter.next (stock.effect c day (books_in s)).counter.next kept.2.numbers sound.bills;
         stock = kept.0;
+        allocations = kept.1;
+        orders = orders.orders-beside s.parts (order_books_in s) (stock.effect c day (books_in s)) kept.2 sound.allocations sound.orders;
+        sales = sound.sales;
+      };
+      numbers = kept.2.numbers;
+      entries = kept.2.entries;
+    }
+effect-follows s sound day (command.Alloc c) none = record {
+  stores = record {
+    bills = sound.bills;
+    stock = sound.stock;
+    allocations = allocations.sound-effect c s.allocations (books_in s) sound.allocations none;
+    orders = orders.orders-released c s.parts (order_books_in s) sound.allocations sound.orders;
+    sales = sales-released c s.allocations sound.sales;
+  };
+  numbers = omega arith;
+  entries = omega arith;
+}
+effect-follows s sound day (command.Order c) none =
+    let b = order_books_in s in
+    let books : AreSoundBooks is_build s.parts b = record { stock = sound.stock; allocations = sound.allocations; orders = sound.orders } in
+    let kept = order_effects.sound-effect c day is_build s.parts b books none in record {
+      stores = record {
+        bills = bills.sound-more s.parts s.bills s.counter.next (order.effect c day b).books.counter.next kept.1.numbers sound.bills;
+        stock = kept.0.stock;
+        allocations = kept.0.allocations;
+        orders = kept.0.orders;
+        sales = sales-stay c day b sound.sales;
       };
       numbers = kept.1.numbers;
       entries = kept.1.entries;
@@ -104,7 +165,17 @@ passes_key s r e = passes_taken (is_key_taken r s) KeyTaken (checks s r.day r.co
 -- an answer that is kept beside changes nothing else
 beside_answer : (key : Option (List ℕ)) (text : List ℕ) (a : Answer) (old new : State) → Follows old new → Follows old (with_answer key text a new)
 beside_answer None text a old new f = f
-beside_answer (Some k) text a old new f = record { stores = record { bills = f.stores.bills; stock = f.stores.stock }; numbers = f.numbers; entries = f.entries }
+beside_answer (Some k) text a old new f = record {
+  stores = record {
+    bills = f.stores.bills;
+    stock = f.stores.stock;
+    allocations = f.stores.allocations;
+    orders = f.stores.orders;
+    sales = f.stores.sales;
+  };
+  numbers = f.numbers;
+  entries = f.entries;
+}
 
 follows_itself : (s : State) → AreSoundStores s → Follows s s
 follows_itself s sound = record { stores = sound; numbers = omega arith; entries = omega arith }
@@ -135,6 +206,8 @@ effect-answers s day (command.Part c) = refl
 effect-answers s day (command.Bom c) = refl
 effect-answers s day (command.Yard c) = refl
 effect-answers s day (command.Stock c) = refl
+effect-answers s day (command.Alloc c) = refl
+effect-answers s day (command.Order c) = refl
 
 with-kept : (key : Option (List ℕ)) → IfSome key (λ k. is_key k ≡ true) → (text : List ℕ) (a : Answer) (s : State) → AreKept s.answers → AreKept (with_answer key text a s).answers
 with-kept None fits text a s kept = kept
@@ -160,13 +233,22 @@ step-kept s r fits kept = again (repeated r s)
     again None = anew (check s r)
 
 pub sound_stores : (s : State) → IsSoundState s → AreSoundStores s
-sound_stores s sound = record { bills = sound.bills; stock = sound.stock }
+sound_stores s sound = record {
+  bills = sound.bills;
+  stock = sound.stock;
+  allocations = sound.allocations;
+  orders = sound.orders;
+  sales = sound.sales;
+}
 
 pub step-sound : (s : State) → IsSoundState s → (r : Request) → IfSome r.key (λ k. is_key k ≡ true) → IsSoundState (step s r).0
 step-sound s sound r fits =
     let follows = step-follows s (sound_stores s sound) r in record {
       bills = follows.stores.bills;
       stock = follows.stores.stock;
+      allocations = follows.stores.allocations;
+      orders = follows.stores.orders;
+      sales = follows.stores.sales;
       answers = step-kept s r fits sound.answers;
     }
 
@@ -189,10 +271,6 @@ step-new s r e = rw e refl
 
 pub step-repeated : (s : State) (r : Request) (row : Kept) → kept_for r s ≡ Some row → bytes_eq row.command (command_text r.command) ≡ true → step s r ≡ (s, Ok row.answer)
 step-repeated s r row e same = rw (e, same) refl
-
--- a request whose command is kept under its key is accepted again
-pub accepted-again : (s : State) (r : Request) (row : Kept) → kept_for r s ≡ Some row → bytes_eq row.command (command_text r.command) ≡ true → Accepts s r (Ok (Again row.answer)) s
-accepted-again s r row e same = (rw (e, same) refl, refl)
 
 -- one under whose key nothing is kept is accepted anew
 anew : (s : State) (r : Request) → kept_for r s ≡ None → first (checks s r.day r.command) ≡ None → IsAnew s r
@@ -228,30 +306,6 @@ pub accepted-anew : (s t u : State) (r : Request) (a : Answer) → kept_for r s 
     → Acts (checks s r.day r.command) (effect s r.day r.command, answer_of s (effect s r.day r.command)) s (Ok a) t → u ≡ with_answer r.key (command_text r.command) a t → Accepts s r (Ok (Anew a)) u
 accepted-anew s t u r a none acts kept = (anew s r none acts.0, subst (λ (v : State). step s r ≡ (v, Ok a)) (sym kept) (decided-ok s t r a none acts))
 
-none_kept-plain : (s : State) (r : Request) → r.key ≡ None → kept_for r s ≡ None
-none_kept-plain s r none = ap (λ k. option_and_then (λ key. table.get s.answers key) k) none
-
-pub accepted-plain : (s t : State) (r : Request) (a : Answer) → r.key ≡ None
-    → Acts (checks s r.day r.command) (effect s r.day r.command, answer_of s (effect s r.day r.command)) s (Ok a) t → Accepts s r (Ok (Anew a)) t
-accepted-plain s t r a none acts = accepted-anew s t t r a (none_kept-plain s r none) acts (ap (λ k. with_answer k (command_text r.command) a t) (sym none))
-
-refused-err : (s t : State) (r : Request) (x : CoreFault) → Decides s r (Err x) t → Accepts s r (Err x) t
-refused-err s t r (Refused x) h = h
-refused-err s t r Memory h = h
-
-pub refused-plain : (s t : State) (r : Request) (x : CoreFault) → r.key ≡ None
-    → Acts (checks s r.day r.command) (effect s r.day r.command, answer_of s (effect s r.day r.command)) s (Err x) t → Accepts s r (Err x) t
-refused-plain s t r x none acts = refused-err s t r x (decided-err s t r x (none_kept-plain s r none) acts)
-
--- what is told of an accepted request is its step
-pub decides-ok : (s t : State) (r : Request) (a : Accepted) → Accepts s r (Ok a) t → Decides s r (Ok (answer_in a)) t
-decides-ok s t r (Anew answer) h = h.1
-decides-ok s t r (Again answer) h = ap (λ o. by_repeat o s (step_anew s r)) h.0 ∙ ap (λ (v : State). (v, Ok answer)) (sym h.1)
-
-pub decides-err : (s t : State) (r : Request) (x : CoreFault) → Accepts s r (Err x) t → Decides s r (Err x) t
-decides-err s t r (Refused x) h = h
-decides-err s t r Memory h = h
-
 pub decides-all : (s t : State) (r : Request) (o : Result Accepted CoreFault) → Accepts s r o t → t ≡ s ⊎ (t ≡ (step s r).0)
 decides-all s t r (Ok (Anew answer)) h = inr (ap (λ p. p.0) (sym h.1))
 decides-all s t r (Ok (Again answer)) h = inl h.1
@@ -271,7 +325,14 @@ kept-sound s t u sound day c a acts key fits text e =
     let after = ap (λ p. p.0) acts.1 in
     let kept : AreKept t.answers = subst (λ (v : State). AreKept v.answers) after (subst AreKept (sym (effect-answers s day c)) sound.answers) in
     let stores = subst AreSoundStores after follows.stores in
-    subst IsSoundState (sym e) (record { bills = stores.bills; stock = stores.stock; answers = with-kept (Some key) fits text a t kept })
+    subst IsSoundState (sym e) (record {
+      bills = stores.bills;
+      stock = stores.stock;
+      allocations = stores.allocations;
+      orders = stores.orders;
+      sales = stores.sales;
+      answers = with-kept (Some key) fits text a t kept;
+    })
 
 -- ---- runs
 
@@ -381,7 +442,14 @@ pub told_in : (s : State) → IsSoundState s → (rs : List Request) (t : State)
 told_in s sound rs t os e = subst (λ (p : State × List Outcome). RunTells s p.0 (answers_of s rs)) e (run-tells s (sound_stores s sound) rs)
 
 pub start-sound : (limits : Limits) → IsSoundState (start limits)
-start-sound limits = record { bills = variants.sound-nothing; stock = beside.sound-nothing limits; answers = none_kept }
+start-sound limits = record {
+  bills = variants.sound-nothing;
+  stock = beside.sound-nothing (owners_in (start limits)) limits;
+  allocations = allocations.sound-nothing (books_in (start limits));
+  orders = orders.orders-nothing (start limits).parts (books_in (start limits));
+  sales = each-empty (λ (a : Allocation). is_for_sale a.purpose ≡ true);
+  answers = none_kept;
+}
   where
     none_kept : AreKept table.empty
     none_kept k row e = absurd (let none : table.get (table.empty {X = Kept} {R = key_cmp}) k ≡ None = table.get-empty key_cmp k in let both : None ≡ Some row = sym none ∙ e in cc)

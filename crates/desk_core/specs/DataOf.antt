@@ -3,6 +3,7 @@ use Rattle.std.specs.Prelude.{ℕ, List, map, Option, Some, None}
 use Rattle.serde_json.specs.Data.{Data, null, boolean, string, number, unsigned, array}
 use Rattle.serde_json.specs.View.{items_of}
 use Rattle.part_core.specs.Flags.{flag_words}
+use Rattle.part_core.specs.Side.{side_name}
 use Rattle.part_core.specs.Status.{status_name}
 use Rattle.part_core.specs.declared.field.Field.{Field}
 use Rattle.part_core.specs.declared.field.Field.TheVariants as field
@@ -39,6 +40,7 @@ data_of (field.MaybeText t) = maybe_string t
 data_of (field.Yes b) = boolean b
 data_of (field.Flags f) = strings (flag_words f)
 data_of (field.Status s) = string (status_name s)
+data_of (field.Side s) = string (side_name s)
 data_of (field.Serials ts) = strings ts
 data_of (field.MaybeSerials ts) = maybe_strings ts
 data_of (field.Numbers ns) = wholes ns

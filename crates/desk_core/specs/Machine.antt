@@ -8,6 +8,7 @@ use Rattle.part_core.specs.Counter.{Numbering, numbers_between}
 use Rattle.part_core.specs.Counter as counter
 use Rattle.part_core.specs.Day.{CivilDay}
 use Rattle.part_core.specs.PartMachine as part
+use Rattle.part_core.specs.Rows.{EachRow}
 use Rattle.part_core.specs.Sheet.{Table}
 use Rattle.part_core.specs.declared.answer.Answer.{Answer}
 use Rattle.part_core.specs.declared.limits.Limits.{Limits}
@@ -19,11 +20,20 @@ use Rattle.bom_core.specs.Bills.{Bills, no_bills}
 use Rattle.bom_core.specs.BomMachine as bom
 use Rattle.bom_core.specs.Changes.{BillBooks}
 use Rattle.bom_core.specs.Sound.{IsSoundBill}
+use Rattle.alloc_core.specs.AllocMachine as alloc
+use Rattle.alloc_core.specs.Sound.{AreSoundAllocations}
+use Rattle.alloc_core.specs.declared.allocation.Allocation.{Allocation}
 use Rattle.yard_core.specs.Books.{Books}
 use Rattle.yard_core.specs.Stock.{Stock, empty_stock}
 use Rattle.yard_core.specs.YardMachine as yard
-use Rattle.stock_core.specs.Sound.{IsSoundStock}
+use Rattle.stock_core.specs.Sound.{IsSoundStock, Owners}
 use Rattle.stock_core.specs.StockMachine as stock
+use Rattle.order_core.specs.OrderMachine as order
+use Rattle.order_core.specs.Orders.{OrderBooks, owners_beside}
+use Rattle.order_core.specs.RowTests.{is_for_sale}
+use Rattle.order_core.specs.Sound.{AreSoundOrders}
+use Rattle.order_core.specs.declared.line.OrderLine.{OrderLine}
+use Rattle.order_core.specs.declared.order.Order.{Order}
 use Rattle.desk_core.specs.declared.accepted.Accepted.{Accepted}
 use Rattle.desk_core.specs.declared.accepted.Accepted.TheVariants.{Anew, Again}
 use Rattle.desk_core.specs.declared.command.Command.{Command}
@@ -37,6 +47,9 @@ pub record State : Type 0 where
   pub parts : Parts
   pub bills : Bills
   pub stock : Stock
+  pub allocations : Table Allocation
+  pub orders : Table Order
+  pub order_lines : Table OrderLine
   -- the next row number, and the limits
   pub counter : Numbering
   -- the answers that are kept, each under its key
@@ -44,7 +57,16 @@ pub record State : Type 0 where
 
 -- the state with nothing in it
 abbrev pub start : Limits → State
-start limits = record { parts = no_parts; bills = no_bills; stock = empty_stock; counter = counter.start limits; answers = table.empty }
+start limits = record {
+  parts = no_parts;
+  bills = no_bills;
+  stock = empty_stock;
+  allocations = table.empty;
+  orders = table.empty;
+  order_lines = table.empty;
+  counter = counter.start limits;
+  answers = table.empty;
+}
 
 -- ---- what the commands of each crate read and change
 
@@ -57,14 +79,34 @@ bill_books_in s = record { bills = s.bills; counter = s.counter }
 abbrev pub books_in : State → Books
 books_in s = record { stock = s.stock; counter = s.counter }
 
+abbrev pub order_books_in : State → OrderBooks
+order_books_in s = record { orders = s.orders; lines = s.order_lines; allocations = s.allocations; books = books_in s }
+
 abbrev pub with_register : State → Register → State
-with_register s r = record { parts = r.parts; bills = s.bills; stock = s.stock; counter = r.counter; answers = s.answers }
+with_register s r = record s { parts = r.parts; counter = r.counter }
 
 abbrev pub with_bill_books : State → BillBooks → State
-with_bill_books s b = record { parts = s.parts; bills = b.bills; stock = s.stock; counter = b.counter; answers = s.answers }
+with_bill_books s b = record s { bills = b.bills; counter = b.counter }
 
 abbrev pub with_books : State → Books → State
-with_books s b = record { parts = s.parts; bills = s.bills; stock = b.stock; counter = b.counter; answers = s.answers }
+with_books s b = record s { stock = b.stock; counter = b.counter }
+
+abbrev pub with_allocations : State → Table Allocation → State
+with_allocations s t = record s { allocations = t }
+
+abbrev pub with_order_books : State → OrderBooks → State
+with_order_books s b =
+    record s { stock = b.books.stock; allocations = b.allocations; orders = b.orders; order_lines = b.lines; counter = b.books.counter }
+
+-- ---- builds and orders by their numbers
+
+-- there are no builds yet
+abbrev pub is_build : ℕ → Bool
+is_build n = false
+
+-- whose places may be named
+abbrev pub owners_in : State → Owners
+owners_in s = owners_beside is_build s.orders
 
 -- ---- checks and effects
 
@@ -77,7 +119,9 @@ abbrev pub checks : State → CivilDay → Command → List Check
 checks s day (command.Part c) = part.checks c (register_in s)
 checks s day (command.Bom c) = bom.checks c (open_parts s) s.parts (bill_books_in s)
 checks s day (command.Yard c) = yard.checks c (books_in s)
-checks s day (command.Stock c) = stock.checks c day s.parts s.bills (books_in s)
+checks s day (command.Stock c) = stock.checks c day s.parts s.bills s.allocations (books_in s)
+checks s day (command.Alloc c) = alloc.checks c s.allocations
+checks s day (command.Order c) = order.checks c day s.parts (order_books_in s)
 
 -- each command's refusals stand in the one order of checks
 abbrev pub ChecksAreInOrder : Type 0
@@ -89,6 +133,8 @@ effect s day (command.Part c) = with_register s (part.effect c (register_in s))
 effect s day (command.Bom c) = with_bill_books s (bom.effect c (bill_books_in s))
 effect s day (command.Yard c) = with_books s (yard.effect c (books_in s))
 effect s day (command.Stock c) = with_books s (stock.effect c day (books_in s))
+effect s day (command.Alloc c) = with_allocations s (alloc.effect c s.allocations)
+effect s day (command.Order c) = with_order_books s (order.effect c day (order_books_in s))
 
 -- how many entries the history has
 abbrev pub entries_in : State → ℕ
@@ -237,9 +283,13 @@ pub record StandsKept (k : List ℕ) (row : Kept) : Type 0 where
   pub own : k ≡ row.word
   pub key : is_key row.word ≡ true
 
--- the bills with their catalogue, and the stock with its locations and its history, beside the counter; and the
--- answers that are kept
+-- the bills with their catalogue, the stock with its locations and its history, the allocations, and the orders with
+-- their lines, beside the counter; and the answers that are kept
 pub record IsSoundState (s : State) : Type 0 where
   pub bills : IsSoundBill s.parts s.bills s.counter.next
-  pub stock : IsSoundStock s.parts (books_in s)
+  pub stock : IsSoundStock (owners_in s) s.parts (books_in s)
+  pub allocations : AreSoundAllocations s.allocations (books_in s)
+  pub orders : AreSoundOrders s.parts (order_books_in s)
+  -- none is for a build
+  pub sales : EachRow (λ a. is_for_sale a.purpose ≡ true) s.allocations
   pub answers : (k : List ℕ) (row : Kept) → table.get s.answers k ≡ Some row → StandsKept k row

@@ -1,5 +1,5 @@
 -- What comes of sending a request with a key again.
-use Rattle.std.specs.Prelude.{◌≡◌, ℕ, List, [], ◌∷◌, ◌++◌, Some, IsSome, Ok, Err}
+use Rattle.std.specs.Prelude.{◌≡◌, List, [], ◌∷◌, ◌++◌, IsSome, Ok, Err}
 use Rattle.part_core.specs.declared.answer.Answer.{Answer}
 use Rattle.desk_core.specs.declared.command.Request.{Request}
 use Rattle.desk_core.specs.CommandText.{command_text}

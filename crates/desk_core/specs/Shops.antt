@@ -4,6 +4,7 @@ use Rattle.part_core.specs.Counter.{kept_numbering, numbering_of}
 use Rattle.part_core.specs.Sheet.{now_of}
 use Rattle.bom_core.specs.Boms.{bills_of, kept_bills}
 use Rattle.yard_core.specs.Yards.{stock_of, kept_of}
+use Rattle.alloc_core.specs.AllocationTables.{allocations_now, kept_allocations}
 use Rattle.desk_core.specs.declared.shop.Shop.{Shop}
 use Rattle.desk_core.specs.Machine.{State}
 
@@ -13,6 +14,9 @@ state_of shop =
       parts = parts_of shop.catalogue;
       bills = bills_of shop.boms;
       stock = stock_of shop.yard;
+      allocations = allocations_now shop.allocations;
+      orders = now_of shop.orders.orders;
+      order_lines = now_of shop.orders.lines;
       counter = numbering_of shop.counter;
       answers = now_of shop.answers;
     }
@@ -23,6 +27,9 @@ kept_state shop =
       parts = kept_parts shop.catalogue;
       bills = kept_bills shop.boms;
       stock = kept_of shop.yard;
+      allocations = kept_allocations shop.allocations;
+      orders = shop.orders.orders.kept;
+      order_lines = shop.orders.lines.kept;
       counter = kept_numbering shop.counter;
       answers = shop.answers.kept;
     }

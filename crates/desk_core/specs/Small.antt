@@ -7,6 +7,8 @@ use Rattle.bom_core.specs.BillColumns.{line_columns, substitute_columns}
 use Rattle.forest.specs.EntryColumns.{entry_columns}
 use Rattle.forest.specs.ItemColumns.{item_columns}
 use Rattle.yard_core.specs.LocationColumns.{location_columns}
+use Rattle.alloc_core.specs.AllocationColumns.{allocation_columns}
+use Rattle.order_core.specs.OrderColumns as order_rows
 use Rattle.desk_core.specs.Machine.{IsSoundState, State}
 
 -- no number of a row is too large for a file
@@ -18,6 +20,9 @@ pub record HasSmallRows (s : State) : Type 0 where
   pub locations : AreSmall location_columns s.stock.locations
   pub items : AreSmall item_columns s.stock.items
   pub history : AreSmall entry_columns s.stock.history
+  pub allocations : AreSmall allocation_columns s.allocations
+  pub orders : AreSmall order_rows.order_columns s.orders
+  pub order_lines : AreSmall order_rows.line_columns s.order_lines
 
 -- the rows of a sound state are so, where its own numbers are
 abbrev pub RowsAreSmall : Type 0

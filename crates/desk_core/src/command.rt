@@ -5,7 +5,9 @@ ghost use Rattle.part_core.specs.FormTables.{command_by, forms_by};
 ghost use Rattle.desk_core.specs.CommandForms.{command_back, command_distinct, command_fields, command_fills, command_forms, command_made, command_verb};
 
 use crate::key::Key;
+use alloc_core::AllocCommand;
 use bom_core::BomCommand;
+use order_core::OrderCommand;
 use part_core::{Day, Field, Form, Formed, PartCommand};
 use std::alloc::{AllocError, Global};
 use stock_core::StockCommand;
@@ -22,6 +24,10 @@ pub enum Command {
     Yard(YardCommand),
     /// Of stock.
     Stock(StockCommand),
+    /// Of allocations themselves.
+    Alloc(AllocCommand),
+    /// Of orders.
+    Order(OrderCommand),
 }
 
 impl Formed for Command {
@@ -38,13 +44,19 @@ impl Formed for Command {
         if let Some(form) = StockCommand::form(verb) {
             return Some(form);
         }
+        if let Some(form) = OrderCommand::form(verb) {
+            return Some(form);
+        }
         if let Some(form) = PartCommand::form(verb) {
             return Some(form);
         }
         if let Some(form) = BomCommand::form(verb) {
             return Some(form);
         }
-        YardCommand::form(verb)
+        if let Some(form) = YardCommand::form(verb) {
+            return Some(form);
+        }
+        AllocCommand::form(verb)
     }
 
     fn verb(&self) -> &'static str {
@@ -53,6 +65,8 @@ impl Formed for Command {
             Command::Bom(command) => command.verb(),
             Command::Yard(command) => command.verb(),
             Command::Stock(command) => command.verb(),
+            Command::Alloc(command) => command.verb(),
+            Command::Order(command) => command.verb(),
         }
     }
 
@@ -62,6 +76,8 @@ impl Formed for Command {
             Command::Bom(command) => command.fields(alloc),
             Command::Yard(command) => command.fields(alloc),
             Command::Stock(command) => command.fields(alloc),
+            Command::Alloc(command) => command.fields(alloc),
+            Command::Order(command) => command.fields(alloc),
         }
     }
 
@@ -71,6 +87,10 @@ impl Formed for Command {
             let command = StockCommand::from_fields(verb, fields)?;
             return Some(Command::Stock(command));
         }
+        if OrderCommand::form(verb).is_some() {
+            let command = OrderCommand::from_fields(verb, fields)?;
+            return Some(Command::Order(command));
+        }
         if PartCommand::form(verb).is_some() {
             let command = PartCommand::from_fields(verb, fields)?;
             return Some(Command::Part(command));
@@ -79,8 +99,12 @@ impl Formed for Command {
             let command = BomCommand::from_fields(verb, fields)?;
             return Some(Command::Bom(command));
         }
-        let command = YardCommand::from_fields(verb, fields)?;
-        Some(Command::Yard(command))
+        if YardCommand::form(verb).is_some() {
+            let command = YardCommand::from_fields(verb, fields)?;
+            return Some(Command::Yard(command));
+        }
+        let command = AllocCommand::from_fields(verb, fields)?;
+        Some(Command::Alloc(command))
     }
 
     ghost fills = { command_fills };
@@ -93,9 +117,19 @@ impl Formed for Command {
 }
 
 /// A command, the day that it carries, and the key that it is called by, if any. Days needn't rise.
-#[derive(Drop)]
 pub struct Request {
     pub key: Option<Key>,
     pub day: Day,
     pub command: Command,
+}
+
+// It is written out, so that a caller does not prove again how each part is dropped.
+impl Drop for Request {
+    fn drop(self) {
+        let Request {
+            key: _,
+            day: _,
+            command: _,
+        } = self;
+    }
 }

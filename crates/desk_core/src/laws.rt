@@ -7,7 +7,8 @@ ghost use Rattle.desk_core.specs.Staying.{RowsStay};
 
 use crate::kept::Kept;
 
-/// The law that no step takes a row away but of lines and substitutes: so a file drops rows of these tables alone.
+/// The law that no step takes a row away but of lines, substitutes and allocations: so a file drops rows of these
+/// tables alone.
 pub fn rows_stay()
     ensures { RowsStay }
 {}

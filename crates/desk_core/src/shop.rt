@@ -18,7 +18,9 @@ use crate::command::{Command, Request};
 use crate::kept::{CommandText, Kept};
 use crate::key::Key;
 use crate::texts::command_text;
+use alloc_core::{Allocations, alloc_command};
 use bom_core::{Boms, bom_command};
+use order_core::{Orders, order_command};
 use part_core::{Answer, Catalogue, CoreFault, Counter, Id, Limits, Refusal, Sheet, part_command};
 use std::alloc::{AllocError, Global};
 use stock_core::stock_command;
@@ -28,15 +30,33 @@ mod assemble;
 
 pub use assemble::{AssembleFault, Tables};
 
-/// All that a desk holds: the catalogue, the bills, the yard, the counter and the answers that are kept.
-#[derive(Drop)]
+/// All that a desk holds: the catalogue, the bills, the yard, the allocations, the orders, the counter and the answers
+/// that are kept.
 pub struct Shop {
     catalogue: Catalogue,
     boms: Boms,
     yard: Yard,
+    allocations: Allocations,
+    orders: Orders,
     counter: Counter,
     answers: Sheet<Kept>,
     alloc: Global,
+}
+
+// It is written out, so that a caller does not prove again how each part is dropped.
+impl Drop for Shop {
+    fn drop(self) {
+        let Shop {
+            catalogue: _,
+            boms: _,
+            yard: _,
+            allocations: _,
+            orders: _,
+            counter: _,
+            answers: _,
+            alloc: _,
+        } = self;
+    }
 }
 
 impl Shop {
@@ -50,6 +70,8 @@ impl Shop {
             catalogue: Catalogue::new(alloc),
             boms: Boms::new(alloc),
             yard: Yard::new(alloc),
+            allocations: Allocations::new(alloc),
+            orders: Orders::new(alloc),
             counter: Counter::new(limits),
             answers: Sheet::new(alloc),
             alloc,
@@ -77,6 +99,20 @@ impl Shop {
         &self.yard
     }
 
+    /// What of items is meant for orders.
+    pub fn allocations(&self) -> &Allocations
+        ensures { result.now ≡ self.now.allocations }
+    {
+        &self.allocations
+    }
+
+    /// The orders and their lines.
+    pub fn orders(&self) -> &Orders
+        ensures { result.now ≡ self.now.orders }
+    {
+        &self.orders
+    }
+
     /// The counter of row numbers.
     pub fn counter(&self) -> &Counter
         ensures { result.now ≡ self.now.counter }
@@ -99,6 +135,7 @@ impl Shop {
     }
 
     /// Does the command by the machine of the crate that has it.
+    #[tactic(auto, using(crate::proofs::Acting::alloc_acts))]
     fn act(&mut self, request: &Request) -> Result<Answer, CoreFault>
         requires nothing_pending { kept_state self.old ≡ state_of self.old }
         requires sound { IsSoundState (state_of self.old) }
@@ -133,6 +170,20 @@ impl Shop {
                 self.alloc,
                 &self.catalogue,
                 &self.boms,
+                &self.allocations,
+                &mut self.yard,
+                &mut self.counter,
+                request.day,
+                command,
+            ),
+            Command::Alloc(command) => {
+                alloc_command::act(self.alloc, &mut self.allocations, command)
+            }
+            Command::Order(command) => order_command::act(
+                self.alloc,
+                &self.catalogue,
+                &mut self.orders,
+                &mut self.allocations,
                 &mut self.yard,
                 &mut self.counter,
                 request.day,
@@ -196,6 +247,8 @@ impl Shop {
         self.catalogue.keep();
         self.boms.keep();
         self.yard.keep();
+        self.allocations.keep();
+        self.orders.keep();
         self.counter.keep();
         self.answers.keep();
     }
@@ -208,6 +261,8 @@ impl Shop {
         self.catalogue.back();
         self.boms.back();
         self.yard.back();
+        self.allocations.back();
+        self.orders.back();
         self.counter.back();
         self.answers.back();
     }

@@ -1,7 +1,9 @@
 //! Requests, each by the name of its command.
+use alloc_core::AllocCommand;
 use bom_core::{BomCommand, LineFlags, NewLine};
 use desk_core::{Command, Request};
-use part_core::{Day, Flags, Name, NewPart, PartCommand, Serials, Text, read_serials};
+use order_core::OrderCommand;
+use part_core::{Day, Flags, Name, NewPart, PartCommand, Serials, Side, Text, read_serials};
 use std::alloc::Global;
 use std::test::Fail;
 use stock_core::{NewStock, StockCommand};
@@ -32,6 +34,10 @@ pub fn of_stock(command: StockCommand) -> Result<Request, Fail> {
     request(Command::Stock(command))
 }
 
+fn of_order(command: OrderCommand) -> Result<Request, Fail> {
+    request(Command::Order(command))
+}
+
 // ---- locations, categories and parts
 
 pub fn location(alloc: Global, text: &str, parent: Option<u64>) -> Result<Request, Fail> {
@@ -47,6 +53,13 @@ pub fn category(alloc: Global, text: &str, parent: Option<u64>) -> Result<Reques
 pub fn component() -> Flags {
     let mut flags = Flags::default();
     flags.component = true;
+    flags
+}
+
+/// What may be sold.
+pub fn salable() -> Flags {
+    let mut flags = Flags::default();
+    flags.salable = true;
     flags
 }
 
@@ -156,4 +169,45 @@ pub fn disassemble(item: u64, location: u64) -> Result<Request, Fail> {
 
 pub fn reinstate(item: u64, location: u64) -> Result<Request, Fail> {
     of_stock(StockCommand::Reinstate { item, location })
+}
+
+// ---- orders and allocations
+
+pub fn sale(alloc: Global, partner: &str) -> Result<Request, Fail> {
+    of_order(OrderCommand::NewOrder {
+        side: Side::Sale,
+        partner: name(alloc, partner)?,
+    })
+}
+
+pub fn order_line(order: u64, part: u64, quantity: u64) -> Result<Request, Fail> {
+    of_order(OrderCommand::NewLine {
+        order,
+        part,
+        quantity,
+    })
+}
+
+pub fn issue_order(order: u64) -> Result<Request, Fail> {
+    of_order(OrderCommand::IssueOrder { order })
+}
+
+pub fn allocate_sale(line: u64, item: u64, quantity: u64) -> Result<Request, Fail> {
+    of_order(OrderCommand::AllocateSale {
+        line,
+        item,
+        quantity,
+    })
+}
+
+pub fn ship(order: u64) -> Result<Request, Fail> {
+    of_order(OrderCommand::Ship { order })
+}
+
+pub fn return_item(item: u64, location: u64) -> Result<Request, Fail> {
+    of_order(OrderCommand::ReturnItem { item, location })
+}
+
+pub fn release(allocation: u64) -> Result<Request, Fail> {
+    request(Command::Alloc(AllocCommand::Release { allocation }))
 }

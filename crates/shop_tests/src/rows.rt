@@ -1,9 +1,11 @@
 //! Rows as the columns of a file: each is written, and read back as it was.
 use crate::outcomes::holds;
 use crate::requests::name;
+use alloc_core::{Allocation, OutputNumber, Purpose};
 use bom_core::{Line, LineFlags, Substitute};
 use desk_core::{CommandText, Kept, Key, read_answer};
-use part_core::{Answer, Category, Column, Day, Flags, Ids, Part, Serial, Status, Stored};
+use order_core::{Order, OrderLine, OrderState};
+use part_core::{Answer, Category, Column, Day, Flags, Ids, Part, Serial, Side, Status, Stored};
 use std::alloc::Global;
 use std::test::Fail;
 use yard_core::{Entry, Item, Kind, Location, Lot, Note, Place, Reason};
@@ -108,6 +110,70 @@ fn stored_bill(alloc: Global) -> Result<(), Fail> {
     is_stored(alloc, &substitute, "17|16|8|")
 }
 
+fn stored_order(alloc: Global) -> Result<(), Fail> {
+    let order = Order {
+        number: 10,
+        side: Side::Sale,
+        partner: name(alloc, "Acme")?,
+        state: OrderState::Cancelled,
+    };
+    is_stored(alloc, &order, "10|1|Acme|3|")?;
+    let line = OrderLine {
+        number: 11,
+        order: 10,
+        part: 7,
+        quantity: 500,
+        done: 20,
+    };
+    is_stored(alloc, &line, "11|10|7|500|20|")
+}
+
+fn allocation(purpose: Purpose) -> Allocation {
+    Allocation {
+        number: 12,
+        item: 14,
+        quantity: 3,
+        purpose,
+    }
+}
+
+/// Whether the columns of an allocation for that side and output are a row.
+fn is_allocation(alloc: Global, side: u64, output: u64) -> Result<bool, Fail> {
+    let columns = vec![in alloc;
+        Column::Whole(12),
+        Column::Whole(14),
+        Column::Whole(3),
+        Column::Whole(side),
+        Column::Whole(10),
+        Column::Whole(11),
+        Column::Whole(output),
+    ]?;
+    Ok(Allocation::from_columns(alloc, columns.as_slice()).is_ok())
+}
+
+fn stored_allocation(alloc: Global) -> Result<(), Fail> {
+    let sale = allocation(Purpose::Sale {
+        order: 10,
+        line: 11,
+    });
+    is_stored(alloc, &sale, "12|14|3|0|10|11|0|")?;
+    let untracked = allocation(Purpose::Build {
+        build: 10,
+        line: 11,
+        output: None,
+    });
+    is_stored(alloc, &untracked, "12|14|3|1|10|11|0|")?;
+    let tracked = allocation(Purpose::Build {
+        build: 10,
+        line: 11,
+        output: OutputNumber::new(13),
+    });
+    is_stored(alloc, &tracked, "12|14|3|1|10|11|13|")?;
+    holds(is_allocation(alloc, 0, 0)?, "a sale without an output")?;
+    holds(!is_allocation(alloc, 0, 13)?, "a sale has no output")?;
+    holds(!is_allocation(alloc, 2, 0)?, "there is no third side")
+}
+
 fn is_no_answer(alloc: Global, text: &str) -> Result<(), Fail> {
     holds(read_answer(alloc, text).is_err(), "no line of an answer")
 }
@@ -150,4 +216,11 @@ fn stored_rows(rt: HostRuntime) -> Result<(), Fail> {
     stored_entry(alloc)?;
     stored_bill(alloc)?;
     stored_answer(alloc)
+}
+
+#[test]
+fn stored_orders(rt: HostRuntime) -> Result<(), Fail> {
+    let alloc = rt.alloc();
+    stored_order(alloc)?;
+    stored_allocation(alloc)
 }

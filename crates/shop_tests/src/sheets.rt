@@ -4,7 +4,8 @@ ghost use Rattle.desk_core.specs.Shops.{state_of};
 
 use crate::outcomes::{Wanted, holds, plays};
 use crate::requests::{
-    category, component, drop_line, found, line, location, part, substitute, transfer,
+    allocate_sale, category, component, drop_line, found, issue_order, line, location, order_line,
+    part, release, return_item, salable, sale, ship, substitute, transfer,
 };
 use desk_core::{Key, Request, Shop};
 use part_core::{Limits, Serial, Sheet, Status};
@@ -60,17 +61,20 @@ fn pending(alloc: Global, shop: &Shop) -> Result<Vec<usize>, AllocError> {
     counts.push(shop.yard().items().pending()?.len())?;
     counts.push(shop.yard().journal().pending()?.len())?;
     counts.push(shop.answers().pending()?.len())?;
+    counts.push(shop.orders().orders().pending()?.len())?;
+    counts.push(shop.orders().lines().pending()?.len())?;
+    counts.push(shop.allocations().rows().pending()?.len())?;
     Ok(counts)
 }
 
 /// Runs the request, and fails where other rows are pending after it: categories, parts, lines,
-/// substitutes, locations, items, entries and kept answers.
+/// substitutes, locations, items, entries, kept answers, orders, their lines and allocations.
 fn changes(
     alloc: Global,
     shop: &mut Shop,
     request: Request,
     wanted: Wanted,
-    rows: [usize; 8],
+    rows: [usize; 11],
 ) -> Result<(), Fail>
     requires { IsSoundState (state_of shop.old) }
     ensures { IsSoundState (state_of shop.new) }
@@ -101,77 +105,77 @@ fn change_each_sheet(alloc: Global, shop: &mut Shop) -> Result<(), Fail>
         shop,
         category(alloc, "All", None)?,
         Wanted::Drawn(1, 0),
-        [1, 0, 0, 0, 0, 0, 0, 0],
+        [1, 0, 0, 0, 0, 0, 0, 0, 0, 0, 0],
     )?;
     changes(
         alloc,
         shop,
         screw,
         Wanted::Drawn(2, 0),
-        [0, 1, 0, 0, 0, 0, 0, 0],
+        [0, 1, 0, 0, 0, 0, 0, 0, 0, 0, 0],
     )?;
     changes(
         alloc,
         shop,
         robot,
         Wanted::Drawn(3, 0),
-        [0, 1, 0, 0, 0, 0, 0, 0],
+        [0, 1, 0, 0, 0, 0, 0, 0, 0, 0, 0],
     )?;
     changes(
         alloc,
         shop,
         part(alloc, "Bolt", None, component())?,
         Wanted::Drawn(4, 0),
-        [0, 1, 0, 0, 0, 0, 0, 0],
+        [0, 1, 0, 0, 0, 0, 0, 0, 0, 0, 0],
     )?;
     changes(
         alloc,
         shop,
         line(3, 2, 8)?,
         Wanted::Drawn(5, 0),
-        [0, 0, 1, 0, 0, 0, 0, 0],
+        [0, 0, 1, 0, 0, 0, 0, 0, 0, 0, 0],
     )?;
     changes(
         alloc,
         shop,
         substitute(5, 4)?,
         Wanted::Drawn(6, 0),
-        [0, 0, 0, 1, 0, 0, 0, 0],
+        [0, 0, 0, 1, 0, 0, 0, 0, 0, 0, 0],
     )?;
     changes(
         alloc,
         shop,
         location(alloc, "A", None)?,
         Wanted::Drawn(7, 0),
-        [0, 0, 0, 0, 1, 0, 0, 0],
+        [0, 0, 0, 0, 1, 0, 0, 0, 0, 0, 0],
     )?;
     changes(
         alloc,
         shop,
         with_key(alloc, found(2, 7, 9)?)?,
         Wanted::Drawn(8, 1),
-        [0, 0, 0, 0, 0, 1, 1, 1],
+        [0, 0, 0, 0, 0, 1, 1, 1, 0, 0, 0],
     )?;
     changes(
         alloc,
         shop,
         with_key(alloc, found(2, 7, 9)?)?,
         Wanted::Drawn(8, 1),
-        [0, 0, 0, 0, 0, 0, 0, 0],
+        [0, 0, 0, 0, 0, 0, 0, 0, 0, 0, 0],
     )?;
     changes(
         alloc,
         shop,
         transfer(8, 7, 4)?,
         Wanted::Drawn(9, 2),
-        [0, 0, 0, 0, 0, 2, 2, 0],
+        [0, 0, 0, 0, 0, 2, 2, 0, 0, 0, 0],
     )?;
     changes(
         alloc,
         shop,
         drop_line(5)?,
         Wanted::Done(0),
-        [0, 0, 1, 1, 0, 0, 0, 0],
+        [0, 0, 1, 1, 0, 0, 0, 0, 0, 0, 0],
     )
 }
 
@@ -181,4 +185,89 @@ fn what_a_request_changed(rt: HostRuntime) -> Result<(), Fail> {
     let alloc = rt.alloc();
     let mut shop = Shop::new(alloc, Limits::LARGEST);
     change_each_sheet(alloc, &mut shop)
+}
+
+fn stock_a_lamp(alloc: Global, shop: &mut Shop) -> Result<(), Fail>
+    requires { IsSoundState (state_of shop.old) }
+    ensures { IsSoundState (state_of shop.new) }
+{
+    let mut requests = Vec::new(alloc);
+    requests.push(location(alloc, "A", None)?)?;
+    requests.push(part(alloc, "Lamp", None, salable())?)?;
+    requests.push(found(2, 1, 9)?)?;
+    let wanted = [
+        Wanted::Drawn(1, 0),
+        Wanted::Drawn(2, 0),
+        Wanted::Drawn(3, 1),
+    ];
+    plays(alloc, shop, requests, &wanted)
+}
+
+fn change_each_sheet_of_orders(alloc: Global, shop: &mut Shop) -> Result<(), Fail>
+    requires { IsSoundState (state_of shop.old) }
+{
+    changes(
+        alloc,
+        shop,
+        sale(alloc, "Acme")?,
+        Wanted::Drawn(4, 0),
+        [0, 0, 0, 0, 0, 0, 0, 0, 1, 0, 0],
+    )?;
+    changes(
+        alloc,
+        shop,
+        order_line(4, 2, 5)?,
+        Wanted::Drawn(5, 0),
+        [0, 0, 0, 0, 0, 0, 0, 0, 0, 1, 0],
+    )?;
+    changes(
+        alloc,
+        shop,
+        issue_order(4)?,
+        Wanted::Done(0),
+        [0, 0, 0, 0, 0, 0, 0, 0, 1, 0, 0],
+    )?;
+    changes(
+        alloc,
+        shop,
+        allocate_sale(5, 3, 4)?,
+        Wanted::Drawn(6, 0),
+        [0, 0, 0, 0, 0, 0, 0, 0, 0, 0, 1],
+    )?;
+    changes(
+        alloc,
+        shop,
+        allocate_sale(5, 3, 1)?,
+        Wanted::Drawn(7, 0),
+        [0, 0, 0, 0, 0, 0, 0, 0, 0, 0, 1],
+    )?;
+    changes(
+        alloc,
+        shop,
+        release(7)?,
+        Wanted::Done(0),
+        [0, 0, 0, 0, 0, 0, 0, 0, 0, 0, 1],
+    )?;
+    changes(
+        alloc,
+        shop,
+        ship(4)?,
+        Wanted::Drawn(8, 2),
+        [0, 0, 0, 0, 0, 2, 2, 0, 0, 1, 1],
+    )?;
+    changes(
+        alloc,
+        shop,
+        return_item(8, 1)?,
+        Wanted::Done(2),
+        [0, 0, 0, 0, 0, 1, 2, 0, 0, 0, 0],
+    )
+}
+
+#[test]
+fn what_a_request_changed_of_orders(rt: HostRuntime) -> Result<(), Fail> {
+    let alloc = rt.alloc();
+    let mut shop = Shop::new(alloc, Limits::LARGEST);
+    stock_a_lamp(alloc, &mut shop)?;
+    change_each_sheet_of_orders(alloc, &mut shop)
 }

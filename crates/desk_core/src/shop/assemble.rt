@@ -7,13 +7,15 @@ ghost use Rattle.std.specs.Prelude.{◌≡◌, ◌↔◌, ◌∷◌, [], IsTrue,
 ghost use Rattle.part_core.specs.Counter.{kept_numbering, numbering_of, resumed};
 ghost use Rattle.part_core.specs.Filled.{StandUnderKeys, filled};
 ghost use Rattle.part_core.specs.Sheet.{now_of};
-ghost use Rattle.desk_core.specs.Assembled.{AreKeys, AreSoundTables, HasSoundBooks, state_from};
+ghost use Rattle.desk_core.specs.Assembled.{AreKeys, AreSoundTables, HasSoundBooks, HasSoundOrders, state_from};
 ghost use Rattle.desk_core.specs.Shops.{kept_state, state_of};
 
 use crate::kept::Kept;
 use crate::laws::are_keys;
 use crate::shop::Shop;
+use alloc_core::{Allocation, Allocations};
 use bom_core::{Boms, Line, Substitute};
+use order_core::{Order, OrderLine, Orders, are_for_sales};
 use part_core::{Catalogue, Category, Counter, Id, Limits, Part, Sheet};
 use std::alloc::{AllocError, Global};
 use stock_core::is_sound_stock;
@@ -29,6 +31,9 @@ pub struct Tables {
     pub locations: Vec<Location>,
     pub items: Vec<Item>,
     pub history: Vec<Entry>,
+    pub allocations: Vec<Allocation>,
+    pub orders: Vec<Order>,
+    pub order_lines: Vec<OrderLine>,
     pub answers: Vec<Kept>,
     /// The number that is drawn next.
     pub next: Id,
@@ -82,27 +87,62 @@ impl Shop {
         let catalogue = Catalogue::assemble(alloc, tables.categories, tables.parts)?;
         let boms = Boms::assemble(alloc, tables.lines, tables.substitutes)?;
         let yard = Yard::assemble(alloc, tables.locations, tables.items, tables.history)?;
+        let allocations = Allocations::assemble(alloc, tables.allocations)?;
+        let orders = Orders::assemble(alloc, tables.orders, tables.order_lines)?;
         Ok(Shop {
             catalogue,
             boms,
             yard,
+            allocations,
+            orders,
             counter,
             answers,
             alloc,
         })
     }
 
-    /// Whether the bills and the stock are sound. An error is one of memory.
+    /// Whether the allocations and the orders are sound.
+    fn has_sound_orders(&self) -> bool
+        requires items { StandUnderKeys (λ x. x.number ∷ []) (state_of self.now).stock.items }
+        requires orders { StandUnderKeys (λ o. o.number ∷ []) (state_of self.now).orders }
+        ensures { IsTrue result ↔ HasSoundOrders (state_of self.now) }
+    {
+        if !self.allocations.is_sound(&self.yard, &self.counter) {
+            return false;
+        }
+        let orders = self.orders.is_sound(
+            &self.catalogue,
+            &self.allocations,
+            &self.yard,
+            &self.counter,
+        );
+        if !orders {
+            return false;
+        }
+        are_for_sales(&self.allocations)
+    }
+
+    /// Whether the bills, the stock, the allocations and the orders are sound. An error is one of memory.
     fn is_sound(&self) -> Result<bool, AllocError>
-        requires { StandUnderKeys (λ e. e.number ∷ []) (state_of self.now).stock.history }
+        requires history { StandUnderKeys (λ e. e.number ∷ []) (state_of self.now).stock.history }
+        requires orders { StandUnderKeys (λ o. o.number ∷ []) (state_of self.now).orders }
         ensures { IfOk result (λ sound. IsTrue sound ↔ HasSoundBooks (state_of self.now)) }
     {
         let bills = self.boms.is_sound(&self.catalogue, self.counter.next())?;
         if !bills {
             return Ok(false);
         }
-        let stock = is_sound_stock(self.alloc, &self.catalogue, &self.yard, &self.counter)?;
-        Ok(stock)
+        let stock = is_sound_stock(
+            self.alloc,
+            &self.orders,
+            &self.catalogue,
+            &self.yard,
+            &self.counter,
+        )?;
+        if !stock {
+            return Ok(false);
+        }
+        Ok(self.has_sound_orders())
     }
 
     /// The shop of these rows, which are those that are kept, where they are the tables of a sound state.

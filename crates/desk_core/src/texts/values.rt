@@ -92,6 +92,7 @@ pub fn value_of(alloc: Global, field: Field) -> Result<Value, AllocError>
         Field::Yes(holds) => Ok(Value::Bool(holds)),
         Field::Flags(set) => flags(alloc, set),
         Field::Status(status) => word(alloc, status.word()),
+        Field::Side(side) => word(alloc, side.word()),
         Field::Serials(list) => serials(alloc, list),
         Field::MaybeSerials(list) => maybe_serials(alloc, list),
         Field::Numbers(ids) => wholes(alloc, ids.as_slice()),

@@ -1,14 +1,19 @@
 use Rattle.std.proofs.Common.{rules, ◌≡◌, ◌∷◌, [], IsSome, IsTrue, false, length, refl, sym, subst}
 use Rattle.part_core.specs.Filled.{StandUnderKeys}
 use Rattle.forest.specs.declared.entry.Entry.{Entry}
+use Rattle.order_core.specs.declared.order.Order.{Order}
 use Rattle.desk_core.specs.Assembled.{HasSoundBooks}
 use Rattle.desk_core.specs.Machine.{State}
-use Rattle.desk_core.proofs.AssembledShops.{history_own, sound_books, sound_tables}
+use Rattle.desk_core.proofs.AssembledShops.{history_own, orders_own, sound_books, sound_tables}
 use Rattle.desk_core.proofs.shop.Shop.assemble.Goals as goal
 
-pub is_sound-requires : goal.is_sound-requires
-is_sound-requires c =
+pub is_sound-requires-clause-history : goal.is_sound-requires-clause-history
+is_sound-requires-clause-history c =
     subst (λ (s : State). StandUnderKeys (λ (e : Entry). e.number ∷ []) s.stock.history) (sym c.in_ok-shop.ensures.now) (history_own c.args.tables)
+
+pub is_sound-requires-clause-orders : goal.is_sound-requires-clause-orders
+is_sound-requires-clause-orders c =
+    subst (λ (s : State). StandUnderKeys (λ (o : Order). o.number ∷ []) s.orders) (sym c.in_ok-shop.ensures.now) (orders_own c.args.tables)
 
 pub returns-in-Ok-true-clause-sound : goal.returns-in-Ok-true-clause-sound
 returns-in-Ok-true-clause-sound c =
