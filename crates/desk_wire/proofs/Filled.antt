@@ -14,7 +14,7 @@ use Rattle.part_core.specs.Forms.{Blanks, Form, form_named, kind_of, AreOf, Fill
 use Rattle.desk_wire.specs.declared.fault.What.{What}
 use Rattle.desk_wire.specs.declared.fault.What.TheVariants.{UnknownCommand, UnknownField}
 use Rattle.desk_wire.specs.Steps.{◌>>=◌, or_fault, must}
-use Rattle.desk_wire.specs.Fields.{as_field, field_in, fields_from, member_in, text_of, number_in, maybe_number_in, row_text_in, maybe_row_text_in, yes_in, flags_in, status_in, serials_in, maybe_serials_in, numbers_in}
+use Rattle.desk_wire.specs.Fields.{as_field, field_in, fields_from, member_in, text_of, number_in, maybe_number_in, row_text_in, maybe_row_text_in, yes_in, flags_in, status_in, side_in, serials_in, maybe_serials_in, numbers_in}
 use Rattle.desk_wire.specs.Members.{knows_all}
 use Rattle.desk_wire.specs.Reading.{form_in, command_in, LinesAreCommands}
 
@@ -41,6 +41,7 @@ field_kind name kind.Text d x e = as_kind field.Text kind.Text (λ _. refl) (row
 field_kind name kind.Yes d x e = as_kind field.Yes kind.Yes (λ _. refl) (yes_in name d) x e
 field_kind name kind.Flags d x e = as_kind field.Flags kind.Flags (λ _. refl) (flags_in name d) x e
 field_kind name kind.Status d x e = as_kind field.Status kind.Status (λ _. refl) (status_in name d) x e
+field_kind name kind.Side d x e = as_kind field.Side kind.Side (λ _. refl) (side_in name d) x e
 field_kind name kind.Serials d x e = as_kind field.Serials kind.Serials (λ _. refl) (serials_in name d) x e
 field_kind name kind.MaybeSerials d x e = as_kind field.MaybeSerials kind.MaybeSerials (λ _. refl) (maybe_serials_in name d) x e
 field_kind name kind.MaybeText d x e = as_kind field.MaybeText kind.MaybeText (λ _. refl) (maybe_row_text_in name d) x e

@@ -11,10 +11,12 @@ use Rattle.part_core.specs.declared.field.Kind.TheVariants as kind
 use Rattle.part_core.specs.declared.field.Field.{Field}
 use Rattle.part_core.specs.declared.field.Field.TheVariants as field
 use Rattle.part_core.specs.declared.flags.Flags.{Flags}
+use Rattle.part_core.specs.declared.side.Side.{Side}
 use Rattle.part_core.specs.declared.status.Status.{Status}
 use Rattle.part_core.specs.Flags.{no_flags, with_word}
 use Rattle.part_core.specs.Forms.{Blanks}
 use Rattle.part_core.specs.Named.{named}
+use Rattle.part_core.specs.Side.{all_sides, side_name}
 use Rattle.part_core.specs.Status.{all_statuses, status_name}
 use Rattle.desk_core.specs.Key.{is_key}
 use Rattle.desk_wire.specs.declared.fault.What.{What}
@@ -117,6 +119,11 @@ status_in name d = do
   text ← text_in name d
   or_fault BadWord (named status_name all_statuses text)
 
+abbrev pub side_in : List ℕ → Data → Result Side What
+side_in name d = do
+  text ← text_in name d
+  or_fault BadWord (named side_name all_sides text)
+
 -- ---- arrays
 
 -- these numbers and then the items, each of which is one
@@ -167,6 +174,7 @@ field_in name kind.MaybeText d = as_field field.MaybeText (maybe_row_text_in nam
 field_in name kind.Yes d = as_field field.Yes (yes_in name d)
 field_in name kind.Flags d = as_field field.Flags (flags_in name d)
 field_in name kind.Status d = as_field field.Status (status_in name d)
+field_in name kind.Side d = as_field field.Side (side_in name d)
 field_in name kind.Serials d = as_field field.Serials (serials_in name d)
 field_in name kind.MaybeSerials d = as_field field.MaybeSerials (maybe_serials_in name d)
 field_in name kind.Numbers d = as_field field.Numbers (numbers_in name d)

@@ -7,12 +7,12 @@ ghost use Rattle.part_core.specs.Flags.{no_flags};
 ghost use Rattle.part_core.specs.Forms.{shown_fields};
 ghost use Rattle.part_core.specs.Serials as texts;
 ghost use Rattle.desk_wire.specs.Steps.{Gives, Fails};
-ghost use Rattle.desk_wire.specs.Fields.{number_of, text_of, row_text_of, listed, serials_of, key_of, given, member_in, number_in, maybe_number_in, text_in, row_text_in, maybe_row_text_in, yes_in, key_in, day_in, serials_in, maybe_serials_in, status_in, with_numbers, numbers_in, are_texts, with_words, flags_in, field_in, fields_from};
+ghost use Rattle.desk_wire.specs.Fields.{number_of, text_of, row_text_of, listed, serials_of, key_of, given, member_in, number_in, maybe_number_in, text_in, row_text_in, maybe_row_text_in, yes_in, key_in, day_in, serials_in, maybe_serials_in, status_in, side_in, with_numbers, numbers_in, are_texts, with_words, flags_in, field_in, fields_from};
 
 use crate::fault::{Bad, What};
 use desk_core::Key;
 use part_core::{
-    Day, Field, Flags, Id, Ids, Kind, NO_FLAGS, SerialFault, Serials, Status, Text, named,
+    Day, Field, Flags, Id, Ids, Kind, NO_FLAGS, SerialFault, Serials, Side, Status, Text, named,
     read_serials,
 };
 use serde_json::Value;
@@ -190,6 +190,14 @@ fn status(object: &Value, name: &str) -> Result<Status, What>
     named::<Status>(text).ok_or(What::BadWord)
 }
 
+/// The side of that name: else `BadWord`.
+fn side(object: &Value, name: &str) -> Result<Side, What>
+    ensures { result ≡ side_in name.now (view object.now) }
+{
+    let text = text(object, name)?;
+    named::<Side>(text).ok_or(What::BadWord)
+}
+
 fn numbers(alloc: Global, values: &[Value]) -> Result<Vec<Id>, Bad>
     ensures { MatchResult result
         (λ numbers. with_numbers [] (items_view values.now) ≡ Ok numbers.items)
@@ -259,6 +267,7 @@ fn field(alloc: Global, object: &Value, name: &str, kind: Kind) -> Result<Field,
         Kind::Yes => Ok(Field::Yes(yes(object, name)?)),
         Kind::Flags => Ok(Field::Flags(flags(object, name)?)),
         Kind::Status => Ok(Field::Status(status(object, name)?)),
+        Kind::Side => Ok(Field::Side(side(object, name)?)),
         Kind::Serials => Ok(Field::Serials(serials(alloc, object, name)?)),
         Kind::MaybeSerials => Ok(Field::MaybeSerials(maybe_serials(alloc, object, name)?)),
         Kind::Numbers => Ok(Field::Numbers(ids(alloc, object, name)?)),

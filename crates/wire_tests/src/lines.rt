@@ -1,15 +1,17 @@
 //! Lines with what they ask or what is wrong with them, and the lines that are answered.
+use alloc_core::AllocCommand;
 use bom_core::BomCommand;
 use desk_core::{Command, Request};
 use desk_wire::{
     Asked, ReadError, What, WireFault, answer_text, fault_text, read_line, read_request,
     refused_text,
 };
+use order_core::OrderCommand;
 use part_core::{Answer, Ids, PartCommand, Refusal, Serials, Text};
 use serde_json::json;
 use std::alloc::{AllocError, Global};
 use std::test::Fail;
-use stock_core::StockCommand;
+use stock_core::{NewStock, StockCommand};
 use yard_core::YardCommand;
 
 fn show_part(alloc: Global, command: &PartCommand) -> Result<String, AllocError> {
@@ -65,6 +67,16 @@ fn show_batch(batch: &Option<Text>) -> &str {
     }
 }
 
+/// So many, with a batch or none, of these serials or none.
+fn show_new(alloc: Global, new: &NewStock) -> Result<String, AllocError> {
+    let serials = match &new.serials {
+        None => String::from_str(alloc, " none")?,
+        Some(serials) => show_serials(alloc, serials)?,
+    };
+    let (quantity, batch) = (new.quantity, show_batch(&new.batch));
+    format!(in alloc; "{quantity} {batch} of{serials}")
+}
+
 fn show_stock(alloc: Global, command: &StockCommand) -> Result<String, AllocError> {
     match command {
         StockCommand::Found {
@@ -72,12 +84,8 @@ fn show_stock(alloc: Global, command: &StockCommand) -> Result<String, AllocErro
             location,
             new,
         } => {
-            let serials = match &new.serials {
-                None => String::from_str(alloc, " none")?,
-                Some(serials) => show_serials(alloc, serials)?,
-            };
-            let (quantity, batch) = (new.quantity, show_batch(&new.batch));
-            format!(in alloc; "found {part} {location} {quantity} {batch} of{serials}")
+            let new = show_new(alloc, new)?;
+            format!(in alloc; "found {part} {location} {new}")
         }
         StockCommand::Add { item, quantity } => format!(in alloc; "add {item} {quantity}"),
         StockCommand::Remove { item, quantity } => format!(in alloc; "remove {item} {quantity}"),
@@ -120,6 +128,39 @@ fn show_stock(alloc: Global, command: &StockCommand) -> Result<String, AllocErro
     }
 }
 
+fn show_order(alloc: Global, command: &OrderCommand) -> Result<String, AllocError> {
+    match command {
+        OrderCommand::NewOrder { side, partner } => {
+            format!(in alloc; "order {side:?} {}", partner.as_str())
+        }
+        OrderCommand::NewLine {
+            order,
+            part,
+            quantity,
+        } => format!(in alloc; "order_line {order} {part} {quantity}"),
+        OrderCommand::IssueOrder { order } => format!(in alloc; "issue_order {order}"),
+        OrderCommand::Receive {
+            line,
+            location,
+            new,
+        } => {
+            let new = show_new(alloc, new)?;
+            format!(in alloc; "receive {line} {location} {new}")
+        }
+        OrderCommand::AllocateSale {
+            line,
+            item,
+            quantity,
+        } => format!(in alloc; "allocate_sale {line} {item} {quantity}"),
+        OrderCommand::Ship { order } => format!(in alloc; "ship {order}"),
+        OrderCommand::ReturnItem { item, location } => {
+            format!(in alloc; "return_item {item} {location}")
+        }
+        OrderCommand::CloseOrder { order } => format!(in alloc; "close_order {order}"),
+        OrderCommand::CancelOrder { order } => format!(in alloc; "cancel_order {order}"),
+    }
+}
+
 fn show_request(alloc: Global, request: &Request) -> Result<String, AllocError> {
     let command = match &request.command {
         Command::Part(command) => show_part(alloc, command)?,
@@ -128,6 +169,10 @@ fn show_request(alloc: Global, request: &Request) -> Result<String, AllocError> 
             format!(in alloc; "add_location {} {parent:?}", name.as_str())?
         }
         Command::Stock(command) => show_stock(alloc, command)?,
+        Command::Alloc(AllocCommand::Release { allocation }) => {
+            format!(in alloc; "release {allocation}")?
+        }
+        Command::Order(command) => show_order(alloc, command)?,
     };
     let day = request.day;
     match &request.key {
@@ -259,6 +304,70 @@ fn reads_each_command(rt: HostRuntime) -> Result<(), Fail> {
         let want = format!(in alloc; "Day {{ year: 2030, month: 1, day: 2 }} {want}")?;
         let asked = read_line(alloc, line.as_bytes(), 1).map_err(|_| "it is a line")?;
         assert_eq!(rt; show(alloc, &asked)?, want, "at {line}");
+        let request = read_request(alloc, line.as_bytes(), 1).map_err(|_| "it is a request")?;
+        assert_eq!(rt; show_request(alloc, &request)?, want, "at {line}");
+    }
+    Ok(())
+}
+
+/// Commands on orders and on allocations, each with the line that asks for it.
+const OF_ORDERS: [(&str, &str); 13] = [
+    (
+        r#"{"do":"order","day":"2030-01-02","side":"purchase","partner":"Acme & Sons"}"#,
+        "order Purchase Acme & Sons",
+    ),
+    (
+        r#"{"do":"order","day":"2030-01-02","side":"purchase","partner":"x","side":"sale"}"#,
+        "order Sale x",
+    ),
+    (
+        r#"{"do":"order_line","day":"2030-01-02","order":1,"part":2,"quantity":3}"#,
+        "order_line 1 2 3",
+    ),
+    (
+        r#"{"do":"issue_order","day":"2030-01-02","order":1}"#,
+        "issue_order 1",
+    ),
+    (
+        r#"{"do":"receive","day":"2030-01-02","line":1,"location":2,"quantity":3}"#,
+        "receive 1 2 3 none of none",
+    ),
+    (
+        r#"{"do":"receive","day":"2030-01-02","line":1,"location":2,"quantity":3,"batch":"B 1","serials":"9-10,A-1"}"#,
+        "receive 1 2 3 B 1 of 9 10 A-1",
+    ),
+    (
+        r#"{"do":"receive","day":"2030-01-02","line":1,"location":2,"quantity":3,"batch":null,"serials":null}"#,
+        "receive 1 2 3 none of none",
+    ),
+    (
+        r#"{"do":"allocate_sale","day":"2030-01-02","line":1,"item":2,"quantity":3}"#,
+        "allocate_sale 1 2 3",
+    ),
+    (r#"{"do":"ship","day":"2030-01-02","order":1}"#, "ship 1"),
+    (
+        r#"{"do":"return_item","day":"2030-01-02","item":1,"location":2}"#,
+        "return_item 1 2",
+    ),
+    (
+        r#"{"do":"close_order","day":"2030-01-02","order":1}"#,
+        "close_order 1",
+    ),
+    (
+        r#"{"do":"cancel_order","day":"2030-01-02","order":1}"#,
+        "cancel_order 1",
+    ),
+    (
+        r#"{"do":"release","day":"2030-01-02","allocation":1}"#,
+        "release 1",
+    ),
+];
+
+#[test]
+fn reads_commands_on_orders(rt: HostRuntime) -> Result<(), Fail> {
+    let alloc = rt.alloc();
+    for (line, want) in OF_ORDERS {
+        let want = format!(in alloc; "Day {{ year: 2030, month: 1, day: 2 }} {want}")?;
         let request = read_request(alloc, line.as_bytes(), 1).map_err(|_| "it is a request")?;
         assert_eq!(rt; show_request(alloc, &request)?, want, "at {line}");
     }
@@ -447,6 +556,63 @@ fn finds_what_is_wrong_with_a_field(rt: HostRuntime) -> Result<(), Fail> {
         (r#""reinstate","item":1"#, What::NoField),
         (r#""reinstate","item":1,"location":2.5"#, What::WrongType),
     ] {
+        let line = format!(in alloc; "{{\"day\":\"2030-01-02\",\"do\":{rest}}}")?;
+        assert_eq!(rt;
+            fault_of(alloc, line.as_bytes(), 1),
+            Some(want),
+            "at {line}"
+        );
+    }
+    Ok(())
+}
+
+/// What is wrong with a field of a command on orders or on allocations.
+const WRONG_ORDERS: [(&str, What); 24] = [
+    (r#""order","partner":"x""#, What::NoField),
+    (r#""order","side":null,"partner":"x""#, What::WrongType),
+    (r#""order","side":0,"partner":"x""#, What::WrongType),
+    (r#""order","side":["sale"],"partner":"x""#, What::WrongType),
+    (r#""order","side":"Sale","partner":"x""#, What::BadWord),
+    (r#""order","side":"sales","partner":"""#, What::BadWord),
+    (r#""order","side":"","partner":"x""#, What::BadWord),
+    (r#""order","side":"sale""#, What::NoField),
+    (r#""order","side":"sale","partner":null"#, What::WrongType),
+    (r#""order","side":"sale","partner":"""#, What::BadText),
+    (
+        r#""order","side":"sale","partner":"x","order":1"#,
+        What::UnknownField,
+    ),
+    (r#""order_line","order":1,"part":2"#, What::NoField),
+    (
+        r#""order_line","order":1,"part":-2,"quantity":3"#,
+        What::WrongType,
+    ),
+    (r#""issue_order","order":null"#, What::WrongType),
+    (r#""issue_order","line":1"#, What::UnknownField),
+    (
+        r#""receive","line":1,"location":2,"quantity":3,"batch":"""#,
+        What::BadText,
+    ),
+    (
+        r#""receive","line":1,"location":2,"quantity":3,"serials":"3-1""#,
+        What::BadSerials,
+    ),
+    (
+        r#""receive","line":1,"location":2,"quantity":3,"part":4"#,
+        What::UnknownField,
+    ),
+    (r#""allocate_sale","line":1,"quantity":3"#, What::NoField),
+    (r#""ship","order":"1""#, What::WrongType),
+    (r#""return_item","item":1"#, What::NoField),
+    (r#""close_order","order":1.5"#, What::WrongType),
+    (r#""cancel_order""#, What::NoField),
+    (r#""release","allocation":true"#, What::WrongType),
+];
+
+#[test]
+fn finds_what_is_wrong_with_an_order(rt: HostRuntime) -> Result<(), Fail> {
+    let alloc = rt.alloc();
+    for (rest, want) in WRONG_ORDERS {
         let line = format!(in alloc; "{{\"day\":\"2030-01-02\",\"do\":{rest}}}")?;
         assert_eq!(rt;
             fault_of(alloc, line.as_bytes(), 1),
