@@ -28,10 +28,10 @@ broken-none Lines trees none s sound next tables = none s.bills.lines (tables Li
 broken-none Substitutes trees none s sound next tables = none s.bills.substitutes (tables Substitutes)
 broken-none Items trees none s sound next tables = none s.stock.items (tables Items)
 broken-none History trees none s sound next tables = none s.stock.history (tables History)
-broken-none Orders trees none s sound next tables = none
-broken-none OrderLines trees none s sound next tables = none
-broken-none Builds trees none s sound next tables = none
-broken-none Allocations trees none s sound next tables = none
+broken-none Orders trees none s sound next tables = none s.orders (tables Orders)
+broken-none OrderLines trees none s sound next tables = none s.order_lines (tables OrderLines)
+broken-none Builds trees none s sound next tables = absurd none
+broken-none Allocations trees none s sound next tables = none s.allocations (tables Allocations)
 broken-none Kept trees none s sound next tables = none s.answers (answers-own s sound) (tables Kept)
 
 pub why-broken : (trees : Trees) (table : TableName) (fault : TableFault) → IsOfReading fault → (IsBadRow fault → IsBroken table trees) → NamesTable table fault → WhyUnread trees (open_fault_of fault)

@@ -73,10 +73,10 @@ module _ (trees : Trees) (t : Tables) (are : AreTables trees t) where
   tables-are sound Substitutes = are.sheets.bills.substitutes_are.its.table_of
   tables-are sound Items = are.sheets.stock.items_are.its.table_of
   tables-are sound History = are.sheets.stock.history_are.its.table_of
-  tables-are sound Orders = are.sheets.not_made.orders
-  tables-are sound OrderLines = are.sheets.not_made.order_lines
-  tables-are sound Builds = are.sheets.not_made.builds
-  tables-are sound Allocations = are.sheets.not_made.allocations
+  tables-are sound Orders = are.sheets.orders.0.orders_are.its.table_of
+  tables-are sound OrderLines = are.sheets.orders.0.lines_are.its.table_of
+  tables-are sound Builds = are.sheets.orders.1.builds
+  tables-are sound Allocations = are.sheets.orders.1.allocations_are.its.table_of
   tables-are sound Kept = are.sheets.answers.table_of
 
   module _ (s : State) (sound : IsSoundState s) (has : TablesAre s trees) where
@@ -107,6 +107,15 @@ module _ (trees : Trees) (t : Tables) (are : AreTables trees t) where
         let history = same-history in
         λ i. record { locations = locations i; items = items i; history = history i }
 
+    same-orders : s.orders ≡ (state_from t).orders
+    same-orders = are.sheets.orders.0.orders_are.its.only s.orders (own_keys _ _ _ sound.orders.orders) (has Orders)
+
+    same-order-lines : s.order_lines ≡ (state_from t).order_lines
+    same-order-lines = are.sheets.orders.0.lines_are.its.only s.order_lines (own_keys _ _ _ sound.orders.lines) (has OrderLines)
+
+    same-allocations : s.allocations ≡ (state_from t).allocations
+    same-allocations = are.sheets.orders.1.allocations_are.its.only s.allocations (own_keys _ _ _ sound.allocations.rows) (has Allocations)
+
     same-counter : s.counter ≡ (state_from t).counter
     same-counter =
         let next = ap (λ (m : MetaRow). m.next) same-meta in
@@ -124,9 +133,21 @@ module _ (trees : Trees) (t : Tables) (are : AreTables trees t) where
         let parts = same-parts in
         let bills = same-bills in
         let stock = same-stock in
+        let allocations = same-allocations in
+        let orders = same-orders in
+        let lines = same-order-lines in
         let counter = same-counter in
         let answers = same-answers in
-        λ i. record { parts = parts i; bills = bills i; stock = stock i; counter = counter i; answers = answers i }
+        λ i. record {
+          parts = parts i;
+          bills = bills i;
+          stock = stock i;
+          allocations = allocations i;
+          orders = orders i;
+          order_lines = lines i;
+          counter = counter i;
+          answers = answers i;
+        }
 
     -- the tables of a sound state are sound
     pub are-sound : IsNext s.counter.limits s.counter.next → AreSoundTables t

@@ -18,14 +18,19 @@ use Rattle.forest.specs.declared.entry.Entry.{Entry}
 use Rattle.forest.specs.declared.item.Item.{Item}
 use Rattle.yard_core.specs.LocationColumns.{location_columns, location_from}
 use Rattle.yard_core.specs.declared.location.Location.{Location}
+use Rattle.alloc_core.specs.AllocationColumns.{allocation_columns, allocation_from}
+use Rattle.alloc_core.specs.declared.allocation.Allocation.{Allocation}
+use Rattle.order_core.specs.OrderColumns as orders
+use Rattle.order_core.specs.declared.line.OrderLine.{OrderLine}
+use Rattle.order_core.specs.declared.order.Order.{Order}
 use Rattle.yard_core.proofs.OwnKeys.{keyed-own}
 use Rattle.desk_core.specs.Machine.{State}
 use Rattle.desk_core.specs.Shops.{kept_state, state_of}
 use Rattle.desk_core.specs.declared.shop.Shop.{Shop}
 use Rattle.desk_store.specs.Saving.{IsSheetIn, MayFollow}
-use Rattle.desk_store.proofs.Suiting.{category-suits, entry-suits, item-suits, line-suits, location-suits, part-suits, substitute-suits}
+use Rattle.desk_store.proofs.Suiting.{allocation-suits, category-suits, entry-suits, item-suits, line-suits, location-suits, order-line-suits, order-suits, part-suits, substitute-suits}
 use Rattle.table_store.specs.declared.name.TableName.{TableName}
-use Rattle.table_store.specs.declared.name.TableName.TheVariants.{Categories, Locations, Parts, Lines, Substitutes, Items, History}
+use Rattle.table_store.specs.declared.name.TableName.TheVariants.{Categories, Locations, Parts, Lines, Substitutes, Items, History, Orders, OrderLines, Allocations}
 
 -- rows that stand right stand under their numbers
 pub own_keys : {X : Type 0} (number : X → ℕ) (next : ℕ) (t : Table X) → StandRight number next t → StandUnderKeys (λ x. number x ∷ []) t
@@ -104,6 +109,36 @@ module _ (shop : Shop) (f : MayFollow (kept_state shop) (state_of shop)) where
     own = (keyed-own (λ (x : Entry). x.number) _ f.after.stock.items.stock.history.own, keyed-own (λ (x : Entry). x.number) _ f.before.stock.items.stock.history.own);
     small = (f.small_after.history, f.small_before.history);
     stays = inr f.stays.stock.history;
+    was = λ tree h. h;
+    is = λ tree h. h;
+  }
+
+  pub order-sheet : IsSheetIn orders.order_from orders.order_columns (λ (x : Order). x.number ∷ []) number_digits (kept_state shop) (state_of shop) Orders shop.orders.orders
+  order-sheet = record {
+    suits = order-suits;
+    own = (own_keys (λ (x : Order). x.number) _ _ f.after.orders.orders, own_keys (λ (x : Order). x.number) _ _ f.before.orders.orders);
+    small = (f.small_after.orders, f.small_before.orders);
+    stays = inr f.stays.orders;
+    was = λ tree h. h;
+    is = λ tree h. h;
+  }
+
+  pub order-line-sheet : IsSheetIn orders.line_from orders.line_columns (λ (x : OrderLine). x.number ∷ []) number_digits (kept_state shop) (state_of shop) OrderLines shop.orders.lines
+  order-line-sheet = record {
+    suits = order-line-suits;
+    own = (own_keys (λ (x : OrderLine). x.number) _ _ f.after.orders.lines, own_keys (λ (x : OrderLine). x.number) _ _ f.before.orders.lines);
+    small = (f.small_after.order_lines, f.small_before.order_lines);
+    stays = inr f.stays.order_lines;
+    was = λ tree h. h;
+    is = λ tree h. h;
+  }
+
+  pub allocation-sheet : IsSheetIn allocation_from allocation_columns (λ (x : Allocation). x.number ∷ []) number_digits (kept_state shop) (state_of shop) Allocations shop.allocations.rows
+  allocation-sheet = record {
+    suits = allocation-suits;
+    own = (own_keys (λ (x : Allocation). x.number) _ _ f.after.allocations.rows, own_keys (λ (x : Allocation). x.number) _ _ f.before.allocations.rows);
+    small = (f.small_after.allocations, f.small_before.allocations);
+    stays = inl tt;
     was = λ tree h. h;
     is = λ tree h. h;
   }

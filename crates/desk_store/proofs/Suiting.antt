@@ -16,6 +16,11 @@ use Rattle.forest.specs.declared.entry.Entry.{Entry}
 use Rattle.forest.specs.declared.item.Item.{Item}
 use Rattle.yard_core.specs.LocationColumns.{location_columns}
 use Rattle.yard_core.specs.declared.location.Location.{Location}
+use Rattle.alloc_core.specs.AllocationColumns.{allocation_columns}
+use Rattle.alloc_core.specs.declared.allocation.Allocation.{Allocation}
+use Rattle.order_core.specs.OrderColumns as orders
+use Rattle.order_core.specs.declared.line.OrderLine.{OrderLine}
+use Rattle.order_core.specs.declared.order.Order.{Order}
 use Rattle.desk_core.specs.KeptColumns.{kept_columns}
 use Rattle.desk_core.specs.declared.kept.Kept.{Kept as KeptRow}
 use Rattle.desk_store.specs.MetaColumns.{meta_columns}
@@ -23,7 +28,7 @@ use Rattle.desk_store.specs.declared.meta.MetaRow.{MetaRow}
 use Rattle.table_store.specs.Stored.{value_of}
 use Rattle.table_store.specs.Values.{Takes}
 use Rattle.table_store.specs.Written.{Suits, SuitKept}
-use Rattle.table_store.specs.declared.name.TableName.TheVariants.{Meta, Categories, Locations, Parts, Lines, Substitutes, Items, History}
+use Rattle.table_store.specs.declared.name.TableName.TheVariants.{Meta, Categories, Locations, Parts, Lines, Substitutes, Items, History, Orders, OrderLines, Allocations}
 
 number-fits : (number : Option ℕ) → Takes Integer false (value_of (number_or_absent number))
 number-fits None = tt
@@ -86,6 +91,27 @@ pub entry-suits : Suits entry_columns (λ (e : Entry). e.number ∷ []) number_d
 entry-suits = record {
   numbered = λ e. (e.number, _, refl, refl);
   fits = λ e. (tt, (tt, (tt, (tt, (tt, (tt, (tt, tt)))))));
+  keys = λ n. refl;
+}
+
+pub order-suits : Suits orders.order_columns (λ (o : Order). o.number ∷ []) number_digits Orders
+order-suits = record {
+  numbered = λ o. (o.number, _, refl, refl);
+  fits = λ o. (tt, (tt, (tt, tt)));
+  keys = λ n. refl;
+}
+
+pub order-line-suits : Suits orders.line_columns (λ (l : OrderLine). l.number ∷ []) number_digits OrderLines
+order-line-suits = record {
+  numbered = λ l. (l.number, _, refl, refl);
+  fits = λ l. (tt, (tt, (tt, (tt, tt))));
+  keys = λ n. refl;
+}
+
+pub allocation-suits : Suits allocation_columns (λ (a : Allocation). a.number ∷ []) number_digits Allocations
+allocation-suits = record {
+  numbered = λ a. (a.number, _, refl, refl);
+  fits = λ a. (tt, (tt, (tt, (tt, (tt, (tt, tt))))));
   keys = λ n. refl;
 }
 

@@ -9,6 +9,8 @@ use Rattle.bom_core.specs.BillColumns.{line_columns, line_from, substitute_colum
 use Rattle.forest.specs.EntryColumns.{entry_columns, entry_from}
 use Rattle.forest.specs.ItemColumns.{item_columns, item_from}
 use Rattle.yard_core.specs.LocationColumns.{location_columns, location_from}
+use Rattle.alloc_core.specs.AllocationColumns.{allocation_columns, allocation_from}
+use Rattle.order_core.specs.OrderColumns as orders
 use Rattle.desk_core.specs.KeptColumns.{kept_columns, kept_from}
 use Rattle.desk_core.specs.Machine.{State}
 use Rattle.desk_store.specs.MetaColumns.{meta_columns, meta_from, meta_of, only}
@@ -19,8 +21,8 @@ use Rattle.table_store.specs.Written.{IsTableOf}
 use Rattle.table_store.specs.declared.name.TableName.{TableName}
 use Rattle.table_store.specs.declared.name.TableName.TheVariants.{Meta, Categories, Locations, Parts, Lines, Substitutes, Items, History, Orders, OrderLines, Builds, Allocations, Kept}
 
--- the tree is this table of the state: the rows of its sheet, read as they are, or the one row of `meta`; no order and no
--- build is made yet
+-- the tree is this table of the state: the rows of its sheet, read as they are, or the one row of `meta`; no build is made
+-- yet
 abbrev pub IsTableIn : State → TableName → List Row → Type 0
 IsTableIn s Meta tree = IsTableOf meta_from meta_columns Meta tree (only (meta_of s))
 IsTableIn s Categories tree = IsTableOf category_from category_columns Categories tree s.parts.categories
@@ -30,10 +32,10 @@ IsTableIn s Lines tree = IsTableOf line_from line_columns Lines tree s.bills.lin
 IsTableIn s Substitutes tree = IsTableOf substitute_from substitute_columns Substitutes tree s.bills.substitutes
 IsTableIn s Items tree = IsTableOf item_from item_columns Items tree s.stock.items
 IsTableIn s History tree = IsTableOf entry_from entry_columns History tree s.stock.history
-IsTableIn s Orders tree = tree ≡ []
-IsTableIn s OrderLines tree = tree ≡ []
+IsTableIn s Orders tree = IsTableOf orders.order_from orders.order_columns Orders tree s.orders
+IsTableIn s OrderLines tree = IsTableOf orders.line_from orders.line_columns OrderLines tree s.order_lines
 IsTableIn s Builds tree = tree ≡ []
-IsTableIn s Allocations tree = tree ≡ []
+IsTableIn s Allocations tree = IsTableOf allocation_from allocation_columns Allocations tree s.allocations
 IsTableIn s Kept tree = IsTableOf kept_from kept_columns Kept tree s.answers
 
 -- the tables hold this state

@@ -14,6 +14,8 @@ use Rattle.bom_core.specs.BillColumns.{line_columns, substitute_columns}
 use Rattle.forest.specs.EntryColumns.{entry_columns}
 use Rattle.forest.specs.ItemColumns.{item_columns}
 use Rattle.yard_core.specs.LocationColumns.{location_columns}
+use Rattle.alloc_core.specs.AllocationColumns.{allocation_columns}
+use Rattle.order_core.specs.OrderColumns as orders
 use Rattle.desk_core.specs.KeptColumns.{kept_columns}
 use Rattle.desk_core.specs.Machine.{State}
 use Rattle.desk_store.specs.MetaColumns.{meta_columns, meta_of}
@@ -61,10 +63,10 @@ rows_text Lines s = sheet_lines line_columns s.bills.lines
 rows_text Substitutes s = sheet_lines substitute_columns s.bills.substitutes
 rows_text Items s = sheet_lines item_columns s.stock.items
 rows_text History s = sheet_lines entry_columns s.stock.history
-rows_text Orders s = []
-rows_text OrderLines s = []
+rows_text Orders s = sheet_lines orders.order_columns s.orders
+rows_text OrderLines s = sheet_lines orders.line_columns s.order_lines
 rows_text Builds s = []
-rows_text Allocations s = []
+rows_text Allocations s = sheet_lines allocation_columns s.allocations
 rows_text Kept s = sheet_lines kept_columns s.answers
 
 abbrev pub table_text : TableName → State → List ℕ

@@ -17,6 +17,11 @@ use Rattle.forest.specs.declared.entry.Entry.{Entry}
 use Rattle.forest.specs.declared.item.Item.{Item}
 use Rattle.yard_core.specs.LocationColumns.{location_columns, location_from}
 use Rattle.yard_core.specs.declared.location.Location.{Location}
+use Rattle.alloc_core.specs.AllocationColumns.{allocation_columns, allocation_from}
+use Rattle.alloc_core.specs.declared.allocation.Allocation.{Allocation}
+use Rattle.order_core.specs.OrderColumns as orders
+use Rattle.order_core.specs.declared.line.OrderLine.{OrderLine}
+use Rattle.order_core.specs.declared.order.Order.{Order}
 use Rattle.desk_core.specs.KeptColumns.{kept_columns, kept_from}
 use Rattle.desk_core.specs.Machine as machine
 use Rattle.desk_core.specs.Shops.{state_of}
@@ -66,15 +71,17 @@ pub record AreStockRows (trees : Trees) (locations : List Location) (items : Lis
   pub items_are : AreTheRows item_from item_columns (λ row. row.number ∷ []) Items (trees (position Items)) items
   pub history_are : AreTheRows entry_from entry_columns (λ row. row.number ∷ []) History (trees (position History)) history
 
+pub record AreOrderRows (trees : Trees) (orders_in : List Order) (lines : List OrderLine) : Type 0 where
+  pub orders_are : AreTheRows orders.order_from orders.order_columns (λ row. row.number ∷ []) Orders (trees (position Orders)) orders_in
+  pub lines_are : AreTheRows orders.line_from orders.line_columns (λ row. row.number ∷ []) OrderLines (trees (position OrderLines)) lines
+
+-- no build is made yet
+pub record AreAllocationRows (trees : Trees) (allocations : List Allocation) : Type 0 where
+  pub builds : trees (position Builds) ≡ []
+  pub allocations_are : AreTheRows allocation_from allocation_columns (λ row. row.number ∷ []) Allocations (trees (position Allocations)) allocations
+
 abbrev pub AreAnswers : Trees → List KeptRow → Type 0
 AreAnswers trees answers = AreItsRows kept_from kept_columns (λ row. row.word) Kept (trees (position Kept)) answers
-
--- no order and no build is made yet
-pub record AreNotMade (trees : Trees) : Type 0 where
-  pub orders : trees (position Orders) ≡ []
-  pub order_lines : trees (position OrderLines) ≡ []
-  pub builds : trees (position Builds) ≡ []
-  pub allocations : trees (position Allocations) ≡ []
 
 -- ---- the row of the counter
 
@@ -107,10 +114,10 @@ meta_in t = record { one = 1; version = 1; next = t.next; entries = t.entries; m
 
 -- these rows are those of the tables beside `meta`
 pub record AreSheets (trees : Trees) (t : Tables) : Type 0 where
-  pub not_made : AreNotMade trees
   pub catalogue : ArePartRows trees t.categories.items t.parts.items
   pub bills : AreBillRows trees t.lines.items t.substitutes.items
   pub stock : AreStockRows trees t.locations.items t.items.items t.history.items
+  pub orders : AreOrderRows trees t.orders.items t.order_lines.items × AreAllocationRows trees t.allocations.items
   pub answers : AreAnswers trees t.answers.items
 
 -- these rows are those of the tables

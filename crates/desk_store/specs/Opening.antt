@@ -9,6 +9,8 @@ use Rattle.bom_core.specs.BillColumns.{line_columns, line_from, substitute_colum
 use Rattle.forest.specs.EntryColumns.{entry_columns, entry_from}
 use Rattle.forest.specs.ItemColumns.{item_columns, item_from}
 use Rattle.yard_core.specs.LocationColumns.{location_columns, location_from}
+use Rattle.alloc_core.specs.AllocationColumns.{allocation_columns, allocation_from}
+use Rattle.order_core.specs.OrderColumns as orders
 use Rattle.desk_core.specs.KeptColumns.{kept_columns, kept_from}
 use Rattle.desk_core.specs.Machine.{IsSoundState, State, start}
 use Rattle.desk_store.specs.Books.{TablesAre}
@@ -26,7 +28,7 @@ use Rattle.table_store.specs.declared.fault.Failed.{Failed}
 use Rattle.table_store.specs.declared.fault.TableFault.{TableFault}
 use Rattle.table_store.specs.declared.fault.TableFault.TheVariants as table_fault
 use Rattle.table_store.specs.declared.name.TableName.{TableName}
-use Rattle.table_store.specs.declared.name.TableName.TheVariants.{Meta, Categories, Locations, Parts, Lines, Substitutes, Items, History, Kept}
+use Rattle.table_store.specs.declared.name.TableName.TheVariants.{Meta, Categories, Locations, Parts, Lines, Substitutes, Items, History, Orders, OrderLines, Builds, Allocations, Kept}
 
 -- the rows of `meta` are such rows, and one has another version
 pub record IsOfOtherVersion (trees : Trees) : Type 0 where
@@ -40,7 +42,7 @@ pub record IsOfOtherVersion (trees : Trees) : Type 0 where
 abbrev pub AreNoBooks : Trees → Type 0
 AreNoBooks trees = (s : State) → IsSoundState s → IsNext s.counter.limits s.counter.next → ¬ TablesAre s trees
 
--- the table is that of no rows of the machine, and `kept` of none that stand under their words
+-- the table is that of no rows of the machine, and `kept` of none that stand under their words; no build is made yet
 abbrev pub IsBroken : TableName → Trees → Type 0
 IsBroken Meta trees = IsTableOfNone meta_from meta_columns Meta (trees (position Meta))
 IsBroken Categories trees = IsTableOfNone category_from category_columns Categories (trees (position Categories))
@@ -50,8 +52,11 @@ IsBroken Lines trees = IsTableOfNone line_from line_columns Lines (trees (positi
 IsBroken Substitutes trees = IsTableOfNone substitute_from substitute_columns Substitutes (trees (position Substitutes))
 IsBroken Items trees = IsTableOfNone item_from item_columns Items (trees (position Items))
 IsBroken History trees = IsTableOfNone entry_from entry_columns History (trees (position History))
+IsBroken Orders trees = IsTableOfNone orders.order_from orders.order_columns Orders (trees (position Orders))
+IsBroken OrderLines trees = IsTableOfNone orders.line_from orders.line_columns OrderLines (trees (position OrderLines))
+IsBroken Builds trees = ⊥
+IsBroken Allocations trees = IsTableOfNone allocation_from allocation_columns Allocations (trees (position Allocations))
 IsBroken Kept trees = IsTableOfNoneOwn kept_from kept_columns (λ row. row.word) Kept (trees (position Kept))
-IsBroken _ trees = ⊥
 
 -- the fault names a table that is broken
 pub record NamesBroken (trees : Trees) (failed : Failed) : Type 0 where

@@ -148,10 +148,10 @@ fn write_table(
         TableName::Substitutes => write_sheet(alloc, writer, shop.boms().substitutes()),
         TableName::Items => write_sheet(alloc, writer, shop.yard().items()),
         TableName::History => write_sheet(alloc, writer, shop.yard().journal()),
-        TableName::Orders => Ok(()),
-        TableName::OrderLines => Ok(()),
+        TableName::Orders => write_sheet(alloc, writer, shop.orders().orders()),
+        TableName::OrderLines => write_sheet(alloc, writer, shop.orders().lines()),
         TableName::Builds => Ok(()),
-        TableName::Allocations => Ok(()),
+        TableName::Allocations => write_sheet(alloc, writer, shop.allocations().rows()),
         TableName::Kept => write_sheet(alloc, writer, shop.answers()),
     }
 }

@@ -11,7 +11,7 @@ ghost use Rattle.sqlite.specs.Tree.{Trees};
 ghost use Rattle.desk_core.specs.Machine.{IsSoundState, State};
 ghost use Rattle.desk_core.specs.Shops.{state_of};
 ghost use Rattle.desk_store.specs.Books.{IsTableIn};
-ghost use Rattle.desk_store.specs.Loading.{AreAnswers, AreBillRows, AreBooksOf, AreNotMade, ArePartRows, AreStockRows};
+ghost use Rattle.desk_store.specs.Loading.{AreAllocationRows, AreAnswers, AreBillRows, AreBooksOf, AreOrderRows, ArePartRows, AreStockRows};
 ghost use Rattle.desk_store.specs.Loading.{AreSheets, AreTables, AreTheRows, IsMetaRow, IsNoMeta, Reads};
 ghost use Rattle.desk_store.specs.Opening.{IsBroken, IsOfOtherVersion, WhyBut, WhyUnread};
 ghost use Rattle.table_store.specs.Schema.{position};
@@ -20,8 +20,10 @@ ghost use Rattle.table_store.specs.Written.{IsTableOfNone, Suits};
 
 use crate::fault::OpenFault;
 use crate::meta::MetaRow;
+use alloc_core::Allocation;
 use bom_core::{Line, Substitute};
 use desk_core::{AssembleFault, Kept, Shop, Tables};
+use order_core::{Order, OrderLine};
 use part_core::{Category, Limits, Part, Stored};
 use sqlite::{Alter, Connection};
 use std::alloc::Global;
@@ -74,18 +76,6 @@ fn check_bare<S: Alter>(conn: &mut Connection<S>, table: TableName) -> Result<()
         Ok(false) => Err(OpenFault::Damaged(None)),
         Err(fault) => Err(OpenFault::from(fault)),
     }
-}
-
-/// That no order and no build is made yet.
-fn check_not_made<S: Alter>(conn: &mut Connection<S>) -> Result<(), OpenFault>
-    requires { HasCleanDisk (state S.Store conn.old) → HasTables (state S.Store conn.old) }
-    ensures { Reads (λ trees _. AreNotMade trees) WhyUnread
-        (state S.Store conn.old) (state S.Store conn.new) result }
-{
-    check_bare(conn, TableName::Orders)?;
-    check_bare(conn, TableName::OrderLines)?;
-    check_bare(conn, TableName::Builds)?;
-    check_bare(conn, TableName::Allocations)
 }
 
 /// The one row of `meta` among these. `Foreign` where a row is of another version.
@@ -178,6 +168,49 @@ fn load_stock<S: Alter>(
     Ok((locations, items, history))
 }
 
+/// The rows of the orders and of their lines.
+fn load_order_rows<S: Alter>(
+    alloc: Global,
+    conn: &mut Connection<S>,
+) -> Result<(Vec<Order>, Vec<OrderLine>), OpenFault>
+    requires { HasCleanDisk (state S.Store conn.old) → HasTables (state S.Store conn.old) }
+    ensures { Reads (λ trees rows. AreOrderRows trees rows.0.items rows.1.items) WhyUnread
+        (state S.Store conn.old) (state S.Store conn.new) result }
+{
+    let orders = load_rows::<S, Order>(alloc, conn, TableName::Orders)?;
+    let lines = load_rows::<S, OrderLine>(alloc, conn, TableName::OrderLines)?;
+    Ok((orders, lines))
+}
+
+/// The rows of the allocations. No build is made yet.
+fn load_allocations<S: Alter>(
+    alloc: Global,
+    conn: &mut Connection<S>,
+) -> Result<Vec<Allocation>, OpenFault>
+    requires { HasCleanDisk (state S.Store conn.old) → HasTables (state S.Store conn.old) }
+    ensures { Reads (λ trees rows. AreAllocationRows trees rows.items) WhyUnread
+        (state S.Store conn.old) (state S.Store conn.new) result }
+{
+    check_bare(conn, TableName::Builds)?;
+    let allocations = load_rows::<S, Allocation>(alloc, conn, TableName::Allocations)?;
+    Ok(allocations)
+}
+
+/// The rows of the orders, of their lines and of the allocations.
+fn load_orders<S: Alter>(
+    alloc: Global,
+    conn: &mut Connection<S>,
+) -> Result<(Vec<Order>, Vec<OrderLine>, Vec<Allocation>), OpenFault>
+    requires { HasCleanDisk (state S.Store conn.old) → HasTables (state S.Store conn.old) }
+    ensures { Reads (λ trees rows. AreOrderRows trees rows.0.items rows.1.items
+        × AreAllocationRows trees rows.2.items) WhyUnread
+        (state S.Store conn.old) (state S.Store conn.new) result }
+{
+    let (orders, lines) = load_order_rows(alloc, conn)?;
+    let allocations = load_allocations(alloc, conn)?;
+    Ok((orders, lines, allocations))
+}
+
 /// The rows of all tables beside the row of the counter.
 fn load_sheets<S: Alter>(
     alloc: Global,
@@ -192,7 +225,7 @@ fn load_sheets<S: Alter>(
     ensures entries { IfOk result (λ tables. tables.entries ≡ row.entries) }
     ensures limits { IfOk result (λ tables. tables.limits ≡ limits) }
 {
-    check_not_made(conn)?;
+    let (orders, order_lines, allocations) = load_orders(alloc, conn)?;
     let (categories, parts) = load_catalogue(alloc, conn)?;
     let (lines, substitutes) = load_bills(alloc, conn)?;
     let (locations, items, history) = load_stock(alloc, conn)?;
@@ -205,6 +238,9 @@ fn load_sheets<S: Alter>(
         locations,
         items,
         history,
+        allocations,
+        orders,
+        order_lines,
         answers,
         next: row.next,
         entries: row.entries,

@@ -80,7 +80,7 @@ fn write_answers<S: Alter>(
     write_kept::<S, Kept>(alloc, conn, shop.answers())
 }
 
-/// One table is written, where those before it are. No order and no build is made yet: their tables have no rows.
+/// One table is written, where those before it are. No build is made yet: its table has no rows.
 fn write_table<S: Alter>(
     alloc: Global,
     conn: &mut Connection<S>,
@@ -105,10 +105,10 @@ fn write_table<S: Alter>(
         TableName::Substitutes => write_sheet(alloc, conn, shop, table, shop.boms().substitutes()),
         TableName::Items => write_sheet(alloc, conn, shop, table, shop.yard().items()),
         TableName::History => write_sheet(alloc, conn, shop, table, shop.yard().journal()),
-        TableName::Orders => Ok(()),
-        TableName::OrderLines => Ok(()),
+        TableName::Orders => write_sheet(alloc, conn, shop, table, shop.orders().orders()),
+        TableName::OrderLines => write_sheet(alloc, conn, shop, table, shop.orders().lines()),
         TableName::Builds => Ok(()),
-        TableName::Allocations => Ok(()),
+        TableName::Allocations => write_sheet(alloc, conn, shop, table, shop.allocations().rows()),
         TableName::Kept => write_answers(alloc, conn, shop),
     }
 }

@@ -6,6 +6,8 @@ use Rattle.bom_core.specs.BillColumns.{line_columns, substitute_columns}
 use Rattle.forest.specs.EntryColumns.{entry_columns}
 use Rattle.forest.specs.ItemColumns.{item_columns}
 use Rattle.yard_core.specs.LocationColumns.{location_columns}
+use Rattle.alloc_core.specs.AllocationColumns.{allocation_columns}
+use Rattle.order_core.specs.OrderColumns as orders
 use Rattle.desk_core.specs.KeptColumns.{kept_columns}
 use Rattle.desk_core.specs.Shops.{state_of}
 use Rattle.desk_store.specs.Exports.{row_line, rows_text, sheet_lines}
@@ -36,6 +38,15 @@ returns-in-Items c = same_lines c.write_sheet-in-Items.result c.args.writer.now 
 
 pub returns-in-History : goal.returns-in-History
 returns-in-History c = same_lines c.write_sheet-in-History.result c.args.writer.now c.write_sheet-in-History.new.writer (sheet_lines entry_columns (now_of c.journal.result.now)) (rows_text c.args.table (state_of c.args.shop.now)) (rw c.in-History.is cc) c.write_sheet-in-History.ensures
+
+pub returns-in-Orders : goal.returns-in-Orders
+returns-in-Orders c = same_lines c.write_sheet-in-Orders.result c.args.writer.now c.write_sheet-in-Orders.new.writer (sheet_lines orders.order_columns (now_of c.orders-in-Orders.result.now)) (rows_text c.args.table (state_of c.args.shop.now)) (rw c.in-Orders.is cc) c.write_sheet-in-Orders.ensures
+
+pub returns-in-OrderLines : goal.returns-in-OrderLines
+returns-in-OrderLines c = same_lines c.write_sheet-in-OrderLines.result c.args.writer.now c.write_sheet-in-OrderLines.new.writer (sheet_lines orders.line_columns (now_of c.lines-in-OrderLines.result.now)) (rows_text c.args.table (state_of c.args.shop.now)) (rw c.in-OrderLines.is cc) c.write_sheet-in-OrderLines.ensures
+
+pub returns-in-Allocations : goal.returns-in-Allocations
+returns-in-Allocations c = same_lines c.write_sheet-in-Allocations.result c.args.writer.now c.write_sheet-in-Allocations.new.writer (sheet_lines allocation_columns (now_of c.rows.result.now)) (rows_text c.args.table (state_of c.args.shop.now)) (rw c.in-Allocations.is cc) c.write_sheet-in-Allocations.ensures
 
 pub returns-in-Kept : goal.returns-in-Kept
 returns-in-Kept c = same_lines c.write_sheet-in-Kept.result c.args.writer.now c.write_sheet-in-Kept.new.writer (sheet_lines kept_columns (now_of c.answers.result.now)) (rows_text c.args.table (state_of c.args.shop.now)) (rw c.in-Kept.is cc) c.write_sheet-in-Kept.ensures

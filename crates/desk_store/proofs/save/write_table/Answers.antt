@@ -3,7 +3,7 @@ use Rattle.sqlite.specs.Held.{state}
 use Rattle.desk_core.specs.Shops.{kept_state, state_of}
 use Rattle.desk_store.specs.Saving.{Goes, IsUnderWay}
 use Rattle.desk_store.proofs.Midway.{none_written}
-use Rattle.desk_store.proofs.Sheets.{at_table, category-sheet, entry-sheet, item-sheet, line-sheet, location-sheet, part-sheet, substitute-sheet}
+use Rattle.desk_store.proofs.Sheets.{allocation-sheet, at_table, category-sheet, entry-sheet, item-sheet, line-sheet, location-sheet, order-line-sheet, order-sheet, part-sheet, substitute-sheet}
 use Rattle.table_store.specs.Schema.{position}
 use Rattle.table_store.specs.declared.name.TableName.{TableName}
 use Rattle.table_store.specs.declared.name.TableName.TheVariants.{Categories, Locations, Parts, Lines, Substitutes, Items, History, Orders, OrderLines, Builds, Allocations}
@@ -30,6 +30,15 @@ write_sheet-requires-in-Items-clause-sheet g c = at_table c.args.table Items c.i
 pub write_sheet-requires-in-History-clause-sheet : goal.write_sheet-requires-in-History-clause-sheet
 write_sheet-requires-in-History-clause-sheet g c = at_table c.args.table History c.journal.result.now c.args.shop.now.yard.history c.in-History.is (c.journal.ensures ∙ ap (λ k. k.history) c.yard-in-History.ensures) (entry-sheet c.args.shop.now c.requires.follows)
 
+pub write_sheet-requires-in-Orders-clause-sheet : goal.write_sheet-requires-in-Orders-clause-sheet
+write_sheet-requires-in-Orders-clause-sheet g c = at_table c.args.table Orders c.orders-in-Orders.result.now c.args.shop.now.orders.orders c.in-Orders.is (c.orders-in-Orders.ensures ∙ ap (λ k. k.orders) c.orders.ensures) (order-sheet c.args.shop.now c.requires.follows)
+
+pub write_sheet-requires-in-OrderLines-clause-sheet : goal.write_sheet-requires-in-OrderLines-clause-sheet
+write_sheet-requires-in-OrderLines-clause-sheet g c = at_table c.args.table OrderLines c.lines-in-OrderLines.result.now c.args.shop.now.orders.lines c.in-OrderLines.is (c.lines-in-OrderLines.ensures.value ∙ ap (λ k. k.lines) c.orders-in-OrderLines.ensures) (order-line-sheet c.args.shop.now c.requires.follows)
+
+pub write_sheet-requires-in-Allocations-clause-sheet : goal.write_sheet-requires-in-Allocations-clause-sheet
+write_sheet-requires-in-Allocations-clause-sheet g c = at_table c.args.table Allocations c.rows.result.now c.args.shop.now.allocations.rows c.in-Allocations.is (c.rows.ensures.value ∙ ap (λ k. k.rows) c.allocations.ensures) (allocation-sheet c.args.shop.now c.requires.follows)
+
 pub write_counter-requires-clause-under_way : goal.write_counter-requires-clause-under_way
 write_counter-requires-clause-under_way g c clean =
     subst (λ (t : TableName). IsUnderWay (kept_state c.args.shop.now) (state_of c.args.shop.now) (position t) (state g.S.Store c.args.conn.now)) c.in-Meta.is (c.requires.under_way clean)
@@ -46,14 +55,5 @@ pub returns-in-Kept : goal.returns-in-Kept
 returns-in-Kept g c =
     subst (λ (t : TableName). Goes (kept_state c.args.shop.now) (state_of c.args.shop.now) (position t + 1) (state g.S.Store c.args.conn.now) (state g.S.Store c.write_answers.new.conn) c.write_answers.result) (sym c.in-Kept.is) c.write_answers.ensures
 
-pub returns-in-Orders : goal.returns-in-Orders
-returns-in-Orders g c = none_written (kept_state c.args.shop.now) (state_of c.args.shop.now) c.args.table Orders (state g.S.Store c.args.conn.now) c.in-Orders.is (λ tree none. none) c.requires.under_way
-
-pub returns-in-OrderLines : goal.returns-in-OrderLines
-returns-in-OrderLines g c = none_written (kept_state c.args.shop.now) (state_of c.args.shop.now) c.args.table OrderLines (state g.S.Store c.args.conn.now) c.in-OrderLines.is (λ tree none. none) c.requires.under_way
-
 pub returns-in-Builds : goal.returns-in-Builds
 returns-in-Builds g c = none_written (kept_state c.args.shop.now) (state_of c.args.shop.now) c.args.table Builds (state g.S.Store c.args.conn.now) c.in-Builds.is (λ tree none. none) c.requires.under_way
-
-pub returns-in-Allocations : goal.returns-in-Allocations
-returns-in-Allocations g c = none_written (kept_state c.args.shop.now) (state_of c.args.shop.now) c.args.table Allocations (state g.S.Store c.args.conn.now) c.in-Allocations.is (λ tree none. none) c.requires.under_way

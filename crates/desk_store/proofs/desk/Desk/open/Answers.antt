@@ -1,6 +1,8 @@
-use Rattle.std.proofs.Common.{◌∙◌, arith}
+use Rattle.std.proofs.Common.{◌∙◌, arith, subst, sym}
 use Rattle.sqlite.specs.Held.{state}
 use Rattle.sqlite.specs.State.{HasCleanDisk}
+use Rattle.desk_core.specs.Shops.{state_of}
+use Rattle.desk_store.specs.Books.{TablesAre}
 use Rattle.desk_store.proofs.Opens.{opened-books, why_not}
 use Rattle.desk_store.proofs.Readings.{was-clean}
 use Rattle.desk_store.proofs.desk.Desk.open.Goals as goal
@@ -23,3 +25,15 @@ returns-in-Err-load-clause-why g c clean =
     let read = c.in-Err-load.ensures.read in
     let clean0 : HasCleanDisk opened = was-clean opened loaded _ read.crash clean1 in
     why_not opened.now.trees (state g.S.Store c.args.conn).committed.trees c.in-Err-load.fault (c.in-Ok.ensures.same clean0) (c.in-Ok.ensures.own clean0) (read.why clean1)
+
+pub returns-in-Ok-load-clause-found : goal.returns-in-Ok-load-clause-found
+returns-in-Ok-load-clause-found g c clean =
+    let read = c.in-Ok-load.ensures.read in
+    let past = was-clean (state g.S.Store c.in-Ok.opened) (state g.S.Store c.load.new.conn) _ read.crash clean in
+    subst (TablesAre (state_of c.in-Ok-load.shop)) (c.in-Ok.ensures.same past) (read.gives clean).tables
+
+pub returns-in-Ok-load-clause-one : goal.returns-in-Ok-load-clause-one
+returns-in-Ok-load-clause-one g c clean s sound tables =
+    let read = c.in-Ok-load.ensures.read in
+    let past = was-clean (state g.S.Store c.in-Ok.opened) (state g.S.Store c.load.new.conn) _ read.crash clean in
+    (read.gives clean).one s sound (subst (TablesAre s) (sym (c.in-Ok.ensures.same past)) tables)
