@@ -18,6 +18,20 @@ const LINES: &str = r#"{"day":"2030-01-02","do":"add_location","name":"A"}
 {"day":"2030-01-02","do":"found","location":1,"part":5,"quantity":1,"serials":"R1"}
 {"day":"2030-01-02","do":"found","location":1,"part":4,"quantity":2,"serials":"S1,S2"}
 {"day":"2030-01-02","do":"install","item":11,"parent":10,"quantity":1}
+{"day":"2030-01-02","do":"add_part","flags":["purchaseable","salable"],"name":"Lamp"}
+{"day":"2030-01-02","do":"order","partner":"Acme","side":"purchase"}
+{"day":"2030-01-02","do":"order_line","order":14,"part":13,"quantity":20}
+{"day":"2030-01-02","do":"issue_order","order":14}
+{"day":"2030-01-02","do":"receive","line":15,"location":1,"quantity":12}
+{"day":"2030-01-02","do":"order","partner":"Best","side":"sale"}
+{"day":"2030-01-02","do":"order_line","order":17,"part":13,"quantity":20}
+{"day":"2030-01-02","do":"issue_order","order":17}
+{"day":"2030-01-02","do":"allocate_sale","item":16,"line":18,"quantity":1}
+{"day":"2030-01-02","do":"ship","order":17}
+{"day":"2030-01-02","do":"allocate_sale","item":16,"line":18,"quantity":4}
+{"day":"2030-01-02","do":"order","partner":"Best","side":"sale"}
+{"day":"2030-01-02","do":"order_line","order":22,"part":13,"quantity":20}
+{"day":"2030-01-02","do":"issue_order","order":22}
 "#;
 
 const ANSWERS: &str = r#"{"entries":0,"ids":[1]}
@@ -32,6 +46,20 @@ const ANSWERS: &str = r#"{"entries":0,"ids":[1]}
 {"entries":1,"ids":[10]}
 {"entries":2,"ids":[11,12]}
 {"entries":1,"ids":[]}
+{"entries":0,"ids":[13]}
+{"entries":0,"ids":[14]}
+{"entries":0,"ids":[15]}
+{"entries":0,"ids":[]}
+{"entries":1,"ids":[16]}
+{"entries":0,"ids":[17]}
+{"entries":0,"ids":[18]}
+{"entries":0,"ids":[]}
+{"entries":0,"ids":[19]}
+{"entries":2,"ids":[20]}
+{"entries":0,"ids":[21]}
+{"entries":0,"ids":[22]}
+{"entries":0,"ids":[23]}
+{"entries":0,"ids":[]}
 "#;
 
 /// Each breaks another clause of what a sound state is, or is no row.
@@ -58,11 +86,61 @@ const DAMAGES: [&str; 27] = [
     "UPDATE history SET day = '2030-02-30' WHERE n = 1",
     "UPDATE kept SET answer = 'x'",
     "UPDATE kept SET word = ' '",
-    "UPDATE meta SET next = 5",
+    "UPDATE meta SET next = 23",
     "UPDATE meta SET entries = 1",
     "DELETE FROM meta",
-    "INSERT INTO meta VALUES (2, 1, 13, 5, 9, 9)",
+    "INSERT INTO meta VALUES (2, 1, 24, 8, 9, 9)",
+    "INSERT INTO builds VALUES (1, 5, 1, 0, 0)",
+];
+
+/// Each breaks another clause on orders, on their lines, on allocations, or on what is sent.
+const DAMAGED_ORDERS: [&str; 33] = [
+    "INSERT INTO orders VALUES (0, 0, 'x', 0)",
+    "INSERT INTO orders VALUES (99, 0, 'x', 0)",
+    "UPDATE orders SET partner = '' WHERE id = 14",
+    "UPDATE orders SET side = 2 WHERE id = 14",
+    "UPDATE orders SET state = 4 WHERE id = 14",
+    "INSERT INTO order_lines VALUES (0, 14, 13, 1, 0)",
+    "INSERT INTO order_lines VALUES (99, 14, 13, 1, 0)",
+    "UPDATE order_lines SET owner = 99 WHERE id = 15",
+    "UPDATE order_lines SET part = 99 WHERE id = 15",
+    "INSERT INTO order_lines VALUES (1, 14, 13, 0, 0)",
+    "UPDATE order_lines SET quantity = 1000000001 WHERE id = 15",
+    "UPDATE order_lines SET done = 21 WHERE id = 15",
+    "UPDATE order_lines SET done = -1 WHERE id = 15",
+    "UPDATE order_lines SET done = 17 WHERE id = 18",
+    "INSERT INTO allocations VALUES (0, 16, 1, 0, 17, 18, 0)",
+    "INSERT INTO allocations VALUES (99, 16, 1, 0, 17, 18, 0)",
+    "UPDATE allocations SET quantity = 0",
+    "UPDATE allocations SET quantity = 12",
+    "UPDATE allocations SET quantity = -4",
+    "UPDATE allocations SET item = 99",
+    "UPDATE allocations SET item = 20, quantity = 1",
+    "UPDATE allocations SET item = 9",
+    "UPDATE allocations SET owner = 99",
+    "UPDATE allocations SET line = 99",
+    "UPDATE allocations SET line = 23",
+    "UPDATE allocations SET output = 16",
+    "UPDATE allocations SET side = 1",
+    "UPDATE allocations SET side = 2",
+    "UPDATE orders SET side = 0 WHERE id = 17",
+    "UPDATE orders SET state = 0 WHERE id = 17",
+    "UPDATE orders SET state = 3 WHERE id = 17",
+    "UPDATE items SET ref = 99 WHERE id = 20",
+    "UPDATE history SET ref = 99 WHERE place = 3",
+];
+
+/// Each leaves tables that some sound state has, if no run.
+const HARMLESS: [&str; 9] = [
+    "UPDATE parts SET name = 'Washer' WHERE id = 3",
     "INSERT INTO orders VALUES (1, 0, 'x', 0)",
+    "UPDATE orders SET state = 2 WHERE id = 14",
+    "UPDATE orders SET side = 1 WHERE id = 14",
+    "UPDATE order_lines SET done = 20 WHERE id = 15",
+    "UPDATE order_lines SET done = 16 WHERE id = 18",
+    "UPDATE allocations SET quantity = 11",
+    "UPDATE items SET ref = 14 WHERE id = 20",
+    "DELETE FROM allocations",
 ];
 
 /// Each leaves tables that are no desk's of today.
@@ -101,6 +179,16 @@ fn damaged_tables_are_refused(rt: HostRuntime) -> Result<(), Fail> {
 }
 
 #[test]
+fn damaged_orders_are_refused(rt: HostRuntime) -> Result<(), Fail> {
+    let alloc = rt.alloc();
+    for change in DAMAGED_ORDERS {
+        let fault = refused(alloc, change)?;
+        assert!(rt; matches!(fault, Some(OpenFault::Damaged(_))), "{change}");
+    }
+    Ok(())
+}
+
+#[test]
 fn tables_of_others_are_foreign(rt: HostRuntime) -> Result<(), Fail> {
     let alloc = rt.alloc();
     for change in FOREIGN {
@@ -111,9 +199,13 @@ fn tables_of_others_are_foreign(rt: HostRuntime) -> Result<(), Fail> {
 }
 
 #[test]
-fn a_change_that_harms_nothing(rt: HostRuntime) -> Result<(), Fail> {
-    let fault = refused(rt.alloc(), "UPDATE parts SET name = 'Washer' WHERE id = 3")?;
-    holds(fault.is_none(), "another name is refused")
+fn changes_that_harm_nothing(rt: HostRuntime) -> Result<(), Fail> {
+    let alloc = rt.alloc();
+    for change in HARMLESS {
+        let fault = refused(alloc, change)?;
+        assert!(rt; fault.is_none(), "{change}");
+    }
+    Ok(())
 }
 
 /// A desk is made in a database that has nothing, and in no other.

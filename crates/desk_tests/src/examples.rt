@@ -1,5 +1,6 @@
 //! Worked examples: lines, and what answers them. Each starts on a shop with nothing in it.
 
+mod allocated_stock;
 mod bad_numbers;
 pub mod bill_cycles;
 mod categories;
@@ -9,15 +10,24 @@ mod family_serials;
 mod installs;
 mod keys;
 mod long_tour;
+mod many_allocations;
 mod merging;
 mod nesting;
 pub mod nesting_deep;
 mod nesting_self;
+mod order_limits;
+mod orders;
 mod refused_nesting;
+mod refused_receipts;
 pub mod refused_rows;
+mod refused_sales;
 mod refused_stock;
+mod repeated_keys;
 mod reports;
+mod sales;
 mod serial_lists;
+mod shipped_robot;
+mod shipped_serial;
 mod substitutes;
 mod used_up;
 mod workshop;

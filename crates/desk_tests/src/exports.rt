@@ -9,21 +9,31 @@ use std::test::Fail;
 use table_store::TableName;
 
 const LINES: &str = r#"{"day":"2030-01-02","do":"add_location","name":"Shelf \"A\", left"}
-{"day":"2030-01-02","do":"add_part","flags":["component","purchaseable"],"name":"Screw"}
+{"day":"2030-01-02","do":"add_part","flags":["component","purchaseable","salable"],"name":"Screw"}
 {"day":"2030-01-02","do":"found","key":"k","location":1,"part":2,"quantity":100}
 {"day":"2030-01-03","do":"remove","item":3,"quantity":30}
+{"day":"2030-01-03","do":"order","partner":"Acme, \"A\"","side":"sale"}
+{"day":"2030-01-03","do":"order_line","order":4,"part":2,"quantity":7}
+{"day":"2030-01-03","do":"issue_order","order":4}
+{"day":"2030-01-03","do":"allocate_sale","item":3,"line":5,"quantity":2}
+{"day":"2030-01-03","do":"order","partner":"Best","side":"purchase"}
 "#;
 
 const ANSWERS: &str = r#"{"entries":0,"ids":[1]}
 {"entries":0,"ids":[2]}
 {"entries":1,"ids":[3]}
 {"entries":1,"ids":[]}
+{"entries":0,"ids":[4]}
+{"entries":0,"ids":[5]}
+{"entries":0,"ids":[]}
+{"entries":0,"ids":[6]}
+{"entries":0,"ids":[7]}
 "#;
 
-const EXPORTS: [(TableName, &str); 6] = [
+const EXPORTS: [(TableName, &str); 9] = [
     (
         TableName::Meta,
-        "one,version,next,entries,max_numbers,max_entries\n1,1,4,2,10000000000,10000000000\n",
+        "one,version,next,entries,max_numbers,max_entries\n1,1,8,2,10000000000,10000000000\n",
     ),
     (
         TableName::Locations,
@@ -31,7 +41,7 @@ const EXPORTS: [(TableName, &str); 6] = [
     ),
     (
         TableName::Parts,
-        "id,name,category,template,flags,retired\n2,Screw,,,20,0\n",
+        "id,name,category,template,flags,retired\n2,Screw,,,52,0\n",
     ),
     (
         TableName::Items,
@@ -40,6 +50,18 @@ const EXPORTS: [(TableName, &str); 6] = [
     (
         TableName::History,
         "n,day,kind,item,part,quantity,place,ref\n1,2030-01-02,1,3,2,100,0,1\n2,2030-01-03,6,3,2,30,5,0\n",
+    ),
+    (
+        TableName::Orders,
+        "id,side,partner,state\n4,1,\"Acme, \"\"A\"\"\",1\n7,0,Best,0\n",
+    ),
+    (
+        TableName::OrderLines,
+        "id,owner,part,quantity,done\n5,4,2,7,0\n",
+    ),
+    (
+        TableName::Allocations,
+        "id,item,quantity,side,owner,line,output\n6,3,2,0,4,5,0\n",
     ),
     (TableName::Builds, "id,part,quantity,state,done\n"),
 ];
