@@ -70,6 +70,61 @@ def keyed_found(count):
         yield f'{{{DAY},{FOUND}:1,"key":"k{i}"}}'
 
 
+def order(side, flag):
+    """An order under number 3, with a line under number 4 for as many of the part as an order may ask for, issued."""
+    yield LOCATION
+    yield f'{{{DAY},"do":"add_part","flags":["component","{flag}"],"name":"Screw"}}'
+    yield f'{{{DAY},"do":"order","partner":"Acme","side":"{side}"}}'
+    yield f'{{{DAY},"do":"order_line","order":3,"part":2,"quantity":1000000000}}'
+    yield f'{{{DAY},"do":"issue_order","order":3}}'
+
+
+def receipts(count):
+    """Receipts on one line of a purchase."""
+    yield from order("purchase", "purchaseable")
+    for _ in range(count - 5):
+        yield f'{{{DAY},"do":"receive","line":4,"location":1,"quantity":1}}'
+
+
+def allocated_pieces(count):
+    """Single pieces of one item, each allocated to one line of a sale."""
+    yield from order("sale", "salable")
+    yield f'{{{DAY},{FOUND}:1000000}}'
+    for _ in range(count - 6):
+        yield f'{{{DAY},"do":"allocate_sale","item":5,"line":4,"quantity":1}}'
+
+
+def allocated_items(count):
+    """Items under the numbers from 5, and then an allocation of a piece of each to one line of a sale."""
+    yield from order("sale", "salable")
+    for _ in range(count // 2):
+        yield f'{{{DAY},{FOUND}:10}}'
+    for i in range(count // 2):
+        yield f'{{{DAY},"do":"allocate_sale","item":{i + 5},"line":4,"quantity":1}}'
+
+
+def shipped_lines(count):
+    """A sale of half as many lines, a piece of one item allocated to each, which is shipped at once."""
+    yield from order("sale", "salable")
+    yield f'{{{DAY},{FOUND}:1000000}}'
+    for _ in range(count // 2):
+        yield f'{{{DAY},"do":"order_line","order":3,"part":2,"quantity":1}}'
+    for i in range(count // 2):
+        yield f'{{{DAY},"do":"allocate_sale","item":5,"line":{i + 6},"quantity":1}}'
+    yield f'{{{DAY},"do":"ship","order":3}}'
+
+
+def allocations(items):
+    """So many items with an allocation each."""
+    yield from allocated_items(2 * items)
+
+
+def refused_removals(items):
+    """Removals of more than is free of the item, each refused."""
+    for i in range(10_000):
+        yield f'{{{DAY},"do":"remove","item":{i % 1_000 + 5},"quantity":10}}'
+
+
 def robot_with_motors(items):
     """A robot, under number 5, and so many motors, a thousand under the numbers from 6 at a time."""
     yield LOCATION
@@ -132,8 +187,14 @@ def reading_alone(count):
         yield f'{{{DAY},"do":"transfer","item":{i + 1},"location":1,"quantity":1}}'
 
 
-LINES = (found_and_remove, transfer, found_with_serial, add_part, add_line, keyed_found, reading_alone)
-AMONG = ((loose_items, transfers), (robot_with_motors, installs), (robot_of_motors, write_offs), (bill, where_used))
+LINES = (
+    found_and_remove, transfer, found_with_serial, add_part, add_line, keyed_found, receipts, allocated_pieces,
+    allocated_items, shipped_lines, reading_alone,
+)
+AMONG = (
+    (loose_items, transfers), (allocations, refused_removals), (robot_with_motors, installs),
+    (robot_of_motors, write_offs), (bill, where_used),
+)
 
 
 def run(name, lines, *words):

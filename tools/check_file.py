@@ -50,6 +50,20 @@ LINES = """\
 {"day":"2030-01-02","do":"found","location":1,"part":5,"quantity":1,"serials":"R1"}
 {"day":"2030-01-02","do":"found","location":1,"part":4,"quantity":2,"serials":"S1,S2"}
 {"day":"2030-01-02","do":"install","item":12,"parent":11,"quantity":1}
+{"day":"2030-01-02","do":"add_part","flags":["purchaseable","salable"],"name":"Lamp"}
+{"day":"2030-01-02","do":"order","partner":"Acme, \\"A\\"","side":"purchase"}
+{"day":"2030-01-02","do":"order_line","order":15,"part":14,"quantity":20}
+{"day":"2030-01-02","do":"issue_order","order":15}
+{"day":"2030-01-02","do":"receive","line":16,"location":1,"quantity":12}
+{"day":"2030-01-02","do":"order","partner":"Best","side":"sale"}
+{"day":"2030-01-02","do":"order_line","order":18,"part":14,"quantity":20}
+{"day":"2030-01-02","do":"issue_order","order":18}
+{"day":"2030-01-02","do":"allocate_sale","item":17,"line":19,"quantity":1}
+{"day":"2030-01-02","do":"ship","order":18}
+{"day":"2030-01-02","do":"allocate_sale","item":17,"line":19,"quantity":4}
+{"day":"2030-01-02","do":"order","partner":"Best","side":"sale"}
+{"day":"2030-01-02","do":"order_line","order":23,"part":14,"quantity":20}
+{"day":"2030-01-02","do":"issue_order","order":23}
 """
 AGAIN = '{"day":"2030-01-03","do":"found","key":"k","location":1,"part":3,"quantity":100}\n'
 # A change of the rows, and the clause that it breaks.
@@ -82,7 +96,34 @@ DAMAGES = [
     ("UPDATE meta SET max_numbers = 0", "a limit that is none"),
     ("DELETE FROM meta", "no row of the counter"),
     ("INSERT INTO meta VALUES (2, 1, 14, 5, 9, 9)", "two rows of the counter"),
-    ("INSERT INTO orders VALUES (1, 0, 'x', 0)", "an order"),
+    ("INSERT INTO builds VALUES (1, 5, 1, 0, 0)", "a build"),
+    ("INSERT INTO orders VALUES (99, 0, 'x', 0)", "an order that is to come"),
+    ("UPDATE orders SET partner = '' WHERE id = 15", "a partner that is none"),
+    ("UPDATE orders SET side = 2 WHERE id = 15", "a side that is none"),
+    ("UPDATE orders SET state = 4 WHERE id = 15", "a state that is none"),
+    ("INSERT INTO order_lines VALUES (99, 15, 14, 1, 0)", "a line of an order that is to come"),
+    ("UPDATE order_lines SET owner = 99 WHERE id = 16", "a line of no order"),
+    ("UPDATE order_lines SET part = 99 WHERE id = 16", "a line of no part"),
+    ("INSERT INTO order_lines VALUES (1, 15, 14, 0, 0)", "a line of an order for nothing"),
+    ("UPDATE order_lines SET quantity = 1000000001 WHERE id = 16", "a line for too many"),
+    ("UPDATE order_lines SET done = 21 WHERE id = 16", "more done than ordered"),
+    ("UPDATE order_lines SET done = 17 WHERE id = 19", "more done and allocated than ordered"),
+    ("INSERT INTO allocations VALUES (99, 17, 1, 0, 18, 19, 0)", "an allocation that is to come"),
+    ("UPDATE allocations SET quantity = 0", "an allocation of nothing"),
+    ("UPDATE allocations SET quantity = 12", "more allocated than the item has"),
+    ("UPDATE allocations SET item = 99", "an allocation of no item"),
+    ("UPDATE allocations SET item = 21, quantity = 1", "an allocation of what was sent"),
+    ("UPDATE allocations SET item = 10", "an allocation of another part than the line's"),
+    ("UPDATE allocations SET owner = 99", "an allocation for no order"),
+    ("UPDATE allocations SET line = 99", "an allocation for no line"),
+    ("UPDATE allocations SET line = 24", "an allocation for another order's line"),
+    ("UPDATE allocations SET output = 17", "an allocation for an order with an output"),
+    ("UPDATE allocations SET side = 1", "an allocation for no build"),
+    ("UPDATE orders SET side = 0 WHERE id = 18", "an allocation for a purchase"),
+    ("UPDATE orders SET state = 0 WHERE id = 18", "an allocation for an order that isn't issued"),
+    ("UPDATE orders SET state = 3 WHERE id = 18", "an allocation for a cancelled order"),
+    ("UPDATE items SET ref = 99 WHERE id = 21", "an item that was sent for no order"),
+    ("UPDATE history SET ref = 99 WHERE place = 3", "an entry that tells of no order"),
     ("UPDATE meta SET version = 2", "another version"),
     ("DROP TABLE builds", "a table that is missing"),
     ("CREATE TABLE more (id INTEGER PRIMARY KEY) STRICT", "a table more"),
@@ -127,7 +168,7 @@ def look(path):
 def kept(program, path):
     """The file after each word: what was answered is in the file alone, and what only reads leaves it byte for byte."""
     tables = look(path)
-    expect(len(tables["items"]) == 4, f"the file alone has the items {tables['items']}")
+    expect(len(tables["items"]) == 6, f"the file alone has the items {tables['items']}")
     before = pathlib.Path(path).read_bytes()
     for words in (("report", "ledger", "3"), ("report", "ledger", "99"), ("export", "items"), ("run",)):
         run(program, words[0], "--db", path, *words[1:])

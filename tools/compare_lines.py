@@ -14,6 +14,7 @@ import subprocess
 import sys
 
 STATUSES = "OK Attention Damaged Destroyed Rejected Lost Quarantined Returned".split()
+SIDES = "purchase sale".split()
 FLAGS = "template assembly component trackable purchaseable salable virtual".split()
 REPORTS = "ledger stock where_used history content".split()
 COMMANDS = {
@@ -40,8 +41,19 @@ COMMANDS = {
     "uninstall": {"item": "number", "location": "number"},
     "disassemble": {"item": "number", "location": "number"},
     "reinstate": {"item": "number", "location": "number"},
+    "order": {"side": "side", "partner": "text"},
+    "order_line": {"order": "number", "part": "number", "quantity": "quantity"},
+    "issue_order": {"order": "number"},
+    "receive": {"line": "number", "location": "number", "quantity": "quantity", "batch": "maybe_text",
+                "serials": "maybe_serials"},
+    "allocate_sale": {"line": "number", "item": "number", "quantity": "quantity"},
+    "ship": {"order": "number"},
+    "return_item": {"item": "number", "location": "number"},
+    "close_order": {"order": "number"},
+    "cancel_order": {"order": "number"},
+    "release": {"allocation": "number"},
 }
-LATER = "order receive build complete_output auto_allocate release".split()
+LATER = "build outputs complete_output auto_allocate complete_build".split()
 STRANGE = [None, True, False, 0, 1, -1, 1.5, "", "x", "7", [], [1], ["x"], [None], {}, {"a": 1}, 2**64, 10**30, -0.0]
 # Numbers as they may be spelled: a number with a sign, a fraction or an exponent is none.
 SPELLED = ["1e3", "1.0", "-0", "1E0", "18446744073709551615", "18446744073709551616", "0.5", "-1"]
@@ -84,6 +96,8 @@ def value(r, kind):
         return chosen
     if kind == "status":
         return r.choice(STATUSES + ["ok", "", "Lost "])
+    if kind == "side":
+        return r.choice(SIDES + SIDES + ["Sale", "", "purchases"])
     if kind == "serials":
         return serials(r)
     if kind == "maybe_serials":
@@ -171,7 +185,15 @@ def lines(count, seed):
              b'{"day":"2030-01-02","do":"add_part","name":"Robot","flags":["assembly","component","trackable"]}',
              b'{"day":"2030-01-02","do":"add_line","assembly":3,"component":2,"quantity":2}',
              b'{"day":"2030-01-02","do":"found","part":2,"location":1,"quantity":1000}',
-             b'{"day":"2030-01-02","do":"found","part":3,"location":1,"quantity":1,"serials":"R-1"}']
+             b'{"day":"2030-01-02","do":"found","part":3,"location":1,"quantity":1,"serials":"R-1"}',
+             b'{"day":"2030-01-02","do":"add_part","name":"Sold","flags":["component","purchaseable","salable"]}',
+             b'{"day":"2030-01-02","do":"order","side":"purchase","partner":"Acme"}',
+             b'{"day":"2030-01-02","do":"order_line","order":8,"part":7,"quantity":1000000}',
+             b'{"day":"2030-01-02","do":"issue_order","order":8}',
+             b'{"day":"2030-01-02","do":"order","side":"sale","partner":"Best"}',
+             b'{"day":"2030-01-02","do":"order_line","order":10,"part":7,"quantity":1000000}',
+             b'{"day":"2030-01-02","do":"issue_order","order":10}',
+             b'{"day":"2030-01-02","do":"receive","line":9,"location":1,"quantity":1000}']
     return first + [made_up(r) for _ in range(count - len(first))]
 
 
