@@ -62,10 +62,7 @@ pub struct Allocations {
 // It is written out, so that a caller does not prove again how each part is dropped.
 impl Drop for Allocations {
     fn drop(self) {
-        let Allocations {
-            rows: _,
-            alloc: _,
-        } = self;
+        let Allocations { rows: _, alloc: _ } = self;
     }
 }
 
