@@ -25,3 +25,6 @@ pub mod Numbering
 pub mod OwnKeys
 pub mod ByIndex
 pub mod Opened
+pub mod Filed
+pub mod Quiet
+pub mod QuietMoves

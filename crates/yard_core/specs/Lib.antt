@@ -6,6 +6,7 @@ pub mod Equations
 pub mod LocationColumns
 pub mod LocationKeys
 pub mod Opening
+pub mod Outputs
 pub mod Shares
 pub mod SoundLocations
 pub mod Stock
