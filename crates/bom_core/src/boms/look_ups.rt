@@ -50,8 +50,8 @@ impl Boms {
         Ok(lines)
     }
 
-    // The substitutes of the line, in order of number.
-    pub(crate) fn substitutes_on(&self, line: Id) -> Result<Vec<&Substitute>, AllocError>
+    /// The substitutes of the line, in order of number. It looks at those alone. An error is one of memory.
+    pub fn substitutes_on(&self, line: Id) -> Result<Vec<&Substitute>, AllocError>
         ensures { IfOk result (λ rows. map (λ s. s.now) rows.items
             ≡ filter (λ s. s.line == line) (substitute_rows (bills_of self.now))) }
     {
