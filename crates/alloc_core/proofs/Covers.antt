@@ -1,5 +1,5 @@
 -- A list of allocations that the stock covers: their items are loose, and have what they add up to.
-use Rattle.std.proofs.Common.{◌≡◌, ◌⊎◌, inl, inr, ℕ, ◌+◌, ◌≤◌, Bool, true, false, not, cond, List, [], ◌∷◌, ◌++◌, Some, refl, sym, ap, ◌∙◌, subst, arith, eqb-true, eq-eqb}
+use Rattle.std.proofs.Common.{◌≡◌, inl, inr, ℕ, ◌≤◌, Bool, true, false, not, cond, List, [], ◌∷◌, ◌++◌, refl, sym, ap, ◌∙◌, subst, arith, eqb-true, eq-eqb}
 use Rattle.std.specs.Prelude.{◌==◌, filter, nat_lt}
 use Rattle.std.proofs.lemmas.Bool.{ltb-false, ltb-true}
 use Rattle.forest.specs.Forest.{is_at}
@@ -8,13 +8,11 @@ use Rattle.part_core.specs.Sheet.{Table}
 use Rattle.part_core.proofs.Standing.{Stands, each-value}
 use Rattle.yard_core.specs.Books.{Books}
 use Rattle.yard_core.specs.Stock.{Stock, item_at}
-use Rattle.part_core.specs.TableRows.{without_rows}
 use Rattle.alloc_core.specs.Allocations.{amount_where, is_of_item, sum_where}
 use Rattle.alloc_core.specs.Sound.{AreSoundAllocations, IsSoundAllocation}
 use Rattle.alloc_core.specs.declared.allocation.Allocation.{Allocation}
 pub use Rattle.alloc_core.specs.Covered.{AreSound, IsCovered}
 use Rattle.alloc_core.proofs.Sums.{amount-in, amount-out, sum-append, sum-cons, sum-split}
-use Rattle.part_core.proofs.TableRows.{values-without}
 
 pub all-sound : (s : Stock) (xs : List Allocation) → ((a : Allocation) → Stands a xs → IsSoundAllocation s a) → AreSound s xs
 all-sound s [] all = tt

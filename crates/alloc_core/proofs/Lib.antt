@@ -3,4 +3,13 @@ pub mod Sums
 pub mod Covers
 pub mod Sound
 pub mod Released
+pub mod NoneComes
 pub mod Opened
+pub mod Shares
+pub mod Once
+pub mod Groups
+pub mod Amounts
+pub mod Allotted
+pub mod InTurn
+pub mod Turns
+pub mod Finding

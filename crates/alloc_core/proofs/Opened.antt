@@ -1,6 +1,6 @@
 -- What tests of each row say of allocations.
 use Rattle.std.proofs.Common.{◌≡◌, ◌↔◌, ℕ, ◌≤◌, Bool, true, false, not, ◌||◌, ◌∷◌, [], Option, Some, None, refl, sym, ap, ◌∙◌, subst, arith, eqb-true}
-use Rattle.std.specs.Prelude.{◌&&◌, ◌==◌, nat_le, nat_lt, unwrap_or}
+use Rattle.std.specs.Prelude.{◌==◌, nat_lt, unwrap_or}
 use Rattle.std.specs.FinMap as table
 use Rattle.std.proofs.lemmas.Bool.{eqb-false, ltb-true, ltb-false}
 use Rattle.std.proofs.lemmas.Bool.Decides.{nat_tests}
@@ -13,11 +13,10 @@ use Rattle.part_core.proofs.RowLemmas.{same_digit}
 use Rattle.part_core.proofs.Standing.{each-value}
 use Rattle.forest.specs.Forest.{is_at}
 use Rattle.forest.specs.declared.item.Item.{Item}
-use Rattle.yard_core.specs.Books.{Books}
 use Rattle.yard_core.specs.Stock.{Stock, item_at, no_item}
-use Rattle.alloc_core.specs.Allocations.{allocated, is_of_item, sum_where}
+use Rattle.alloc_core.specs.Allocations.{allocated}
 use Rattle.alloc_core.specs.RowTests.{is_covered, is_sound_row}
-use Rattle.alloc_core.specs.Sound.{AreSoundAllocations, IsSoundAllocation}
+use Rattle.alloc_core.specs.Sound.{IsSoundAllocation}
 use Rattle.alloc_core.specs.declared.allocation.Allocation.{Allocation}
 use Rattle.alloc_core.proofs.Covers.{AreSound, all-sound, sum-away}
 

@@ -1,13 +1,12 @@
 -- An owner's allocations that go one after another leave the others.
-use Rattle.std.proofs.Common.{◌≡◌, inl, inr, ℕ, Bool, true, false, cond, not, ◌||◌, List, [], ◌∷◌, map, Option, Some, None, refl, sym, ap, ◌∙◌, subst, eqb-true}
-use Rattle.std.specs.Prelude.{◌==◌, filter}
+use Rattle.std.proofs.Common.{◌≡◌, inl, inr, ℕ, Bool, true, false, cond, ◌||◌, List, [], ◌∷◌, map, Option, Some, None, refl, sym, ap, ◌∙◌, subst}
+use Rattle.std.specs.Prelude.{filter}
 use Rattle.std.specs.Borrow.{Bor}
 use Rattle.std.specs.FinMap as table
 use Rattle.std.specs.List.{list_any}
 use Rattle.part_core.specs.Filled.{StandUnderKeys}
 use Rattle.part_core.specs.Sheet.{Table}
 use Rattle.part_core.proofs.Keys.{key_eq, key_eq-self, key_eq-true, keys_exact, keys_total}
-use Rattle.part_core.proofs.RowLemmas.{right-number, same_digit}
 use Rattle.part_core.proofs.Standing.{Stands, Stands-filtered, Stands-get, get-Stands}
 use Rattle.alloc_core.specs.Allocations.{allocations_of, is_owned, released_for}
 use Rattle.bom_core.specs.Lines.{removed_all}

@@ -1,17 +1,14 @@
 -- Allocations stay sound where some go, where one comes, and where the stock changes but for what they hold.
-use Rattle.std.proofs.Common.{◌≡◌, inl, inr, ℕ, ◌+◌, ◌-◌, ◌<◌, ◌≤◌, Bool, true, false, not, cond, List, [], ◌∷◌, Option, Some, None, refl, sym, ap, ◌∙◌, subst, arith, eqb-true, eq-eqb}
-use Rattle.std.specs.Prelude.{◌==◌, filter, is_none, map, nat_lt, unwrap_or}
+use Rattle.std.proofs.Common.{◌≡◌, ℕ, ◌+◌, ◌≤◌, Bool, true, false, not, cond, List, [], ◌∷◌, Option, Some, None, refl, sym, ap, ◌∙◌, subst, arith, eqb-true, eq-eqb}
+use Rattle.std.specs.Prelude.{◌==◌, filter, map, unwrap_or}
 use Rattle.std.specs.FinMap as table
-use Rattle.std.specs.List.{list_any}
-use Rattle.std.proofs.lemmas.Bool.{eqb-false, ltb-false, ltb-true}
-use Rattle.part_core.specs.Checks.{first}
+use Rattle.std.proofs.lemmas.Bool.{eqb-false, ltb-false}
 use Rattle.part_core.specs.Counter.{Numbering}
 use Rattle.part_core.specs.Quantity.{largest}
-use Rattle.part_core.specs.Rows.{EachRow, StandRight}
+use Rattle.part_core.specs.Rows.{StandRight}
 use Rattle.part_core.specs.Sheet.{Table}
-use Rattle.part_core.proofs.Conditions.{none-holds, or_none}
 use Rattle.part_core.proofs.Keys.{key_eq-other, keys_exact, keys_total}
-use Rattle.part_core.proofs.RowLemmas.{each-empty, each-insert, get-remove_cases, right-empty, right-later, right-new, right-none, right-remove, same_digit}
+use Rattle.part_core.proofs.RowLemmas.{each-empty, each-insert, get-remove_cases, right-empty, right-later, right-new, right-none, same_digit}
 use Rattle.part_core.proofs.Standing.{get-Stands}
 use Rattle.part_core.proofs.Totals.{entries-empty, sum-insert_new}
 use Rattle.forest.specs.Forest.{is_at}
@@ -26,7 +23,7 @@ use Rattle.alloc_core.specs.declared.alloc_command.AllocCommand.TheVariants.{Rel
 use Rattle.alloc_core.specs.declared.allocation.Allocation.{Allocation}
 use Rattle.alloc_core.specs.declared.purpose.Owner.{Owner}
 use Rattle.alloc_core.proofs.Covers.{AreSound, IsCovered, covered-moved, covered-of, stands-sound, sum-away}
-use Rattle.alloc_core.proofs.Sums.{amount-in, amount-out, sum-cons, sum-no_one, sum-split, sum-stands}
+use Rattle.alloc_core.proofs.Sums.{amount-in, amount-out, sum-no_one, sum-split, sum-stands}
 use Rattle.part_core.proofs.TableRows.{get-kept, get-without, values-without}
 
 module _ (t : Table Allocation) (b : Books) (sound : AreSoundAllocations t b) where

@@ -24,13 +24,17 @@ build_key n = index_key_of (fed.isize (pos 3) ++ fed.u64 n)
 abbrev pub output_key : ℕ → ℕ
 output_key n = index_key_of (fed.isize (pos 4) ++ fed.u64 n)
 
+-- the index key of the allocations for a line of a build, whatever the output
+abbrev pub build_line_key : ℕ → ℕ → ℕ
+build_line_key n l = index_key_of (fed.isize (pos 5) ++ (fed.u64 n ++ fed.u64 l))
+
 abbrev pub output_keys : Option ℕ → List ℕ
 output_keys None = []
 output_keys (Some output) = output_key output ∷ []
 
 abbrev pub purpose_keys : Purpose → List ℕ
 purpose_keys (Sale order line) = order_key order ∷ sale_line_key line ∷ []
-purpose_keys (Build build line output) = build_key build ∷ output_keys output
+purpose_keys (Build build line output) = build_key build ∷ build_line_key build line ∷ output_keys output
 
 abbrev pub allocation_keys : Allocation → List ℕ
 allocation_keys a = item_key a.item ∷ purpose_keys a.purpose

@@ -1,8 +1,9 @@
 -- Allocations: what they are for, and how much of an item, for a line or for an output they add up to.
-use Rattle.std.specs.Prelude.{ℕ, ◌-◌, ◌==◌, is_none, nat_lt, Bool, true, false, if◌then◌else◌, List, [], ◌∷◌, filter, sum_by, Option}
+use Rattle.std.specs.Prelude.{ℕ, ◌-◌, ◌==◌, ◌&&◌, is_none, nat_lt, Bool, true, false, if◌then◌else◌, List, [], ◌∷◌, filter, sum_by, Option}
 use Rattle.std.specs.FinMap as table
 use Rattle.std.specs.List.{list_any}
 use Rattle.part_core.specs.Catalogue.{is_number}
+use Rattle.part_core.specs.Numbered.{is_same_number}
 use Rattle.part_core.specs.Sheet.{Table}
 use Rattle.part_core.specs.TableRows.{without_rows}
 use Rattle.yard_core.specs.Stock.{Stock, item_at}
@@ -17,6 +18,15 @@ allocation_in n t = table.get t (n ∷ [])
 
 -- ---- what an allocation is for
 
+abbrev pub is_for_sale : Purpose → Bool
+is_for_sale (Sale order line) = true
+is_for_sale (Build build line output) = false
+
+-- for some build
+abbrev pub is_for_some_build : Purpose → Bool
+is_for_some_build (Sale order line) = false
+is_for_some_build (Build build line output) = true
+
 abbrev pub is_for_order : ℕ → Purpose → Bool
 is_for_order n (Sale order line) = order == n
 is_for_order n (Build build line output) = false
@@ -28,6 +38,16 @@ is_for_sale_line n (Build build line output) = false
 abbrev pub is_for_build : ℕ → Purpose → Bool
 is_for_build n (Sale order line) = false
 is_for_build n (Build build line output) = build == n
+
+-- for the line of the build, whatever the output
+abbrev pub is_for_build_line : ℕ → ℕ → Purpose → Bool
+is_for_build_line n l (Sale order line) = false
+is_for_build_line n l (Build build line output) = (build == n) && (line == l)
+
+-- for the line of the build, and for that output, or for none
+abbrev pub is_for_line : ℕ → ℕ → Option ℕ → Purpose → Bool
+is_for_line n l o (Sale order line) = false
+is_for_line n l o (Build build line output) = (build == n) && (line == l) && is_same_number output o
 
 abbrev pub is_for_output : ℕ → Purpose → Bool
 is_for_output n (Sale order line) = false
@@ -63,6 +83,13 @@ allocated_where test t = sum_where (λ a. test a.purpose) (table.values t)
 
 abbrev pub allocated_for_sale_line : ℕ → Table Allocation → ℕ
 allocated_for_sale_line line t = allocated_where (is_for_sale_line line) t
+
+abbrev pub allocated_for_build_line : ℕ → ℕ → Table Allocation → ℕ
+allocated_for_build_line build line t = allocated_where (is_for_build_line build line) t
+
+-- for one output, or where there is none for the line as a whole
+abbrev pub allocated_for_line : ℕ → ℕ → Option ℕ → Table Allocation → ℕ
+allocated_for_line build line output t = allocated_where (is_for_line build line output) t
 
 -- what is free of an item: what it has less what is allocated of it
 abbrev pub free : ℕ → Table Allocation → Stock → ℕ

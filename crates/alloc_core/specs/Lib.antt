@@ -4,7 +4,13 @@ pub mod AllocationColumns
 pub mod Allocations
 pub mod AllocationKeys
 pub mod AllocationTables
+pub mod Allotments
+pub mod Allotting
+pub mod Automatic
+pub mod Candidates
 pub mod Covered
+pub mod Finding
+pub mod NoneComes
 pub mod Release
 pub mod RowTests
 pub mod Sound

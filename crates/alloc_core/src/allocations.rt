@@ -5,10 +5,10 @@ ghost use Rattle.bom_core.specs.Lines.{removed_all};
 ghost use Rattle.part_core.specs.Filled.{StandUnderKeys};
 ghost use Rattle.part_core.specs.Sheet.{now_of};
 ghost use Rattle.yard_core.specs.Yards.{stock_of};
-ghost use Rattle.alloc_core.specs.Allocations.{amount_where, is_for_sale_line, is_of_item};
+ghost use Rattle.alloc_core.specs.Allocations.{amount_where, is_for_build_line, is_for_line, is_for_sale_line, is_of_item};
 
 use crate::allocation::{Allocation, item_key};
-use crate::purpose::{Owner, build_key, order_key, output_key, sale_line_key};
+use crate::purpose::{Owner, build_key, build_line_key, order_key, output_key, sale_line_key};
 use part_core::{Id, IndexedSheet, Quantity, Sheet};
 use std::alloc::{AllocError, Global};
 use yard_core::Yard;
@@ -35,6 +35,29 @@ fn amount_for(line: Id, allocation: &Allocation) -> u64
     }
 }
 
+/// What an allocation adds to the sum of a line of a build, whatever the output.
+fn amount_for_build_line(build: Id, line: Id, allocation: &Allocation) -> u64
+    ensures { result ≡ amount_where (λ a. is_for_build_line build line a.purpose) allocation.now }
+{
+    if allocation.purpose.is_for_build_line(build, line) {
+        allocation.quantity
+    } else {
+        0
+    }
+}
+
+/// What an allocation adds to the sum of a line of a build and an output, or none.
+fn amount_for_line(build: Id, line: Id, output: Option<Id>, allocation: &Allocation) -> u64
+    ensures { result
+        ≡ amount_where (λ a. is_for_line build line output a.purpose) allocation.now }
+{
+    if allocation.purpose.is_for_line(build, line, output) {
+        allocation.quantity
+    } else {
+        0
+    }
+}
+
 /// The numbers of the rows.
 fn numbers_of(alloc: Global, rows: &[&Allocation]) -> Result<Vec<Id>, AllocError>
     ensures { IfOk result (λ numbers. numbers.items ≡ map (λ a. a.now.number) rows.now) }
@@ -53,7 +76,8 @@ fn remove_all(rows: &mut IndexedSheet<Allocation>, numbers: &[Id]) -> Result<(),
     Ok(())
 }
 
-/// The rows of allocations, found by item, by order or build, and by line of a sale.
+/// The rows of allocations, found by item, by order or build, by line of a sale or of a build, and by
+/// output.
 pub struct Allocations {
     rows: IndexedSheet<Allocation>,
     alloc: Global,
@@ -67,7 +91,7 @@ impl Drop for Allocations {
 }
 
 impl Allocations {
-    ghost use Rattle.alloc_core.specs.Allocations.{allocated, allocated_for_sale_line, allocation_in, allocations_of, free, has_allocations, is_above_free, released_for};
+    ghost use Rattle.alloc_core.specs.Allocations.{allocated, allocated_for_build_line, allocated_for_line, allocated_for_sale_line, allocation_in, allocations_of, free, has_allocations, is_above_free, released_for};
     ghost use Rattle.alloc_core.specs.AllocationTables.{allocations_from, allocations_now, kept_allocations};
     ghost use Rattle.alloc_core.specs.Release.{release};
 
@@ -120,6 +144,31 @@ impl Allocations {
     {
         self.rows
             .sum_under(sale_line_key(line), |row| amount_for(line, row))
+    }
+
+    /// How much is allocated for a line of a build, whatever the output. It looks at that line's allocations alone, and
+    /// takes no memory.
+    pub fn allocated_for_build_line(&self, build: Id, line: Id) -> u128
+        ensures { result ≡ allocated_for_build_line build line (allocations_now self.now) }
+    {
+        self.rows.sum_under(build_line_key(build, line), |row| {
+            amount_for_build_line(build, line, row)
+        })
+    }
+
+    /// How much is allocated for a line of a build and that output, or for no output where none is named. It looks at
+    /// the allocations of that output or of that line alone, and takes no memory.
+    pub fn allocated_for_line(&self, build: Id, line: Id, output: Option<Id>) -> u128
+        ensures { result ≡ allocated_for_line build line output (allocations_now self.now) }
+    {
+        match output {
+            None => self.rows.sum_under(build_line_key(build, line), |row| {
+                amount_for_line(build, line, None, row)
+            }),
+            Some(number) => self.rows.sum_under(output_key(number), |row| {
+                amount_for_line(build, line, Some(number), row)
+            }),
+        }
     }
 
     /// Whether some of the item is allocated. It looks at the item's allocations alone, and takes no memory.

@@ -9,10 +9,16 @@ pub mod alloc_command;
 mod alloc_forms;
 mod allocation;
 mod allocations;
+mod allotting;
+mod candidates;
 mod opening;
 mod purpose;
+mod sharing_out;
 
 pub use alloc_command::AllocCommand;
 pub use allocation::Allocation;
 pub use allocations::Allocations;
+pub use allotting::AllotFault;
+pub use candidates::candidate_numbers;
 pub use purpose::{OutputNumber, Owner, Purpose};
+pub use sharing_out::share_out;

@@ -2,8 +2,9 @@
 ghost use Rattle.std.specs.Prelude.{◌≡◌, ◌≤◌, ◌↔◌, IsTrue, Some, slice_get};
 ghost use Rattle.part_core.specs.Columns.{Finds};
 ghost use Rattle.alloc_core.specs.AllocationColumns.{output_number, output_of, purpose_at, purpose_line, purpose_of, purpose_output, purpose_owner, purpose_side};
-ghost use Rattle.alloc_core.specs.AllocationKeys.{build_key, order_key, output_key, purpose_keys, sale_line_key};
-ghost use Rattle.alloc_core.specs.Allocations.{is_for_build, is_for_order, is_for_output, is_for_sale_line};
+ghost use Rattle.alloc_core.specs.AllocationKeys.{build_key, build_line_key, order_key, output_key, purpose_keys, sale_line_key};
+ghost use Rattle.alloc_core.specs.Allocations.{is_for_build, is_for_build_line, is_for_line, is_for_order, is_for_output, is_for_sale_line};
+ghost use Rattle.part_core.specs.Numbered.{is_same_number};
 
 use part_core::column::number_at;
 use part_core::{Column, ColumnFault, Id, index_key_of};
@@ -82,6 +83,8 @@ pub enum AllocationLookup {
     SaleLine(Id),
     Build(Id),
     Output(Id),
+    /// A line of a build's bill, by the build and the line.
+    BuildLine(Id, Id),
 }
 
 /// The index key of the order's allocations.
@@ -105,6 +108,13 @@ pub fn build_key(number: Id) -> u64
     index_key_of(AllocationLookup::Build(number))
 }
 
+/// The index key of the allocations for a line of the build, whatever the output.
+pub fn build_line_key(number: Id, line: Id) -> u64
+    ensures { result ≡ build_line_key number line }
+{
+    index_key_of(AllocationLookup::BuildLine(number, line))
+}
+
 /// The index key of the output's allocations.
 pub fn output_key(number: Id) -> u64
     ensures { result ≡ output_key number }
@@ -120,6 +130,16 @@ fn output_number(output: &Option<OutputNumber>) -> u64
     match output {
         None => 0,
         Some(output) => output.number(),
+    }
+}
+
+/// Whether the output is of that number, or there is none and none is named.
+fn is_output(output: &Option<OutputNumber>, number: Option<Id>) -> bool
+    ensures { result ≡ is_same_number output.now number }
+{
+    match output {
+        None => number.is_none(),
+        Some(output) => number == Some(output.number()),
     }
 }
 
@@ -192,6 +212,30 @@ impl Purpose {
         }
     }
 
+    /// Whether it is for the line of the build, whatever the output.
+    pub fn is_for_build_line(&self, number: Id, bill_line: Id) -> bool
+        ensures { result ≡ is_for_build_line number bill_line self.now }
+    {
+        match self {
+            Purpose::Sale { .. } => false,
+            Purpose::Build { build, line, .. } => *build == number && *line == bill_line,
+        }
+    }
+
+    /// Whether it is for the line of the build and for that output, or for none where none is named.
+    pub fn is_for_line(&self, number: Id, bill_line: Id, named: Option<Id>) -> bool
+        ensures { result ≡ is_for_line number bill_line named self.now }
+    {
+        match self {
+            Purpose::Sale { .. } => false,
+            Purpose::Build {
+                build,
+                line,
+                output,
+            } => *build == number && *line == bill_line && is_output(output, named),
+        }
+    }
+
     /// Whether it is for the output.
     pub fn is_for_output(&self, number: Id) -> bool
         ensures { result ≡ is_for_output number self.now }
@@ -215,9 +259,14 @@ impl Purpose {
                 1 => Some(sale_line_key(*line)),
                 _ => None,
             },
-            Purpose::Build { build, output, .. } => match place {
+            Purpose::Build {
+                build,
+                line,
+                output,
+            } => match place {
                 0 => Some(build_key(*build)),
-                1 => match output {
+                1 => Some(build_line_key(*build, *line)),
+                2 => match output {
                     Some(output) => Some(output_key(output.number())),
                     None => None,
                 },
