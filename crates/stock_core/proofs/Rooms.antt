@@ -8,11 +8,13 @@ use Rattle.part_core.specs.Counter.{Numbering, drawn, lacks}
 use Rattle.part_core.specs.Day.{CivilDay}
 use Rattle.part_core.specs.Rows.{StandRight}
 use Rattle.part_core.proofs.RowLemmas.{right-insert, right-new, right-none, right-number}
+use Rattle.forest.specs.declared.entry.Kind.{Kind}
 use Rattle.forest.specs.declared.item.Item.{Item}
 use Rattle.forest.specs.declared.place.Place.{Place}
 use Rattle.forest.specs.declared.place.Place.TheVariants.{Gone}
-use Rattle.forest.specs.Forest.{is_at, row_of}
-use Rattle.forest.specs.Moves.{cut_change, cut_node, leaf, place_left, with_quantity}
+use Rattle.forest.specs.Forest.{Node, is_at, row_of}
+use Rattle.forest.specs.Moves.{cut_change, cut_node, leaf, make_change, place_left, with_quantity}
+use Rattle.forest.specs.Moves as moves
 use Rattle.forest.specs.Tables.{node_of}
 use Rattle.yard_core.specs.Books.{Books, entries_in, is_full}
 use Rattle.yard_core.specs.Stock.{Stock, item_at, no_item, tree_of, IsSound, IsThere}
@@ -23,7 +25,7 @@ use Rattle.stock_core.specs.Pieces.{CanCut, IsWhole}
 use Rattle.stock_core.specs.Steps.{cut_off, make_one, new_item}
 use Rattle.stock_core.specs.Sound.{AreSoundItems}
 use Rattle.stock_core.proofs.Able.{numbers-left, room-left}
-use Rattle.stock_core.proofs.Uses.{Uses, uses-cut_off, uses-make_one}
+use Rattle.stock_core.proofs.Uses.{Uses, uses-change_drawn, uses-cut_off}
 
 numbers-rest : (k : ℕ) (c : Numbering) → lacks (1 + k) c ≡ false → lacks k (drawn 1 c) ≡ false
 numbers-rest k c e = ap (λ n. nat_lt (c.limits.numbers + 1) n) (let s : c.next + 1 + k ≡ c.next + (1 + k) = omega arith in s) ∙ e
@@ -36,16 +38,28 @@ fewer-numbers k c e = go (lacks 1 c) refl
     go true f = absurd (omega (arith, ltb-true (c.limits.numbers + 1) (c.next + 1) f, ltb-false (c.limits.numbers + 1) (c.next + (1 + k)) e))
     go false f = refl
 
+-- an entry at most
+few-made : (k : Kind) (q : Place) (n : Node) → length (make_change k q n).notes ≤ 1
+few-made k q n = go (is_at q)
+  where
+    go : (c : Bool) → length (if c then moves.entry k n q ∷ [] else []) ≤ 1
+    go true = omega arith
+    go false = omega arith
+
 -- a new item was made
-pub room-made : (a : Arrival) (quantity : ℕ) (batch serial : Option (List ℕ)) (day : CivilDay) (k : ℕ) (b new : Books) → is_at a.place ≡ true → HasRoom (1 + k) b → IsSound new.stock
+pub room-made : (a : Arrival) (quantity : ℕ) (batch serial : Option (List ℕ)) (day : CivilDay) (k : ℕ) (b new : Books) → HasRoom (1 + k) b → IsSound new.stock
     → new ≡ make_one a quantity batch serial day b → HasRoom k new
-room-made a quantity batch serial day k b new loose room sound is = record {
+room-made a quantity batch serial day k b new room sound is = record {
   stock = sound;
   some = (let more : new.counter.next ≡ b.counter.next + 1 = ap (λ (s : Books). s.counter.next) is in omega (arith, more));
   rows = subst (λ (s : Books). StandRight (λ i. i.number) s.counter.next s.stock.items) (sym is)
       (right-new (λ (i : Item). i.number) b.counter.next (new_item b.counter.next a quantity batch serial) b.stock.items refl room.some room.rows);
   numbers = ap (λ (s : Books). lacks k s.counter) is ∙ numbers-rest k b.counter room.numbers;
-  entries = (let len = (uses-make_one a quantity batch serial day b loose room.stock.history).len in let same = ap (λ (s : Books). entries_in s) is in omega (arith, len, same, room.entries));
+  entries = (
+      let node = node_of (new_item b.counter.next a quantity batch serial) in
+      let len = (uses-change_drawn (make_change a.kind a.place node) day b room.stock.history).len in
+      let same = ap (λ (s : Books). entries_in s) is in
+      omega (arith, len, few-made a.kind a.place node, same, room.entries));
 }
 
 -- ---- pieces
@@ -157,4 +171,14 @@ room-checked k b new sound small u left = record {
   rows = sound.rows;
   numbers = numbers-left k k b new u left;
   entries = room-left k k b new u small left;
+}
+
+-- and where that has fewer entries, or none
+pub room-few : (k entries : ℕ) (b new : Books) → AreSoundItems b → b.counter.limits.entries ≤ 10000000000 → k ≤ 10000000000 → Uses k entries b new → is_full new ≡ false → HasRoom k b
+room-few k entries b new sound small few u left = record {
+  stock = sound.stock;
+  some = sound.locations.some;
+  rows = sound.rows;
+  numbers = numbers-left k entries b new u left;
+  entries = omega (arith, small, few, sound.within);
 }

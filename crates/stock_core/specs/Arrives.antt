@@ -1,8 +1,7 @@
 -- When new items can be made, and how many there are.
-use Rattle.std.specs.Prelude.{◌≡◌, ℕ, ◌+◌, ◌<◌, ◌≤◌, ◌^◌, true, false, List, length, Option, Some, None}
+use Rattle.std.specs.Prelude.{◌≡◌, ℕ, ◌+◌, ◌<◌, ◌≤◌, ◌^◌, false, List, length, Option, Some, None}
 use Rattle.part_core.specs.Counter.{lacks}
 use Rattle.part_core.specs.Rows.{StandRight}
-use Rattle.forest.specs.Forest.{is_at}
 use Rattle.forest.specs.Moves as moves
 use Rattle.yard_core.specs.Books.{Books}
 use Rattle.yard_core.specs.Stock.{IsSound, next_entry}
@@ -13,10 +12,9 @@ abbrev pub count_of : Option (List (List ℕ)) → ℕ
 count_of None = 1
 count_of (Some serials) = length serials
 
--- stock comes to a location, with an entry of the kind
-pub record IsArrival (a : Arrival) : Type 0 where
-  pub loose : is_at a.place ≡ true
-  pub recorded : moves.CanMake a.kind a.place
+-- stock comes to a location, with an entry of the kind, or is begun at the output of a build
+abbrev pub IsArrival : Arrival → Type 0
+IsArrival a = moves.CanMake a.kind a.place
 
 -- the stock is sound, and there is room for so many items
 pub record HasRoom (count : ℕ) (b : Books) : Type 0 where

@@ -21,7 +21,9 @@ pub use arrivals::{
     Arrival, NewStock, copy_serials, count_of, make_new, names_many, names_needless,
     names_other_count, names_taken,
 };
-pub use asked::{has_more, is_available, is_loose, is_no_item, is_no_location, part_at};
+pub use asked::{
+    has_more, is_available, is_loose, is_no_item, is_no_location, part_at, quantity_at,
+};
 pub use books::lacks_room;
 pub use commands::add::add;
 pub use commands::count::count;

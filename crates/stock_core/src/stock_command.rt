@@ -210,8 +210,8 @@ pub fn checks_are_in_order()
     ensures { ChecksAreInOrder }
 {}
 
-/// The law that what passes its checks leaves sound stock and sound allocations sound, and only adds to
-/// numbers and history.
+/// The law that what passes its checks leaves sound stock and sound allocations sound, only adds to numbers
+/// and history, and leaves the outputs of builds alone.
 pub fn effects_are_sound()
     ensures { EffectsAreSound }
 {}
