@@ -1,6 +1,6 @@
 -- Orders stay sound beside what changes elsewhere: the stock, the allocations of others, the numbers that are drawn.
-use Rattle.std.proofs.Common.{◌≡◌, ℕ, ◌+◌, ◌≤◌, Bool, true, false, not, List, [], ◌∷◌, Option, Some, refl, sym, ap, subst, arith}
-use Rattle.std.specs.Prelude.{filter, unwrap_or, ◌==◌}
+use Rattle.std.proofs.Common.{◌≡◌, ℕ, ◌≤◌, Bool, true, List, [], ◌∷◌, Some, refl, sym, ap, subst, arith}
+use Rattle.std.specs.Prelude.{unwrap_or, ◌==◌}
 use Rattle.std.specs.FinMap as table
 use Rattle.part_core.specs.Catalogue.{Parts}
 use Rattle.part_core.specs.Counter.{Numbering}
@@ -9,7 +9,10 @@ use Rattle.part_core.specs.Sheet.{Table}
 use Rattle.part_core.proofs.RowLemmas.{each-empty, right-empty, right-later}
 use Rattle.part_core.specs.TableRows.{without_rows}
 use Rattle.alloc_core.specs.AllocMachine as alloc
-use Rattle.alloc_core.specs.Allocations.{is_for_sale_line, sum_where}
+use Rattle.alloc_core.specs.Allocations.{is_for_sale, is_for_sale_line, sum_where}
+use Rattle.alloc_core.specs.NoneComes.{NoneComes}
+use Rattle.alloc_core.specs.declared.purpose.Purpose.{Purpose}
+use Rattle.alloc_core.specs.declared.purpose.Purpose.TheVariants.{Sale, Build}
 use Rattle.alloc_core.specs.Sound.{AreSoundAllocations}
 use Rattle.alloc_core.specs.declared.allocation.Allocation.{Allocation}
 use Rattle.alloc_core.specs.declared.alloc_command.AllocCommand.{AllocCommand}
@@ -20,6 +23,7 @@ use Rattle.part_core.proofs.TableRows.{get-without, values-without}
 use Rattle.yard_core.specs.Books.{Books}
 use Rattle.yard_core.specs.Stock.{no_item}
 use Rattle.stock_core.specs.StockMachine.{Grows}
+use Rattle.order_core.specs.Beside.{SoundBesideBuilds, beside}
 use Rattle.order_core.specs.Orders.{OrderBooks}
 use Rattle.order_core.specs.Sound.{AreSoundOrders, IsSoundLine, IsSoundPurpose}
 use Rattle.order_core.specs.declared.line.OrderLine.{OrderLine}
@@ -35,6 +39,36 @@ orders-beside parts b c grows held sound = record {
   each_sale = λ k a at. purpose-kept b (record b { books = c }) a.item a.purpose (λ order m is. refl) (lines-same b.lines)
       (part-stays b.books.stock c.stock grows.items a.item (held.each k a at).loose) (sound.each_sale k a at);
 }
+
+-- what a command on builds does: allocations for builds come and go, and the stock grows
+module _ (parts : Parts) (b : OrderBooks) (allocations : Table Allocation) (c : Books) (grows : Grows b.books c) (held : AreSoundAllocations b.allocations b.books)
+    (none : NoneComes is_for_sale b.allocations allocations) (sound : AreSoundOrders parts b) where
+  abbrev after : OrderBooks
+  after = beside allocations c b
+
+  for-sale : (line : ℕ) (p : Purpose) → is_for_sale_line line p ≡ true → is_for_sale p ≡ true
+  for-sale line (Sale order l) e = refl
+  for-sale line (Build build l output) e = cc
+
+  each-sale : (k : List ℕ) (a : Allocation) → table.get allocations k ≡ Some a → (p : Purpose) → a.purpose ≡ p → IsSoundPurpose after a.item p
+  each-sale k a at (Build build line output) is = tt
+  each-sale k a at (Sale order line) is =
+      let was = none.was k a at (ap is_for_sale is) in
+      purpose-kept b after a.item (Sale order line) (λ o m same. refl) (lines-same b.lines)
+      (part-stays b.books.stock c.stock grows.items a.item (held.each k a was).loose) (subst (IsSoundPurpose b a.item) is (sound.each_sale k a was))
+
+  orders-beside_builds : AreSoundOrders parts after
+  orders-beside_builds = record {
+    orders = right-later (λ (o : Order). o.number) b.books.counter.next c.counter.next b.orders grows.numbers sound.orders;
+    lines = right-later (λ (l : OrderLine). l.number) b.books.counter.next c.counter.next b.lines grows.numbers sound.lines;
+    each_line = λ k l at.
+        let h = sound.each_line k l at in
+        record { order = h.order; part = h.part; some = h.some; fits = h.fits; needed = omega (arith, h.needed, none.less (is_for_sale_line l.number) (for-sale l.number)) };
+    each_sale = λ k a at. each-sale k a at a.purpose refl;
+  }
+
+pub sound-beside_builds : SoundBesideBuilds
+sound-beside_builds parts b allocations books held grows none sound = orders-beside_builds parts b allocations books grows held none sound
 
 -- some allocations go
 pub orders-without : (parts : Parts) (b : OrderBooks) (test : Allocation → Bool) → AreSoundOrders parts b → AreSoundOrders parts (record b { allocations = without_rows test b.allocations })

@@ -11,10 +11,10 @@ pub mod ReceiveSound
 pub mod ReturnSound
 pub mod Effects
 pub mod Beside
+pub mod ForBuilds
 pub mod Sending
 pub mod SendEach
 pub mod Ended
 pub mod Shipping
 pub mod Returning
 pub mod Staying
-pub mod Sales

@@ -15,6 +15,7 @@ use Rattle.forest.specs.declared.place.Place.TheVariants.{At}
 use Rattle.alloc_core.specs.Allocations.{allocated_for_sale_line}
 use Rattle.alloc_core.specs.declared.allocation.Allocation.{Allocation}
 use Rattle.yard_core.specs.Books.{Books}
+use Rattle.yard_core.specs.Outputs.{LeavesOutputs}
 use Rattle.stock_core.specs.Asked.{is_no_location}
 use Rattle.stock_core.specs.Serials.{are_many, given}
 use Rattle.stock_core.specs.Sound.{IsSoundStock, Owners}
@@ -25,6 +26,7 @@ use Rattle.stock_core.proofs.Checked.{good-quantity, sound-leads, there-row}
 use Rattle.stock_core.proofs.FoundSound.{leads-make_new}
 use Rattle.stock_core.proofs.HeldMoves.{holds-make_new}
 use Rattle.stock_core.proofs.Holding.{sound-held}
+use Rattle.stock_core.proofs.OutputsStay.{leaves-make_new}
 use Rattle.stock_core.proofs.Upright.{upright-of}
 use Rattle.part_core.specs.Side.{is_sale}
 use Rattle.order_core.specs.Orders.{OrderBooks, is_no_line, line_at, order_at, order_of_line, owners_beside}
@@ -63,7 +65,7 @@ module _ (is_build : ℕ → Bool) (parts : Parts) (line location : ℕ) (new : 
 
   stock : IsSoundStock owners parts after.books × Grows b.books after.books
   stock = sound-leads owners parts b.books after.books
-      (leads-make_new owners parts arrival new day b.books (upright-of owners parts b.books sound.stock) (record { loose = refl; recorded = tt })
+      (leads-make_new owners parts arrival new day b.books (upright-of owners parts b.books sound.stock) tt
       old.part (there-row b.books.stock.locations location both.1) (good-quantity new.quantity (or_none (is_bad_quantity new.quantity) (given are_many new.serials) holds.1.0).0) holds.1.1.1.1.1.1.1.0)
       holds.1.1.1.1.1.1.1.1.0
 
@@ -100,6 +102,9 @@ module _ (is_build : ℕ → Bool) (parts : Parts) (line location : ℕ) (new : 
         let mine = subst (λ j. allocated_for_sale_line j b.allocations ≡ 0) (sym own) nothing in
         omega (arith, mine, ltb-false _ _ holds.1.1.1.1.1.0));
   }
+
+  pub leaves-receive : LeavesOutputs b.books.stock.items after.books.stock.items
+  leaves-receive = leaves-make_new arrival new day b.books refl sound.stock.items.locations.some sound.stock.items.rows
 
   pub sound-receive : AreSoundBooks is_build parts after × Grows b.books after.books
   sound-receive = (

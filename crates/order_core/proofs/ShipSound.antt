@@ -24,7 +24,9 @@ use Rattle.alloc_core.proofs.Sums.{sum-split}
 use Rattle.part_core.proofs.TableRows.{get-without, values-without}
 use Rattle.yard_core.specs.Books.{Books, is_full}
 use Rattle.yard_core.specs.Stock.{IsLifted, item_at, tree_of}
+use Rattle.yard_core.specs.Outputs.{LeavesOutputs}
 use Rattle.yard_core.proofs.Keeping.{lifted}
+use Rattle.yard_core.proofs.Quiet.{leaves-more, leaves-none}
 use Rattle.stock_core.proofs.Able.{lift-loose}
 use Rattle.yard_core.proofs.Rows.{get-other}
 use Rattle.stock_core.specs.Serving.{serve, serve_each}
@@ -32,6 +34,7 @@ use Rattle.stock_core.specs.Sound.{IsSoundStock, Owners}
 use Rattle.stock_core.specs.StockMachine.{Grows}
 use Rattle.stock_core.specs.Steps.{take}
 use Rattle.stock_core.proofs.Checked.{sound-leads}
+use Rattle.stock_core.proofs.OutputsStay.{leaves-lifted, leaves-take}
 use Rattle.stock_core.proofs.Serving.{GoesOn, IsServed, served-all, taken-one}
 use Rattle.stock_core.proofs.Steps.{leads-sent}
 use Rattle.stock_core.proofs.Taking.{IsTaken, there-loose}
@@ -97,16 +100,30 @@ module _ (is_build : ℕ → Bool) (parts : Parts) (n : ℕ) (day : CivilDay) (b
   up : Upright owners parts b.books
   up = upright-of owners parts b.books sound.stock
 
-  abbrev Nothing : List Allocation → Books → Type 0
-  Nothing xs c = Unit {0}
+  -- outputs are as they were at first
+  abbrev Quiet : List Allocation → Books → Type 0
+  Quiet xs c = LeavesOutputs b.books.stock.items c.stock.items
 
-  one : (a : Allocation) (xs : List Allocation) (c : Books) → Upright owners parts c → IsCovered c.stock (a ∷ (xs ++ rest)) → Nothing (a ∷ xs) c
-      → GoesOn owners parts (take a.item a.quantity day c) (serve (sent_for n day) day a c) × Nothing xs (serve (sent_for n day) day a c)
-  one a xs c upright covered ready =
-      (sent-on owners parts a.item a.quantity n day c (take a.item a.quantity day c) is_order (taken-one owners parts day (sent_for n day) a (xs ++ rest) c upright covered), tt)
+  one : (a : Allocation) (xs : List Allocation) (c : Books) → Upright owners parts c → IsCovered c.stock (a ∷ (xs ++ rest)) → Quiet (a ∷ xs) c
+      → GoesOn owners parts (take a.item a.quantity day c) (serve (sent_for n day) day a c) × Quiet xs (serve (sent_for n day) day a c)
+  one a xs c upright covered quiet =
+      let t = take a.item a.quantity day c in
+      let taken = taken-one owners parts day (sent_for n day) a (xs ++ rest) c upright covered in
+      let on = sent_for n day t in
+      let away = leaves-lifted t.1 t.0.stock taken.leads.upright.stock day taken.loose (Sent n) refl in
+      let cut = leaves-take a.item a.quantity day c upright.rows covered.each.0.loose in (
+        sent-on owners parts a.item a.quantity n day c t is_order taken,
+        leaves-more b.books.stock.items c.stock.items on.stock.items quiet (leaves-more c.stock.items t.0.stock.items on.stock.items cut away),
+      )
+
+  all-served : IsServed owners parts b.books after.books rest × Quiet [] after.books
+  all-served = served-all owners parts day (sent_for n day) rest Quiet one (sale_rows n b) b.books up (covered-split b.books.stock (is_owned own) all (covered-of b.allocations b.books sound.allocations)) (leaves-none b.books.stock.items)
 
   pub served : IsServed owners parts b.books after.books rest
-  served = (served-all owners parts day (sent_for n day) rest Nothing one (sale_rows n b) b.books up (covered-split b.books.stock (is_owned own) all (covered-of b.allocations b.books sound.allocations)) tt).0
+  served = all-served.0
+
+  pub leaves-ship : LeavesOutputs b.books.stock.items after.books.stock.items
+  leaves-ship = all-served.1
 
   stock : IsSoundStock owners parts after.books × Grows b.books after.books
   stock = sound-leads owners parts b.books after.books served.leads holds.1.1.1.1.0

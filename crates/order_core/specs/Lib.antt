@@ -1,4 +1,5 @@
 pub mod AllocateSale
+pub mod Beside
 pub mod CancelOrder
 pub mod CloseOrder
 pub mod IssueOrder

@@ -1,5 +1,5 @@
 -- What is asked of each row, to tell whether orders are sound.
-use Rattle.std.specs.Prelude.{ℕ, ◌+◌, ◌≤◌, ◌==◌, ◌&&◌, Bool, true, false, not, nat_le, is_some, [], ◌∷◌}
+use Rattle.std.specs.Prelude.{ℕ, ◌+◌, ◌≤◌, ◌==◌, ◌&&◌, Bool, true, not, nat_le, is_some, [], ◌∷◌}
 use Rattle.std.specs.FinMap as table
 use Rattle.part_core.specs.Catalogue.{Parts, part_in}
 use Rattle.part_core.specs.Quantity.{is_bad_quantity, largest}
@@ -47,8 +47,3 @@ is_sound_sale orders lines s item order line =
 abbrev pub is_sound_purpose : Table Order → Table OrderLine → Stock → ℕ → Purpose → Bool
 is_sound_purpose orders lines s item (Sale order line) = is_sound_sale orders lines s item order line
 is_sound_purpose orders lines s item (Build build line output) = true
-
--- it is for a sale, and for no build
-abbrev pub is_for_sale : Purpose → Bool
-is_for_sale (Sale order line) = true
-is_for_sale (Build build line output) = false

@@ -23,7 +23,6 @@ pub use commands::receive::receive;
 pub use commands::return_item::return_item;
 pub use commands::ship::ship;
 pub use line::OrderLine;
-pub use opening::are_for_sales;
 pub use order::{Order, Partner};
 pub use order_command::OrderCommand;
 pub use orders::Orders;

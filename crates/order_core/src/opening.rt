@@ -10,7 +10,7 @@ ghost use Rattle.part_core.specs.Rows.{EachRow, IsThere, StandRight};
 ghost use Rattle.part_core.specs.Sheet.{now_of};
 ghost use Rattle.yard_core.specs.Yards.{stock_of};
 ghost use Rattle.order_core.specs.OrderStores.{order_books};
-ghost use Rattle.order_core.specs.RowTests.{HasRows, has_rows, is_for_sale, is_sound_purpose, is_sound_sale, is_within};
+ghost use Rattle.order_core.specs.RowTests.{HasRows, has_rows, is_sound_purpose, is_sound_sale, is_within};
 ghost use Rattle.order_core.specs.Sound.{AreSoundOrders, IsSoundPurpose};
 
 use crate::line::OrderLine;
@@ -27,24 +27,6 @@ fn is_within(allocations: &Allocations, line: &OrderLine) -> bool
     let allocated = allocations.allocated_for_sale_line(line.number);
     let quantity = u128::from(line.quantity);
     allocated <= quantity && u128::from(line.done) <= quantity - allocated
-}
-
-/// Whether the allocation is for a sale.
-fn is_for_sale(row: &Allocation) -> bool
-    ensures { result ≡ is_for_sale row.now.purpose }
-{
-    match row.purpose {
-        Purpose::Sale { .. } => true,
-        Purpose::Build { .. } => false,
-    }
-}
-
-/// Whether each allocation is for a sale, and none for a build.
-pub fn are_for_sales(allocations: &Allocations) -> bool
-    ensures { IsTrue result ↔ EachRow (λ a. is_for_sale a.purpose ≡ true)
-        (allocations_now allocations.now) }
-{
-    !allocations.rows().any(|row| !is_for_sale(row))
 }
 
 impl Orders {

@@ -1,7 +1,8 @@
 //! The commands on orders, as a machine: one call that does any of them, and its laws.
 ghost use Rattle.std.specs.Prelude.{◌≡◌};
 ghost use Rattle.part_core.specs.Catalogues.{parts_of};
-ghost use Rattle.order_core.specs.OrderMachine.{ChecksAreInOrder, EffectsAreSound, RowsStay, checks, effect};
+ghost use Rattle.order_core.specs.Beside.{SoundBesideBuilds};
+ghost use Rattle.order_core.specs.OrderMachine.{ChecksAreInOrder, EffectsAreSound, NoneComesForBuilds, RowsStay, checks, effect};
 ghost use Rattle.order_core.specs.OrderStores.{AreSoundSomehow, Does, kept_order_books, order_books};
 
 use crate::order::Partner;
@@ -166,7 +167,8 @@ pub fn checks_are_in_order()
     ensures { ChecksAreInOrder }
 {}
 
-/// The law that what passes its checks leaves what is sound so, and only adds to numbers and history.
+/// The law that what passes its checks leaves what is sound so, only adds to numbers and history, and leaves
+/// the outputs of builds alone.
 pub fn effects_are_sound()
     ensures { EffectsAreSound }
 {}
@@ -174,4 +176,14 @@ pub fn effects_are_sound()
 /// The law that no command on orders takes a row of orders, of lines or of the stock away.
 pub fn rows_stay()
     ensures { RowsStay }
+{}
+
+/// The law that no command on orders brings an allocation for a build: builds beside it keep theirs, or lose some.
+pub fn none_comes_for_builds()
+    ensures { NoneComesForBuilds }
+{}
+
+/// The law that orders stay sound beside what brings no allocation for a sale, as the commands on builds.
+pub fn sound_beside_builds()
+    ensures { SoundBesideBuilds }
 {}

@@ -1,5 +1,5 @@
 //! All orders and their lines.
-ghost use Rattle.std.specs.Prelude.{◌≡◌, ◌+◌, ◌<◌, ◌^◌, ◌∷◌, [], option_copied, IfOk, OnOk, false};
+ghost use Rattle.std.specs.Prelude.{◌≡◌, ◌+◌, ◌<◌, ◌^◌, ◌∷◌, [], option_copied, IfOk, OnOk};
 ghost use Rattle.std.specs.FinMap as table;
 ghost use Rattle.std.specs.List.{list_any};
 ghost use Rattle.part_core.specs.Rows.{IsThere};
@@ -7,14 +7,13 @@ ghost use Rattle.part_core.specs.Sheet.{now_of};
 ghost use Rattle.order_core.specs.CloseOrder.{is_missing};
 ghost use Rattle.part_core.specs.Filled.{StandUnderKeys, filled};
 ghost use Rattle.part_core.specs.Side.{is_sale};
-ghost use Rattle.order_core.specs.Orders.{done_more, in_state, is_in_progress, line_in, order_in, owners_beside};
+ghost use Rattle.order_core.specs.Orders.{done_more, in_state, is_in_progress, line_in, order_in};
 
 use crate::line::{OrderLine, of_order_key};
 use crate::order::Order;
 use crate::state::OrderState;
 use part_core::{Id, IndexedSheet, Quantity, Row, Sheet};
 use std::alloc::{AllocError, Global};
-use stock_core::KnowsOwners;
 
 /// Whether the line is of the order, and not all of it is done.
 fn is_missing(order: Id, line: &OrderLine) -> bool
@@ -214,18 +213,5 @@ impl Orders {
     {
         self.orders.back();
         self.lines.back();
-    }
-}
-
-/// There are no builds yet.
-impl KnowsOwners for Orders {
-    ghost owners_of = { λ o. owners_beside (λ _. false) (now_of o.orders) };
-
-    fn is_order(&self, number: Id) -> bool {
-        self.order(number).is_some()
-    }
-
-    fn is_build(&self, _number: Id) -> bool {
-        false
     }
 }
