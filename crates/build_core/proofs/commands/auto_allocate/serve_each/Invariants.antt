@@ -1,0 +1,22 @@
+use Rattle.std.proofs.Common.{◌≡◌, drop}
+use Rattle.part_core.specs.Catalogues.{parts_of}
+use Rattle.part_core.specs.Counter.{kept_numbering}
+use Rattle.bom_core.specs.Boms.{bills_of}
+use Rattle.yard_core.specs.Yards.{stock_of}
+use Rattle.alloc_core.specs.AllocationTables.{kept_allocations}
+use Rattle.alloc_core.specs.Allotments.{allotments_of}
+use Rattle.alloc_core.specs.Allotting.{allot_lines}
+use Rattle.alloc_core.proofs.Allotted.{AreDrawn}
+use Rattle.build_core.specs.Lacks.{needs_of}
+use Rattle.build_core.proofs.commands.auto_allocate.serve_each.Given as goal
+
+-- what is left to serve makes what all made at first
+abbrev pub invariant-loop-lack : goal.invariant-loop-lack
+invariant-loop-lack l =
+    record {
+      left : allot_lines l.with_substitutes (parts_of l.catalogue) (bills_of l.boms) (stock_of l.yard) l.build (needs_of (drop l.lack-index l.lacks)) (allotments_of l.allocations l.counter)
+          ≡ allot_lines l.with_substitutes (parts_of l.catalogue) (bills_of l.boms) (stock_of l.yard) l.build (needs_of l.lacks) (allotments_of l.initial.allocations l.initial.counter);
+      drawn : AreDrawn (allotments_of l.allocations l.counter);
+      kept : kept_allocations l.allocations ≡ kept_allocations l.initial.allocations;
+      counter_kept : kept_numbering l.counter ≡ kept_numbering l.initial.counter;
+    }

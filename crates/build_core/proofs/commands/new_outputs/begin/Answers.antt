@@ -1,0 +1,38 @@
+use Rattle.std.proofs.Common.{◌≡◌, ℕ, ◌≤◌, false, List, length, Option, Some, None, arith}
+use Rattle.std.proofs.lemmas.Bool.{ltb-false}
+use Rattle.part_core.specs.Catalogues.{parts_of}
+use Rattle.part_core.specs.Quantity.{is_bad_quantity}
+use Rattle.part_core.proofs.Conditions.{none-holds, or_none}
+use Rattle.bom_core.specs.Boms.{bills_of}
+use Rattle.stock_core.specs.Arrives.{count_of}
+use Rattle.stock_core.specs.Serials.{are_many, given}
+use Rattle.stock_core.proofs.Checked.{good-quantity}
+use Rattle.stock_core.proofs.Rooms.{room-few}
+use Rattle.build_core.specs.Builds.{build_at}
+use Rattle.build_core.specs.BuildStores.{build_books}
+use Rattle.build_core.specs.NewOutputs.{new_outputs, new_outputs_checks}
+use Rattle.build_core.proofs.Begun.{uses-begun}
+use Rattle.build_core.proofs.commands.new_outputs.begin.Goals as goal
+
+-- there are no more than a command may name
+few-named : (o : Option (List (List ℕ))) → given are_many o ≡ false → count_of o ≤ 10000000000
+few-named None e = omega arith
+few-named (Some xs) e = omega (arith, ltb-false 1000 (length xs) e)
+
+pub make_new-requires-clause-room : goal.make_new-requires-clause-room
+make_new-requires-clause-room c =
+    let b = build_books c.args.builds.now c.args.allocations.now c.args.yard.now c.args.counter.now in
+    let n = c.args.build in
+    let new = c.args.new.now in
+    let holds = none-holds (new_outputs_checks n new c.args.day (parts_of c.args.catalogue.now) (bills_of c.args.boms.now) b) c.requires.checked in
+    let named = or_none (is_bad_quantity new.quantity) (given are_many new.serials) holds.1.0 in
+    let items = c.requires.sound.3.stock.items in
+    room-few (count_of new.serials) 0 b.books (new_outputs n new c.args.day b).books items (omega (arith, c.args.counter.now.limits.entries_within)) (few-named new.serials named.1)
+    (uses-begun n (build_at n b).part new c.args.day b.books items.stock.history) holds.1.1.1.1.1.1.1.1.0
+
+pub make_new-requires-clause-quantity : goal.make_new-requires-clause-quantity
+make_new-requires-clause-quantity c =
+    let b = build_books c.args.builds.now c.args.allocations.now c.args.yard.now c.args.counter.now in
+    let new = c.args.new.now in
+    let holds = none-holds (new_outputs_checks c.args.build new c.args.day (parts_of c.args.catalogue.now) (bills_of c.args.boms.now) b) c.requires.checked in
+    good-quantity new.quantity (or_none (is_bad_quantity new.quantity) (given are_many new.serials) holds.1.0).0

@@ -1,0 +1,19 @@
+use Rattle.std.proofs.Common.{◌∙◌, None, not, rules, tests}
+use Rattle.std.specs.Prelude.{◌&&◌}
+use Rattle.std.specs.Borrow.{Bor}
+use Rattle.std.proofs.lemmas.Iterator.{YieldsList-from_slice}
+use Rattle.std.proofs.lemmas.Iterator.Search.{any_from_yields_List}
+use Rattle.part_core.specs.Catalogues.{parts_of}
+use Rattle.bom_core.specs.declared.line.Line.{Line}
+use Rattle.alloc_core.specs.AllocationTables.{allocations_now}
+use Rattle.yard_core.specs.Yards.{stock_of}
+use Rattle.build_core.specs.Needs.{is_below_need, is_untracked}
+use Rattle.build_core.proofs.Lines.{any-seen}
+use Rattle.build_core.proofs.needs.any_lacks_untracked.Goals as goal
+
+pub returns : goal.returns
+returns c =
+    let test = λ (l : Line). is_untracked (parts_of c.args.catalogue.now) l && not l.flags.optional
+    && is_below_need l c.args.build.now None (allocations_now c.args.allocations.now) (stock_of c.args.yard.now) in
+    any_from_yields_List (λ (l : Bor Line). test l.now) _ _ _ c.any.ensures.ran (YieldsList-from_slice c.args.lines.now cc) (λ x b q k. search (rules, tests))
+    ∙ any-seen test c.args.lines.now

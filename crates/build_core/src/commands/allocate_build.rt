@@ -1,0 +1,210 @@
+//! An amount of an item is meant for a line of a build.
+ghost use Rattle.std.specs.Prelude.{◌≡◌, ◌+◌, ◌≤◌, ◌∷◌, [], IfSome, OnOk, None, false, nat_lt};
+ghost use Rattle.std.specs.FinMap as table;
+ghost use Rattle.part_core.specs.Catalogues.{parts_of};
+ghost use Rattle.part_core.specs.Checks.{first};
+ghost use Rattle.part_core.specs.Counter.{drawn, kept_numbering, lacks, numbering_of};
+ghost use Rattle.bom_core.specs.Boms.{bills_of};
+ghost use Rattle.alloc_core.specs.AllocationTables.{allocations_now, kept_allocations};
+ghost use Rattle.alloc_core.specs.Allotting.{new_allocation};
+ghost use Rattle.alloc_core.specs.declared.purpose.Purpose.TheVariants as purpose;
+ghost use Rattle.yard_core.specs.Yards.{stock_of};
+ghost use Rattle.build_core.specs.AllocateBuild.{allocate_build, allocate_build_checks, is_no_named, is_other_output, wanted};
+ghost use Rattle.build_core.specs.BuildStores.{AreSoundSomehow, Does, build_books, kept_build_books};
+
+use crate::books::finish;
+use crate::builds::Builds;
+use crate::needs::{is_suited, needed};
+use crate::outputs::is_output_of;
+use alloc_core::{Allocation, Allocations, OutputNumber, Purpose};
+use bom_core::Boms;
+use part_core::{Answer, Catalogue, CoreFault, Counter, Id, Quantity, Refusal, is_bad_quantity};
+use std::alloc::{AllocError, Global};
+use stock_core::{is_available, is_loose, is_no_item, part_at};
+use yard_core::Yard;
+
+/// Whether an output is named that isn't there.
+fn is_no_named(yard: &Yard, output: Option<Id>) -> bool
+    ensures { result ≡ is_no_named output (stock_of yard.now) }
+{
+    match output {
+        None => false,
+        Some(output) => is_no_item(yard, output),
+    }
+}
+
+/// Whether an output is named that isn't one of the build's.
+fn is_other_output(yard: &Yard, build: Id, output: Option<Id>) -> bool
+    ensures { result ≡ is_other_output build output (stock_of yard.now) }
+{
+    match output {
+        None => false,
+        Some(output) => !is_output_of(yard, build, output),
+    }
+}
+
+/// Whether that much more beside what is allocated is above the most.
+fn is_over(most: u128, allocated: u128, more: Quantity) -> bool
+    ensures { result ≡ nat_lt most (allocated + more) }
+{
+    allocated > most || u128::from(more) > most - allocated
+}
+
+/// Why nothing is allocated.
+fn allocate_build_refusal(
+    catalogue: &Catalogue,
+    boms: &Boms,
+    builds: &Builds,
+    allocations: &Allocations,
+    yard: &Yard,
+    counter: &Counter,
+    build: Id,
+    line: Id,
+    item: Id,
+    quantity: Quantity,
+    output: Option<Id>,
+) -> Option<Refusal>
+    ensures { result ≡ first (allocate_build_checks (wanted build line item quantity output)
+        (parts_of catalogue.now) (bills_of boms.now)
+        (build_books builds.now allocations.now yard.now counter.now)) }
+{
+    let Some(row) = builds.build(build) else {
+        return Some(Refusal::NoSuch);
+    };
+    let Some(bill_line) = boms.line(line) else {
+        return Some(Refusal::NoSuch);
+    };
+    if is_no_item(yard, item) || is_no_named(yard, output) {
+        return Some(Refusal::NoSuch);
+    }
+    if is_bad_quantity(quantity) {
+        return Some(Refusal::BadNumber);
+    }
+    if !row.state.may_prepare() || is_other_output(yard, build, output) {
+        return Some(Refusal::WrongState);
+    }
+    if !is_suited(
+        catalogue,
+        boms,
+        row.part,
+        output,
+        part_at(yard, item),
+        bill_line,
+    ) {
+        return Some(Refusal::Unfit);
+    }
+    if !is_loose(yard, item) {
+        return Some(Refusal::NotLoose);
+    }
+    if !is_available(yard, item) {
+        return Some(Refusal::Unavailable);
+    }
+    if allocations.is_above_free(yard, item, quantity) {
+        return Some(Refusal::Allocated);
+    }
+    let allocated = allocations.allocated_for_line(build, line, output);
+    if is_over(needed(yard, bill_line, row, output), allocated, quantity) {
+        return Some(Refusal::OverNeed);
+    }
+    if counter.lacks(1) {
+        return Some(Refusal::Full);
+    }
+    None
+}
+
+/// The number of an output that is named.
+fn output_number(output: Option<Id>) -> Option<OutputNumber>
+    requires { IfSome output (λ number. 1 ≤ number) }
+    ensures { result ≡ output }
+{
+    match output {
+        None => None,
+        Some(number) => OutputNumber::new(number),
+    }
+}
+
+/// Puts the allocation, under the next number.
+fn put_meant(
+    allocations: &mut Allocations,
+    counter: &mut Counter,
+    build: Id,
+    line: Id,
+    item: Id,
+    quantity: Quantity,
+    output: Option<Id>,
+) -> Result<(), AllocError>
+    requires room { lacks 1 (numbering_of counter.old) ≡ false }
+    requires named { IfSome output (λ number. 1 ≤ number) }
+    ensures allocations { let n = counter.old.next in OnOk result (allocations_now allocations.new
+        ≡ table.insert (allocations_now allocations.old) (n ∷ [])
+        (new_allocation n (purpose.Build build line output) item quantity)) }
+    ensures counter { OnOk result (numbering_of counter.new ≡ drawn 1 (numbering_of counter.old)) }
+    ensures allocations_kept { kept_allocations allocations.new ≡ kept_allocations allocations.old }
+    ensures counter_kept { kept_numbering counter.new ≡ kept_numbering counter.old }
+{
+    let row = Allocation {
+        number: counter.next(),
+        item,
+        quantity,
+        purpose: Purpose::Build {
+            build,
+            line,
+            output: output_number(output),
+        },
+    };
+    allocations.allocate(row)?;
+    let _ = counter.draw();
+    Ok(())
+}
+
+/// Allocates an amount of a loose item for a line of a build that is pending or in production, for one of
+/// its outputs where the line is tracked, under the next number. `NoSuch` where the build, the line, the
+/// item or the output isn't there, `BadNumber` for a quantity out of its range, `WrongState` where the build
+/// is in another state or the output isn't at the build's, `Unfit` where the line isn't effective for the
+/// build's part, is consumable, is tracked without an output or untracked with one, or doesn't fit the
+/// item's part, `NotLoose` and `Unavailable` (the status isn't allocatable) as it is, `Allocated` where less
+/// of it is free, `OverNeed` where the line doesn't need so much, and `Full` where there is no number left.
+pub fn allocate_build(
+    alloc: Global,
+    catalogue: &Catalogue,
+    boms: &Boms,
+    builds: &mut Builds,
+    allocations: &mut Allocations,
+    yard: &mut Yard,
+    counter: &mut Counter,
+    build: Id,
+    line: Id,
+    item: Id,
+    quantity: Quantity,
+    output: Option<Id>,
+) -> Result<Answer, CoreFault>
+    requires nothing_pending { kept_build_books builds.old allocations.old yard.old counter.old
+        ≡ build_books builds.old allocations.old yard.old counter.old }
+    requires sound { AreSoundSomehow (build_books builds.old allocations.old yard.old counter.old) }
+    ensures does { let b = build_books builds.old allocations.old yard.old counter.old in
+        Does (allocate_build_checks (wanted build line item quantity output)
+        (parts_of catalogue.now) (bills_of boms.now) b)
+        (allocate_build (wanted build line item quantity output) b) b result
+        (build_books builds.new allocations.new yard.new counter.new) }
+    ensures kept { kept_build_books builds.new allocations.new yard.new counter.new
+        ≡ kept_build_books builds.old allocations.old yard.old counter.old }
+{
+    let refusal = allocate_build_refusal(
+        catalogue,
+        boms,
+        builds,
+        allocations,
+        yard,
+        counter,
+        build,
+        line,
+        item,
+        quantity,
+        output,
+    );
+    if let Some(refusal) = refusal {
+        return Err(CoreFault::Refused(refusal));
+    }
+    let made = put_meant(allocations, counter, build, line, item, quantity, output);
+    finish(alloc, builds, allocations, yard, counter, made)
+}

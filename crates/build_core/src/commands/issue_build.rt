@@ -1,0 +1,68 @@
+//! Work on a build begins, or goes on.
+ghost use Rattle.std.specs.Prelude.{◌≡◌};
+ghost use Rattle.part_core.specs.Checks.{first};
+ghost use Rattle.build_core.specs.BuildStores.{AreSoundSomehow, Does, build_books, kept_build_books};
+ghost use Rattle.build_core.specs.IssueBuild.{issue_build, issue_build_checks};
+
+use crate::books::finish;
+use crate::builds::Builds;
+use crate::state::BuildState;
+use crate::states::change_state;
+use alloc_core::Allocations;
+use part_core::{Answer, CoreFault, Counter, Id, Refusal};
+use std::alloc::Global;
+use yard_core::Yard;
+
+/// Why it is refused.
+fn issue_build_refusal(
+    builds: &Builds,
+    allocations: &Allocations,
+    yard: &Yard,
+    counter: &Counter,
+    build: Id,
+) -> Option<Refusal>
+    ensures { result ≡ first (issue_build_checks build
+        (build_books builds.now allocations.now yard.now counter.now)) }
+{
+    let Some(row) = builds.build(build) else {
+        return Some(Refusal::NoSuch);
+    };
+    if !row.state.may_start() {
+        return Some(Refusal::WrongState);
+    }
+    None
+}
+
+/// Work on a build that is pending or on hold begins, or goes on. `NoSuch` where there is no such build, and
+/// `WrongState` where it is in neither state.
+pub fn issue_build(
+    alloc: Global,
+    builds: &mut Builds,
+    allocations: &mut Allocations,
+    yard: &mut Yard,
+    counter: &mut Counter,
+    build: Id,
+) -> Result<Answer, CoreFault>
+    requires nothing_pending { kept_build_books builds.old allocations.old yard.old counter.old
+        ≡ build_books builds.old allocations.old yard.old counter.old }
+    requires sound { AreSoundSomehow (build_books builds.old allocations.old yard.old counter.old) }
+    ensures does { let b = build_books builds.old allocations.old yard.old counter.old in
+        Does (issue_build_checks build b) (issue_build build b) b result
+        (build_books builds.new allocations.new yard.new counter.new) }
+    ensures kept { kept_build_books builds.new allocations.new yard.new counter.new
+        ≡ kept_build_books builds.old allocations.old yard.old counter.old }
+{
+    let refusal = issue_build_refusal(builds, allocations, yard, counter, build);
+    if let Some(refusal) = refusal {
+        return Err(CoreFault::Refused(refusal));
+    }
+    let made = change_state(
+        builds,
+        allocations,
+        yard,
+        counter,
+        build,
+        BuildState::Production,
+    );
+    finish(alloc, builds, allocations, yard, counter, made)
+}

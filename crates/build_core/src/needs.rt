@@ -1,0 +1,255 @@
+//! What the lines of a build's bill need, and what is missing for them.
+ghost use Rattle.std.specs.Prelude.{◌≡◌, ◌*◌, ◌&&◌, ◌∷◌, [], not, IfOk, Some, None, map};
+ghost use Rattle.std.specs.FinMap as table;
+ghost use Rattle.std.specs.List.{list_any};
+ghost use Rattle.part_core.specs.Catalogues.{parts_of};
+ghost use Rattle.bom_core.specs.Bills.{effective, is_effective, part_rows};
+ghost use Rattle.bom_core.specs.Boms.{bills_of};
+ghost use Rattle.alloc_core.specs.AllocationTables.{allocations_now};
+ghost use Rattle.yard_core.specs.Yards.{stock_of};
+ghost use Rattle.build_core.specs.BuildTables.{builds_now};
+ghost use Rattle.build_core.specs.BuildStores.{build_books};
+ghost use Rattle.build_core.specs.Needs.{has_tracked, is_below_need, is_named_right, is_suited, is_tracked, is_untracked, lacks_for_build, lacks_for_output, line_in, required, required_of};
+
+use crate::build::Build;
+use crate::builds::Builds;
+use alloc_core::Allocations;
+use bom_core::{Boms, Line};
+use part_core::{Catalogue, Counter, Id, Quantity};
+use std::alloc::AllocError;
+use stock_core::quantity_at;
+use yard_core::Yard;
+
+/// Whether the line is counted, and its component trackable.
+fn is_tracked(catalogue: &Catalogue, line: &Line) -> bool
+    ensures { result ≡ is_tracked (parts_of catalogue.now) line.now }
+{
+    catalogue.is_trackable(line.component) && !line.flags.consumable
+}
+
+/// Whether the line is counted, and its component not trackable.
+fn is_untracked(catalogue: &Catalogue, line: &Line) -> bool
+    ensures { result ≡ is_untracked (parts_of catalogue.now) line.now }
+{
+    !catalogue.is_trackable(line.component) && !line.flags.consumable
+}
+
+/// Whether one of the lines is tracked.
+fn any_tracked(catalogue: &Catalogue, lines: &[&Line]) -> bool
+    ensures { result
+        ≡ list_any (is_tracked (parts_of catalogue.now)) (map (λ l. l.now) lines.now) }
+{
+    lines.iter().any(|line| is_tracked(catalogue, line))
+}
+
+/// Whether the part has a tracked line. An error is one of memory.
+pub(crate) fn has_tracked(catalogue: &Catalogue, boms: &Boms, part: Id) -> Result<bool, AllocError>
+    ensures { IfOk result (λ has.
+        has ≡ has_tracked (parts_of catalogue.now) (bills_of boms.now) part) }
+{
+    let lines = boms.effective(catalogue, part)?;
+    Ok(any_tracked(catalogue, lines.as_slice()))
+}
+
+/// So much for each of so many.
+fn times(quantity: Quantity, units: Quantity) -> u128
+    ensures { result ≡ quantity * units }
+{
+    u128::from(quantity) * u128::from(units)
+}
+
+/// What a line needs: for the whole build, or for the output where one is named.
+pub(crate) fn needed(yard: &Yard, line: &Line, build: &Build, output: Option<Id>) -> u128
+    ensures { result ≡ required line.now build.now output (stock_of yard.now) }
+{
+    let units = match output {
+        None => build.quantity,
+        Some(output) => quantity_at(yard, output),
+    };
+    times(line.quantity, units)
+}
+
+/// What a line of the bill of a build's part needs: for the whole build, or for the output where one is named, as
+/// it is where the line is tracked. It is meant for lines that aren't consumable. It is 0 where there is no such
+/// build or no such line, and it takes no memory.
+pub fn required(
+    boms: &Boms,
+    builds: &Builds,
+    yard: &Yard,
+    build: Id,
+    line: Id,
+    output: Option<Id>,
+) -> u128
+    ensures { result ≡ required_of (line_in line (bills_of boms.now))
+        (table.get (builds_now builds.now) (build ∷ [])) output (stock_of yard.now) }
+{
+    let Some(row) = boms.line(line) else {
+        return 0;
+    };
+    match builds.build(build) {
+        Some(build) => needed(yard, row, build, output),
+        None => 0,
+    }
+}
+
+/// Whether less is allocated for the line than it needs.
+fn is_below_need(
+    allocations: &Allocations,
+    yard: &Yard,
+    line: &Line,
+    build: &Build,
+    output: Option<Id>,
+) -> bool
+    ensures { result ≡ is_below_need line.now build.now output
+        (allocations_now allocations.now) (stock_of yard.now) }
+{
+    let allocated = allocations.allocated_for_line(build.number, line.number, output);
+    allocated < needed(yard, line, build, output)
+}
+
+/// Whether the line is tracked, isn't optional, and less is allocated for it than the output needs.
+fn lacks_tracked(
+    catalogue: &Catalogue,
+    allocations: &Allocations,
+    yard: &Yard,
+    line: &Line,
+    build: &Build,
+    output: Id,
+) -> bool
+    ensures { result ≡ (is_tracked (parts_of catalogue.now) line.now
+        && not line.now.flags.optional && is_below_need line.now build.now (Some output)
+        (allocations_now allocations.now) (stock_of yard.now)) }
+{
+    is_tracked(catalogue, line)
+        && !line.flags.optional
+        && is_below_need(allocations, yard, line, build, Some(output))
+}
+
+/// Whether the line is neither tracked nor optional, and less is allocated for it than the build needs.
+fn lacks_untracked(
+    catalogue: &Catalogue,
+    allocations: &Allocations,
+    yard: &Yard,
+    line: &Line,
+    build: &Build,
+) -> bool
+    ensures { result ≡ (is_untracked (parts_of catalogue.now) line.now
+        && not line.now.flags.optional && is_below_need line.now build.now None
+        (allocations_now allocations.now) (stock_of yard.now)) }
+{
+    is_untracked(catalogue, line)
+        && !line.flags.optional
+        && is_below_need(allocations, yard, line, build, None)
+}
+
+/// Whether one of the lines lacks something for the output.
+fn any_lacks_tracked(
+    catalogue: &Catalogue,
+    allocations: &Allocations,
+    yard: &Yard,
+    lines: &[&Line],
+    build: &Build,
+    output: Id,
+) -> bool
+    ensures { result ≡ list_any (λ l. is_tracked (parts_of catalogue.now) l
+        && not l.flags.optional && is_below_need l build.now (Some output)
+        (allocations_now allocations.now) (stock_of yard.now)) (map (λ l. l.now) lines.now) }
+{
+    lines.iter().any(|line| lacks_tracked(catalogue, allocations, yard, line, build, output))
+}
+
+/// Whether one of the lines lacks something for the build.
+fn any_lacks_untracked(
+    catalogue: &Catalogue,
+    allocations: &Allocations,
+    yard: &Yard,
+    lines: &[&Line],
+    build: &Build,
+) -> bool
+    ensures { result ≡ list_any (λ l. is_untracked (parts_of catalogue.now) l
+        && not l.flags.optional && is_below_need l build.now None
+        (allocations_now allocations.now) (stock_of yard.now)) (map (λ l. l.now) lines.now) }
+{
+    lines.iter().any(|line| lacks_untracked(catalogue, allocations, yard, line, build))
+}
+
+/// Whether a tracked line that isn't optional is allocated below its need for the output. An error is one of
+/// memory.
+pub(crate) fn lacks_for_output(
+    catalogue: &Catalogue,
+    boms: &Boms,
+    builds: &Builds,
+    allocations: &Allocations,
+    yard: &Yard,
+    counter: &Counter,
+    build: &Build,
+    output: Id,
+) -> Result<bool, AllocError>
+    ensures { IfOk result (λ lacks. lacks ≡ lacks_for_output
+        (parts_of catalogue.now) (bills_of boms.now) build.now output
+        (build_books builds.now allocations.now yard.now counter.now)) }
+{
+    let lines = boms.effective(catalogue, build.part)?;
+    Ok(any_lacks_tracked(
+        catalogue,
+        allocations,
+        yard,
+        lines.as_slice(),
+        build,
+        output,
+    ))
+}
+
+/// Whether an untracked line that isn't optional is allocated below its need. An error is one of memory.
+pub(crate) fn lacks_for_build(
+    catalogue: &Catalogue,
+    boms: &Boms,
+    builds: &Builds,
+    allocations: &Allocations,
+    yard: &Yard,
+    counter: &Counter,
+    build: &Build,
+) -> Result<bool, AllocError>
+    ensures { IfOk result (λ lacks. lacks ≡ lacks_for_build
+        (parts_of catalogue.now) (bills_of boms.now) build.now
+        (build_books builds.now allocations.now yard.now counter.now)) }
+{
+    let lines = boms.effective(catalogue, build.part)?;
+    Ok(any_lacks_untracked(catalogue, allocations, yard, lines.as_slice(), build))
+}
+
+/// Whether the line is the part's own or an inherited one of its template.
+fn is_effective(catalogue: &Catalogue, part: Id, line: &Line) -> bool
+    ensures { result ≡ is_effective (part_rows (parts_of catalogue.now)) part line.now }
+{
+    line.assembly == part || (line.flags.inherited && catalogue.is_variant(part, line.assembly))
+}
+
+/// Whether an output is named exactly where the line is tracked.
+fn is_named_right(catalogue: &Catalogue, line: &Line, output: Option<Id>) -> bool
+    ensures { result ≡ is_named_right (parts_of catalogue.now) line.now output }
+{
+    match output {
+        None => !is_tracked(catalogue, line),
+        Some(_) => is_tracked(catalogue, line),
+    }
+}
+
+/// Whether the line is the part's, is counted, names an output exactly where it is tracked, and fits the
+/// item's part.
+pub(crate) fn is_suited(
+    catalogue: &Catalogue,
+    boms: &Boms,
+    part: Id,
+    output: Option<Id>,
+    item_part: Id,
+    line: &Line,
+) -> bool
+    ensures { result ≡ is_suited (parts_of catalogue.now) (bills_of boms.now) part output
+        item_part line.now }
+{
+    is_effective(catalogue, part, line)
+        && !line.flags.consumable
+        && is_named_right(catalogue, line, output)
+        && boms.fits(catalogue, line, item_part)
+}
