@@ -12,8 +12,9 @@ use Rattle.yard_core.specs.Stock as yard
 use Rattle.yard_core.proofs.Staying as yards
 use Rattle.stock_core.proofs.Staying as stock
 use Rattle.order_core.proofs.Staying as orders
+use Rattle.build_core.proofs.Staying as builds
 use Rattle.desk_core.specs.CommandText.{command_text}
-use Rattle.desk_core.specs.Machine.{State, Accepts, answer_of, books_in, order_books_in, by_check, by_repeat, check, effect, register_in, repeated, step_anew, with_answer}
+use Rattle.desk_core.specs.Machine.{State, Accepts, answer_of, books_in, build_books_in, order_books_in, by_check, by_repeat, check, effect, register_in, repeated, step_anew, with_answer}
 use Rattle.desk_core.specs.Staying.{AllStay, RowsStay}
 use Rattle.desk_core.specs.declared.accepted.Accepted.{Accepted}
 use Rattle.desk_core.specs.declared.command.Command.{Command}
@@ -22,12 +23,13 @@ use Rattle.desk_core.specs.declared.command.Request.{Request}
 use Rattle.desk_core.proofs.Again.{step-keeps}
 use Rattle.desk_core.proofs.Steps.{decides-all}
 
--- the rows of the catalogue, of the stock and of orders
+-- the rows of the catalogue, of the stock, of orders and of builds
 record OthersStay (old new : State) : Type 0 where
   pub parts : catalogue.AllStay old.parts new.parts
   pub stock : yard.AllStay old.stock new.stock
   pub orders : StayThere old.orders new.orders
   pub order_lines : StayThere old.order_lines new.order_lines
+  pub builds : StayThere old.builds new.builds
 
 stay-none : (s : State) → OthersStay s s
 stay-none s = record {
@@ -35,31 +37,42 @@ stay-none s = record {
   stock = yards.stay-none s.stock;
   orders = λ k h. h;
   order_lines = λ k h. h;
+  builds = λ k h. h;
 }
 
--- where the rows of orders are as they were
-beside_orders : (s : State) (day : CivilDay) (c : Command) → (effect s day c).orders ≡ s.orders → (effect s day c).order_lines ≡ s.order_lines
+-- where the rows of orders and of builds are as they were
+beside_owners : (s : State) (day : CivilDay) (c : Command) → (effect s day c).orders ≡ s.orders → (effect s day c).order_lines ≡ s.order_lines → (effect s day c).builds ≡ s.builds
     → catalogue.AllStay s.parts (effect s day c).parts → yard.AllStay s.stock (effect s day c).stock → OthersStay s (effect s day c)
-beside_orders s day c orders lines parts stock = record {
+beside_owners s day c orders lines builds parts stock = record {
   parts = parts;
   stock = stock;
   orders = subst (StayThere s.orders) (sym orders) (λ k h. h);
   order_lines = subst (StayThere s.order_lines) (sym lines) (λ k h. h);
+  builds = subst (StayThere s.builds) (sym builds) (λ k h. h);
 }
 
 stay-effect : (s : State) (day : CivilDay) (c : Command) → OthersStay s (effect s day c)
-stay-effect s day (command.Part c) = beside_orders s day (command.Part c) refl refl (parts.rows-stay c (register_in s)) (stay-none s).stock
-stay-effect s day (command.Bom c) = beside_orders s day (command.Bom c) refl refl (stay-none s).parts (stay-none s).stock
-stay-effect s day (command.Yard c) = beside_orders s day (command.Yard c) refl refl (stay-none s).parts (yards.rows-stay c (books_in s))
-stay-effect s day (command.Stock c) = beside_orders s day (command.Stock c) refl refl (stay-none s).parts (stock.rows-stay c day (books_in s))
-stay-effect s day (command.Alloc c) = beside_orders s day (command.Alloc c) refl refl (stay-none s).parts (stay-none s).stock
+stay-effect s day (command.Part c) = beside_owners s day (command.Part c) refl refl refl (parts.rows-stay c (register_in s)) (stay-none s).stock
+stay-effect s day (command.Bom c) = beside_owners s day (command.Bom c) refl refl refl (stay-none s).parts (stay-none s).stock
+stay-effect s day (command.Yard c) = beside_owners s day (command.Yard c) refl refl refl (stay-none s).parts (yards.rows-stay c (books_in s))
+stay-effect s day (command.Stock c) = beside_owners s day (command.Stock c) refl refl refl (stay-none s).parts (stock.rows-stay c day (books_in s))
+stay-effect s day (command.Alloc c) = beside_owners s day (command.Alloc c) refl refl refl (stay-none s).parts (stay-none s).stock
 stay-effect s day (command.Order c) =
     let stay = orders.rows-stay c day (order_books_in s) in
-    record { parts = (stay-none s).parts; stock = stay.stock; orders = stay.orders; order_lines = stay.lines }
+    record { parts = (stay-none s).parts; stock = stay.stock; orders = stay.orders; order_lines = stay.lines; builds = (stay-none s).builds }
+stay-effect s day (command.Build c) =
+    let stay = builds.rows-stay c day s.parts s.bills (build_books_in s) in
+    record {
+      parts = (stay-none s).parts;
+      stock = stay.stock;
+      orders = (stay-none s).orders;
+      order_lines = (stay-none s).order_lines;
+      builds = stay.builds;
+    }
 
 stay-answer : (key : Option (List ℕ)) (text : List ℕ) (answer : Answer) (s t : State) → OthersStay s t → OthersStay s (with_answer key text answer t)
 stay-answer None text answer s t all = all
-stay-answer (Some key) text answer s t all = record { parts = all.parts; stock = all.stock; orders = all.orders; order_lines = all.order_lines }
+stay-answer (Some key) text answer s t all = record { parts = all.parts; stock = all.stock; orders = all.orders; order_lines = all.order_lines; builds = all.builds }
 
 stay-checked : (refusal : Option Refusal) (s : State) (r : Request) (after : State) → OthersStay s after → OthersStay s (by_check refusal s r after).0
 stay-checked (Some refusal) s r after all = stay-none s
@@ -75,6 +88,7 @@ rows_stay s r = record {
   stock = (others-stay (repeated r s) s r).stock;
   orders = (others-stay (repeated r s) s r).orders;
   order_lines = (others-stay (repeated r s) s r).order_lines;
+  builds = (others-stay (repeated r s) s r).builds;
   answers = λ key row is. step-keeps s r key row is;
 }
 
@@ -84,6 +98,7 @@ nothing_goes s = record {
   stock = (stay-none s).stock;
   orders = (stay-none s).orders;
   order_lines = (stay-none s).order_lines;
+  builds = (stay-none s).builds;
   answers = λ key row is. is;
 }
 

@@ -37,9 +37,9 @@ sound_tables t next entries keys books = record {
   state = record {
     bills = books.bills;
     stock = books.stock;
-    allocations = books.orders.allocations;
-    orders = books.orders.orders;
-    sales = books.orders.sales;
+    allocations = books.owners.allocations;
+    orders = books.owners.orders;
+    builds = books.owners.builds;
     answers = stand-kept t.answers.items keys;
   };
 }
@@ -47,7 +47,7 @@ sound_tables t next entries keys books = record {
 pub sound_books : (t : Tables) → AreSoundTables t → HasSoundBooks (state_from t)
 sound_books t sound =
     let s = sound.state in
-    record { bills = s.bills; stock = s.stock; orders = record { allocations = s.allocations; orders = s.orders; sales = s.sales } }
+    record { bills = s.bills; stock = s.stock; owners = record { allocations = s.allocations; orders = s.orders; builds = s.builds } }
 
 pub history_own : (t : Tables) → StandUnderKeys (λ (e : Entry). e.number ∷ []) (state_from t).stock.history
 history_own t = filled-own (λ (e : Entry). e.number ∷ []) t.history.items

@@ -12,9 +12,10 @@ use Rattle.yard_core.specs.YardForms.{yard_forms}
 use Rattle.alloc_core.specs.AllocForms.{alloc_forms}
 use Rattle.stock_core.specs.StockForms.{stock_forms}
 use Rattle.order_core.specs.OrderForms.{order_forms}
+use Rattle.build_core.specs.BuildForms.{build_forms}
 use Rattle.desk_core.specs.declared.command.Command.{Command}
-use Rattle.desk_core.specs.declared.command.Command.TheVariants.{Part, Bom, Yard, Stock, Alloc, Order}
-use Rattle.desk_core.specs.CommandForms.{from_alloc, from_yard, from_bom, from_part, from_order, command_forms}
+use Rattle.desk_core.specs.declared.command.Command.TheVariants.{Part, Bom, Yard, Stock, Alloc, Order, Build}
+use Rattle.desk_core.specs.CommandForms.{from_alloc, from_yard, from_bom, from_part, from_build, from_order, command_forms}
 
 or_none : {A : Type 0} (o : Option A) → or_else o None ≡ o
 or_none None = refl
@@ -34,8 +35,11 @@ form_from_bom verb = or_else (form_named verb (forms_by bom_forms)) (form_from_y
 abbrev form_from_part : List ℕ → Option Form
 form_from_part verb = or_else (form_named verb (forms_by part_forms)) (form_from_bom verb)
 
+abbrev form_from_build : List ℕ → Option Form
+form_from_build verb = or_else (form_named verb (forms_by build_forms)) (form_from_part verb)
+
 abbrev form_from_order : List ℕ → Option Form
-form_from_order verb = or_else (form_named verb (forms_by order_forms)) (form_from_part verb)
+form_from_order verb = or_else (form_named verb (forms_by order_forms)) (form_from_build verb)
 
 from_alloc_form : (verb : List ℕ) → form_named verb (forms_by from_alloc) ≡ form_of_alloc verb
 unfolding from_alloc
@@ -53,9 +57,13 @@ from_part_form : (verb : List ℕ) → form_named verb (forms_by from_part) ≡ 
 unfolding from_part
 from_part_form verb = form_within Part part_forms from_bom verb ∙ ap (or_else (form_named verb (forms_by part_forms))) (from_bom_form verb)
 
+from_build_form : (verb : List ℕ) → form_named verb (forms_by from_build) ≡ form_from_build verb
+unfolding from_build
+from_build_form verb = form_within Build build_forms from_part verb ∙ ap (or_else (form_named verb (forms_by build_forms))) (from_part_form verb)
+
 from_order_form : (verb : List ℕ) → form_named verb (forms_by from_order) ≡ form_from_order verb
 unfolding from_order
-from_order_form verb = form_within Order order_forms from_part verb ∙ ap (or_else (form_named verb (forms_by order_forms))) (from_part_form verb)
+from_order_form verb = form_within Order order_forms from_build verb ∙ ap (or_else (form_named verb (forms_by order_forms))) (from_build_form verb)
 
 pub form_by_crate : (verb : List ℕ) → form_named verb (forms_by command_forms) ≡ or_else (form_named verb (forms_by stock_forms)) (form_from_order verb)
 unfolding command_forms
@@ -75,8 +83,11 @@ by_bom verb fields = if knows bom_forms verb then option_map Bom (command_by bom
 abbrev by_part : List ℕ → List Field → Option Command
 by_part verb fields = if knows part_forms verb then option_map Part (command_by part_forms verb fields) else by_bom verb fields
 
+abbrev by_build : List ℕ → List Field → Option Command
+by_build verb fields = if knows build_forms verb then option_map Build (command_by build_forms verb fields) else by_part verb fields
+
 abbrev by_order : List ℕ → List Field → Option Command
-by_order verb fields = if knows order_forms verb then option_map Order (command_by order_forms verb fields) else by_part verb fields
+by_order verb fields = if knows order_forms verb then option_map Order (command_by order_forms verb fields) else by_build verb fields
 
 abbrev by_stock : List ℕ → List Field → Option Command
 by_stock verb fields = if knows stock_forms verb then option_map Stock (command_by stock_forms verb fields) else by_order verb fields
@@ -103,11 +114,17 @@ from_part_command verb fields =
     command_within Part part_forms from_bom verb fields
     ∙ ap (λ o. if knows part_forms verb then option_map Part (command_by part_forms verb fields) else o) (from_bom_command verb fields)
 
+from_build_command : (verb : List ℕ) (fields : List Field) → command_by from_build verb fields ≡ by_build verb fields
+unfolding from_build
+from_build_command verb fields =
+    command_within Build build_forms from_part verb fields
+    ∙ ap (λ o. if knows build_forms verb then option_map Build (command_by build_forms verb fields) else o) (from_part_command verb fields)
+
 from_order_command : (verb : List ℕ) (fields : List Field) → command_by from_order verb fields ≡ by_order verb fields
 unfolding from_order
 from_order_command verb fields =
-    command_within Order order_forms from_part verb fields
-    ∙ ap (λ o. if knows order_forms verb then option_map Order (command_by order_forms verb fields) else o) (from_part_command verb fields)
+    command_within Order order_forms from_build verb fields
+    ∙ ap (λ o. if knows order_forms verb then option_map Order (command_by order_forms verb fields) else o) (from_build_command verb fields)
 
 pub command_by_crate : (verb : List ℕ) (fields : List Field) → command_by command_forms verb fields ≡ by_stock verb fields
 unfolding command_forms

@@ -38,23 +38,28 @@ use Rattle.forest.specs.declared.place.Place.TheVariants.{At, In, Output, Sent, 
 use Rattle.forest.specs.declared.place.Reason.{Reason}
 use Rattle.forest.specs.declared.place.Reason.TheVariants.{Removed, Counted, Disassembled, Scrapped}
 use Rattle.yard_core.specs.LocationColumns.{location_columns}
-use Rattle.yard_core.specs.Stock.{AreItems, IsItem, IsRun, Stock}
+use Rattle.yard_core.specs.Stock.{AreItems, IsItem, IsRun, Stock, no_item}
 use Rattle.yard_core.specs.declared.location.Location.{Location}
-use Rattle.alloc_core.specs.AllocationColumns.{allocation_columns, purpose_line, purpose_output, purpose_owner, purpose_side}
+use Rattle.alloc_core.specs.AllocationColumns.{allocation_columns, output_number, purpose_line, purpose_output, purpose_owner, purpose_side}
 use Rattle.alloc_core.specs.declared.allocation.Allocation.{Allocation}
 use Rattle.alloc_core.specs.declared.purpose.Purpose.{Purpose}
-use Rattle.alloc_core.specs.declared.purpose.Purpose.TheVariants.{Sale, Build}
+use Rattle.alloc_core.specs.declared.purpose.Purpose.TheVariants.{Sale, Build as For}
 use Rattle.stock_core.specs.Sound.{IsPlace, Owners}
 use Rattle.stock_core.proofs.Taking.{there-loose}
 use Rattle.order_core.specs.OrderColumns as order_rows
 use Rattle.order_core.specs.Orders.{is_in_progress, no_order, order_in}
-use Rattle.order_core.specs.RowTests.{is_for_sale}
 use Rattle.order_core.specs.Sound.{IsSoundPurpose}
 use Rattle.order_core.specs.declared.line.OrderLine.{OrderLine}
 use Rattle.order_core.specs.declared.order.Order.{Order}
 use Rattle.order_core.specs.declared.state.OrderState.{OrderState}
 use Rattle.order_core.specs.declared.state.OrderState.TheVariants as state
-use Rattle.desk_core.specs.Machine.{IsSoundState, State, is_build, order_books_in, owners_in}
+use Rattle.build_core.specs.BuildColumns as build_rows
+use Rattle.build_core.specs.Builds.{build_in, is_open, no_build}
+use Rattle.build_core.specs.Sound.{IsOutputOf, IsSoundFor}
+use Rattle.build_core.specs.declared.build.Build.{Build}
+use Rattle.build_core.specs.declared.state.BuildState.{BuildState}
+use Rattle.build_core.specs.declared.state.BuildState.TheVariants as work
+use Rattle.desk_core.specs.Machine.{IsSoundState, State, build_books_in, order_books_in, owners_in}
 use Rattle.desk_core.specs.Small.{RowsAreSmall}
 
 abbrev Fits : ℕ → Type 0
@@ -157,11 +162,34 @@ state-fits state.InProgress = omega arith
 state-fits state.Complete = omega arith
 state-fits state.Cancelled = omega arith
 
+work-fits : (state : BuildState) → Fits (build_rows.state_code state)
+work-fits work.Pending = omega arith
+work-fits work.Production = omega arith
+work-fits work.OnHold = omega arith
+work-fits work.Cancelled = omega arith
+work-fits work.Complete = omega arith
+
 -- an order in progress is there
 there_in_progress : (t : Table Order) (n : ℕ) → is_in_progress (order_in n t).state ≡ true → IsThere t n
 there_in_progress t n = go (table.get t (n ∷ []))
   where
     go : (o : Option Order) → is_in_progress (unwrap_or o no_order).state ≡ true → is_some o ≡ true
+    go None e = cc
+    go (Some x) e = refl
+
+-- an open build is there
+there_open : (t : Table Build) (n : ℕ) → is_open (build_in n t).state ≡ true → IsThere t n
+there_open t n = go (table.get t (n ∷ []))
+  where
+    go : (o : Option Build) → is_open (unwrap_or o no_build).state ≡ true → is_some o ≡ true
+    go None e = cc
+    go (Some x) e = refl
+
+-- an output is there
+there_out : (t : Table Item) (n build : ℕ) → (unwrap_or (table.get t (n ∷ [])) no_item).place ≡ Output build → IsThere t n
+there_out t n build = go (table.get t (n ∷ []))
+  where
+    go : (o : Option Item) → (unwrap_or o no_item).place ≡ Output build → is_some o ≡ true
     go None e = cc
     go (Some x) e = refl
 
@@ -229,8 +257,8 @@ module _ (s : State) (sound : IsSoundState s) (next : Fits s.counter.next) where
   order_line : (n : ℕ) → IsThere s.order_lines n → Fits n
   order_line = there-fits (λ (l : OrderLine). l.number) s.counter.next s.order_lines sound.orders.lines next
 
-  no-build : (n : ℕ) → is_build n ≡ true → Fits n
-  no-build n h = cc
+  build : (n : ℕ) → IsThere s.builds n → Fits n
+  build = there-fits (λ (x : Build). x.number) s.counter.next s.builds sound.builds.rows next
 
   small-categories : AreSmall category_columns s.parts.categories
   small-categories k row e =
@@ -297,7 +325,7 @@ module _ (s : State) (sound : IsSoundState s) (next : Fits s.counter.next) where
                 status-fits row.lot.status,
                 (
                   items-fit (table.values s.stock.items) sound.stock.items.stock.items.items row (get-Stands s.stock.items k row e),
-                  (place-fits row.place, (ref-fits (owners_in s) s.stock location item order no-build row.place there.place, tt)),
+                  (place-fits row.place, (ref-fits (owners_in s) s.stock location item order build row.place there.place, tt)),
                 ),
               ),
             ),
@@ -320,7 +348,7 @@ module _ (s : State) (sound : IsSoundState s) (next : Fits s.counter.next) where
               item row.note.item there.item,
               (
                 part row.note.part there.part,
-                (let bounds = there.quantity in omega (arith, bounds.1), (place-fits row.note.place, (ref-fits (owners_in s) s.stock location item order no-build row.note.place there.place, tt))),
+                (let bounds = there.quantity in omega (arith, bounds.1), (place-fits row.note.place, (ref-fits (owners_in s) s.stock location item order build row.note.place there.place, tt))),
               ),
             ),
           ),
@@ -340,16 +368,35 @@ module _ (s : State) (sound : IsSoundState s) (next : Fits s.counter.next) where
         (order row.order h.order, (part row.part h.part, (omega (arith, h.fits), (omega (arith, h.fits, h.needed), tt)))),
       )
 
-  -- what an allocation for a sale names
-  purpose-fits : (n : ℕ) (p : Purpose) → IsSoundPurpose (order_books_in s) n p → is_for_sale p ≡ true
+  small-builds : AreSmall build_rows.build_columns s.builds
+  small-builds k row e =
+      let h = sound.builds.each_build k row e in
+      All-from_recursion IsSmall (build_rows.build_columns row) (
+        own-fits (λ (x : Build). x.number) s.counter.next s.builds sound.builds.rows next k row e,
+        (part row.part h.part, (omega (arith, h.fits), (work-fits row.state, (omega (arith, h.fits, h.within), tt)))),
+      )
+
+  output-fits : (b : ℕ) (output : Option ℕ) → IsOutputOf b output s.stock → Fits (output_number output)
+  output-fits b None h = omega arith
+  output-fits b (Some n) h = item n (there_out s.stock.items n b h)
+
+  -- what an allocation names
+  purpose-fits : (n : ℕ) (p : Purpose) → IsSoundPurpose (order_books_in s) n p
+      → ((b l : ℕ) (output : Option ℕ) → p ≡ For b l output → IsSoundFor s.parts s.bills (build_books_in s) n b l output)
       → Fits (purpose_side p) × Fits (purpose_owner p) × Fits (purpose_line p) × Fits (purpose_output p)
-  purpose-fits n (Sale o l) h e = (omega arith, order o (there_in_progress s.orders o h.in_progress), order_line l h.there, omega arith)
-  purpose-fits n (Build b l output) h e = cc
+  purpose-fits n (Sale o l) h for = (omega arith, order o (there_in_progress s.orders o h.in_progress), order_line l h.there, omega arith)
+  purpose-fits n (For b l output) h for =
+      let work = for b l output refl in (
+        omega arith,
+        build b (there_open s.builds b work.still_open),
+        line l (ap (λ (o : Option Line). is_some o) work.there),
+        output-fits b output work.output_is,
+      )
 
   small-allocations : AreSmall allocation_columns s.allocations
   small-allocations k row e =
       let h = sound.allocations.each k row e in
-      let p = purpose-fits row.item row.purpose (sound.orders.each_sale k row e) (sound.sales k row e) in
+      let p = purpose-fits row.item row.purpose (sound.orders.each_sale k row e) (sound.builds.each_allocation k row e) in
       let there : IsThere s.stock.items row.item = ap (λ (o : Option Item). is_some o) (there-loose row.item s.stock h.loose) in
       All-from_recursion IsSmall (allocation_columns row) (
         own-fits (λ (a : Allocation). a.number) s.counter.next s.allocations sound.allocations.rows next k row e,
@@ -368,4 +415,5 @@ rows_are_small s sound next limit = record {
   allocations = small-allocations s sound next;
   orders = small-orders s sound next;
   order_lines = small-order_lines s sound next;
+  builds = small-builds s sound next;
 }

@@ -15,7 +15,7 @@ use Rattle.part_core.specs.declared.refusal.CoreFault.{CoreFault}
 use Rattle.part_core.specs.declared.refusal.CoreFault.TheVariants.{Refused, Memory}
 use Rattle.part_core.specs.declared.refusal.Refusal.{Refusal}
 use Rattle.part_core.specs.declared.refusal.Refusal.TheVariants.{KeyTaken}
-use Rattle.part_core.proofs.RowLemmas.{each-empty, get-insert_cases}
+use Rattle.part_core.proofs.RowLemmas.{each-empty, get-insert_cases, right-empty}
 use Rattle.part_core.proofs.SoundRows as catalogue
 use Rattle.part_core.proofs.Staying as parts
 use Rattle.part_core.specs.PartMachine as part
@@ -29,19 +29,28 @@ use Rattle.yard_core.proofs.SoundRows as locations
 use Rattle.yard_core.specs.Books.{Books}
 use Rattle.yard_core.specs.declared.yard_command.YardCommand.{YardCommand}
 use Rattle.yard_core.specs.declared.yard_command.YardCommand.TheVariants.{AddLocation}
+use Rattle.alloc_core.specs.Allocations.{is_for_some_build}
 use Rattle.alloc_core.specs.Sound.{AreSoundAllocations}
-use Rattle.alloc_core.specs.declared.allocation.Allocation.{Allocation}
+use Rattle.alloc_core.proofs.NoneComes.{none-same}
 use Rattle.alloc_core.proofs.Sound as allocations
 use Rattle.stock_core.specs.Sound.{IsSoundStock}
 use Rattle.stock_core.specs.StockMachine as stock
 use Rattle.stock_core.proofs.Beside as beside
 use Rattle.stock_core.proofs.Effects as effects
 use Rattle.order_core.specs.OrderMachine as order
-use Rattle.order_core.specs.RowTests.{is_for_sale}
-use Rattle.order_core.specs.Sound.{AreSoundBooks, AreSoundOrders}
+use Rattle.order_core.specs.Sound.{AreSoundBooks as AreSoundOrderBooks, AreSoundOrders}
 use Rattle.order_core.proofs.Beside as orders
 use Rattle.order_core.proofs.Effects as order_effects
-use Rattle.order_core.proofs.Sales.{AreForSales, sales-released, sales-stay}
+use Rattle.order_core.proofs.ForBuilds as for_builds
+use Rattle.build_core.specs.BuildMachine as build
+use Rattle.build_core.specs.Sound.{AreSoundBooks as AreSoundBuildBooks, AreSoundBuilds, IsRightMeant, IsRightPlaced, IsSoundBuild}
+use Rattle.build_core.specs.declared.build.Build.{Build}
+use Rattle.build_core.proofs.BesideBills as beside_bills
+use Rattle.build_core.proofs.BesideItems as beside_yard
+use Rattle.build_core.proofs.BesideParts as beside_parts
+use Rattle.build_core.proofs.BesideStock as beside_stock
+use Rattle.build_core.proofs.Effects as build_effects
+use Rattle.build_core.proofs.ForSales as for_sales
 use Rattle.desk_core.specs.declared.accepted.Accepted.{Accepted}
 use Rattle.desk_core.specs.declared.accepted.Accepted.TheVariants.{Anew, Again}
 use Rattle.desk_core.specs.declared.command.Command.{Command}
@@ -50,7 +59,7 @@ use Rattle.desk_core.specs.declared.command.Request.{Request}
 use Rattle.desk_core.specs.declared.kept.Kept.{Kept}
 use Rattle.desk_core.specs.CommandText.{command_text}
 use Rattle.desk_core.specs.Key.{is_key}
-use Rattle.desk_core.specs.Machine.{State, start, checks, check, effect, by_check, by_repeat, step_anew, step, run, Outcome, Accepts, Decides, IsAnew, answer_of, answer_of_same, answer_anew, is_other, answers_of, answered, told, onto, ids_of, entries_in, entries_of, AreDrawn, IsSoundState, StandsKept, books_in, bill_books_in, is_build, order_books_in, owners_in, register_in, open_parts, kept_for, repeated, is_key_taken, with_answer}
+use Rattle.desk_core.specs.Machine.{State, start, checks, check, effect, by_check, by_repeat, step_anew, step, run, Outcome, Accepts, Decides, IsAnew, answer_of, answer_of_same, answer_anew, is_other, answers_of, answered, told, onto, ids_of, entries_in, entries_of, AreDrawn, IsSoundState, StandsKept, books_in, bill_books_in, build_books_in, is_build, is_order, order_books_in, owners_in, register_in, open_parts, kept_for, repeated, is_key_taken, with_answer}
 
 -- ---- effects keep what is sound, and only add to numbers and history
 
@@ -60,12 +69,19 @@ pub record AreSoundStores (s : State) : Type 0 where
   pub stock : IsSoundStock (owners_in s) s.parts (books_in s)
   pub allocations : AreSoundAllocations s.allocations (books_in s)
   pub orders : AreSoundOrders s.parts (order_books_in s)
-  pub sales : AreForSales s.allocations
+  pub builds : AreSoundBuilds s.parts s.bills (build_books_in s)
 
 pub record Follows (old new : State) : Type 0 where
   pub stores : AreSoundStores new
   pub numbers : old.counter.next ≤ new.counter.next
   pub entries : entries_in old ≤ entries_in new
+
+-- what stands beside orders, and beside builds, as their machines ask for it
+order_books : (s : State) → AreSoundStores s → AreSoundOrderBooks (is_build s) s.parts (order_books_in s)
+order_books s sound = record { stock = sound.stock; allocations = sound.allocations; orders = sound.orders }
+
+build_books : (s : State) → AreSoundStores s → AreSoundBuildBooks (is_order s) s.parts s.bills (build_books_in s)
+build_books s sound = record { stock = sound.stock; allocations = sound.allocations; builds = sound.builds }
 
 -- items stay where a location comes
 yard-items : (c : YardCommand) (b : Books) → (yard.effect c b).stock.items ≡ b.stock.items
@@ -80,7 +96,7 @@ effect-follows s sound day (command.Part c) none =
         stock = beside.sound-part_effect (owners_in s) c (register_in s) (books_in s) refl sound.bills.catalogue sound.stock none;
         allocations = allocations.sound-later s.allocations (books_in s) after.counter more sound.allocations;
         orders = orders.orders-later s.parts after.parts (order_books_in s) after.counter (parts.rows-stay c (register_in s)).parts more sound.orders;
-        sales = sound.sales;
+        builds = beside_parts.sound-beside_parts c (is_order s) s.parts s.bills (build_books_in s) sound.bills (build_books s sound) none;
       };
       numbers = more;
       entries = omega arith;
@@ -93,7 +109,7 @@ effect-follows s sound day (command.Bom c) none =
         stock = beside.sound-later (owners_in s) s.parts (books_in s) after.counter kept.1 (changes.effect-limits c (bill_books_in s)) sound.stock;
         allocations = allocations.sound-later s.allocations (books_in s) after.counter kept.1 sound.allocations;
         orders = orders.orders-later s.parts s.parts (order_books_in s) after.counter (λ k there. there) kept.1 sound.orders;
-        sales = sound.sales;
+        builds = beside_bills.sound-beside_bills c s.parts s.bills (build_books_in s) sound.bills sound.builds none;
       };
       numbers = kept.1;
       entries = omega arith;
@@ -106,7 +122,7 @@ effect-follows s sound day (command.Yard c) none =
         stock = beside.sound-yard_effect (owners_in s) c s.parts (books_in s) sound.stock none;
         allocations = allocations.sound-items s.allocations (books_in s) (yard.effect c (books_in s)) same kept.1 sound.allocations;
         orders = orders.orders-items s.parts (order_books_in s) (yard.effect c (books_in s)) same kept.1 sound.orders;
-        sales = sound.sales;
+        builds = beside_yard.sound-beside_yard c s.parts s.bills (build_books_in s) sound.builds;
       };
       numbers = kept.1;
       entries = (let same = ap (λ h. table.len h) (locations.effect-history c (books_in s)) in omega (arith, same));
@@ -118,7 +134,8 @@ effect-follows s sound day (command.Stock c) none =
         stock = kept.0;
         allocations = kept.1;
         orders = orders.orders-beside s.parts (order_books_in s) (stock.effect c day (books_in s)) kept.2 sound.allocations sound.orders;
-        sales = sound.sales;
+        builds = beside_stock.sound-where_outputs_stay (is_order s) s.parts s.bills (build_books_in s) s.allocations (stock.effect c day (books_in s)) (build_books s sound) kept.2 kept.3 kept.0.items
+            (none-same is_for_some_build s.allocations);
       };
       numbers = kept.2.numbers;
       entries = kept.2.entries;
@@ -129,21 +146,37 @@ effect-follows s sound day (command.Alloc c) none = record {
     stock = sound.stock;
     allocations = allocations.sound-effect c s.allocations (books_in s) sound.allocations none;
     orders = orders.orders-released c s.parts (order_books_in s) sound.allocations sound.orders;
-    sales = sales-released c s.allocations sound.sales;
+    builds = beside_stock.sound-beside_releases c (is_order s) s.parts s.bills (build_books_in s) (build_books s sound);
   };
   numbers = omega arith;
   entries = omega arith;
 }
 effect-follows s sound day (command.Order c) none =
     let b = order_books_in s in
-    let books : AreSoundBooks is_build s.parts b = record { stock = sound.stock; allocations = sound.allocations; orders = sound.orders } in
-    let kept = order_effects.sound-effect c day is_build s.parts b books none in record {
+    let after = order.effect c day b in
+    let kept = order_effects.sound-effect c day (is_build s) s.parts b (order_books s sound) none in record {
       stores = record {
-        bills = bills.sound-more s.parts s.bills s.counter.next (order.effect c day b).books.counter.next kept.1.numbers sound.bills;
+        bills = bills.sound-more s.parts s.bills s.counter.next after.books.counter.next kept.1.numbers sound.bills;
         stock = kept.0.stock;
         allocations = kept.0.allocations;
         orders = kept.0.orders;
-        sales = sales-stay c day b sound.sales;
+        builds = beside_stock.sound-where_outputs_stay (is_order s) s.parts s.bills (build_books_in s) after.allocations after.books (build_books s sound) kept.1 kept.2 kept.0.stock.items
+            (for_builds.none-comes c day b sound.allocations.rows);
+      };
+      numbers = kept.1.numbers;
+      entries = kept.1.entries;
+    }
+effect-follows s sound day (command.Build c) none =
+    let b = build_books_in s in
+    let after = build.effect c day s.parts s.bills b in
+    let kept = build_effects.sound-effect c day (is_order s) s.parts s.bills b sound.bills (build_books s sound) none in record {
+      stores = record {
+        bills = bills.sound-more s.parts s.bills s.counter.next after.books.counter.next kept.1.numbers sound.bills;
+        stock = kept.0.stock;
+        allocations = kept.0.allocations;
+        orders = orders.sound-beside_builds s.parts (order_books_in s) after.allocations after.books sound.allocations kept.1
+            (for_sales.none-comes c day s.parts s.bills b sound.allocations.rows) sound.orders;
+        builds = kept.0.builds;
       };
       numbers = kept.1.numbers;
       entries = kept.1.entries;
@@ -171,7 +204,7 @@ beside_answer (Some k) text a old new f = record {
     stock = f.stores.stock;
     allocations = f.stores.allocations;
     orders = f.stores.orders;
-    sales = f.stores.sales;
+    builds = f.stores.builds;
   };
   numbers = f.numbers;
   entries = f.entries;
@@ -208,6 +241,7 @@ effect-answers s day (command.Yard c) = refl
 effect-answers s day (command.Stock c) = refl
 effect-answers s day (command.Alloc c) = refl
 effect-answers s day (command.Order c) = refl
+effect-answers s day (command.Build c) = refl
 
 with-kept : (key : Option (List ℕ)) → IfSome key (λ k. is_key k ≡ true) → (text : List ℕ) (a : Answer) (s : State) → AreKept s.answers → AreKept (with_answer key text a s).answers
 with-kept None fits text a s kept = kept
@@ -238,7 +272,7 @@ sound_stores s sound = record {
   stock = sound.stock;
   allocations = sound.allocations;
   orders = sound.orders;
-  sales = sound.sales;
+  builds = sound.builds;
 }
 
 pub step-sound : (s : State) → IsSoundState s → (r : Request) → IfSome r.key (λ k. is_key k ≡ true) → IsSoundState (step s r).0
@@ -248,7 +282,7 @@ step-sound s sound r fits =
       stock = follows.stores.stock;
       allocations = follows.stores.allocations;
       orders = follows.stores.orders;
-      sales = follows.stores.sales;
+      builds = follows.stores.builds;
       answers = step-kept s r fits sound.answers;
     }
 
@@ -330,7 +364,7 @@ kept-sound s t u sound day c a acts key fits text e =
       stock = stores.stock;
       allocations = stores.allocations;
       orders = stores.orders;
-      sales = stores.sales;
+      builds = stores.builds;
       answers = with-kept (Some key) fits text a t kept;
     })
 
@@ -447,7 +481,15 @@ start-sound limits = record {
   stock = beside.sound-nothing (owners_in (start limits)) limits;
   allocations = allocations.sound-nothing (books_in (start limits));
   orders = orders.orders-nothing (start limits).parts (books_in (start limits));
-  sales = each-empty (λ (a : Allocation). is_for_sale a.purpose ≡ true);
+  builds =
+      let s = start limits in
+      let b = build_books_in s in
+      record {
+        rows = right-empty (λ (x : Build). x.number) s.counter.next;
+        each_build = each-empty (IsSoundBuild s.parts s.stock);
+        each_output = each-empty (IsRightPlaced s.parts s.bills b);
+        each_allocation = each-empty (IsRightMeant s.parts s.bills b);
+      };
   answers = none_kept;
 }
   where

@@ -1,5 +1,5 @@
 -- The stock machine: its state, the checks of each command, its effect, one step and a run.
-use Rattle.std.specs.Prelude.{◌≡◌, ℕ, ◌+◌, ◌-◌, Bool, true, false, not, if◌then◌else◌, List, [], ◌∷◌, ◌++◌, Option, Some, None, option_and_then, Result, Ok, Err}
+use Rattle.std.specs.Prelude.{◌≡◌, ℕ, ◌+◌, ◌-◌, Bool, true, false, not, if◌then◌else◌, is_some, List, [], ◌∷◌, ◌++◌, Option, Some, None, option_and_then, Result, Ok, Err}
 use Rattle.std.specs.FinMap as table
 use Rattle.std.specs.Str.{bytes_eq}
 use Rattle.part_core.specs.Catalogue.{Parts, Register, no_parts}
@@ -8,7 +8,6 @@ use Rattle.part_core.specs.Counter.{Numbering, numbers_between}
 use Rattle.part_core.specs.Counter as counter
 use Rattle.part_core.specs.Day.{CivilDay}
 use Rattle.part_core.specs.PartMachine as part
-use Rattle.part_core.specs.Rows.{EachRow}
 use Rattle.part_core.specs.Sheet.{Table}
 use Rattle.part_core.specs.declared.answer.Answer.{Answer}
 use Rattle.part_core.specs.declared.limits.Limits.{Limits}
@@ -29,11 +28,15 @@ use Rattle.yard_core.specs.YardMachine as yard
 use Rattle.stock_core.specs.Sound.{IsSoundStock, Owners}
 use Rattle.stock_core.specs.StockMachine as stock
 use Rattle.order_core.specs.OrderMachine as order
-use Rattle.order_core.specs.Orders.{OrderBooks, owners_beside}
-use Rattle.order_core.specs.RowTests.{is_for_sale}
+use Rattle.order_core.specs.Orders.{OrderBooks}
 use Rattle.order_core.specs.Sound.{AreSoundOrders}
 use Rattle.order_core.specs.declared.line.OrderLine.{OrderLine}
 use Rattle.order_core.specs.declared.order.Order.{Order}
+use Rattle.build_core.specs.BuildMachine as build
+use Rattle.build_core.specs.Builds.{BuildBooks}
+use Rattle.build_core.specs.Builds as builds
+use Rattle.build_core.specs.Sound.{AreSoundBuilds}
+use Rattle.build_core.specs.declared.build.Build.{Build}
 use Rattle.desk_core.specs.declared.accepted.Accepted.{Accepted}
 use Rattle.desk_core.specs.declared.accepted.Accepted.TheVariants.{Anew, Again}
 use Rattle.desk_core.specs.declared.command.Command.{Command}
@@ -50,6 +53,7 @@ pub record State : Type 0 where
   pub allocations : Table Allocation
   pub orders : Table Order
   pub order_lines : Table OrderLine
+  pub builds : Table Build
   -- the next row number, and the limits
   pub counter : Numbering
   -- the answers that are kept, each under its key
@@ -64,6 +68,7 @@ start limits = record {
   allocations = table.empty;
   orders = table.empty;
   order_lines = table.empty;
+  builds = table.empty;
   counter = counter.start limits;
   answers = table.empty;
 }
@@ -82,6 +87,9 @@ books_in s = record { stock = s.stock; counter = s.counter }
 abbrev pub order_books_in : State → OrderBooks
 order_books_in s = record { orders = s.orders; lines = s.order_lines; allocations = s.allocations; books = books_in s }
 
+abbrev pub build_books_in : State → BuildBooks
+build_books_in s = record { builds = s.builds; allocations = s.allocations; books = books_in s }
+
 abbrev pub with_register : State → Register → State
 with_register s r = record s { parts = r.parts; counter = r.counter }
 
@@ -98,21 +106,27 @@ abbrev pub with_order_books : State → OrderBooks → State
 with_order_books s b =
     record s { stock = b.books.stock; allocations = b.allocations; orders = b.orders; order_lines = b.lines; counter = b.books.counter }
 
--- ---- builds and orders by their numbers
+abbrev pub with_build_books : State → BuildBooks → State
+with_build_books s b =
+    record s { stock = b.books.stock; allocations = b.allocations; builds = b.builds; counter = b.books.counter }
 
--- there are no builds yet
-abbrev pub is_build : ℕ → Bool
-is_build n = false
+-- ---- orders and builds by their numbers
+
+abbrev pub is_order : State → ℕ → Bool
+is_order s n = is_some (table.get s.orders (n ∷ []))
+
+abbrev pub is_build : State → ℕ → Bool
+is_build s n = is_some (table.get s.builds (n ∷ []))
 
 -- whose places may be named
 abbrev pub owners_in : State → Owners
-owners_in s = owners_beside is_build s.orders
+owners_in s = record { is_order = is_order s; is_build = is_build s }
 
 -- ---- checks and effects
 
--- the parts with an open build: no command opens one yet
+-- the parts with an open build, for which commands on bills ask
 abbrev pub open_parts : State → List ℕ
-open_parts s = []
+open_parts s = builds.open_parts s.builds
 
 -- the conditions of a command's refusals, in the order of checks
 abbrev pub checks : State → CivilDay → Command → List Check
@@ -122,6 +136,7 @@ checks s day (command.Yard c) = yard.checks c (books_in s)
 checks s day (command.Stock c) = stock.checks c day s.parts s.bills s.allocations (books_in s)
 checks s day (command.Alloc c) = alloc.checks c s.allocations
 checks s day (command.Order c) = order.checks c day s.parts (order_books_in s)
+checks s day (command.Build c) = build.checks c day s.parts s.bills (build_books_in s)
 
 -- each command's refusals stand in the one order of checks
 abbrev pub ChecksAreInOrder : Type 0
@@ -135,6 +150,7 @@ effect s day (command.Yard c) = with_books s (yard.effect c (books_in s))
 effect s day (command.Stock c) = with_books s (stock.effect c day (books_in s))
 effect s day (command.Alloc c) = with_allocations s (alloc.effect c s.allocations)
 effect s day (command.Order c) = with_order_books s (order.effect c day (order_books_in s))
+effect s day (command.Build c) = with_build_books s (build.effect c day s.parts s.bills (build_books_in s))
 
 -- how many entries the history has
 abbrev pub entries_in : State → ℕ
@@ -283,13 +299,12 @@ pub record StandsKept (k : List ℕ) (row : Kept) : Type 0 where
   pub own : k ≡ row.word
   pub key : is_key row.word ≡ true
 
--- the bills with their catalogue, the stock with its locations and its history, the allocations, and the orders with
--- their lines, beside the counter; and the answers that are kept
+-- the bills with their catalogue, the stock with its locations and its history, the allocations, the orders with their
+-- lines, and the builds, beside the counter; and the answers that are kept
 pub record IsSoundState (s : State) : Type 0 where
   pub bills : IsSoundBill s.parts s.bills s.counter.next
   pub stock : IsSoundStock (owners_in s) s.parts (books_in s)
   pub allocations : AreSoundAllocations s.allocations (books_in s)
   pub orders : AreSoundOrders s.parts (order_books_in s)
-  -- none is for a build
-  pub sales : EachRow (λ a. is_for_sale a.purpose ≡ true) s.allocations
+  pub builds : AreSoundBuilds s.parts s.bills (build_books_in s)
   pub answers : (k : List ℕ) (row : Kept) → table.get s.answers k ≡ Some row → StandsKept k row

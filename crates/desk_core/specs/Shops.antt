@@ -5,6 +5,7 @@ use Rattle.part_core.specs.Sheet.{now_of}
 use Rattle.bom_core.specs.Boms.{bills_of, kept_bills}
 use Rattle.yard_core.specs.Yards.{stock_of, kept_of}
 use Rattle.alloc_core.specs.AllocationTables.{allocations_now, kept_allocations}
+use Rattle.build_core.specs.BuildTables.{builds_now, kept_builds}
 use Rattle.desk_core.specs.declared.shop.Shop.{Shop}
 use Rattle.desk_core.specs.Machine.{State}
 
@@ -17,6 +18,7 @@ state_of shop =
       allocations = allocations_now shop.allocations;
       orders = now_of shop.orders.orders;
       order_lines = now_of shop.orders.lines;
+      builds = builds_now shop.builds;
       counter = numbering_of shop.counter;
       answers = now_of shop.answers;
     }
@@ -30,6 +32,7 @@ kept_state shop =
       allocations = kept_allocations shop.allocations;
       orders = shop.orders.orders.kept;
       order_lines = shop.orders.lines.kept;
+      builds = kept_builds shop.builds;
       counter = kept_numbering shop.counter;
       answers = shop.answers.kept;
     }

@@ -9,6 +9,7 @@ use Rattle.forest.specs.ItemColumns.{item_columns}
 use Rattle.yard_core.specs.LocationColumns.{location_columns}
 use Rattle.alloc_core.specs.AllocationColumns.{allocation_columns}
 use Rattle.order_core.specs.OrderColumns as order_rows
+use Rattle.build_core.specs.BuildColumns.{build_columns}
 use Rattle.desk_core.specs.Machine.{IsSoundState, State}
 
 -- no number of a row is too large for a file
@@ -23,6 +24,7 @@ pub record HasSmallRows (s : State) : Type 0 where
   pub allocations : AreSmall allocation_columns s.allocations
   pub orders : AreSmall order_rows.order_columns s.orders
   pub order_lines : AreSmall order_rows.line_columns s.order_lines
+  pub builds : AreSmall build_columns s.builds
 
 -- the rows of a sound state are so, where its own numbers are
 abbrev pub RowsAreSmall : Type 0

@@ -7,6 +7,7 @@ ghost use Rattle.desk_core.specs.CommandForms.{command_back, command_distinct, c
 use crate::key::Key;
 use alloc_core::AllocCommand;
 use bom_core::BomCommand;
+use build_core::BuildCommand;
 use order_core::OrderCommand;
 use part_core::{Day, Field, Form, Formed, PartCommand};
 use std::alloc::{AllocError, Global};
@@ -28,6 +29,8 @@ pub enum Command {
     Alloc(AllocCommand),
     /// Of orders.
     Order(OrderCommand),
+    /// Of builds.
+    Build(BuildCommand),
 }
 
 impl Formed for Command {
@@ -45,6 +48,9 @@ impl Formed for Command {
             return Some(form);
         }
         if let Some(form) = OrderCommand::form(verb) {
+            return Some(form);
+        }
+        if let Some(form) = BuildCommand::form(verb) {
             return Some(form);
         }
         if let Some(form) = PartCommand::form(verb) {
@@ -67,6 +73,7 @@ impl Formed for Command {
             Command::Stock(command) => command.verb(),
             Command::Alloc(command) => command.verb(),
             Command::Order(command) => command.verb(),
+            Command::Build(command) => command.verb(),
         }
     }
 
@@ -78,6 +85,7 @@ impl Formed for Command {
             Command::Stock(command) => command.fields(alloc),
             Command::Alloc(command) => command.fields(alloc),
             Command::Order(command) => command.fields(alloc),
+            Command::Build(command) => command.fields(alloc),
         }
     }
 
@@ -90,6 +98,10 @@ impl Formed for Command {
         if OrderCommand::form(verb).is_some() {
             let command = OrderCommand::from_fields(verb, fields)?;
             return Some(Command::Order(command));
+        }
+        if BuildCommand::form(verb).is_some() {
+            let command = BuildCommand::from_fields(verb, fields)?;
+            return Some(Command::Build(command));
         }
         if PartCommand::form(verb).is_some() {
             let command = PartCommand::from_fields(verb, fields)?;

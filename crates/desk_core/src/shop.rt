@@ -10,7 +10,7 @@ ghost use Rattle.bom_core.specs.Walks.{IsAcyclic};
 ghost use Rattle.forest.specs.Forest.{Balanced};
 ghost use Rattle.yard_core.specs.Stock.{forest_and_history};
 ghost use Rattle.stock_core.specs.Sound.{SerialsStandOnce};
-ghost use Rattle.desk_core.specs.Machine.{Accepts, AreDrawn, Decides, IsSoundState, answer_of, answered, answers_of, checks, effect, entries_in, entries_of, ids_of, open_parts, run, start, told, with_answer};
+ghost use Rattle.desk_core.specs.Machine.{Accepts, AreDrawn, Decides, IsSoundState, answer_of, answered, answers_of, checks, effect, entries_in, entries_of, ids_of, run, start, told, with_answer};
 ghost use Rattle.desk_core.specs.Shops.{kept_state, state_of};
 
 use crate::accepted::Accepted;
@@ -20,8 +20,9 @@ use crate::key::Key;
 use crate::texts::command_text;
 use alloc_core::{Allocations, alloc_command};
 use bom_core::{Boms, bom_command};
+use build_core::{Builds, build_command};
 use order_core::{Orders, order_command};
-use part_core::{Answer, Catalogue, CoreFault, Counter, Id, Limits, Refusal, Sheet, part_command};
+use part_core::{Answer, Catalogue, CoreFault, Counter, Limits, Refusal, Sheet, part_command};
 use std::alloc::{AllocError, Global};
 use stock_core::stock_command;
 use yard_core::{Yard, yard_command};
@@ -30,14 +31,15 @@ mod assemble;
 
 pub use assemble::{AssembleFault, Tables};
 
-/// All that a desk holds: the catalogue, the bills, the yard, the allocations, the orders, the counter and the answers
-/// that are kept.
+/// All that a desk holds: the catalogue, the bills, the yard, the allocations, the orders, the builds, the counter and
+/// the answers that are kept.
 pub struct Shop {
     catalogue: Catalogue,
     boms: Boms,
     yard: Yard,
     allocations: Allocations,
     orders: Orders,
+    builds: Builds,
     counter: Counter,
     answers: Sheet<Kept>,
     alloc: Global,
@@ -52,6 +54,7 @@ impl Drop for Shop {
             yard: _,
             allocations: _,
             orders: _,
+            builds: _,
             counter: _,
             answers: _,
             alloc: _,
@@ -72,6 +75,7 @@ impl Shop {
             yard: Yard::new(alloc),
             allocations: Allocations::new(alloc),
             orders: Orders::new(alloc),
+            builds: Builds::new(alloc),
             counter: Counter::new(limits),
             answers: Sheet::new(alloc),
             alloc,
@@ -99,7 +103,7 @@ impl Shop {
         &self.yard
     }
 
-    /// What of items is meant for orders.
+    /// What of items is meant for orders and builds.
     pub fn allocations(&self) -> &Allocations
         ensures { result.now ≡ self.now.allocations }
     {
@@ -111,6 +115,13 @@ impl Shop {
         ensures { result.now ≡ self.now.orders }
     {
         &self.orders
+    }
+
+    /// The builds.
+    pub fn builds(&self) -> &Builds
+        ensures { result.now ≡ self.now.builds }
+    {
+        &self.builds
     }
 
     /// The counter of row numbers.
@@ -125,13 +136,6 @@ impl Shop {
         ensures { result.now ≡ self.now.answers }
     {
         &self.answers
-    }
-
-    /// The parts with an open build: no command opens one yet.
-    fn open_parts(&self) -> &'static [Id]
-        ensures { result.now ≡ open_parts (state_of self.now) }
-    {
-        &[]
     }
 
     /// Does the command by the machine of the crate that has it.
@@ -153,13 +157,13 @@ impl Shop {
                 command,
             ),
             Command::Bom(command) => {
-                let open = self.open_parts();
+                let open = self.builds.open_parts()?;
                 bom_command::act(
                     self.alloc,
                     &self.catalogue,
                     &mut self.boms,
                     &mut self.counter,
-                    open,
+                    open.as_slice(),
                     command,
                 )
             }
@@ -183,6 +187,17 @@ impl Shop {
                 self.alloc,
                 &self.catalogue,
                 &mut self.orders,
+                &mut self.allocations,
+                &mut self.yard,
+                &mut self.counter,
+                request.day,
+                command,
+            ),
+            Command::Build(command) => build_command::act(
+                self.alloc,
+                &self.catalogue,
+                &self.boms,
+                &mut self.builds,
                 &mut self.allocations,
                 &mut self.yard,
                 &mut self.counter,
@@ -249,6 +264,7 @@ impl Shop {
         self.yard.keep();
         self.allocations.keep();
         self.orders.keep();
+        self.builds.keep();
         self.counter.keep();
         self.answers.keep();
     }
@@ -263,6 +279,7 @@ impl Shop {
         self.yard.back();
         self.allocations.back();
         self.orders.back();
+        self.builds.back();
         self.counter.back();
         self.answers.back();
     }

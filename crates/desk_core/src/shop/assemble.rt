@@ -7,7 +7,8 @@ ghost use Rattle.std.specs.Prelude.{◌≡◌, ◌↔◌, ◌∷◌, [], IsTrue,
 ghost use Rattle.part_core.specs.Counter.{kept_numbering, numbering_of, resumed};
 ghost use Rattle.part_core.specs.Filled.{StandUnderKeys, filled};
 ghost use Rattle.part_core.specs.Sheet.{now_of};
-ghost use Rattle.desk_core.specs.Assembled.{AreKeys, AreSoundTables, HasSoundBooks, HasSoundOrders, state_from};
+ghost use Rattle.desk_core.specs.Assembled.{AreKeys, AreSoundTables, HasSoundBooks, HasSoundOwners, state_from};
+ghost use Rattle.desk_core.specs.Machine.{owners_in};
 ghost use Rattle.desk_core.specs.Shops.{kept_state, state_of};
 
 use crate::kept::Kept;
@@ -15,10 +16,11 @@ use crate::laws::are_keys;
 use crate::shop::Shop;
 use alloc_core::{Allocation, Allocations};
 use bom_core::{Boms, Line, Substitute};
-use order_core::{Order, OrderLine, Orders, are_for_sales};
+use build_core::{Build, Builds};
+use order_core::{Order, OrderLine, Orders};
 use part_core::{Catalogue, Category, Counter, Id, Limits, Part, Sheet};
 use std::alloc::{AllocError, Global};
-use stock_core::is_sound_stock;
+use stock_core::{KnowsOwners, is_sound_stock};
 use yard_core::{Entry, Item, Location, Yard};
 
 /// What a file's tables tell: the rows of each, in the order of the key, and the row of the counter.
@@ -34,6 +36,7 @@ pub struct Tables {
     pub allocations: Vec<Allocation>,
     pub orders: Vec<Order>,
     pub order_lines: Vec<OrderLine>,
+    pub builds: Vec<Build>,
     pub answers: Vec<Kept>,
     /// The number that is drawn next.
     pub next: Id,
@@ -74,6 +77,19 @@ fn answers_from(alloc: Global, rows: Vec<Kept>) -> Result<Sheet<Kept>, AllocErro
     Sheet::filled(alloc, rows)
 }
 
+/// The orders and the builds that places name.
+impl KnowsOwners for Shop {
+    ghost owners_of = { λ shop. owners_in (state_of shop) };
+
+    fn is_order(&self, number: Id) -> bool {
+        self.orders.order(number).is_some()
+    }
+
+    fn is_build(&self, number: Id) -> bool {
+        self.builds.has_build(number)
+    }
+}
+
 impl Shop {
     /// The shop of these rows. An error is one of memory.
     fn of_rows(alloc: Global, tables: Tables, counter: Counter) -> Result<Shop, AllocError>
@@ -89,26 +105,28 @@ impl Shop {
         let yard = Yard::assemble(alloc, tables.locations, tables.items, tables.history)?;
         let allocations = Allocations::assemble(alloc, tables.allocations)?;
         let orders = Orders::assemble(alloc, tables.orders, tables.order_lines)?;
+        let builds = Builds::assemble(alloc, tables.builds)?;
         Ok(Shop {
             catalogue,
             boms,
             yard,
             allocations,
             orders,
+            builds,
             counter,
             answers,
             alloc,
         })
     }
 
-    /// Whether the allocations and the orders are sound.
-    fn has_sound_orders(&self) -> bool
+    /// Whether the allocations, and the orders and the builds that they are for, are sound. An error is one of memory.
+    fn has_sound_owners(&self) -> Result<bool, AllocError>
         requires items { StandUnderKeys (λ x. x.number ∷ []) (state_of self.now).stock.items }
         requires orders { StandUnderKeys (λ o. o.number ∷ []) (state_of self.now).orders }
-        ensures { IsTrue result ↔ HasSoundOrders (state_of self.now) }
+        ensures { IfOk result (λ sound. IsTrue sound ↔ HasSoundOwners (state_of self.now)) }
     {
         if !self.allocations.is_sound(&self.yard, &self.counter) {
-            return false;
+            return Ok(false);
         }
         let orders = self.orders.is_sound(
             &self.catalogue,
@@ -117,12 +135,18 @@ impl Shop {
             &self.counter,
         );
         if !orders {
-            return false;
+            return Ok(false);
         }
-        are_for_sales(&self.allocations)
+        self.builds.is_sound(
+            &self.catalogue,
+            &self.boms,
+            &self.allocations,
+            &self.yard,
+            &self.counter,
+        )
     }
 
-    /// Whether the bills, the stock, the allocations and the orders are sound. An error is one of memory.
+    /// Whether the bills, the stock, the allocations, the orders and the builds are sound. An error is one of memory.
     fn is_sound(&self) -> Result<bool, AllocError>
         requires history { StandUnderKeys (λ e. e.number ∷ []) (state_of self.now).stock.history }
         requires orders { StandUnderKeys (λ o. o.number ∷ []) (state_of self.now).orders }
@@ -132,17 +156,11 @@ impl Shop {
         if !bills {
             return Ok(false);
         }
-        let stock = is_sound_stock(
-            self.alloc,
-            &self.orders,
-            &self.catalogue,
-            &self.yard,
-            &self.counter,
-        )?;
+        let stock = is_sound_stock(self.alloc, self, &self.catalogue, &self.yard, &self.counter)?;
         if !stock {
             return Ok(false);
         }
-        Ok(self.has_sound_orders())
+        self.has_sound_owners()
     }
 
     /// The shop of these rows, which are those that are kept, where they are the tables of a sound state.

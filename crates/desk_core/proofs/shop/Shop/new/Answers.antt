@@ -10,5 +10,6 @@ returns-clause-sound c = rw (
   c.new-5.ensures.orders,
   c.new-5.ensures.lines,
   c.new-6.ensures.now,
-  c.new-7.ensures.rows,
+  c.new-7.ensures.now,
+  c.new-8.ensures.rows,
 ) (start-sound c.args.limits)
