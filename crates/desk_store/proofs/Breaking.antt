@@ -30,7 +30,7 @@ broken-none Items trees none s sound next tables = none s.stock.items (tables It
 broken-none History trees none s sound next tables = none s.stock.history (tables History)
 broken-none Orders trees none s sound next tables = none s.orders (tables Orders)
 broken-none OrderLines trees none s sound next tables = none s.order_lines (tables OrderLines)
-broken-none Builds trees none s sound next tables = absurd none
+broken-none Builds trees none s sound next tables = none s.builds (tables Builds)
 broken-none Allocations trees none s sound next tables = none s.allocations (tables Allocations)
 broken-none Kept trees none s sound next tables = none s.answers (answers-own s sound) (tables Kept)
 

@@ -75,7 +75,7 @@ module _ (trees : Trees) (t : Tables) (are : AreTables trees t) where
   tables-are sound History = are.sheets.stock.history_are.its.table_of
   tables-are sound Orders = are.sheets.orders.0.orders_are.its.table_of
   tables-are sound OrderLines = are.sheets.orders.0.lines_are.its.table_of
-  tables-are sound Builds = are.sheets.orders.1.builds
+  tables-are sound Builds = are.sheets.orders.1.builds_are.its.table_of
   tables-are sound Allocations = are.sheets.orders.1.allocations_are.its.table_of
   tables-are sound Kept = are.sheets.answers.table_of
 
@@ -113,6 +113,9 @@ module _ (trees : Trees) (t : Tables) (are : AreTables trees t) where
     same-order-lines : s.order_lines ≡ (state_from t).order_lines
     same-order-lines = are.sheets.orders.0.lines_are.its.only s.order_lines (own_keys _ _ _ sound.orders.lines) (has OrderLines)
 
+    same-builds : s.builds ≡ (state_from t).builds
+    same-builds = are.sheets.orders.1.builds_are.its.only s.builds (own_keys _ _ _ sound.builds.rows) (has Builds)
+
     same-allocations : s.allocations ≡ (state_from t).allocations
     same-allocations = are.sheets.orders.1.allocations_are.its.only s.allocations (own_keys _ _ _ sound.allocations.rows) (has Allocations)
 
@@ -136,6 +139,7 @@ module _ (trees : Trees) (t : Tables) (are : AreTables trees t) where
         let allocations = same-allocations in
         let orders = same-orders in
         let lines = same-order-lines in
+        let builds = same-builds in
         let counter = same-counter in
         let answers = same-answers in
         λ i. record {
@@ -145,6 +149,7 @@ module _ (trees : Trees) (t : Tables) (are : AreTables trees t) where
           allocations = allocations i;
           orders = orders i;
           order_lines = lines i;
+          builds = builds i;
           counter = counter i;
           answers = answers i;
         }

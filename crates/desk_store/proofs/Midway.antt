@@ -1,12 +1,11 @@
 -- How the tables of a transaction go over from one state to another.
-use Rattle.std.proofs.Common.{List, ◌≡◌, ◌≢◌, ◌⊎◌, inl, inr, ℕ, ◌+◌, ◌<◌, ◌≤◌, Bool, true, false, get_or, Result, Ok, Err, OnOk, OnErr, IfErr, refl, sym, ap, ◌∙◌, subst, arith, IsTrue}
+use Rattle.std.proofs.Common.{◌≡◌, ◌≢◌, ◌⊎◌, inl, inr, ℕ, ◌+◌, ◌<◌, ◌≤◌, Bool, true, false, get_or, Result, Ok, Err, OnOk, OnErr, IfErr, refl, sym, ap, ◌∙◌, subst, arith, IsTrue}
 use Rattle.std.proofs.lemmas.Bool.{cases_lt}
 use Rattle.std.specs.Result.{IsErrAnd}
 use Rattle.sqlite.proofs.StateLemmas.{survives_then}
 use Rattle.sqlite.specs.State as sqlite
 use Rattle.sqlite.specs.State.{IsRolledBack, IsUnchanged, KeepsCommit, Shows}
 use Rattle.sqlite.specs.Effect.{Database}
-use Rattle.sqlite.specs.Order.{Row}
 use Rattle.sqlite.specs.Tree.{Trees}
 use Rattle.sqlite_trees.specs.View.{IsShaped}
 use Rattle.sqlite_trees.specs.declared.store.Shape.TheVariants.{Table}
@@ -88,19 +87,6 @@ one_written old new table d e way wrote is = one_more old new table d e way ((wr
 
 pub survives_same : (d : sqlite.State) → sqlite.Survives d d (λ _. ⊥)
 survives_same d = record { clean = omega arith; shield = λ s. s; counts = omega arith; limit = refl; closes = λ clean up. inl up; crash = λ clean db may. inl may }
-
--- nothing is written of a table that has the same rows in both states
-pub none_written : (old new : State) (table given : TableName) (d : sqlite.State) → table ≡ given → ((tree : List Row) → IsTableIn old given tree → IsTableIn new given tree)
-    → (sqlite.HasCleanDisk d → IsUnderWay old new (position table) d) → Goes old new (position table + 1) d d (Ok tt)
-none_written old new table given d is same way = record {
-  under_way = λ clean.
-      let here = way clean in
-      one_more old new table d d here here.ready (λ other differs. refl)
-      (subst (λ t. IsTableIn new t (tree_of t d)) (sym is) (same (tree_of given d) (subst (λ t. IsTableIn old t (tree_of t d)) is (here.midway.left table (omega arith)))));
-  commit = λ clean. record { was_open = λ up. up; committed = λ up. refl };
-  fault = tt;
-  crash = survives_same d;
-}
 
 -- ---- the first and the last
 

@@ -23,14 +23,16 @@ use Rattle.alloc_core.specs.declared.allocation.Allocation.{Allocation}
 use Rattle.order_core.specs.OrderColumns as orders
 use Rattle.order_core.specs.declared.line.OrderLine.{OrderLine}
 use Rattle.order_core.specs.declared.order.Order.{Order}
+use Rattle.build_core.specs.BuildColumns.{build_columns, build_from}
+use Rattle.build_core.specs.declared.build.Build.{Build}
 use Rattle.yard_core.proofs.OwnKeys.{keyed-own}
 use Rattle.desk_core.specs.Machine.{State}
 use Rattle.desk_core.specs.Shops.{kept_state, state_of}
 use Rattle.desk_core.specs.declared.shop.Shop.{Shop}
 use Rattle.desk_store.specs.Saving.{IsSheetIn, MayFollow}
-use Rattle.desk_store.proofs.Suiting.{allocation-suits, category-suits, entry-suits, item-suits, line-suits, location-suits, order-line-suits, order-suits, part-suits, substitute-suits}
+use Rattle.desk_store.proofs.Suiting.{allocation-suits, build-suits, category-suits, entry-suits, item-suits, line-suits, location-suits, order-line-suits, order-suits, part-suits, substitute-suits}
 use Rattle.table_store.specs.declared.name.TableName.{TableName}
-use Rattle.table_store.specs.declared.name.TableName.TheVariants.{Categories, Locations, Parts, Lines, Substitutes, Items, History, Orders, OrderLines, Allocations}
+use Rattle.table_store.specs.declared.name.TableName.TheVariants.{Categories, Locations, Parts, Lines, Substitutes, Items, History, Orders, OrderLines, Builds, Allocations}
 
 -- rows that stand right stand under their numbers
 pub own_keys : {X : Type 0} (number : X → ℕ) (next : ℕ) (t : Table X) → StandRight number next t → StandUnderKeys (λ x. number x ∷ []) t
@@ -129,6 +131,16 @@ module _ (shop : Shop) (f : MayFollow (kept_state shop) (state_of shop)) where
     own = (own_keys (λ (x : OrderLine). x.number) _ _ f.after.orders.lines, own_keys (λ (x : OrderLine). x.number) _ _ f.before.orders.lines);
     small = (f.small_after.order_lines, f.small_before.order_lines);
     stays = inr f.stays.order_lines;
+    was = λ tree h. h;
+    is = λ tree h. h;
+  }
+
+  pub build-sheet : IsSheetIn build_from build_columns (λ (x : Build). x.number ∷ []) number_digits (kept_state shop) (state_of shop) Builds shop.builds.rows
+  build-sheet = record {
+    suits = build-suits;
+    own = (own_keys (λ (x : Build). x.number) _ _ f.after.builds.rows, own_keys (λ (x : Build). x.number) _ _ f.before.builds.rows);
+    small = (f.small_after.builds, f.small_before.builds);
+    stays = inr f.stays.builds;
     was = λ tree h. h;
     is = λ tree h. h;
   }

@@ -20,6 +20,7 @@ use Rattle.forest.specs.ItemColumns.{item_columns, item_from}
 use Rattle.yard_core.specs.LocationColumns.{location_columns, location_from}
 use Rattle.alloc_core.specs.AllocationColumns.{allocation_columns, allocation_from}
 use Rattle.order_core.specs.OrderColumns as orders
+use Rattle.build_core.specs.BuildColumns.{build_columns, build_from}
 use Rattle.desk_core.specs.KeptColumns.{kept_columns, kept_from}
 use Rattle.desk_core.specs.Machine.{start}
 use Rattle.desk_store.specs.Books.{TablesAre}
@@ -58,7 +59,7 @@ started limits d e fresh wrote meta = record { ready = ((wrote.tables, wrote.sho
     each_one History = no_rows entry_from entry_columns History (tree_of History e) (wrote.others History (λ e. cc) ∙ fresh.empty History)
     each_one Orders = no_rows orders.order_from orders.order_columns Orders (tree_of Orders e) (wrote.others Orders (λ e. cc) ∙ fresh.empty Orders)
     each_one OrderLines = no_rows orders.line_from orders.line_columns OrderLines (tree_of OrderLines e) (wrote.others OrderLines (λ e. cc) ∙ fresh.empty OrderLines)
-    each_one Builds = wrote.others Builds (λ e. cc) ∙ fresh.empty Builds
+    each_one Builds = no_rows build_from build_columns Builds (tree_of Builds e) (wrote.others Builds (λ e. cc) ∙ fresh.empty Builds)
     each_one Allocations = no_rows allocation_from allocation_columns Allocations (tree_of Allocations e) (wrote.others Allocations (λ e. cc) ∙ fresh.empty Allocations)
     each_one Kept = no_rows kept_from kept_columns Kept (tree_of Kept e) (wrote.others Kept (λ e. cc) ∙ fresh.empty Kept)
 

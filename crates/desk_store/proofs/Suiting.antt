@@ -21,6 +21,8 @@ use Rattle.alloc_core.specs.declared.allocation.Allocation.{Allocation}
 use Rattle.order_core.specs.OrderColumns as orders
 use Rattle.order_core.specs.declared.line.OrderLine.{OrderLine}
 use Rattle.order_core.specs.declared.order.Order.{Order}
+use Rattle.build_core.specs.BuildColumns.{build_columns}
+use Rattle.build_core.specs.declared.build.Build.{Build}
 use Rattle.desk_core.specs.KeptColumns.{kept_columns}
 use Rattle.desk_core.specs.declared.kept.Kept.{Kept as KeptRow}
 use Rattle.desk_store.specs.MetaColumns.{meta_columns}
@@ -28,7 +30,7 @@ use Rattle.desk_store.specs.declared.meta.MetaRow.{MetaRow}
 use Rattle.table_store.specs.Stored.{value_of}
 use Rattle.table_store.specs.Values.{Takes}
 use Rattle.table_store.specs.Written.{Suits, SuitKept}
-use Rattle.table_store.specs.declared.name.TableName.TheVariants.{Meta, Categories, Locations, Parts, Lines, Substitutes, Items, History, Orders, OrderLines, Allocations}
+use Rattle.table_store.specs.declared.name.TableName.TheVariants.{Meta, Categories, Locations, Parts, Lines, Substitutes, Items, History, Orders, OrderLines, Builds, Allocations}
 
 number-fits : (number : Option ℕ) → Takes Integer false (value_of (number_or_absent number))
 number-fits None = tt
@@ -105,6 +107,13 @@ pub order-line-suits : Suits orders.line_columns (λ (l : OrderLine). l.number �
 order-line-suits = record {
   numbered = λ l. (l.number, _, refl, refl);
   fits = λ l. (tt, (tt, (tt, (tt, tt))));
+  keys = λ n. refl;
+}
+
+pub build-suits : Suits build_columns (λ (b : Build). b.number ∷ []) number_digits Builds
+build-suits = record {
+  numbered = λ b. (b.number, _, refl, refl);
+  fits = λ b. (tt, (tt, (tt, (tt, tt))));
   keys = λ n. refl;
 }
 

@@ -1,5 +1,5 @@
 -- The books of a desk: which tables of the file hold a state of the machine, and what a crash leaves of them.
-use Rattle.std.specs.Prelude.{◌≡◌, List, []}
+use Rattle.std.specs.Prelude.{List}
 use Rattle.sqlite.specs.Order.{Row}
 use Rattle.sqlite.specs.State as sqlite
 use Rattle.sqlite.specs.Tree.{Trees}
@@ -11,6 +11,7 @@ use Rattle.forest.specs.ItemColumns.{item_columns, item_from}
 use Rattle.yard_core.specs.LocationColumns.{location_columns, location_from}
 use Rattle.alloc_core.specs.AllocationColumns.{allocation_columns, allocation_from}
 use Rattle.order_core.specs.OrderColumns as orders
+use Rattle.build_core.specs.BuildColumns.{build_columns, build_from}
 use Rattle.desk_core.specs.KeptColumns.{kept_columns, kept_from}
 use Rattle.desk_core.specs.Machine.{State}
 use Rattle.desk_store.specs.MetaColumns.{meta_columns, meta_from, meta_of, only}
@@ -21,8 +22,7 @@ use Rattle.table_store.specs.Written.{IsTableOf}
 use Rattle.table_store.specs.declared.name.TableName.{TableName}
 use Rattle.table_store.specs.declared.name.TableName.TheVariants.{Meta, Categories, Locations, Parts, Lines, Substitutes, Items, History, Orders, OrderLines, Builds, Allocations, Kept}
 
--- the tree is this table of the state: the rows of its sheet, read as they are, or the one row of `meta`; no build is made
--- yet
+-- the tree is this table of the state: the rows of its sheet, read as they are, or the one row of `meta`
 abbrev pub IsTableIn : State → TableName → List Row → Type 0
 IsTableIn s Meta tree = IsTableOf meta_from meta_columns Meta tree (only (meta_of s))
 IsTableIn s Categories tree = IsTableOf category_from category_columns Categories tree s.parts.categories
@@ -34,7 +34,7 @@ IsTableIn s Items tree = IsTableOf item_from item_columns Items tree s.stock.ite
 IsTableIn s History tree = IsTableOf entry_from entry_columns History tree s.stock.history
 IsTableIn s Orders tree = IsTableOf orders.order_from orders.order_columns Orders tree s.orders
 IsTableIn s OrderLines tree = IsTableOf orders.line_from orders.line_columns OrderLines tree s.order_lines
-IsTableIn s Builds tree = tree ≡ []
+IsTableIn s Builds tree = IsTableOf build_from build_columns Builds tree s.builds
 IsTableIn s Allocations tree = IsTableOf allocation_from allocation_columns Allocations tree s.allocations
 IsTableIn s Kept tree = IsTableOf kept_from kept_columns Kept tree s.answers
 

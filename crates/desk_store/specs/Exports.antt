@@ -16,6 +16,7 @@ use Rattle.forest.specs.ItemColumns.{item_columns}
 use Rattle.yard_core.specs.LocationColumns.{location_columns}
 use Rattle.alloc_core.specs.AllocationColumns.{allocation_columns}
 use Rattle.order_core.specs.OrderColumns as orders
+use Rattle.build_core.specs.BuildColumns.{build_columns}
 use Rattle.desk_core.specs.KeptColumns.{kept_columns}
 use Rattle.desk_core.specs.Machine.{State}
 use Rattle.desk_store.specs.MetaColumns.{meta_columns, meta_of}
@@ -65,7 +66,7 @@ rows_text Items s = sheet_lines item_columns s.stock.items
 rows_text History s = sheet_lines entry_columns s.stock.history
 rows_text Orders s = sheet_lines orders.order_columns s.orders
 rows_text OrderLines s = sheet_lines orders.line_columns s.order_lines
-rows_text Builds s = []
+rows_text Builds s = sheet_lines build_columns s.builds
 rows_text Allocations s = sheet_lines allocation_columns s.allocations
 rows_text Kept s = sheet_lines kept_columns s.answers
 

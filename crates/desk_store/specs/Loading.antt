@@ -22,6 +22,8 @@ use Rattle.alloc_core.specs.declared.allocation.Allocation.{Allocation}
 use Rattle.order_core.specs.OrderColumns as orders
 use Rattle.order_core.specs.declared.line.OrderLine.{OrderLine}
 use Rattle.order_core.specs.declared.order.Order.{Order}
+use Rattle.build_core.specs.BuildColumns.{build_columns, build_from}
+use Rattle.build_core.specs.declared.build.Build.{Build}
 use Rattle.desk_core.specs.KeptColumns.{kept_columns, kept_from}
 use Rattle.desk_core.specs.Machine as machine
 use Rattle.desk_core.specs.Shops.{state_of}
@@ -75,9 +77,8 @@ pub record AreOrderRows (trees : Trees) (orders_in : List Order) (lines : List O
   pub orders_are : AreTheRows orders.order_from orders.order_columns (λ row. row.number ∷ []) Orders (trees (position Orders)) orders_in
   pub lines_are : AreTheRows orders.line_from orders.line_columns (λ row. row.number ∷ []) OrderLines (trees (position OrderLines)) lines
 
--- no build is made yet
-pub record AreAllocationRows (trees : Trees) (allocations : List Allocation) : Type 0 where
-  pub builds : trees (position Builds) ≡ []
+pub record AreBuildRows (trees : Trees) (builds : List Build) (allocations : List Allocation) : Type 0 where
+  pub builds_are : AreTheRows build_from build_columns (λ row. row.number ∷ []) Builds (trees (position Builds)) builds
   pub allocations_are : AreTheRows allocation_from allocation_columns (λ row. row.number ∷ []) Allocations (trees (position Allocations)) allocations
 
 abbrev pub AreAnswers : Trees → List KeptRow → Type 0
@@ -117,7 +118,7 @@ pub record AreSheets (trees : Trees) (t : Tables) : Type 0 where
   pub catalogue : ArePartRows trees t.categories.items t.parts.items
   pub bills : AreBillRows trees t.lines.items t.substitutes.items
   pub stock : AreStockRows trees t.locations.items t.items.items t.history.items
-  pub orders : AreOrderRows trees t.orders.items t.order_lines.items × AreAllocationRows trees t.allocations.items
+  pub orders : AreOrderRows trees t.orders.items t.order_lines.items × AreBuildRows trees t.builds.items t.allocations.items
   pub answers : AreAnswers trees t.answers.items
 
 -- these rows are those of the tables

@@ -11,6 +11,7 @@ use Rattle.forest.specs.ItemColumns.{item_columns, item_from}
 use Rattle.yard_core.specs.LocationColumns.{location_columns, location_from}
 use Rattle.alloc_core.specs.AllocationColumns.{allocation_columns, allocation_from}
 use Rattle.order_core.specs.OrderColumns as orders
+use Rattle.build_core.specs.BuildColumns.{build_columns, build_from}
 use Rattle.desk_core.specs.KeptColumns.{kept_columns, kept_from}
 use Rattle.desk_core.specs.Machine.{IsSoundState, State, start}
 use Rattle.desk_store.specs.Books.{TablesAre}
@@ -42,7 +43,7 @@ pub record IsOfOtherVersion (trees : Trees) : Type 0 where
 abbrev pub AreNoBooks : Trees → Type 0
 AreNoBooks trees = (s : State) → IsSoundState s → IsNext s.counter.limits s.counter.next → ¬ TablesAre s trees
 
--- the table is that of no rows of the machine, and `kept` of none that stand under their words; no build is made yet
+-- the table is that of no rows of the machine, and `kept` of none that stand under their words
 abbrev pub IsBroken : TableName → Trees → Type 0
 IsBroken Meta trees = IsTableOfNone meta_from meta_columns Meta (trees (position Meta))
 IsBroken Categories trees = IsTableOfNone category_from category_columns Categories (trees (position Categories))
@@ -54,7 +55,7 @@ IsBroken Items trees = IsTableOfNone item_from item_columns Items (trees (positi
 IsBroken History trees = IsTableOfNone entry_from entry_columns History (trees (position History))
 IsBroken Orders trees = IsTableOfNone orders.order_from orders.order_columns Orders (trees (position Orders))
 IsBroken OrderLines trees = IsTableOfNone orders.line_from orders.line_columns OrderLines (trees (position OrderLines))
-IsBroken Builds trees = ⊥
+IsBroken Builds trees = IsTableOfNone build_from build_columns Builds (trees (position Builds))
 IsBroken Allocations trees = IsTableOfNone allocation_from allocation_columns Allocations (trees (position Allocations))
 IsBroken Kept trees = IsTableOfNoneOwn kept_from kept_columns (λ row. row.word) Kept (trees (position Kept))
 

@@ -150,7 +150,7 @@ fn write_table(
         TableName::History => write_sheet(alloc, writer, shop.yard().journal()),
         TableName::Orders => write_sheet(alloc, writer, shop.orders().orders()),
         TableName::OrderLines => write_sheet(alloc, writer, shop.orders().lines()),
-        TableName::Builds => Ok(()),
+        TableName::Builds => write_sheet(alloc, writer, shop.builds().rows()),
         TableName::Allocations => write_sheet(alloc, writer, shop.allocations().rows()),
         TableName::Kept => write_sheet(alloc, writer, shop.answers()),
     }

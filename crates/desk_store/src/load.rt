@@ -2,16 +2,14 @@
 //!
 //! Each table is read whole, and none is changed. Whatever keeps the rows from being a desk's is told of the tables, so
 //! that a damaged file is one that no desk has left.
-ghost use Rattle.std.specs.Prelude.{◌≡◌, ◌∷◌, [], List, IfOk, IfErr};
+ghost use Rattle.std.specs.Prelude.{◌≡◌, ◌∷◌, [], IfOk, IfErr};
 ghost use Rattle.sqlite.specs.Held.{state};
 ghost use Rattle.sqlite.specs.State.{HasCleanDisk};
 ghost use Rattle.part_core.specs.Numbered.{number_digits};
-ghost use Rattle.sqlite.specs.Order.{Row};
 ghost use Rattle.sqlite.specs.Tree.{Trees};
-ghost use Rattle.desk_core.specs.Machine.{IsSoundState, State};
+ghost use Rattle.desk_core.specs.Machine.{IsSoundState};
 ghost use Rattle.desk_core.specs.Shops.{state_of};
-ghost use Rattle.desk_store.specs.Books.{IsTableIn};
-ghost use Rattle.desk_store.specs.Loading.{AreAllocationRows, AreAnswers, AreBillRows, AreBooksOf, AreOrderRows, ArePartRows, AreStockRows};
+ghost use Rattle.desk_store.specs.Loading.{AreAnswers, AreBillRows, AreBooksOf, AreBuildRows, AreOrderRows, ArePartRows, AreStockRows};
 ghost use Rattle.desk_store.specs.Loading.{AreSheets, AreTables, AreTheRows, IsMetaRow, IsNoMeta, Reads};
 ghost use Rattle.desk_store.specs.Opening.{IsBroken, IsOfOtherVersion, WhyBut, WhyUnread};
 ghost use Rattle.table_store.specs.Schema.{position};
@@ -22,12 +20,13 @@ use crate::fault::OpenFault;
 use crate::meta::MetaRow;
 use alloc_core::Allocation;
 use bom_core::{Line, Substitute};
+use build_core::Build;
 use desk_core::{AssembleFault, Kept, Shop, Tables};
 use order_core::{Order, OrderLine};
 use part_core::{Category, Limits, Part, Stored};
 use sqlite::{Alter, Connection};
 use std::alloc::Global;
-use table_store::{TableName, has_no_row, load_kept, load_sheet};
+use table_store::{TableName, load_kept, load_sheet};
 use yard_core::{Entry, Item, Location};
 
 /// The rows of a table under numbers.
@@ -60,20 +59,6 @@ fn load_answers<S: Alter>(alloc: Global, conn: &mut Connection<S>) -> Result<Vec
 {
     match load_kept::<S, Kept>(alloc, conn) {
         Ok(rows) => Ok(rows),
-        Err(fault) => Err(OpenFault::from(fault)),
-    }
-}
-
-/// That a table has no row. `Damaged` where it has one.
-fn check_bare<S: Alter>(conn: &mut Connection<S>, table: TableName) -> Result<(), OpenFault>
-    requires tables { HasCleanDisk (state S.Store conn.old) → HasTables (state S.Store conn.old) }
-    requires bare { (s : State) (tree : List Row) → IsTableIn s table tree → tree ≡ [] }
-    ensures { Reads (λ trees _. trees (position table) ≡ []) WhyUnread
-        (state S.Store conn.old) (state S.Store conn.new) result }
-{
-    match has_no_row(conn, table) {
-        Ok(true) => Ok(()),
-        Ok(false) => Err(OpenFault::Damaged(None)),
         Err(fault) => Err(OpenFault::from(fault)),
     }
 }
@@ -182,33 +167,33 @@ fn load_order_rows<S: Alter>(
     Ok((orders, lines))
 }
 
-/// The rows of the allocations. No build is made yet.
-fn load_allocations<S: Alter>(
+/// The rows of the builds and of the allocations.
+fn load_build_rows<S: Alter>(
     alloc: Global,
     conn: &mut Connection<S>,
-) -> Result<Vec<Allocation>, OpenFault>
+) -> Result<(Vec<Build>, Vec<Allocation>), OpenFault>
     requires { HasCleanDisk (state S.Store conn.old) → HasTables (state S.Store conn.old) }
-    ensures { Reads (λ trees rows. AreAllocationRows trees rows.items) WhyUnread
+    ensures { Reads (λ trees rows. AreBuildRows trees rows.0.items rows.1.items) WhyUnread
         (state S.Store conn.old) (state S.Store conn.new) result }
 {
-    check_bare(conn, TableName::Builds)?;
+    let builds = load_rows::<S, Build>(alloc, conn, TableName::Builds)?;
     let allocations = load_rows::<S, Allocation>(alloc, conn, TableName::Allocations)?;
-    Ok(allocations)
+    Ok((builds, allocations))
 }
 
-/// The rows of the orders, of their lines and of the allocations.
+/// The rows of the orders, of their lines, of the builds and of the allocations.
 fn load_orders<S: Alter>(
     alloc: Global,
     conn: &mut Connection<S>,
-) -> Result<(Vec<Order>, Vec<OrderLine>, Vec<Allocation>), OpenFault>
+) -> Result<(Vec<Order>, Vec<OrderLine>, Vec<Build>, Vec<Allocation>), OpenFault>
     requires { HasCleanDisk (state S.Store conn.old) → HasTables (state S.Store conn.old) }
     ensures { Reads (λ trees rows. AreOrderRows trees rows.0.items rows.1.items
-        × AreAllocationRows trees rows.2.items) WhyUnread
+        × AreBuildRows trees rows.2.items rows.3.items) WhyUnread
         (state S.Store conn.old) (state S.Store conn.new) result }
 {
     let (orders, lines) = load_order_rows(alloc, conn)?;
-    let allocations = load_allocations(alloc, conn)?;
-    Ok((orders, lines, allocations))
+    let (builds, allocations) = load_build_rows(alloc, conn)?;
+    Ok((orders, lines, builds, allocations))
 }
 
 /// The rows of all tables beside the row of the counter.
@@ -225,7 +210,7 @@ fn load_sheets<S: Alter>(
     ensures entries { IfOk result (λ tables. tables.entries ≡ row.entries) }
     ensures limits { IfOk result (λ tables. tables.limits ≡ limits) }
 {
-    let (orders, order_lines, allocations) = load_orders(alloc, conn)?;
+    let (orders, order_lines, builds, allocations) = load_orders(alloc, conn)?;
     let (categories, parts) = load_catalogue(alloc, conn)?;
     let (lines, substitutes) = load_bills(alloc, conn)?;
     let (locations, items, history) = load_stock(alloc, conn)?;
@@ -241,6 +226,7 @@ fn load_sheets<S: Alter>(
         allocations,
         orders,
         order_lines,
+        builds,
         answers,
         next: row.next,
         entries: row.entries,

@@ -80,7 +80,7 @@ fn write_answers<S: Alter>(
     write_kept::<S, Kept>(alloc, conn, shop.answers())
 }
 
-/// One table is written, where those before it are. No build is made yet: its table has no rows.
+/// One table is written, where those before it are.
 fn write_table<S: Alter>(
     alloc: Global,
     conn: &mut Connection<S>,
@@ -107,7 +107,7 @@ fn write_table<S: Alter>(
         TableName::History => write_sheet(alloc, conn, shop, table, shop.yard().journal()),
         TableName::Orders => write_sheet(alloc, conn, shop, table, shop.orders().orders()),
         TableName::OrderLines => write_sheet(alloc, conn, shop, table, shop.orders().lines()),
-        TableName::Builds => Ok(()),
+        TableName::Builds => write_sheet(alloc, conn, shop, table, shop.builds().rows()),
         TableName::Allocations => write_sheet(alloc, conn, shop, table, shop.allocations().rows()),
         TableName::Kept => write_answers(alloc, conn, shop),
     }

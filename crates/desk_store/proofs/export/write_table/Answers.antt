@@ -8,6 +8,7 @@ use Rattle.forest.specs.ItemColumns.{item_columns}
 use Rattle.yard_core.specs.LocationColumns.{location_columns}
 use Rattle.alloc_core.specs.AllocationColumns.{allocation_columns}
 use Rattle.order_core.specs.OrderColumns as orders
+use Rattle.build_core.specs.BuildColumns.{build_columns}
 use Rattle.desk_core.specs.KeptColumns.{kept_columns}
 use Rattle.desk_core.specs.Shops.{state_of}
 use Rattle.desk_store.specs.Exports.{row_line, rows_text, sheet_lines}
@@ -45,8 +46,11 @@ returns-in-Orders c = same_lines c.write_sheet-in-Orders.result c.args.writer.no
 pub returns-in-OrderLines : goal.returns-in-OrderLines
 returns-in-OrderLines c = same_lines c.write_sheet-in-OrderLines.result c.args.writer.now c.write_sheet-in-OrderLines.new.writer (sheet_lines orders.line_columns (now_of c.lines-in-OrderLines.result.now)) (rows_text c.args.table (state_of c.args.shop.now)) (rw c.in-OrderLines.is cc) c.write_sheet-in-OrderLines.ensures
 
+pub returns-in-Builds : goal.returns-in-Builds
+returns-in-Builds c = same_lines c.write_sheet-in-Builds.result c.args.writer.now c.write_sheet-in-Builds.new.writer (sheet_lines build_columns (now_of c.rows.result.now)) (rows_text c.args.table (state_of c.args.shop.now)) (rw c.in-Builds.is cc) c.write_sheet-in-Builds.ensures
+
 pub returns-in-Allocations : goal.returns-in-Allocations
-returns-in-Allocations c = same_lines c.write_sheet-in-Allocations.result c.args.writer.now c.write_sheet-in-Allocations.new.writer (sheet_lines allocation_columns (now_of c.rows.result.now)) (rows_text c.args.table (state_of c.args.shop.now)) (rw c.in-Allocations.is cc) c.write_sheet-in-Allocations.ensures
+returns-in-Allocations c = same_lines c.write_sheet-in-Allocations.result c.args.writer.now c.write_sheet-in-Allocations.new.writer (sheet_lines allocation_columns (now_of c.rows-in-Allocations.result.now)) (rows_text c.args.table (state_of c.args.shop.now)) (rw c.in-Allocations.is cc) c.write_sheet-in-Allocations.ensures
 
 pub returns-in-Kept : goal.returns-in-Kept
 returns-in-Kept c = same_lines c.write_sheet-in-Kept.result c.args.writer.now c.write_sheet-in-Kept.new.writer (sheet_lines kept_columns (now_of c.answers.result.now)) (rows_text c.args.table (state_of c.args.shop.now)) (rw c.in-Kept.is cc) c.write_sheet-in-Kept.ensures

@@ -2,8 +2,7 @@ use Rattle.std.proofs.Common.{ap, ◌∙◌, ◌+◌, subst, sym}
 use Rattle.sqlite.specs.Held.{state}
 use Rattle.desk_core.specs.Shops.{kept_state, state_of}
 use Rattle.desk_store.specs.Saving.{Goes, IsUnderWay}
-use Rattle.desk_store.proofs.Midway.{none_written}
-use Rattle.desk_store.proofs.Sheets.{allocation-sheet, at_table, category-sheet, entry-sheet, item-sheet, line-sheet, location-sheet, order-line-sheet, order-sheet, part-sheet, substitute-sheet}
+use Rattle.desk_store.proofs.Sheets.{allocation-sheet, at_table, build-sheet, category-sheet, entry-sheet, item-sheet, line-sheet, location-sheet, order-line-sheet, order-sheet, part-sheet, substitute-sheet}
 use Rattle.table_store.specs.Schema.{position}
 use Rattle.table_store.specs.declared.name.TableName.{TableName}
 use Rattle.table_store.specs.declared.name.TableName.TheVariants.{Categories, Locations, Parts, Lines, Substitutes, Items, History, Orders, OrderLines, Builds, Allocations}
@@ -36,8 +35,11 @@ write_sheet-requires-in-Orders-clause-sheet g c = at_table c.args.table Orders c
 pub write_sheet-requires-in-OrderLines-clause-sheet : goal.write_sheet-requires-in-OrderLines-clause-sheet
 write_sheet-requires-in-OrderLines-clause-sheet g c = at_table c.args.table OrderLines c.lines-in-OrderLines.result.now c.args.shop.now.orders.lines c.in-OrderLines.is (c.lines-in-OrderLines.ensures.value ∙ ap (λ k. k.lines) c.orders-in-OrderLines.ensures) (order-line-sheet c.args.shop.now c.requires.follows)
 
+pub write_sheet-requires-in-Builds-clause-sheet : goal.write_sheet-requires-in-Builds-clause-sheet
+write_sheet-requires-in-Builds-clause-sheet g c = at_table c.args.table Builds c.rows.result.now c.args.shop.now.builds.rows c.in-Builds.is (c.rows.ensures.value ∙ ap (λ k. k.rows) c.builds.ensures) (build-sheet c.args.shop.now c.requires.follows)
+
 pub write_sheet-requires-in-Allocations-clause-sheet : goal.write_sheet-requires-in-Allocations-clause-sheet
-write_sheet-requires-in-Allocations-clause-sheet g c = at_table c.args.table Allocations c.rows.result.now c.args.shop.now.allocations.rows c.in-Allocations.is (c.rows.ensures.value ∙ ap (λ k. k.rows) c.allocations.ensures) (allocation-sheet c.args.shop.now c.requires.follows)
+write_sheet-requires-in-Allocations-clause-sheet g c = at_table c.args.table Allocations c.rows-in-Allocations.result.now c.args.shop.now.allocations.rows c.in-Allocations.is (c.rows-in-Allocations.ensures.value ∙ ap (λ k. k.rows) c.allocations.ensures) (allocation-sheet c.args.shop.now c.requires.follows)
 
 pub write_counter-requires-clause-under_way : goal.write_counter-requires-clause-under_way
 write_counter-requires-clause-under_way g c clean =
@@ -54,6 +56,3 @@ write_answers-requires-clause-under_way g c clean =
 pub returns-in-Kept : goal.returns-in-Kept
 returns-in-Kept g c =
     subst (λ (t : TableName). Goes (kept_state c.args.shop.now) (state_of c.args.shop.now) (position t + 1) (state g.S.Store c.args.conn.now) (state g.S.Store c.write_answers.new.conn) c.write_answers.result) (sym c.in-Kept.is) c.write_answers.ensures
-
-pub returns-in-Builds : goal.returns-in-Builds
-returns-in-Builds g c = none_written (kept_state c.args.shop.now) (state_of c.args.shop.now) c.args.table Builds (state g.S.Store c.args.conn.now) c.in-Builds.is (λ tree none. none) c.requires.under_way
