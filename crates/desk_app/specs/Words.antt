@@ -57,7 +57,7 @@ is_path (first ∷ rest) = not (first == 45)
 
 -- the names that `report` and `export` take
 abbrev pub report_names : List Text
-report_names = codes "ledger" ∷ codes "stock" ∷ codes "where_used" ∷ codes "history" ∷ codes "content" ∷ []
+report_names = codes "ledger" ∷ codes "stock" ∷ codes "where_used" ∷ codes "history" ∷ codes "content" ∷ codes "shortage" ∷ []
 
 abbrev pub table_names : List Text
 table_names =

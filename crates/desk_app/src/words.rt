@@ -58,7 +58,14 @@ const REPORT_EXAMPLE: &str = "Example: invdesk report --db workshop.db ledger 2"
 const EXPORT_EXAMPLE: &str = "Example: invdesk export --db workshop.db items";
 
 /// The names of the reports.
-const REPORTS: [&str; 5] = ["ledger", "stock", "where_used", "history", "content"];
+const REPORTS: [&str; 6] = [
+    "ledger",
+    "stock",
+    "where_used",
+    "history",
+    "content",
+    "shortage",
+];
 
 /// The names of the tables.
 const TABLES: [&str; 13] = [
@@ -114,8 +121,10 @@ fn report_command<'a>(alloc: Global) -> Result<Command<'a>, AllocError>
 {
     let name = word(alloc, "name", "NAME")
         .value_parser(REPORTS.as_slice())
-        .help("Of a part, or the history or the content of an item");
-    let number = word(alloc, "number", "NUMBER").help("The number of the part or of the item");
+        .help("Of a part; history and content are of an item, shortage is of a build");
+    let number = word(alloc, "number", "NUMBER").help(
+        "The number of the part, the item or the build",
+    );
     Command::new(alloc, "report")
         .about("Prints a report")
         .after_help(REPORT_EXAMPLE)

@@ -1,18 +1,12 @@
 -- The content of an item: the item, and all that lies in it, each with its depth.
-use Rattle.std.specs.Prelude.{ℕ, List, [], ◌∷◌, map, decimal, Option, Some, None, option_map}
+use Rattle.std.specs.Prelude.{ℕ, List, [], ◌∷◌, map, decimal, Option, option_map}
 use Rattle.std.specs.FinMap as table
 use Rattle.part_core.specs.Catalogue.{Parts, part_in}
-use Rattle.part_core.specs.declared.part.Part.{Part}
 use Rattle.forest.specs.declared.item.Item.{Item}
 use Rattle.yard_core.specs.Contents.{content_of}
 use Rattle.desk_core.specs.Machine.{State}
-use Rattle.report_core.specs.Fields.{text_or_empty}
+use Rattle.report_core.specs.Fields.{name_of, text_or_empty}
 use Rattle.report_core.specs.Lines.{Lines}
-
--- the name of a part, empty where there is no such part
-abbrev pub name_of : Option Part → List ℕ
-name_of None = []
-name_of (Some part) = part.name
 
 -- an item, and its depth
 abbrev pub node_line : Parts → Item × ℕ → List (List ℕ)

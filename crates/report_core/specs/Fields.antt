@@ -1,5 +1,6 @@
 -- What stands in the fields of a report.
 use Rattle.std.specs.Prelude.{ℕ, List, [], ◌++◌, codes, decimal, Option, Some, None}
+use Rattle.part_core.specs.declared.part.Part.{Part}
 use Rattle.forest.specs.declared.entry.Kind.{Kind}
 use Rattle.forest.specs.declared.entry.Kind.TheVariants.{Received, Found, Built, Consumed, Shipped, Returned, Written, Moved, Cut, Poured, Installed, TakenOut, Marked}
 use Rattle.forest.specs.declared.place.Place.{Place}
@@ -42,3 +43,8 @@ place_text Gone = codes "gone"
 abbrev pub text_or_empty : Option (List ℕ) → List ℕ
 text_or_empty None = []
 text_or_empty (Some text) = text
+
+-- the name of a part, empty where there is no such part
+abbrev pub name_of : Option Part → List ℕ
+name_of None = []
+name_of (Some part) = part.name

@@ -5,5 +5,6 @@ pub mod Ledger
 pub mod Lines
 pub mod Names
 pub mod Reports
+pub mod Shortage
 pub mod Stock
 pub mod WhereUsed

@@ -1,30 +1,17 @@
 //! The content of an item: the item, and all that lies in it, each with its depth.
 ghost use Rattle.std.specs.Prelude.{◌≡◌, ◌∷◌, map, IfOk};
-ghost use Rattle.std.specs.String.{string_bytes};
-ghost use Rattle.part_core.specs.Catalogue.{part_in};
 ghost use Rattle.part_core.specs.Catalogues.{parts_of};
 ghost use Rattle.yard_core.specs.Contents.{shown_content};
 ghost use Rattle.desk_core.specs.Shops.{state_of};
-ghost use Rattle.report_core.specs.Content.{content_lines, name_of, node_line};
+ghost use Rattle.report_core.specs.Content.{content_lines, node_line};
 ghost use Rattle.report_core.specs.Lines.{Gives, fields_of, lines_of};
 
-use crate::fields::{number_field, serial_field};
+use crate::fields::{name_field, number_field, serial_field};
 use crate::lines::Report;
 use desk_core::Shop;
 use part_core::{Catalogue, CoreFault, Refusal};
 use std::alloc::{AllocError, Global};
 use yard_core::{Inside, Item};
-
-/// The name of the part of that number, or nothing where there is none.
-fn name_field(alloc: Global, catalogue: &Catalogue, number: u64) -> Result<String, AllocError>
-    ensures { IfOk result (λ text.
-        string_bytes text ≡ name_of (part_in number (parts_of catalogue.now))) }
-{
-    match catalogue.part(number) {
-        Some(part) => String::from_str(alloc, part.name.as_str()),
-        None => Ok(String::new(alloc)),
-    }
-}
 
 fn node_line(
     alloc: Global,

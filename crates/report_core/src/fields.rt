@@ -1,9 +1,11 @@
 //! What stands in the fields of a report.
 ghost use Rattle.std.specs.Prelude.{◌≡◌, decimal, IfOk};
 ghost use Rattle.std.specs.String.{string_bytes};
-ghost use Rattle.report_core.specs.Fields.{kind_name, place_text, reason_name, text_or_empty};
+ghost use Rattle.part_core.specs.Catalogue.{part_in};
+ghost use Rattle.part_core.specs.Catalogues.{parts_of};
+ghost use Rattle.report_core.specs.Fields.{kind_name, name_of, place_text, reason_name, text_or_empty};
 
-use part_core::{Batch, Serial};
+use part_core::{Batch, Catalogue, Serial};
 use std::alloc::{AllocError, Global};
 use yard_core::{Kind, Place, Reason};
 
@@ -46,6 +48,13 @@ pub fn number_field(alloc: Global, number: u64) -> Result<String, AllocError>
     format!(in alloc; "{number}")
 }
 
+/// An amount's digits.
+pub fn amount_field(alloc: Global, amount: u128) -> Result<String, AllocError>
+    ensures { IfOk result (λ text. string_bytes text ≡ decimal amount) }
+{
+    format!(in alloc; "{amount}")
+}
+
 /// A place, with the number of the row that it names.
 pub fn place_field(alloc: Global, place: Place) -> Result<String, AllocError>
     ensures { IfOk result (λ text. string_bytes text ≡ place_text place) }
@@ -80,6 +89,17 @@ pub fn serial_field(alloc: Global, serial: &Option<Serial>) -> Result<String, Al
 {
     match serial {
         Some(serial) => String::from_str(alloc, serial.as_str()),
+        None => Ok(String::new(alloc)),
+    }
+}
+
+/// The name of the part of that number, or nothing where there is none.
+pub fn name_field(alloc: Global, catalogue: &Catalogue, number: u64) -> Result<String, AllocError>
+    ensures { IfOk result (λ text.
+        string_bytes text ≡ name_of (part_in number (parts_of catalogue.now))) }
+{
+    match catalogue.part(number) {
+        Some(part) => String::from_str(alloc, part.name.as_str()),
         None => Ok(String::new(alloc)),
     }
 }

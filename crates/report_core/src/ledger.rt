@@ -5,7 +5,7 @@ ghost use Rattle.desk_core.specs.Shops.{state_of};
 ghost use Rattle.report_core.specs.Ledger.{amount_line, ledger_lines, ledger_of};
 ghost use Rattle.report_core.specs.Lines.{Gives, fields_of, lines_of};
 
-use crate::fields::number_field;
+use crate::fields::{amount_field, number_field};
 use crate::lines::Report;
 use desk_core::Shop;
 use part_core::{CoreFault, Refusal};
@@ -16,7 +16,7 @@ fn amount_line(alloc: Global, name: &str, amount: u128) -> Result<Vec<String>, A
     ensures { IfOk result (λ line. fields_of line ≡ amount_line name.now amount) }
 {
     let name = String::from_str(alloc, name)?;
-    let amount = format!(in alloc; "{amount}")?;
+    let amount = amount_field(alloc, amount)?;
     Ok(vec![in alloc; name, amount]?)
 }
 

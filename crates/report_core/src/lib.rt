@@ -1,4 +1,4 @@
-//! Reports: what a shop shows of a part or an item, as lines of fields.
+//! Reports: what a shop shows of a part, an item or a build, as lines of fields.
 #![tactic(auto)]
 
 pub mod content;
@@ -8,6 +8,7 @@ pub mod ledger;
 mod lines;
 mod name;
 mod reports;
+pub mod shortage;
 pub mod stock;
 pub mod where_used;
 

@@ -2,7 +2,8 @@
 ghost use Rattle.std.specs.Prelude.{◌≡◌};
 ghost use Rattle.report_core.specs.Names.{report_named};
 
-/// Which report is asked for. The number beside it is a part's, for a history and for a content an item's.
+/// Which report is asked for. The number beside it is a part's, for a history and for a content an item's, and for a
+/// shortage a build's.
 #[derive(Clone, Copy, Debug, PartialEq, Eq)]
 pub enum ReportName {
     Ledger,
@@ -10,6 +11,7 @@ pub enum ReportName {
     WhereUsed,
     History,
     Content,
+    Shortage,
 }
 
 /// The report of that name.
@@ -22,6 +24,7 @@ pub fn report_named(name: &str) -> Option<ReportName>
         "where_used" => Some(ReportName::WhereUsed),
         "history" => Some(ReportName::History),
         "content" => Some(ReportName::Content),
+        "shortage" => Some(ReportName::Shortage),
         _ => None,
     }
 }

@@ -8,14 +8,15 @@ use crate::history::history;
 use crate::ledger::ledger;
 use crate::lines::Report;
 use crate::name::ReportName;
+use crate::shortage::shortage;
 use crate::stock::stock;
 use crate::where_used::where_used;
 use desk_core::Shop;
 use part_core::CoreFault;
 use std::alloc::Global;
 
-/// The report of that name on the part of that number, for a history and for a content on the
-/// item. NoSuch where there is no such row.
+/// The report of that name on the part of that number, for a history and for a content on the item, and for a
+/// shortage on the build. NoSuch where there is no such row.
 pub fn report(
     alloc: Global,
     shop: &Shop,
@@ -31,5 +32,6 @@ pub fn report(
         ReportName::WhereUsed => where_used(alloc, shop, number),
         ReportName::History => history(alloc, shop, number),
         ReportName::Content => content(alloc, shop, number),
+        ReportName::Shortage => shortage(alloc, shop, number),
     }
 }
