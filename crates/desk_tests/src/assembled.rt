@@ -82,6 +82,7 @@ fn tables_of(alloc: Global, shop: &Shop) -> Result<Tables, Fail> {
         allocations: rows_of(alloc, shop.allocations().rows())?,
         orders: rows_of(alloc, shop.orders().orders())?,
         order_lines: rows_of(alloc, shop.orders().lines())?,
+        builds: rows_of(alloc, shop.builds().rows())?,
         answers: rows_of(alloc, shop.answers())?,
         next: shop.counter().next(),
         entries: shop.yard().entries(),

@@ -62,8 +62,72 @@ const ANSWERS: &str = r#"{"entries":0,"ids":[1]}
 {"entries":0,"ids":[]}
 "#;
 
+/// A workshop that builds: a build with a done and a begun output and with allocations of both kinds, one with an output
+/// of two, and one that is complete and used something.
+const BUILD_LINES: &str = r#"{"day":"2030-01-02","do":"add_location","name":"A"}
+{"day":"2030-01-02","do":"add_part","flags":["component","trackable"],"name":"Motor"}
+{"day":"2030-01-02","do":"add_part","flags":["component"],"name":"Screw"}
+{"day":"2030-01-02","do":"add_part","flags":["component"],"name":"Glue"}
+{"day":"2030-01-02","do":"add_part","flags":["assembly","trackable"],"name":"Robot"}
+{"assembly":5,"component":2,"day":"2030-01-02","do":"add_line","quantity":1}
+{"assembly":5,"component":3,"day":"2030-01-02","do":"add_line","quantity":4}
+{"assembly":5,"component":4,"consumable":true,"day":"2030-01-02","do":"add_line","quantity":1}
+{"day":"2030-01-02","do":"add_part","flags":["assembly"],"name":"Frame"}
+{"assembly":9,"component":3,"day":"2030-01-02","do":"add_line","quantity":2}
+{"day":"2030-01-02","do":"found","location":1,"part":2,"quantity":3,"serials":"M1,M2,M3"}
+{"day":"2030-01-02","do":"found","location":1,"part":3,"quantity":100}
+{"day":"2030-01-02","do":"found","location":1,"part":4,"quantity":50}
+{"day":"2030-01-02","do":"build","part":5,"quantity":3}
+{"build":16,"day":"2030-01-02","do":"issue_build"}
+{"build":16,"day":"2030-01-02","do":"outputs","quantity":2,"serials":"R1,R2"}
+{"build":16,"day":"2030-01-02","do":"allocate_build","item":11,"line":6,"output":17,"quantity":1}
+{"day":"2030-01-02","do":"complete_output","location":1,"output":17}
+{"build":16,"day":"2030-01-02","do":"allocate_build","item":12,"line":6,"output":18,"quantity":1}
+{"build":16,"day":"2030-01-02","do":"allocate_build","item":14,"line":7,"quantity":6}
+{"day":"2030-01-02","do":"build","part":9,"quantity":5}
+{"build":22,"day":"2030-01-02","do":"issue_build"}
+{"build":22,"day":"2030-01-02","do":"outputs","quantity":2}
+{"day":"2030-01-02","do":"build","part":9,"quantity":1}
+{"build":24,"day":"2030-01-02","do":"issue_build"}
+{"build":24,"day":"2030-01-02","do":"outputs","quantity":1}
+{"build":24,"day":"2030-01-02","do":"allocate_build","item":14,"line":10,"quantity":2}
+{"day":"2030-01-02","do":"complete_output","location":1,"output":25}
+{"build":24,"day":"2030-01-02","do":"complete_build"}
+"#;
+
+const BUILD_ANSWERS: &str = r#"{"entries":0,"ids":[1]}
+{"entries":0,"ids":[2]}
+{"entries":0,"ids":[3]}
+{"entries":0,"ids":[4]}
+{"entries":0,"ids":[5]}
+{"entries":0,"ids":[6]}
+{"entries":0,"ids":[7]}
+{"entries":0,"ids":[8]}
+{"entries":0,"ids":[9]}
+{"entries":0,"ids":[10]}
+{"entries":3,"ids":[11,12,13]}
+{"entries":1,"ids":[14]}
+{"entries":1,"ids":[15]}
+{"entries":0,"ids":[16]}
+{"entries":0,"ids":[]}
+{"entries":0,"ids":[17,18]}
+{"entries":0,"ids":[19]}
+{"entries":2,"ids":[]}
+{"entries":0,"ids":[20]}
+{"entries":0,"ids":[21]}
+{"entries":0,"ids":[22]}
+{"entries":0,"ids":[]}
+{"entries":0,"ids":[23]}
+{"entries":0,"ids":[24]}
+{"entries":0,"ids":[]}
+{"entries":0,"ids":[25]}
+{"entries":0,"ids":[26]}
+{"entries":1,"ids":[]}
+{"entries":2,"ids":[27]}
+"#;
+
 /// Each breaks another clause of what a sound state is, or is no row.
-const DAMAGES: [&str; 27] = [
+const DAMAGES: [&str; 26] = [
     "UPDATE parts SET template = 99 WHERE id = 3",
     "UPDATE parts SET category = 99 WHERE id = 3",
     "UPDATE parts SET flags = 999 WHERE id = 3",
@@ -90,7 +154,6 @@ const DAMAGES: [&str; 27] = [
     "UPDATE meta SET entries = 1",
     "DELETE FROM meta",
     "INSERT INTO meta VALUES (2, 1, 24, 8, 9, 9)",
-    "INSERT INTO builds VALUES (1, 5, 1, 0, 0)",
 ];
 
 /// Each breaks another clause on orders, on their lines, on allocations, or on what is sent.
@@ -130,8 +193,67 @@ const DAMAGED_ORDERS: [&str; 33] = [
     "UPDATE history SET ref = 99 WHERE place = 3",
 ];
 
+/// Each breaks another clause on builds, on their outputs, on what is allocated for them, or on what they used.
+const DAMAGED_BUILDS: [&str; 39] = [
+    "INSERT INTO builds VALUES (0, 9, 1, 0, 0)",
+    "INSERT INTO builds VALUES (99, 9, 1, 0, 0)",
+    "UPDATE builds SET part = 99 WHERE id = 24",
+    "UPDATE builds SET quantity = 0, done = 0 WHERE id = 24",
+    "UPDATE builds SET quantity = 1000000001 WHERE id = 24",
+    "UPDATE builds SET quantity = -1 WHERE id = 24",
+    "UPDATE builds SET state = 5 WHERE id = 24",
+    "UPDATE builds SET done = -1 WHERE id = 24",
+    "UPDATE builds SET done = 2 WHERE id = 24",
+    "UPDATE builds SET done = 4 WHERE id = 22",
+    "UPDATE builds SET state = 3 WHERE id = 22",
+    "UPDATE builds SET state = 4 WHERE id = 22",
+    "UPDATE builds SET part = 5 WHERE id = 22",
+    "DELETE FROM builds WHERE id = 22",
+    "UPDATE items SET ref = 99 WHERE id = 23",
+    "UPDATE items SET part = 9 WHERE id = 18",
+    "UPDATE items SET serial = NULL WHERE id = 18",
+    "INSERT INTO items VALUES (1, 2, NULL, 'M9', 0, 1, 1, 18)",
+    "UPDATE allocations SET owner = 24, line = 10, quantity = 2 WHERE id = 21",
+    "UPDATE allocations SET owner = 22 WHERE id = 21",
+    "UPDATE allocations SET owner = 99 WHERE id = 21",
+    "UPDATE allocations SET side = 0 WHERE id = 21",
+    "UPDATE allocations SET line = 99 WHERE id = 21",
+    "UPDATE allocations SET line = 10 WHERE id = 21",
+    "UPDATE allocations SET line = 8, item = 15, quantity = 1 WHERE id = 21",
+    "UPDATE allocations SET item = 15 WHERE id = 21",
+    "UPDATE allocations SET output = 0 WHERE id = 20",
+    "UPDATE allocations SET output = 18, quantity = 4 WHERE id = 21",
+    "UPDATE allocations SET output = 17 WHERE id = 20",
+    "UPDATE allocations SET output = 23 WHERE id = 20",
+    "UPDATE allocations SET output = 99 WHERE id = 20",
+    "UPDATE allocations SET quantity = 13 WHERE id = 21",
+    "INSERT INTO allocations VALUES (1, 13, 1, 1, 16, 6, 18)",
+    "UPDATE allocations SET item = 11 WHERE id = 20",
+    "UPDATE lines SET quantity = 1 WHERE id = 7",
+    "UPDATE lines SET flags = 2 WHERE id = 7",
+    "DELETE FROM lines WHERE id = 7",
+    "UPDATE items SET ref = 99 WHERE id = 27",
+    "UPDATE history SET ref = 99 WHERE place = 4",
+];
+
+/// Each leaves tables with builds that some sound state has, if no run.
+const HARMLESS_BUILDS: [&str; 11] = [
+    "INSERT INTO builds VALUES (1, 9, 1, 0, 0)",
+    "UPDATE builds SET quantity = 1000000000 WHERE id = 24",
+    "UPDATE builds SET state = 1 WHERE id = 24",
+    "UPDATE builds SET done = 0 WHERE id = 24",
+    "UPDATE builds SET done = 3 WHERE id = 22",
+    "UPDATE builds SET state = 2 WHERE id = 22",
+    "UPDATE allocations SET quantity = 12 WHERE id = 21",
+    "UPDATE allocations SET item = 13 WHERE id = 20",
+    "UPDATE items SET serial = 'F1', quantity = 1 WHERE id = 23",
+    "UPDATE items SET ref = 16 WHERE id = 27",
+    "DELETE FROM allocations",
+];
+
 /// Each leaves tables that some sound state has, if no run.
-const HARMLESS: [&str; 9] = [
+const HARMLESS: [&str; 10] = [
+    "INSERT INTO builds VALUES (1, 5, 1, 0, 0)",
     "UPDATE parts SET name = 'Washer' WHERE id = 3",
     "INSERT INTO orders VALUES (1, 0, 'x', 0)",
     "UPDATE orders SET state = 2 WHERE id = 14",
@@ -158,14 +280,37 @@ fn workshop(alloc: Global) -> Result<Connection<MemStore>, Fail> {
     Ok(desk.close())
 }
 
-/// Why the tables are refused after the change: none where they aren't.
-fn refused(alloc: Global, change: &str) -> Result<Option<OpenFault>, Fail> {
-    let mut conn = workshop(alloc)?;
+/// The tables of the workshop that builds.
+fn build_workshop(alloc: Global) -> Result<Connection<MemStore>, Fail> {
+    let conn = Connection::open_in_memory(alloc)?;
+    let mut desk = created(alloc, conn)?;
+    plays_on(alloc, &mut desk, BUILD_LINES, BUILD_ANSWERS)?;
+    Ok(desk.close())
+}
+
+/// Why tables are refused after the change: none where they aren't.
+fn refused_after(
+    alloc: Global,
+    mut conn: Connection<MemStore>,
+    change: &str,
+) -> Result<Option<OpenFault>, Fail> {
     conn.execute(change, &[])?;
     match Desk::open(alloc, conn) {
         Ok(_) => Ok(None),
         Err((fault, _)) => Ok(Some(fault)),
     }
+}
+
+/// Why the small workshop's tables are refused after the change.
+fn refused(alloc: Global, change: &str) -> Result<Option<OpenFault>, Fail> {
+    let conn = workshop(alloc)?;
+    refused_after(alloc, conn, change)
+}
+
+/// Why the tables of the workshop that builds are refused after the change.
+fn refused_builds(alloc: Global, change: &str) -> Result<Option<OpenFault>, Fail> {
+    let conn = build_workshop(alloc)?;
+    refused_after(alloc, conn, change)
 }
 
 #[test]
@@ -189,6 +334,16 @@ fn damaged_orders_are_refused(rt: HostRuntime) -> Result<(), Fail> {
 }
 
 #[test]
+fn damaged_builds_are_refused(rt: HostRuntime) -> Result<(), Fail> {
+    let alloc = rt.alloc();
+    for change in DAMAGED_BUILDS {
+        let fault = refused_builds(alloc, change)?;
+        assert!(rt; matches!(fault, Some(OpenFault::Damaged(_))), "{change}");
+    }
+    Ok(())
+}
+
+#[test]
 fn tables_of_others_are_foreign(rt: HostRuntime) -> Result<(), Fail> {
     let alloc = rt.alloc();
     for change in FOREIGN {
@@ -203,6 +358,16 @@ fn changes_that_harm_nothing(rt: HostRuntime) -> Result<(), Fail> {
     let alloc = rt.alloc();
     for change in HARMLESS {
         let fault = refused(alloc, change)?;
+        assert!(rt; fault.is_none(), "{change}");
+    }
+    Ok(())
+}
+
+#[test]
+fn changes_that_harm_no_build(rt: HostRuntime) -> Result<(), Fail> {
+    let alloc = rt.alloc();
+    for change in HARMLESS_BUILDS {
+        let fault = refused_builds(alloc, change)?;
         assert!(rt; fault.is_none(), "{change}");
     }
     Ok(())

@@ -17,6 +17,14 @@ const LINES: &str = r#"{"day":"2030-01-02","do":"add_location","name":"Shelf \"A
 {"day":"2030-01-03","do":"issue_order","order":4}
 {"day":"2030-01-03","do":"allocate_sale","item":3,"line":5,"quantity":2}
 {"day":"2030-01-03","do":"order","partner":"Best","side":"purchase"}
+{"day":"2030-01-03","do":"add_part","flags":["assembly","trackable"],"name":"Frame"}
+{"assembly":8,"component":2,"day":"2030-01-03","do":"add_line","quantity":5}
+{"day":"2030-01-03","do":"build","part":8,"quantity":4}
+{"build":10,"day":"2030-01-03","do":"issue_build"}
+{"batch":"L, 1","build":10,"day":"2030-01-03","do":"outputs","quantity":1,"serials":"F1"}
+{"build":10,"day":"2030-01-03","do":"allocate_build","item":3,"line":9,"quantity":20}
+{"day":"2030-01-03","do":"complete_output","location":1,"output":11}
+{"day":"2030-01-03","do":"build","part":8,"quantity":2}
 "#;
 
 const ANSWERS: &str = r#"{"entries":0,"ids":[1]}
@@ -28,12 +36,20 @@ const ANSWERS: &str = r#"{"entries":0,"ids":[1]}
 {"entries":0,"ids":[]}
 {"entries":0,"ids":[6]}
 {"entries":0,"ids":[7]}
+{"entries":0,"ids":[8]}
+{"entries":0,"ids":[9]}
+{"entries":0,"ids":[10]}
+{"entries":0,"ids":[]}
+{"entries":0,"ids":[11]}
+{"entries":0,"ids":[12]}
+{"entries":1,"ids":[]}
+{"entries":0,"ids":[13]}
 "#;
 
-const EXPORTS: [(TableName, &str); 9] = [
+const EXPORTS: [(TableName, &str); 10] = [
     (
         TableName::Meta,
-        "one,version,next,entries,max_numbers,max_entries\n1,1,8,2,10000000000,10000000000\n",
+        "one,version,next,entries,max_numbers,max_entries\n1,1,14,3,10000000000,10000000000\n",
     ),
     (
         TableName::Locations,
@@ -41,15 +57,19 @@ const EXPORTS: [(TableName, &str); 9] = [
     ),
     (
         TableName::Parts,
-        "id,name,category,template,flags,retired\n2,Screw,,,52,0\n",
+        "id,name,category,template,flags,retired\n2,Screw,,,52,0\n8,Frame,,,10,0\n",
+    ),
+    (
+        TableName::Lines,
+        "id,assembly,component,quantity,flags\n9,8,2,5,0\n",
     ),
     (
         TableName::Items,
-        "id,part,batch,serial,status,quantity,place,ref\n3,2,,,0,70,0,1\n",
+        "id,part,batch,serial,status,quantity,place,ref\n3,2,,,0,70,0,1\n11,8,\"L, 1\",F1,0,1,0,1\n",
     ),
     (
         TableName::History,
-        "n,day,kind,item,part,quantity,place,ref\n1,2030-01-02,1,3,2,100,0,1\n2,2030-01-03,6,3,2,30,5,0\n",
+        "n,day,kind,item,part,quantity,place,ref\n1,2030-01-02,1,3,2,100,0,1\n2,2030-01-03,6,3,2,30,5,0\n3,2030-01-03,2,11,8,1,0,1\n",
     ),
     (
         TableName::Orders,
@@ -61,9 +81,12 @@ const EXPORTS: [(TableName, &str); 9] = [
     ),
     (
         TableName::Allocations,
-        "id,item,quantity,side,owner,line,output\n6,3,2,0,4,5,0\n",
+        "id,item,quantity,side,owner,line,output\n6,3,2,0,4,5,0\n12,3,20,1,10,9,0\n",
     ),
-    (TableName::Builds, "id,part,quantity,state,done\n"),
+    (
+        TableName::Builds,
+        "id,part,quantity,state,done\n10,8,4,1,1\n13,8,2,0,0\n",
+    ),
 ];
 
 /// The table is exported as this text, and as a front of it through a writer that fails.

@@ -31,9 +31,9 @@ const REPORT_HELP: &str = concat!(
     "Prints a report\n\n",
     "Usage: invdesk report --db <FILE> <NAME> <NUMBER>\n\n",
     "Arguments:\n",
-    "  <NAME>    Of a part, or the history or the content of an item [possible values: ledger, stock, ",
-    "where_used, history, content]\n",
-    "  <NUMBER>  The number of the part or of the item\n\n",
+    "  <NAME>    Of a part; history and content are of an item, shortage is of a build [possible values: ",
+    "ledger, stock, where_used, history, content, shortage]\n",
+    "  <NUMBER>  The number of the part, the item or the build\n\n",
     "Options:\n",
     "      --db <FILE>  The file that keeps the workshop; it is made where there is none\n",
     "  -h, --help       Print help\n\n",
@@ -74,7 +74,7 @@ fn reads_a_run(rt: HostRuntime) -> Result<(), Fail> {
 #[test]
 fn reads_a_report(rt: HostRuntime) -> Result<(), Fail> {
     let alloc = rt.alloc();
-    let cases: [(&[&str], &str); 8] = [
+    let cases: [(&[&str], &str); 9] = [
         (
             &["invdesk", "report", "--db", "w.db", "ledger", "7"],
             "report w.db Ledger 7",
@@ -94,6 +94,10 @@ fn reads_a_report(rt: HostRuntime) -> Result<(), Fail> {
         (
             &["invdesk", "report", "content", "7", "--db=w.db"],
             "report w.db Content 7",
+        ),
+        (
+            &["invdesk", "report", "shortage", "7", "--db=w.db"],
+            "report w.db Shortage 7",
         ),
         (
             &["invdesk", "report", "ledger", "0", "--db=w.db"],

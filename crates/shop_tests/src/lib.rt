@@ -2,6 +2,10 @@
 #![tactic(auto)]
 
 #[cfg(test)]
+mod build_limits;
+#[cfg(test)]
+mod builds;
+#[cfg(test)]
 mod limits;
 #[cfg(test)]
 mod nested;

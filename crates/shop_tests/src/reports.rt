@@ -184,7 +184,8 @@ fn missing_rows(alloc: Global, shop: &mut Shop) -> Result<(), Fail>
     finds_nothing(alloc, shop, ReportName::Stock, 5)?;
     finds_nothing(alloc, shop, ReportName::WhereUsed, 7)?;
     finds_nothing(alloc, shop, ReportName::History, 2)?;
-    finds_nothing(alloc, shop, ReportName::Content, 2)
+    finds_nothing(alloc, shop, ReportName::Content, 2)?;
+    finds_nothing(alloc, shop, ReportName::Shortage, 2)
 }
 
 /// A number of another table's row is no number of this one's.

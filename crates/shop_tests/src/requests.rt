@@ -1,6 +1,7 @@
 //! Requests, each by the name of its command.
 use alloc_core::AllocCommand;
 use bom_core::{BomCommand, LineFlags, NewLine};
+use build_core::BuildCommand;
 use desk_core::{Command, Request};
 use order_core::OrderCommand;
 use part_core::{Day, Flags, Name, NewPart, PartCommand, Serials, Side, Text, read_serials};
@@ -36,6 +37,10 @@ pub fn of_stock(command: StockCommand) -> Result<Request, Fail> {
 
 fn of_order(command: OrderCommand) -> Result<Request, Fail> {
     request(Command::Order(command))
+}
+
+fn of_build(command: BuildCommand) -> Result<Request, Fail> {
+    request(Command::Build(command))
 }
 
 // ---- locations, categories and parts
@@ -210,4 +215,96 @@ pub fn return_item(item: u64, location: u64) -> Result<Request, Fail> {
 
 pub fn release(allocation: u64) -> Result<Request, Fail> {
     request(Command::Alloc(AllocCommand::Release { allocation }))
+}
+
+// ---- builds
+
+pub fn build(part: u64, quantity: u64) -> Result<Request, Fail> {
+    of_build(BuildCommand::NewBuild { part, quantity })
+}
+
+pub fn issue_build(build: u64) -> Result<Request, Fail> {
+    of_build(BuildCommand::IssueBuild { build })
+}
+
+pub fn hold_build(build: u64) -> Result<Request, Fail> {
+    of_build(BuildCommand::HoldBuild { build })
+}
+
+pub fn cancel_build(build: u64) -> Result<Request, Fail> {
+    of_build(BuildCommand::CancelBuild { build })
+}
+
+/// Outputs without serials.
+pub fn outputs(build: u64, quantity: u64) -> Result<Request, Fail> {
+    let new = NewStock {
+        quantity,
+        batch: None,
+        serials: None,
+    };
+    of_build(BuildCommand::NewOutputs { build, new })
+}
+
+/// Outputs with these serials.
+pub fn serialised(alloc: Global, build: u64, quantity: u64, list: &str) -> Result<Request, Fail> {
+    let serials = read_serials(alloc, list).ok().ok_or("serials")?;
+    let new = NewStock {
+        quantity,
+        batch: None,
+        serials: Some(Serials::new(serials)),
+    };
+    of_build(BuildCommand::NewOutputs { build, new })
+}
+
+pub fn complete_output(output: u64, location: u64) -> Result<Request, Fail> {
+    of_build(BuildCommand::CompleteOutput { output, location })
+}
+
+pub fn cancel_output(output: u64) -> Result<Request, Fail> {
+    of_build(BuildCommand::CancelOutput { output })
+}
+
+pub fn scrap_output(output: u64) -> Result<Request, Fail> {
+    of_build(BuildCommand::ScrapOutput { output })
+}
+
+/// For an untracked line.
+pub fn allocate_build(build: u64, line: u64, item: u64, quantity: u64) -> Result<Request, Fail> {
+    of_build(BuildCommand::AllocateBuild {
+        build,
+        line,
+        item,
+        quantity,
+        output: None,
+    })
+}
+
+/// For a tracked line.
+pub fn allocate_output(
+    output: u64,
+    build: u64,
+    line: u64,
+    item: u64,
+    quantity: u64,
+) -> Result<Request, Fail> {
+    of_build(BuildCommand::AllocateBuild {
+        build,
+        line,
+        item,
+        quantity,
+        output: Some(output),
+    })
+}
+
+/// From the components and their variants, for the lines that aren't optional.
+pub fn auto_allocate(build: u64) -> Result<Request, Fail> {
+    of_build(BuildCommand::AutoAllocate {
+        build,
+        with_substitutes: false,
+        with_optional: false,
+    })
+}
+
+pub fn complete_build(build: u64) -> Result<Request, Fail> {
+    of_build(BuildCommand::CompleteBuild { build })
 }

@@ -3,6 +3,7 @@ use crate::outcomes::holds;
 use crate::requests::name;
 use alloc_core::{Allocation, OutputNumber, Purpose};
 use bom_core::{Line, LineFlags, Substitute};
+use build_core::{Build, BuildState};
 use desk_core::{CommandText, Kept, Key, read_answer};
 use order_core::{Order, OrderLine, OrderState};
 use part_core::{Answer, Category, Column, Day, Flags, Ids, Part, Serial, Side, Status, Stored};
@@ -128,6 +129,17 @@ fn stored_order(alloc: Global) -> Result<(), Fail> {
     is_stored(alloc, &line, "11|10|7|500|20|")
 }
 
+fn stored_build(alloc: Global) -> Result<(), Fail> {
+    let build = Build {
+        number: 13,
+        part: 5,
+        quantity: 20,
+        state: BuildState::OnHold,
+        done: 7,
+    };
+    is_stored(alloc, &build, "13|5|20|2|7|")
+}
+
 fn allocation(purpose: Purpose) -> Allocation {
     Allocation {
         number: 12,
@@ -222,5 +234,6 @@ fn stored_rows(rt: HostRuntime) -> Result<(), Fail> {
 fn stored_orders(rt: HostRuntime) -> Result<(), Fail> {
     let alloc = rt.alloc();
     stored_order(alloc)?;
+    stored_build(alloc)?;
     stored_allocation(alloc)
 }

@@ -1,6 +1,7 @@
 //! Lines with what they ask or what is wrong with them, and the lines that are answered.
 use alloc_core::AllocCommand;
 use bom_core::BomCommand;
+use build_core::BuildCommand;
 use desk_core::{Command, Request};
 use desk_wire::{
     Asked, ReadError, What, WireFault, answer_text, fault_text, read_line, read_request,
@@ -161,6 +162,37 @@ fn show_order(alloc: Global, command: &OrderCommand) -> Result<String, AllocErro
     }
 }
 
+fn show_build(alloc: Global, command: &BuildCommand) -> Result<String, AllocError> {
+    match command {
+        BuildCommand::NewBuild { part, quantity } => format!(in alloc; "build {part} {quantity}"),
+        BuildCommand::IssueBuild { build } => format!(in alloc; "issue_build {build}"),
+        BuildCommand::HoldBuild { build } => format!(in alloc; "hold_build {build}"),
+        BuildCommand::CancelBuild { build } => format!(in alloc; "cancel_build {build}"),
+        BuildCommand::NewOutputs { build, new } => {
+            let new = show_new(alloc, new)?;
+            format!(in alloc; "outputs {build} {new}")
+        }
+        BuildCommand::CompleteOutput { output, location } => {
+            format!(in alloc; "complete_output {output} {location}")
+        }
+        BuildCommand::CancelOutput { output } => format!(in alloc; "cancel_output {output}"),
+        BuildCommand::ScrapOutput { output } => format!(in alloc; "scrap_output {output}"),
+        BuildCommand::AllocateBuild {
+            build,
+            line,
+            item,
+            quantity,
+            output,
+        } => format!(in alloc; "allocate_build {build} {line} {item} {quantity} {output:?}"),
+        BuildCommand::AutoAllocate {
+            build,
+            with_substitutes,
+            with_optional,
+        } => format!(in alloc; "auto_allocate {build} {with_substitutes} {with_optional}"),
+        BuildCommand::CompleteBuild { build } => format!(in alloc; "complete_build {build}"),
+    }
+}
+
 fn show_request(alloc: Global, request: &Request) -> Result<String, AllocError> {
     let command = match &request.command {
         Command::Part(command) => show_part(alloc, command)?,
@@ -173,6 +205,7 @@ fn show_request(alloc: Global, request: &Request) -> Result<String, AllocError> 
             format!(in alloc; "release {allocation}")?
         }
         Command::Order(command) => show_order(alloc, command)?,
+        Command::Build(command) => show_build(alloc, command)?,
     };
     let day = request.day;
     match &request.key {
@@ -374,6 +407,93 @@ fn reads_commands_on_orders(rt: HostRuntime) -> Result<(), Fail> {
     Ok(())
 }
 
+/// Commands on builds, each with the line that asks for it.
+const OF_BUILDS: [(&str, &str); 18] = [
+    (
+        r#"{"do":"build","day":"2030-01-02","part":1,"quantity":2}"#,
+        "build 1 2",
+    ),
+    (
+        r#"{"quantity":18446744073709551615,"part":0,"day":"2030-01-02","do":"build"}"#,
+        "build 0 18446744073709551615",
+    ),
+    (
+        r#"{"do":"issue_build","day":"2030-01-02","build":1}"#,
+        "issue_build 1",
+    ),
+    (
+        r#"{"do":"hold_build","day":"2030-01-02","build":1}"#,
+        "hold_build 1",
+    ),
+    (
+        r#"{"do":"cancel_build","day":"2030-01-02","build":1}"#,
+        "cancel_build 1",
+    ),
+    (
+        r#"{"do":"outputs","day":"2030-01-02","build":1,"quantity":2}"#,
+        "outputs 1 2 none of none",
+    ),
+    (
+        r#"{"do":"outputs","day":"2030-01-02","build":1,"quantity":4,"batch":"B 1","serials":"9-11,A-1"}"#,
+        "outputs 1 4 B 1 of 9 10 11 A-1",
+    ),
+    (
+        r#"{"do":"outputs","day":"2030-01-02","build":1,"quantity":2,"batch":null,"serials":null}"#,
+        "outputs 1 2 none of none",
+    ),
+    (
+        r#"{"do":"complete_output","day":"2030-01-02","output":1,"location":2}"#,
+        "complete_output 1 2",
+    ),
+    (
+        r#"{"do":"cancel_output","day":"2030-01-02","output":1}"#,
+        "cancel_output 1",
+    ),
+    (
+        r#"{"do":"scrap_output","day":"2030-01-02","output":1}"#,
+        "scrap_output 1",
+    ),
+    (
+        r#"{"do":"allocate_build","day":"2030-01-02","build":1,"line":2,"item":3,"quantity":4}"#,
+        "allocate_build 1 2 3 4 None",
+    ),
+    (
+        r#"{"do":"allocate_build","day":"2030-01-02","build":1,"line":2,"item":3,"quantity":4,"output":5}"#,
+        "allocate_build 1 2 3 4 Some(5)",
+    ),
+    (
+        r#"{"do":"allocate_build","day":"2030-01-02","build":1,"line":2,"item":3,"quantity":4,"output":null}"#,
+        "allocate_build 1 2 3 4 None",
+    ),
+    (
+        r#"{"do":"auto_allocate","day":"2030-01-02","build":1}"#,
+        "auto_allocate 1 false false",
+    ),
+    (
+        r#"{"do":"auto_allocate","day":"2030-01-02","build":1,"substitutes":true}"#,
+        "auto_allocate 1 true false",
+    ),
+    (
+        r#"{"do":"auto_allocate","day":"2030-01-02","optional":true,"substitutes":false,"build":1}"#,
+        "auto_allocate 1 false true",
+    ),
+    (
+        r#"{"do":"complete_build","day":"2030-01-02","build":1}"#,
+        "complete_build 1",
+    ),
+];
+
+#[test]
+fn reads_commands_on_builds(rt: HostRuntime) -> Result<(), Fail> {
+    let alloc = rt.alloc();
+    for (line, want) in OF_BUILDS {
+        let want = format!(in alloc; "Day {{ year: 2030, month: 1, day: 2 }} {want}")?;
+        let request = read_request(alloc, line.as_bytes(), 1).map_err(|_| "it is a request")?;
+        assert_eq!(rt; show_request(alloc, &request)?, want, "at {line}");
+    }
+    Ok(())
+}
+
 #[test]
 fn reads_keys_and_reports(rt: HostRuntime) -> Result<(), Fail> {
     let alloc = rt.alloc();
@@ -387,6 +507,7 @@ fn reads_keys_and_reports(rt: HostRuntime) -> Result<(), Fail> {
         (r#"{"report":"where_used","of":3}"#, "WhereUsed of 3"),
         (r#"{"report":"history","of":4}"#, "History of 4"),
         (r#"{"report":"content","of":5}"#, "Content of 5"),
+        (r#"{"of":6,"report":"shortage"}"#, "Shortage of 6"),
     ] {
         let asked = read_line(alloc, line.as_bytes(), 1).map_err(|_| "it is a line")?;
         assert_eq!(rt; show(alloc, &asked)?.as_str(), want, "at {line}");
@@ -448,6 +569,7 @@ fn finds_what_is_wrong_with_a_line(rt: HostRuntime) -> Result<(), Fail> {
         (r#"{"report":"x","of":"2"}"#, What::WrongType),
         (r#"{"report":null,"of":2}"#, What::WrongType),
         (r#"{"report":"Stock","of":2}"#, What::BadWord),
+        (r#"{"report":"shortages","of":2}"#, What::BadWord),
     ] {
         assert_eq!(rt;
             fault_of(alloc, line.as_bytes(), 7),
@@ -613,6 +735,86 @@ const WRONG_ORDERS: [(&str, What); 24] = [
 fn finds_what_is_wrong_with_an_order(rt: HostRuntime) -> Result<(), Fail> {
     let alloc = rt.alloc();
     for (rest, want) in WRONG_ORDERS {
+        let line = format!(in alloc; "{{\"day\":\"2030-01-02\",\"do\":{rest}}}")?;
+        assert_eq!(rt;
+            fault_of(alloc, line.as_bytes(), 1),
+            Some(want),
+            "at {line}"
+        );
+    }
+    Ok(())
+}
+
+/// What is wrong with a field of a command on builds.
+const WRONG_BUILDS: [(&str, What); 26] = [
+    (r#""build","quantity":1"#, What::NoField),
+    (r#""build","part":1"#, What::NoField),
+    (r#""build","part":"1","quantity":1"#, What::WrongType),
+    (
+        r#""build","part":1,"quantity":1,"build":2"#,
+        What::UnknownField,
+    ),
+    (r#""issue_build""#, What::NoField),
+    (r#""issue_build","part":1"#, What::UnknownField),
+    (r#""hold_build","build":null"#, What::WrongType),
+    (r#""cancel_build","build":1.0"#, What::WrongType),
+    (r#""outputs","build":1"#, What::NoField),
+    (
+        r#""outputs","build":1,"quantity":1,"batch":"""#,
+        What::BadText,
+    ),
+    (
+        r#""outputs","build":1,"quantity":1,"batch":7,"serials":"""#,
+        What::WrongType,
+    ),
+    (
+        r#""outputs","build":1,"quantity":1,"serials":"1-1001""#,
+        What::BadSerials,
+    ),
+    (
+        r#""outputs","build":1,"quantity":1,"serials":["1"]"#,
+        What::WrongType,
+    ),
+    (
+        r#""outputs","build":1,"quantity":1,"location":2"#,
+        What::UnknownField,
+    ),
+    (r#""complete_output","output":1"#, What::NoField),
+    (
+        r#""complete_output","location":-1,"output":true"#,
+        What::WrongType,
+    ),
+    (r#""cancel_output","build":1"#, What::UnknownField),
+    (r#""scrap_output""#, What::NoField),
+    (
+        r#""allocate_build","build":1,"line":2,"item":3"#,
+        What::NoField,
+    ),
+    (
+        r#""allocate_build","build":1,"line":2,"item":3,"quantity":4,"output":"5""#,
+        What::WrongType,
+    ),
+    (
+        r#""allocate_build","build":1,"line":2,"item":3,"quantity":4,"output":18446744073709551616"#,
+        What::WrongType,
+    ),
+    (r#""auto_allocate","substitutes":true"#, What::NoField),
+    (
+        r#""auto_allocate","build":1,"substitutes":null"#,
+        What::WrongType,
+    ),
+    (r#""auto_allocate","build":1,"optional":1"#, What::WrongType),
+    (r#""complete_build","build":[1]"#, What::WrongType),
+    (
+        r#""complete_build","build":1,"location":1"#,
+        What::UnknownField,
+    ),
+];
+
+#[test]
+fn finds_what_is_wrong_with_a_build(rt: HostRuntime) -> Result<(), Fail> {
+    let alloc = rt.alloc();
+    for (rest, want) in WRONG_BUILDS {
         let line = format!(in alloc; "{{\"day\":\"2030-01-02\",\"do\":{rest}}}")?;
         assert_eq!(rt;
             fault_of(alloc, line.as_bytes(), 1),

@@ -1,4 +1,4 @@
-//! A clerk's tour up to its first build: amounts added, an item split, pieces that get serials, a line that goes.
+//! A clerk's tour: amounts, pieces that get serials, and a build that is held, goes on and is given up.
 use crate::play::plays;
 use std::test::Fail;
 
@@ -22,6 +22,30 @@ const LINES: &str = r#"{"day":"2030-01-02","do":"add_location","name":"A"}
 {"day":"2030-01-02","do":"add","item":14,"quantity":1}
 {"day":"2030-01-02","do":"drop_line","line":9}
 {"day":"2030-01-02","do":"retire_part","part":6}
+{"day":"2030-01-02","do":"build","part":6,"quantity":1}
+{"day":"2030-01-02","do":"build","part":5,"quantity":3}
+{"build":16,"day":"2030-01-02","do":"issue_build"}
+{"build":16,"day":"2030-01-02","do":"outputs","quantity":1,"serials":"a"}
+{"build":16,"day":"2030-01-02","do":"outputs","quantity":1,"serials":"b"}
+{"build":16,"day":"2030-01-02","do":"outputs","quantity":2,"serials":"c,d"}
+{"build":16,"day":"2030-01-02","do":"outputs","quantity":1,"serials":"c"}
+{"build":16,"day":"2030-01-02","do":"allocate_build","item":14,"line":8,"output":17,"quantity":1}
+{"day":"2030-01-02","do":"drop_line","line":7}
+{"allocation":20,"day":"2030-01-02","do":"release"}
+{"day":"2030-01-02","do":"cancel_output","output":17}
+{"day":"2030-01-02","do":"scrap_output","output":18}
+{"build":16,"day":"2030-01-02","do":"outputs","quantity":1,"serials":"a"}
+{"build":16,"day":"2030-01-02","do":"outputs","quantity":1,"serials":"b"}
+{"build":16,"day":"2030-01-02","do":"hold_build"}
+{"build":16,"day":"2030-01-02","do":"outputs","quantity":1,"serials":"e"}
+{"build":16,"day":"2030-01-02","do":"issue_build"}
+{"build":16,"day":"2030-01-02","do":"cancel_build"}
+{"day":"2030-01-02","do":"reinstate","item":18,"location":2}
+{"day":"2030-01-02","do":"order","partner":"Acme","side":"sale"}
+{"day":"2030-01-02","do":"order_line","order":22,"part":5,"quantity":1}
+{"day":"2030-01-02","do":"issue_order","order":22}
+{"day":"2030-01-02","do":"cancel_order","order":22}
+{"day":"2030-01-02","do":"allocate_sale","item":18,"line":23,"quantity":1}
 "#;
 
 const ANSWERS: &str = r#"{"entries":0,"ids":[1]}
@@ -44,6 +68,30 @@ const ANSWERS: &str = r#"{"entries":0,"ids":[1]}
 {"refused":"Serialised"}
 {"entries":0,"ids":[]}
 {"entries":0,"ids":[]}
+{"refused":"Retired"}
+{"entries":0,"ids":[16]}
+{"entries":0,"ids":[]}
+{"entries":0,"ids":[17]}
+{"entries":0,"ids":[18]}
+{"refused":"OverNeed"}
+{"entries":0,"ids":[19]}
+{"entries":0,"ids":[20]}
+{"refused":"InUse"}
+{"entries":0,"ids":[]}
+{"entries":0,"ids":[]}
+{"entries":2,"ids":[]}
+{"entries":0,"ids":[21]}
+{"refused":"SerialTaken"}
+{"entries":0,"ids":[]}
+{"refused":"WrongState"}
+{"entries":0,"ids":[]}
+{"entries":0,"ids":[]}
+{"entries":1,"ids":[]}
+{"entries":0,"ids":[22]}
+{"entries":0,"ids":[23]}
+{"entries":0,"ids":[]}
+{"entries":0,"ids":[]}
+{"refused":"WrongState"}
 "#;
 
 #[test]
