@@ -1,8 +1,8 @@
 #!/usr/bin/env python3
-"""Runs the program on lines of each kind, twice: on 20,000 lines and on 40,000, in memory and with a file on a memory
-disk, or on as many lines among 10,000 rows and among 20,000. Prints lines per second and peak memory of each run, and by
-what factor the time grows; among rows also by what factor the time of the lines alone grows, without that of the rows
-that they are among.
+"""Runs the program on lines of each kind, twice: on 20,000 lines and on 40,000, or of 500 builds and of 1,000, in memory
+and with a file on a memory disk, or on as many lines among 10,000 rows and among 20,000, or among as many as stand
+beside them. Prints lines per second and peak memory of each run, and by what factor the time grows; among rows also by
+what factor the time of the lines alone grows, without that of the rows that they are among.
 
 usage: tools/bench.py PROGRAM"""
 import itertools
@@ -14,6 +14,7 @@ import time
 
 DAY = '"day":"2030-01-02"'
 COUNTS = (20_000, 40_000)
+BUILDS = (500, 1_000)
 ROWS = (10_000, 20_000)
 LOCATION = f'{{{DAY},"do":"add_location","name":"A"}}'
 PART = f'{{{DAY},"do":"add_part","flags":["component","trackable"],"name":"Screw"}}'
@@ -181,6 +182,106 @@ def where_used(parts):
         yield f'{{"of":{parts},"report":"where_used"}}'
 
 
+def robots():
+    """Robots, part 4, of four screws by line 5 and two motors by line 6; and screws for all of them, item 7."""
+    yield LOCATION
+    yield f'{{{DAY},"do":"add_part","flags":["component"],"name":"Screw"}}'
+    yield f'{{{DAY},"do":"add_part","flags":["component","trackable"],"name":"Motor"}}'
+    yield f'{{{DAY},"do":"add_part","flags":["assembly","trackable"],"name":"Robot"}}'
+    yield f'{{{DAY},"do":"add_line","assembly":4,"component":2,"quantity":4}}'
+    yield f'{{{DAY},"do":"add_line","assembly":4,"component":3,"quantity":2}}'
+    yield f'{{{DAY},{FOUND}:1000000}}'
+
+
+def robots_from(first, count):
+    """So many builds of one robot each, with serials on it and on its motors: ten requests for each, which draw eight
+    numbers from the first."""
+    for n in range(first, first + 8 * count, 8):
+        yield f'{{{DAY},"do":"found","location":1,"part":3,"quantity":1,"serials":"A{n}"}}'
+        yield f'{{{DAY},"do":"found","location":1,"part":3,"quantity":1,"serials":"B{n}"}}'
+        yield f'{{{DAY},"do":"build","part":4,"quantity":1}}'
+        yield f'{{{DAY},"do":"issue_build","build":{n + 2}}}'
+        yield f'{{{DAY},"do":"outputs","build":{n + 2},"quantity":1,"serials":"R{n}"}}'
+        yield f'{{{DAY},"do":"allocate_build","build":{n + 2},"line":5,"item":7,"quantity":4}}'
+        yield f'{{{DAY},"do":"allocate_build","build":{n + 2},"line":6,"item":{n},"quantity":1,"output":{n + 3}}}'
+        yield f'{{{DAY},"do":"allocate_build","build":{n + 2},"line":6,"item":{n + 1},"quantity":1,"output":{n + 3}}}'
+        yield f'{{{DAY},"do":"complete_output","location":1,"output":{n + 3}}}'
+        yield f'{{{DAY},"do":"complete_build","build":{n + 2}}}'
+
+
+def built_robots(builds):
+    """So many builds of a robot."""
+    yield from robots()
+    yield from robots_from(8, builds)
+
+
+def open_builds(builds):
+    """As many builds of robots that stay open, and as many motors."""
+    yield from robots()
+    for i in range(builds):
+        yield f'{{{DAY},"do":"build","part":4,"quantity":1}}'
+        yield f'{{{DAY},"do":"found","location":1,"part":3,"quantity":1,"serials":"M{i}"}}'
+
+
+def completions(builds):
+    """Builds of a robot, begun and completed."""
+    yield from robots_from(2 * builds + 8, 1_000)
+
+
+def frames(quantities):
+    """Frames, part 4, that want as many bolts, part 3, by a line each, from number 5 on."""
+    yield LOCATION
+    yield f'{{{DAY},"do":"add_part","flags":["component"],"name":"Pin"}}'
+    yield f'{{{DAY},"do":"add_part","flags":["component"],"name":"Bolt"}}'
+    yield f'{{{DAY},"do":"add_part","flags":["assembly"],"name":"Frame"}}'
+    for quantity in quantities:
+        yield f'{{{DAY},"do":"add_line","assembly":4,"component":3,"quantity":{quantity}}}'
+
+
+def pins_and_bolts(items):
+    """An item of ten bolts, which a frame wants, and then so many of pins."""
+    yield from frames([10])
+    yield f'{{{DAY},"do":"found","location":1,"part":3,"quantity":10}}'
+    for _ in range(items):
+        yield f'{{{DAY},{FOUND}:10}}'
+
+
+def allotments_of_one(items):
+    """Frames for which the bolts are allocated, each given up again."""
+    for build in range(items + 7, items + 7 + 2 * 2_000, 2):
+        yield f'{{{DAY},"do":"build","part":4,"quantity":1}}'
+        yield f'{{{DAY},"do":"auto_allocate","build":{build}}}'
+        yield f'{{{DAY},"do":"cancel_build","build":{build}}}'
+
+
+def bolts(items):
+    """So many items of a bolt, all of which a frame wants."""
+    yield from frames([items])
+    for _ in range(items):
+        yield f'{{{DAY},"do":"found","location":1,"part":3,"quantity":1}}'
+
+
+def allotment_of_all(items):
+    """A frame for which an amount of each is allocated, and which is given up."""
+    yield f'{{{DAY},"do":"build","part":4,"quantity":1}}'
+    yield f'{{{DAY},"do":"auto_allocate","build":{items + 6}}}'
+    yield f'{{{DAY},"do":"cancel_build","build":{items + 6}}}'
+
+
+def bolts_for_lines(items):
+    """So many items of a bolt, which fifty lines of a frame want, as much each."""
+    yield from frames([items // 50] * 50)
+    for _ in range(items):
+        yield f'{{{DAY},"do":"found","location":1,"part":3,"quantity":1}}'
+
+
+def allotment_by_line(items):
+    """A frame for which an amount of each is allocated, line by line, and which is given up."""
+    yield f'{{{DAY},"do":"build","part":4,"quantity":1}}'
+    yield f'{{{DAY},"do":"auto_allocate","build":{items + 55}}}'
+    yield f'{{{DAY},"do":"cancel_build","build":{items + 55}}}'
+
+
 def reading_alone(count):
     """Requests that are read, and refused at their first check."""
     for i in range(count):
@@ -192,8 +293,10 @@ LINES = (
     allocated_items, shipped_lines, reading_alone,
 )
 AMONG = (
-    (loose_items, transfers), (allocations, refused_removals), (robot_with_motors, installs),
-    (robot_of_motors, write_offs), (bill, where_used),
+    (loose_items, transfers, ROWS), (allocations, refused_removals, ROWS), (robot_with_motors, installs, ROWS),
+    (robot_of_motors, write_offs, ROWS), (bill, where_used, ROWS), (open_builds, completions, ROWS),
+    (pins_and_bolts, allotments_of_one, ROWS), (bolts, allotment_of_all, ROWS),
+    (bolts_for_lines, allotment_by_line, (1_000, 2_000)),
 )
 
 
@@ -224,14 +327,14 @@ def tell(name, small, large, what):
     print(f"{name}: {large / small:.2f} times the time for twice the {what}", flush=True)
 
 
-for kind in LINES:
-    times = [run(f"{kind.__name__}({count})", kind(count)) for count in COUNTS]
+for kind, counts in [(kind, COUNTS) for kind in LINES] + [(built_robots, BUILDS)]:
+    times = [run(f"{kind.__name__}({count})", kind(count)) for count in counts]
     tell(kind.__name__, *times, "lines")
-    times = [run_on_file(f"{kind.__name__}({count})", kind(count)) for count in COUNTS]
+    times = [run_on_file(f"{kind.__name__}({count})", kind(count)) for count in counts]
     tell(f"{kind.__name__} --db", *times, "lines")
-for rows, lines in AMONG:
+for rows, lines, counts in AMONG:
     name = f"{lines.__name__} among {rows.__name__}"
-    before = [run(f"{rows.__name__}({count})", rows(count)) for count in ROWS]
-    whole = [run(f"{name}({count})", itertools.chain(rows(count), lines(count))) for count in ROWS]
+    before = [run(f"{rows.__name__}({count})", rows(count)) for count in counts]
+    whole = [run(f"{name}({count})", itertools.chain(rows(count), lines(count))) for count in counts]
     tell(name, *whole, "rows, with the rows")
     tell(name, *(w - b for w, b in zip(whole, before)), "rows, without them")

@@ -64,6 +64,26 @@ LINES = """\
 {"day":"2030-01-02","do":"order","partner":"Best","side":"sale"}
 {"day":"2030-01-02","do":"order_line","order":23,"part":14,"quantity":20}
 {"day":"2030-01-02","do":"issue_order","order":23}
+{"assembly":5,"component":8,"consumable":true,"day":"2030-01-02","do":"add_line","quantity":1}
+{"day":"2030-01-02","do":"add_part","flags":["assembly"],"name":"Frame"}
+{"assembly":26,"component":3,"day":"2030-01-02","do":"add_line","quantity":2}
+{"day":"2030-01-02","do":"found","location":1,"part":8,"quantity":50}
+{"day":"2030-01-02","do":"found","location":1,"part":4,"quantity":2,"serials":"S3,S4"}
+{"day":"2030-01-02","do":"build","part":5,"quantity":3}
+{"build":31,"day":"2030-01-02","do":"issue_build"}
+{"build":31,"day":"2030-01-02","do":"outputs","quantity":1,"serials":"R2"}
+{"build":31,"day":"2030-01-02","do":"allocate_build","item":13,"line":7,"output":32,"quantity":1}
+{"build":31,"day":"2030-01-02","do":"allocate_build","item":29,"line":7,"output":32,"quantity":1}
+{"build":31,"day":"2030-01-02","do":"allocate_build","item":10,"line":6,"quantity":6}
+{"day":"2030-01-02","do":"build","part":26,"quantity":5}
+{"build":36,"day":"2030-01-02","do":"issue_build"}
+{"build":36,"day":"2030-01-02","do":"outputs","quantity":2}
+{"day":"2030-01-02","do":"build","part":26,"quantity":1}
+{"build":38,"day":"2030-01-02","do":"issue_build"}
+{"build":38,"day":"2030-01-02","do":"outputs","quantity":1}
+{"build":38,"day":"2030-01-02","do":"allocate_build","item":10,"line":27,"quantity":2}
+{"day":"2030-01-02","do":"complete_output","location":1,"output":39}
+{"build":38,"day":"2030-01-02","do":"complete_build"}
 """
 AGAIN = '{"day":"2030-01-03","do":"found","key":"k","location":1,"part":3,"quantity":100}\n'
 # A change of the rows, and the clause that it breaks.
@@ -82,7 +102,7 @@ DAMAGES = [
     ("UPDATE items SET ref = 12 WHERE id = 12", "an item in itself"),
     ("UPDATE items SET place = 1, ref = 10 WHERE id = 12", "an item in one without a serial"),
     ("UPDATE items SET serial = 'S2' WHERE id = 12", "one serial twice"),
-    ("UPDATE items SET quantity = 99 WHERE id = 10", "more found than is there"),
+    ("UPDATE items SET quantity = 97 WHERE id = 10", "more found than is there"),
     ("UPDATE items SET part = 99 WHERE id = 10", "an item of no part"),
     ("UPDATE items SET place = 9 WHERE id = 10", "a place that is none"),
     ("UPDATE items SET ref = 99 WHERE id = 10", "a location that isn't there"),
@@ -96,7 +116,6 @@ DAMAGES = [
     ("UPDATE meta SET max_numbers = 0", "a limit that is none"),
     ("DELETE FROM meta", "no row of the counter"),
     ("INSERT INTO meta VALUES (2, 1, 14, 5, 9, 9)", "two rows of the counter"),
-    ("INSERT INTO builds VALUES (1, 5, 1, 0, 0)", "a build"),
     ("INSERT INTO orders VALUES (99, 0, 'x', 0)", "an order that is to come"),
     ("UPDATE orders SET partner = '' WHERE id = 15", "a partner that is none"),
     ("UPDATE orders SET side = 2 WHERE id = 15", "a side that is none"),
@@ -109,21 +128,49 @@ DAMAGES = [
     ("UPDATE order_lines SET done = 21 WHERE id = 16", "more done than ordered"),
     ("UPDATE order_lines SET done = 17 WHERE id = 19", "more done and allocated than ordered"),
     ("INSERT INTO allocations VALUES (99, 17, 1, 0, 18, 19, 0)", "an allocation that is to come"),
-    ("UPDATE allocations SET quantity = 0", "an allocation of nothing"),
-    ("UPDATE allocations SET quantity = 12", "more allocated than the item has"),
-    ("UPDATE allocations SET item = 99", "an allocation of no item"),
-    ("UPDATE allocations SET item = 21, quantity = 1", "an allocation of what was sent"),
-    ("UPDATE allocations SET item = 10", "an allocation of another part than the line's"),
-    ("UPDATE allocations SET owner = 99", "an allocation for no order"),
-    ("UPDATE allocations SET line = 99", "an allocation for no line"),
-    ("UPDATE allocations SET line = 24", "an allocation for another order's line"),
-    ("UPDATE allocations SET output = 17", "an allocation for an order with an output"),
-    ("UPDATE allocations SET side = 1", "an allocation for no build"),
+    ("UPDATE allocations SET quantity = 0 WHERE id = 22", "an allocation of nothing"),
+    ("UPDATE allocations SET quantity = 12 WHERE id = 22", "more allocated than the item has"),
+    ("UPDATE allocations SET item = 99 WHERE id = 22", "an allocation of no item"),
+    ("UPDATE allocations SET item = 21, quantity = 1 WHERE id = 22", "an allocation of what was sent"),
+    ("UPDATE allocations SET item = 10 WHERE id = 22", "an allocation of another part than the line's"),
+    ("UPDATE allocations SET owner = 99 WHERE id = 22", "an allocation for no order"),
+    ("UPDATE allocations SET line = 99 WHERE id = 22", "an allocation for no line"),
+    ("UPDATE allocations SET line = 24 WHERE id = 22", "an allocation for another order's line"),
+    ("UPDATE allocations SET output = 17 WHERE id = 22", "an allocation for an order with an output"),
+    ("UPDATE allocations SET side = 1 WHERE id = 22", "an allocation for no build"),
     ("UPDATE orders SET side = 0 WHERE id = 18", "an allocation for a purchase"),
     ("UPDATE orders SET state = 0 WHERE id = 18", "an allocation for an order that isn't issued"),
     ("UPDATE orders SET state = 3 WHERE id = 18", "an allocation for a cancelled order"),
     ("UPDATE items SET ref = 99 WHERE id = 21", "an item that was sent for no order"),
     ("UPDATE history SET ref = 99 WHERE place = 3", "an entry that tells of no order"),
+    ("INSERT INTO builds VALUES (0, 26, 1, 0, 0)", "a build of the number 0"),
+    ("INSERT INTO builds VALUES (99, 26, 1, 0, 0)", "a build that is to come"),
+    ("UPDATE builds SET part = 99 WHERE id = 38", "a build of no part"),
+    ("UPDATE builds SET quantity = 0, done = 0 WHERE id = 38", "a build of nothing"),
+    ("UPDATE builds SET quantity = 1000000001 WHERE id = 38", "a build of too many"),
+    ("UPDATE builds SET state = 5 WHERE id = 38", "a state of a build that is none"),
+    ("UPDATE builds SET done = 2 WHERE id = 38", "more built than wanted"),
+    ("UPDATE builds SET done = 4 WHERE id = 36", "more built and begun than wanted"),
+    ("UPDATE builds SET state = 3 WHERE id = 36", "an output of a cancelled build"),
+    ("UPDATE builds SET state = 4 WHERE id = 36", "an output of a complete build"),
+    ("UPDATE items SET ref = 99 WHERE id = 37", "an output of no build"),
+    ("UPDATE items SET part = 26 WHERE id = 32", "an output of another part than the build's"),
+    ("UPDATE items SET serial = NULL WHERE id = 32", "an output without a serial where a line is tracked"),
+    ("INSERT INTO items VALUES (1, 4, NULL, 'S9', 0, 1, 1, 32)", "an output with content"),
+    ("UPDATE allocations SET owner = 38, line = 27, quantity = 2 WHERE id = 35", "an allocation for a complete build"),
+    ("UPDATE allocations SET owner = 99 WHERE id = 35", "an allocation for a build that isn't there"),
+    ("UPDATE allocations SET line = 99 WHERE id = 35", "an allocation for no line of a bill"),
+    ("UPDATE allocations SET line = 27 WHERE id = 35", "an allocation for another part's line"),
+    ("UPDATE allocations SET line = 25, item = 28, quantity = 1 WHERE id = 35", "an allocation for a consumable line"),
+    ("UPDATE allocations SET item = 39, quantity = 1 WHERE id = 35", "an allocation of what doesn't fit the line"),
+    ("UPDATE allocations SET output = 0 WHERE id = 33", "a tracked line's allocation without an output"),
+    ("UPDATE allocations SET output = 32, quantity = 4 WHERE id = 35", "an untracked line's allocation with an output"),
+    ("UPDATE allocations SET output = 11 WHERE id = 33", "an allocation that names what is no output"),
+    ("UPDATE allocations SET output = 37 WHERE id = 33", "an allocation that names another build's output"),
+    ("UPDATE allocations SET quantity = 13 WHERE id = 35", "more allocated than a line needs for the build"),
+    ("INSERT INTO allocations VALUES (1, 30, 1, 1, 31, 7, 32)", "more allocated than a line needs for an output"),
+    ("UPDATE items SET ref = 99 WHERE id = 41", "an item that was used by no build"),
+    ("UPDATE history SET ref = 99 WHERE place = 4", "an entry that tells of no build"),
     ("UPDATE meta SET version = 2", "another version"),
     ("DROP TABLE builds", "a table that is missing"),
     ("CREATE TABLE more (id INTEGER PRIMARY KEY) STRICT", "a table more"),
@@ -168,7 +215,7 @@ def look(path):
 def kept(program, path):
     """The file after each word: what was answered is in the file alone, and what only reads leaves it byte for byte."""
     tables = look(path)
-    expect(len(tables["items"]) == 6, f"the file alone has the items {tables['items']}")
+    expect(len(tables["items"]) == 13, f"the file alone has the items {tables['items']}")
     before = pathlib.Path(path).read_bytes()
     for words in (("report", "ledger", "3"), ("report", "ledger", "99"), ("export", "items"), ("run",)):
         run(program, words[0], "--db", path, *words[1:])
@@ -264,7 +311,7 @@ def refused(program, folder, path):
     told(program, version, "another version", "a workshop's of another version")
     flags = changed(path, str(folder / "flags.db"), "UPDATE parts SET flags = 999 WHERE id = 3")
     told(program, flags, "the table parts", "a bad row")
-    sums = changed(path, str(folder / "sums.db"), "UPDATE items SET quantity = 99 WHERE id = 10")
+    sums = changed(path, str(folder / "sums.db"), "UPDATE items SET quantity = 97 WHERE id = 10")
     told(program, sums, "do not fit one another", "rows that don't fit")
     held = subprocess.Popen([program, "run", "--db", path], stdin=subprocess.PIPE, stdout=subprocess.PIPE)
     held.stdin.write(AGAIN.encode())

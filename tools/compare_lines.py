@@ -16,7 +16,7 @@ import sys
 STATUSES = "OK Attention Damaged Destroyed Rejected Lost Quarantined Returned".split()
 SIDES = "purchase sale".split()
 FLAGS = "template assembly component trackable purchaseable salable virtual".split()
-REPORTS = "ledger stock where_used history content".split()
+REPORTS = "ledger stock where_used history content shortage".split()
 COMMANDS = {
     "add_category": {"name": "text", "parent": "maybe_number"},
     "add_location": {"name": "text", "parent": "maybe_number"},
@@ -51,9 +51,21 @@ COMMANDS = {
     "return_item": {"item": "number", "location": "number"},
     "close_order": {"order": "number"},
     "cancel_order": {"order": "number"},
+    "build": {"part": "number", "quantity": "quantity"},
+    "issue_build": {"build": "number"},
+    "hold_build": {"build": "number"},
+    "cancel_build": {"build": "number"},
+    "outputs": {"build": "number", "quantity": "quantity", "batch": "maybe_text", "serials": "maybe_serials"},
+    "complete_output": {"output": "number", "location": "number"},
+    "cancel_output": {"output": "number"},
+    "scrap_output": {"output": "number"},
+    "allocate_build": {"build": "number", "line": "number", "item": "number", "quantity": "quantity",
+                       "output": "maybe_number"},
+    "auto_allocate": {"build": "number", "substitutes": "yes", "optional": "yes"},
     "release": {"allocation": "number"},
+    "complete_build": {"build": "number"},
 }
-LATER = "build outputs complete_output auto_allocate complete_build".split()
+LATER = "consume build_line output complete auto_allocates".split()
 STRANGE = [None, True, False, 0, 1, -1, 1.5, "", "x", "7", [], [1], ["x"], [None], {}, {"a": 1}, 2**64, 10**30, -0.0]
 # Numbers as they may be spelled: a number with a sign, a fraction or an exponent is none.
 SPELLED = ["1e3", "1.0", "-0", "1E0", "18446744073709551615", "18446744073709551616", "0.5", "-1"]
@@ -78,9 +90,9 @@ def serials(r):
 def value(r, kind):
     """A value of the kind, in its range most often."""
     if kind == "number":
-        return r.choice([r.randint(1, 12)] * 8 + [r.randint(1, 400), 0, r.randint(1, 10**6), 2**64 - 1])
+        return r.choice([r.randint(1, 18)] * 8 + [r.randint(1, 400), 0, r.randint(1, 10**6), 2**64 - 1])
     if kind == "maybe_number":
-        return r.choice([None, None, r.randint(1, 12)])
+        return r.choice([None, None, r.randint(1, 18)])
     if kind == "quantity":
         return r.choice([1, 1, 2, 3, r.randint(1, 1000), 10**9, 10**9 + 1, 0])
     if kind == "text":
@@ -193,7 +205,12 @@ def lines(count, seed):
              b'{"day":"2030-01-02","do":"order","side":"sale","partner":"Best"}',
              b'{"day":"2030-01-02","do":"order_line","order":10,"part":7,"quantity":1000000}',
              b'{"day":"2030-01-02","do":"issue_order","order":10}',
-             b'{"day":"2030-01-02","do":"receive","line":9,"location":1,"quantity":1000}']
+             b'{"day":"2030-01-02","do":"receive","line":9,"location":1,"quantity":1000}',
+             b'{"day":"2030-01-02","do":"add_line","assembly":3,"component":7,"quantity":2}',
+             b'{"day":"2030-01-02","do":"build","part":3,"quantity":1000}',
+             b'{"day":"2030-01-02","do":"issue_build","build":14}',
+             b'{"day":"2030-01-02","do":"outputs","build":14,"quantity":3,"serials":"A-1,A-2,A-3"}',
+             b'{"day":"2030-01-02","do":"build","part":3,"quantity":1000000}']
     return first + [made_up(r) for _ in range(count - len(first))]
 
 
