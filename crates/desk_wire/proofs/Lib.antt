@@ -2,3 +2,8 @@ pub mod MemberNames
 pub mod Parsed
 pub mod Spelled
 pub mod Filled
+pub mod Numbers
+pub mod Keys
+pub mod Reading
+pub mod Rows
+pub mod ImportReports

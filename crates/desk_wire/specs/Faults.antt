@@ -1,7 +1,7 @@
 -- The faults' names.
 use Rattle.std.specs.Prelude.{ℕ, List, codes}
 use Rattle.desk_wire.specs.declared.fault.What.{What}
-use Rattle.desk_wire.specs.declared.fault.What.TheVariants.{TooLong, NotJson, NotObject, NoField, WrongType, UnknownCommand, UnknownField, BadKey, BadDay, BadText, BadSerials, BadWord}
+use Rattle.desk_wire.specs.declared.fault.What.TheVariants.{TooLong, NotJson, NotObject, NoField, WrongType, UnknownCommand, UnknownField, BadKey, BadDay, BadText, BadSerials, BadWord, Csv, Header}
 
 abbrev pub fault_name : What → List ℕ
 fault_name TooLong = codes "TooLong"
@@ -16,3 +16,5 @@ fault_name BadDay = codes "BadDay"
 fault_name BadText = codes "BadText"
 fault_name BadSerials = codes "BadSerials"
 fault_name BadWord = codes "BadWord"
+fault_name Csv = codes "Csv"
+fault_name Header = codes "Header"

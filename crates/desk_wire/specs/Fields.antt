@@ -2,10 +2,8 @@
 use Rattle.std.specs.Prelude.{ℕ, List, [], ◌∷◌, ◌++◌, ◌&&◌, Bool, true, false, codes, is_some, Option, Some, None, option_and_then, Result, Ok, Err, if◌then◌else◌}
 use Rattle.serde_json.specs.Data.{Data, Items, no_items, item}
 use Rattle.serde_json.specs.Find.{get, as_null, as_bool, as_number, as_str, as_array, as_u64}
-use Rattle.part_core.specs.Text.{is_text}
 use Rattle.part_core.specs.Day.{CivilDay, day_of}
 use Rattle.part_core.specs.Serials as texts
-use Rattle.part_core.specs.declared.serials.SerialFault.{SerialFault}
 use Rattle.part_core.specs.declared.field.Kind.{Kind}
 use Rattle.part_core.specs.declared.field.Kind.TheVariants as kind
 use Rattle.part_core.specs.declared.field.Field.{Field}
@@ -20,8 +18,9 @@ use Rattle.part_core.specs.Side.{all_sides, side_name}
 use Rattle.part_core.specs.Status.{all_statuses, status_name}
 use Rattle.desk_core.specs.Key.{is_key}
 use Rattle.desk_wire.specs.declared.fault.What.{What}
-use Rattle.desk_wire.specs.declared.fault.What.TheVariants.{NoField, WrongType, BadKey, BadDay, BadText, BadSerials, BadWord}
+use Rattle.desk_wire.specs.declared.fault.What.TheVariants.{NoField, WrongType, BadKey, BadDay, BadWord}
 use Rattle.desk_wire.specs.Steps.{◌>>=◌, or_fault, must, maybe}
+use Rattle.desk_wire.specs.Texts.{row_text_from, listed}
 
 -- ---- values
 
@@ -36,13 +35,7 @@ text_of value = or_fault WrongType (as_str value)
 abbrev pub row_text_of : Data → Result (List ℕ) What
 row_text_of value = do
   text ← text_of value
-  fits ← must BadText (is_text text)
-  Ok text
-
--- the serials that were read, whatever was wrong with them
-abbrev pub listed : Result (List (List ℕ)) SerialFault → Result (List (List ℕ)) What
-listed (Ok serials) = Ok serials
-listed (Err fault) = Err BadSerials
+  row_text_from text
 
 abbrev pub serials_of : Data → Result (List (List ℕ)) What
 serials_of value = do

@@ -1,6 +1,13 @@
 pub mod Faults
 pub mod Steps
+pub mod Texts
 pub mod Fields
 pub mod Members
 pub mod Reading
 pub mod Writing
+pub mod Documents
+pub mod Kinds
+pub mod Numbers
+pub mod Records
+pub mod Imports
+pub mod ImportReports

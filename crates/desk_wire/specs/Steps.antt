@@ -1,24 +1,25 @@
 -- Steps of a reading, each of which may find what is wrong.
 use Rattle.std.specs.Prelude.{ℕ, ◌≡◌, Bool, true, false, Option, Some, None, Result, Ok, Err}
 use Rattle.desk_wire.specs.declared.fault.What.{What}
+use Rattle.desk_wire.specs.declared.fault.WireFault.{WireFault}
 use Rattle.desk_wire.specs.declared.fault.Bad as bads
 use Rattle.desk_wire.specs.declared.fault.Bad.TheVariants as bad
 use Rattle.desk_wire.specs.declared.fault.ReadError.{ReadError}
 use Rattle.desk_wire.specs.declared.fault.ReadError.TheVariants.{Memory, Wrong}
 
 infixl 10 ◌>>=◌
-abbrev pub ◌>>=◌ : {A B : Type 0} → Result A What → (A → Result B What) → Result B What
+abbrev pub ◌>>=◌ : {A B E : Type 0} → Result A E → (A → Result B E) → Result B E
 (Ok x) >>= f = f x
 (Err e) >>= f = Err e
 
-abbrev pub or_fault : {A : Type 0} → What → Option A → Result A What
-or_fault what None = Err what
-or_fault what (Some x) = Ok x
+abbrev pub or_fault : {A E : Type 0} → E → Option A → Result A E
+or_fault fault None = Err fault
+or_fault fault (Some x) = Ok x
 
 -- a test that must hold
-abbrev pub must : What → Bool → Result (Unit {0}) What
-must what true = Ok tt
-must what false = Err what
+abbrev pub must : {E : Type 0} → E → Bool → Result (Unit {0}) E
+must fault true = Ok tt
+must fault false = Err fault
 
 -- a reading of what may be missing
 abbrev pub maybe : {A B : Type 0} → (A → Result B What) → Option A → Result (Option B) What
@@ -26,6 +27,11 @@ maybe reading None = Ok None
 maybe reading (Some x) = do
   y ← reading x
   Ok (Some y)
+
+-- a reading of the record of that number, which a fault carries
+abbrev pub at : {A : Type 0} → ℕ → Result A What → Result A WireFault
+at number (Ok x) = Ok x
+at number (Err what) = Err (record { line = number; what = what })
 
 -- what a function of the code answered is what reading gives, unless memory ran out
 abbrev pub Fails : {X : Type 0} → bads.Bad → Result X What → Type 0
@@ -44,3 +50,8 @@ FailsAt number (Wrong fault) reading = (reading ≡ Err fault.what) × (fault.li
 abbrev pub GivesAt : {X : Type 0} → ℕ → Result X ReadError → Result X What → Type 0
 GivesAt number (Ok x) reading = reading ≡ Ok x
 GivesAt number (Err e) reading = FailsAt number e reading
+
+-- the same of a file, of which a fault carries the number of a record
+abbrev pub FailsIn : {X : Type 0} → ReadError → Result X WireFault → Type 0
+FailsIn Memory reading = Unit {0}
+FailsIn (Wrong fault) reading = reading ≡ Err fault

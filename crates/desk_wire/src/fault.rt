@@ -1,22 +1,23 @@
-//! What may be wrong with a line.
+//! What may be wrong with a line or with a file.
 ghost use Rattle.std.specs.Prelude.{◌≡◌};
 ghost use Rattle.desk_wire.specs.Faults.{fault_name};
 
-use std::alloc::AllocError;
+use std::alloc::{AllocError, AllocFailed};
 
-/// Why a line asks for nothing. The crate's page says which of several is told.
+/// Why a line, or a file, asks for nothing. The crate's page says which of several is told.
 #[derive(Clone, Copy, Debug, PartialEq, Eq)]
 pub enum What {
-    /// It has more than 65,536 bytes.
+    /// A line has more than 65,536 bytes, or a file more than 16,777,216.
     TooLong,
-    /// It isn't JSON in UTF-8.
+    /// The line isn't JSON in UTF-8.
     NotJson,
-    /// It is JSON, and no object.
+    /// The line is JSON, and no object.
     NotObject,
     /// A member that must be there is missing.
     NoField,
     /// A member's value is of another type, or a number has a sign, a fraction or an exponent, or
-    /// is 2 to the 64 or more. In an array the types of all elements come before what they say.
+    /// is 2 to the 64 or more. In an array the types of all elements come before what they say. In a
+    /// record a field isn't a number as it is to be written.
     WrongType,
     /// `do` names no command.
     UnknownCommand,
@@ -32,6 +33,10 @@ pub enum What {
     BadSerials,
     /// A status, a flag or a report of no such name, or a flag that stands twice.
     BadWord,
+    /// A record of a file isn't text in UTF-8, or has another number of fields than the header.
+    Csv,
+    /// The first record of a file isn't the header, or there is none.
+    Header,
 }
 
 impl What {
@@ -52,27 +57,30 @@ impl What {
             What::BadText => "BadText",
             What::BadSerials => "BadSerials",
             What::BadWord => "BadWord",
+            What::Csv => "Csv",
+            What::Header => "Header",
         }
     }
 }
 
-/// What is wrong with a line, and the line's number.
+/// What is wrong with a line and the line's number, or with a record of a file and the record's number.
+/// Of a whole file it is 0.
 #[derive(Clone, Copy, Debug, PartialEq, Eq)]
 pub struct WireFault {
     pub line: u64,
     pub what: What,
 }
 
-/// Why a line wasn't read.
+/// Why a line, or a file, wasn't read.
 #[derive(Clone, Copy, Debug, PartialEq, Eq)]
 pub enum ReadError {
     /// A growth was refused for want of memory.
     Memory,
-    /// The line asks for nothing.
+    /// The line, or the file, asks for nothing.
     Wrong(WireFault),
 }
 
-/// Why a part of a line wasn't read.
+/// Why a part of a line, or a record, wasn't read.
 #[derive(Clone, Copy, Debug, PartialEq, Eq)]
 pub enum Bad {
     /// A growth was refused for want of memory.
@@ -99,5 +107,16 @@ impl From<What> for Bad {
 
     fn from(what: What) -> Self {
         Bad::Wrong(what)
+    }
+}
+
+impl<T: Drop> From<AllocFailed<T>> for ReadError {
+    ghost use Rattle.std.specs.Prelude.{◌≡◌};
+    ghost use Rattle.desk_wire.specs.declared.fault.ReadError.TheVariants.{Memory};
+
+    ghost from_gives = { λ _ error. error ≡ Memory };
+
+    fn from(_: AllocFailed<T>) -> Self {
+        ReadError::Memory
     }
 }

@@ -5,16 +5,13 @@ ghost use Rattle.std.specs.Prelude.{◌≡◌, [], MatchResult, Ok, Err, option_
 ghost use Rattle.serde_json.specs.View.{view, items_view};
 ghost use Rattle.part_core.specs.Flags.{no_flags};
 ghost use Rattle.part_core.specs.Forms.{shown_fields};
-ghost use Rattle.part_core.specs.Serials as texts;
 ghost use Rattle.desk_wire.specs.Steps.{Gives, Fails};
-ghost use Rattle.desk_wire.specs.Fields.{number_of, text_of, row_text_of, listed, serials_of, key_of, given, member_in, number_in, maybe_number_in, text_in, row_text_in, maybe_row_text_in, yes_in, key_in, day_in, serials_in, maybe_serials_in, status_in, side_in, with_numbers, numbers_in, are_texts, with_words, flags_in, field_in, fields_from};
+ghost use Rattle.desk_wire.specs.Fields.{number_of, text_of, row_text_of, serials_of, key_of, given, member_in, number_in, maybe_number_in, text_in, row_text_in, maybe_row_text_in, yes_in, key_in, day_in, serials_in, maybe_serials_in, status_in, side_in, with_numbers, numbers_in, are_texts, with_words, flags_in, field_in, fields_from};
 
 use crate::fault::{Bad, What};
+use crate::texts::{listed, row_text_from};
 use desk_core::Key;
-use part_core::{
-    Day, Field, Flags, Id, Ids, Kind, NO_FLAGS, SerialFault, Serials, Side, Status, Text, named,
-    read_serials,
-};
+use part_core::{Day, Field, Flags, Id, Ids, Kind, NO_FLAGS, Serials, Side, Status, Text, named};
 use serde_json::Value;
 use std::alloc::{AllocError, Global};
 
@@ -38,23 +35,7 @@ fn row_text_of(alloc: Global, value: &Value) -> Result<Text, Bad>
     ensures { Gives result (row_text_of (view value.now)) }
 {
     let text = text_of(value)?;
-    let row_text = Text::new(String::from_str(alloc, text)?).ok_or(What::BadText)?;
-    Ok(row_text)
-}
-
-fn listed(alloc: Global, text: &str) -> Result<Serials, Bad>
-    ensures { Gives result (listed (texts.serials_in text.now)) }
-{
-    match read_serials(alloc, text) {
-        Ok(serials) => Ok(Serials::new(serials)),
-        Err(fault) => {
-            if fault == SerialFault::Memory {
-                Err(Bad::Memory)
-            } else {
-                Err(Bad::Wrong(What::BadSerials))
-            }
-        }
-    }
+    row_text_from(alloc, text)
 }
 
 /// A text that lists serials: else `BadSerials`.

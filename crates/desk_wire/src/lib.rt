@@ -1,10 +1,11 @@
-//! Requests and reports as lines of JSON, and the lines that are answered.
+//! Requests and reports as lines of JSON, and the lines that are answered; files of comma-separated
+//! values as lists of keyed requests, and the report of their run.
 //!
 //! A request is an object with `do`, a command's name, `day`, `key` where it has one, and the fields
 //! of the command. One reader reads every command: it goes over the form of that name. An object with
 //! `report` and without `do` asks for a report on what `of` numbers.
 //!
-//! The first of these faults is told:
+//! Of a line the first of these faults is told:
 //!
 //! 1. of the line: `TooLong`, `NotJson`, `NotObject`;
 //! 2. of `do`: `NoField`, `WrongType`, `UnknownCommand`;
@@ -15,14 +16,38 @@
 //!    says, `BadText`, `BadSerials` or `BadWord`.
 //!
 //! Of a report it is `UnknownField`, and then those of `of` and of `report`.
+//!
+//! A file is receipts or counts of a document. Under its header each record is a row: a `receive` or
+//! a `count`, with a key of the document and of the row's number, so that the same file sent again is
+//! done once. The first of these faults is told, with the number of its record, of which the header
+//! is 1:
+//!
+//! 1. of the file, with 0: `TooLong`;
+//! 2. of the header: `Header`;
+//! 3. of each row, in order: `Csv`, and then of its fields from left to right `WrongType`, `BadText` or
+//!    `BadSerials`.
 #![tactic(auto)]
 
+mod document;
 mod fault;
 mod fields;
+mod import;
+mod kind;
 mod members;
+mod number;
 mod read;
+mod records;
+mod report;
+mod row;
+mod texts;
 mod write;
 
-pub use fault::{ReadError, What, WireFault};
+pub use document::Document;
+pub use fault::{Bad, ReadError, What, WireFault};
+pub use import::{import_counts, import_receipts, import_rows};
+pub use kind::{ImportKind, import_kind_named};
+pub use number::number_in;
 pub use read::{Asked, lines_are_commands, read_line, read_request};
+pub use report::{import_report, push_report_line};
+pub use row::ImportRow;
 pub use write::{answer_text, fault_text, refused_text, report_text};

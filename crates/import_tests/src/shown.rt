@@ -1,0 +1,108 @@
+//! What a file is, as a text.
+use desk_core::Command;
+use desk_wire::{Document, ImportKind, ImportRow, ReadError, import_counts, import_receipts};
+use order_core::OrderCommand;
+use part_core::{Day, Serials, Text};
+use std::alloc::{AllocError, Global};
+use std::test::Fail;
+use stock_core::{NewStock, StockCommand};
+
+fn show_serials(alloc: Global, serials: &Option<Serials>) -> Result<String, AllocError> {
+    let mut text = String::new(alloc);
+    if let Some(serials) = serials {
+        for serial in serials.as_slice() {
+            text.push_str(" ")?;
+            text.push_str(serial.as_str())?;
+        }
+    }
+    Ok(text)
+}
+
+fn show_batch(batch: &Option<Text>) -> &str {
+    match batch {
+        None => "none",
+        Some(batch) => batch.as_str(),
+    }
+}
+
+/// So many, with a batch or none, and the serials.
+fn show_new(alloc: Global, new: &NewStock) -> Result<String, AllocError> {
+    let (quantity, batch) = (new.quantity, show_batch(&new.batch));
+    let serials = show_serials(alloc, &new.serials)?;
+    format!(in alloc; "{quantity} {batch}{serials}")
+}
+
+fn show_command(alloc: Global, command: &Command) -> Result<String, AllocError> {
+    match command {
+        Command::Order(
+            OrderCommand::Receive {
+                line,
+                location,
+                new,
+            },
+        ) => {
+            let new = show_new(alloc, new)?;
+            format!(in alloc; "receive {line} {location} {new}")
+        }
+        Command::Stock(StockCommand::Count { item, quantity }) => {
+            format!(in alloc; "count {item} {quantity}")
+        }
+        _ => String::from_str(alloc, "another command"),
+    }
+}
+
+/// The number, the key, the day and the command of a row, on a line.
+fn show_row(alloc: Global, row: &ImportRow) -> Result<String, AllocError> {
+    let command = show_command(alloc, &row.request.command)?;
+    let (number, day) = (row.number, row.request.day);
+    let key = match &row.request.key {
+        None => "none",
+        Some(key) => key.as_str(),
+    };
+    format!(in alloc; "{number} {key} {day:?} {command}\n")
+}
+
+fn show_rows(alloc: Global, rows: &[ImportRow]) -> Result<String, AllocError> {
+    let mut text = String::new(alloc);
+    for row in rows {
+        text.push_str(show_row(alloc, row)?.as_str())?;
+    }
+    Ok(text)
+}
+
+/// The rows of a file of that document, of the first of March 2030, or its fault.
+pub fn rows_of(
+    alloc: Global,
+    kind: ImportKind,
+    document: &str,
+    bytes: &[u8],
+) -> Result<Result<Vec<ImportRow>, ReadError>, Fail> {
+    let name = String::from_str(alloc, document)?;
+    let document = Document::new(name).ok_or("it is a document")?;
+    let day = Day::parse("2030-03-01").ok_or("it is a day")?;
+    Ok(match kind {
+        ImportKind::Receipts => import_receipts(alloc, bytes, &document, day),
+        ImportKind::Counts => import_counts(alloc, bytes, &document, day),
+    })
+}
+
+/// Each row of a file of document D1, or its fault with its number.
+pub fn show(alloc: Global, kind: ImportKind, bytes: &[u8]) -> Result<String, Fail> {
+    let text = match rows_of(alloc, kind, "D1", bytes)? {
+        Ok(rows) => show_rows(alloc, rows.as_slice())?,
+        Err(ReadError::Wrong(fault)) => {
+            format!(in alloc; "{} {}", fault.what.name(), fault.line)?
+        }
+        Err(ReadError::Memory) => String::from_str(alloc, "no memory")?,
+    };
+    Ok(text)
+}
+
+/// A header and the lines under it.
+pub fn under(alloc: Global, header: &str, lines: &[u8]) -> Result<Vec<u8>, AllocError> {
+    let mut bytes = Vec::new(alloc);
+    bytes.extend_from_slice(header.as_bytes())?;
+    bytes.extend_from_slice(b"\n".as_slice())?;
+    bytes.extend_from_slice(lines)?;
+    Ok(bytes)
+}
