@@ -1,0 +1,11 @@
+pub mod Sorting
+pub mod Numbers
+pub mod Fields
+pub mod Arriving
+pub mod Known
+pub mod Serving
+pub mod Built
+pub mod Days
+pub mod Documents
+pub mod Finding
+pub mod Routing

@@ -1,0 +1,40 @@
+-- Where the head of a request ends.
+use Rattle.std.specs.Prelude.{◌+◌, ◌==◌, ◌||◌, ◌≤◌, nat_lt, nat_eq, length, take, ℕ, List, [], ◌∷◌, Option, Some, None, option_map, if◌then◌else◌}
+use Rattle.std.specs.List.{starts_with}
+use Rattle.std.specs.Io.KnownBytes.{prepend_known}
+use Rattle.desk_http.specs.declared.receive.Arrival.{Arrival}
+use Rattle.desk_http.specs.declared.receive.Arrival.TheVariants.{Head, TooLong, Incomplete}
+
+-- how far the first empty line goes: an LF, or a CR LF, straight after an LF
+unfoldable pub empty_line_end : List ℕ → Option ℕ
+empty_line_end [] = None
+empty_line_end (b ∷ bs) =
+    if starts_with nat_eq (b ∷ bs) (10 ∷ 10 ∷ []) then Some 2
+    else (if starts_with nat_eq (b ∷ bs) (10 ∷ 13 ∷ 10 ∷ []) then Some 3 else option_map (λ n. n + 1) (empty_line_end bs))
+
+-- how long the head is: it ends with its first empty line behind the first byte that is neither CR nor LF
+unfoldable pub head_end : List ℕ → Option ℕ
+head_end [] = None
+head_end (b ∷ bs) = if b == 13 || b == 10 then option_map (λ n. n + 1) (head_end bs) else empty_line_end (b ∷ bs)
+
+-- no more of the bytes than a head may have
+unfoldable pub front : List ℕ → List ℕ
+front bytes = take 8192 bytes
+
+abbrev pub arrival_at : List ℕ → Option ℕ → Arrival
+arrival_at bytes (Some n) = Head n
+arrival_at bytes None = if nat_lt (length bytes) 8192 then Incomplete else TooLong
+
+-- whether the bytes begin with a head
+abbrev pub arrival : List ℕ → Arrival
+arrival bytes = arrival_at bytes (head_end (front bytes))
+
+-- what was read, and then what the reader still has
+abbrev pub all_of : Option (List ℕ) → List ℕ → Option (List ℕ)
+all_of known read = prepend_known read known
+
+-- a head that has come lies in so many bytes
+abbrev pub IsInside : ℕ → Arrival → Type 0
+IsInside len (Head n) = n ≤ len
+IsInside len TooLong = Unit {0}
+IsInside len Incomplete = Unit {0}

@@ -1,0 +1,9 @@
+pub mod HeadEnds
+pub mod Heads
+pub mod Spans
+pub mod Targets
+pub mod Routes
+pub mod Plans
+pub mod Services
+pub mod Responses
+pub mod Serving

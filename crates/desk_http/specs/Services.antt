@@ -1,0 +1,71 @@
+-- A service as a machine: what each operation does to a state, and what it replies.
+use Rattle.std.specs.Prelude.{◌≡◌, ◌⊎◌, ℕ, List, Option, Some, None, Result, Ok, Err}
+use Rattle.std.specs.String.{string_bytes}
+use Rattle.part_core.specs.Day.{CivilDay}
+use Rattle.desk_http.specs.Targets.{Resource, Run, Import, Report}
+use Rattle.desk_http.specs.declared.target.ImportKind.{ImportKind}
+use Rattle.desk_http.specs.declared.target.ReportName.{ReportName}
+use Rattle.desk_http.specs.declared.service.Outcome.{Outcome}
+use Rattle.desk_http.specs.declared.service.Reply.{Reply}
+use Rattle.desk_http.specs.declared.service.Failure.{Failure}
+use Rattle.desk_http.specs.declared.service.Failure.TheVariants as failure
+use Rattle.desk_http.specs.declared.service.NoReply.{NoReply}
+use Rattle.desk_http.specs.declared.service.NoReply.TheVariants.{Failed, Untold}
+
+-- what a request asks for: a resource, with the body that was sent to it
+pub data Operation : Type 0 where
+  RunLine : List ℕ → Operation
+  ImportFile : ImportKind → List ℕ → CivilDay → List ℕ → Operation
+  ShowReport : ReportName → ℕ → Operation
+
+abbrev pub operation : Resource → List ℕ → Operation
+operation Run body = RunLine body
+operation (Import kind document day) body = ImportFile kind document day body
+operation (Report name number) body = ShowReport name number
+
+-- a reply: of what kind, and the bytes of its body
+abbrev pub Said : Type 0
+Said = Outcome × List ℕ
+
+abbrev pub said : Reply → Said
+said reply = (reply.outcome, string_bytes reply.text)
+
+abbrev pub heard : Result Reply NoReply → Result Said NoReply
+heard (Ok reply) = Ok (said reply)
+heard (Err e) = Err e
+
+-- why there is no reply, if there is none
+abbrev pub why_none : {A : Type 0} → Result A NoReply → Option NoReply
+why_none (Ok reply) = None
+why_none (Err e) = Some e
+
+-- what a line, the rows of a file, and a report's name and number do in each state
+pub record Machine (S : Type 0) : Type 0 where
+  pub run_line : S → List ℕ → S × Said
+  pub import_file : S → ImportKind → List ℕ → CivilDay → List ℕ → S × Said
+  pub show_report : S → ReportName → ℕ → Said
+
+module _ {S : Type 0} where
+  abbrev pub step : Machine S → S → Operation → S × Said
+  step m s (RunLine line) = m.run_line s line
+  step m s (ImportFile kind document day rows) = m.import_file s kind document day rows
+  step m s (ShowReport name number) = (s, m.show_report s name number)
+
+  -- what an operation that failed leaves: a report leaves all as it was
+  abbrev pub Leaves : (Failure → S → Operation → S → Type 0) → Failure → S → Operation → S → Type 0
+  Leaves left e s (RunLine line) s' = left e s (RunLine line) s'
+  Leaves left e s (ImportFile kind document day rows) s' = left e s (ImportFile kind document day rows) s'
+  Leaves left e s (ShowReport name number) s' = s' ≡ s
+
+  -- what an operation without a reply leaves. Where there was no memory to read it or to tell its reply, it was done or
+  -- not, or it stopped as one does that runs out of memory.
+  abbrev pub Stops : Machine S → (Failure → S → Operation → S → Type 0) → NoReply → S → Operation → S → Type 0
+  Stops m left (Failed e) s o s' = Leaves left e s o s'
+  Stops m left Untold s o s' = (s' ≡ s) ⊎ ((s' ≡ (step m s o).0) ⊎ Leaves left failure.Memory s o s')
+
+-- A service did an operation, and replied so or not at all: its state and its reply are the machine's, or what is left
+-- where there is no reply; and what the service says besides of an operation holds.
+module _ {D S : Type 0} (state : D → S) (m : Machine S) (left : Failure → S → Operation → S → Type 0) (relates : D → Operation → Option NoReply → D → Type 0) where
+  abbrev pub Performs : D → Operation → Result Said NoReply → D → Type 0
+  Performs d o (Ok reply) d' = ((state d', reply) ≡ step m (state d) o) × relates d o None d'
+  Performs d o (Err e) d' = Stops m left e (state d) o (state d') × relates d o (Some e) d'

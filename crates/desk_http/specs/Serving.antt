@@ -1,0 +1,107 @@
+-- What a connection is answered, and what becomes of the service.
+use Rattle.std.specs.Prelude.{◌≡◌, ◌≤◌, ◌⊎◌, nat_lt, ℕ, List, length, take, drop, Option, Some, None, Result, Ok, Err, if◌then◌else◌}
+use Rattle.std.specs.Io.KnownBytes.{Appends, Keeps}
+use Rattle.desk_http.specs.Heads.{Class, IsHead}
+use Rattle.desk_http.specs.Targets.{Resource}
+use Rattle.desk_http.specs.Plans.{plan_of}
+use Rattle.desk_http.specs.Services.{Operation, operation, Said}
+use Rattle.desk_http.specs.HeadEnds.{arrival}
+use Rattle.desk_http.specs.Responses.{Response, rejection_response, reply_response, failure_response}
+use Rattle.desk_http.specs.declared.receive.Arrival.{Arrival}
+use Rattle.desk_http.specs.declared.receive.Arrival.TheVariants as arrival
+use Rattle.desk_http.specs.declared.rejection.Rejection.{Rejection}
+use Rattle.desk_http.specs.declared.rejection.Rejection.TheVariants.{HeadTooLarge}
+use Rattle.desk_http.specs.declared.service.Failure.{Failure}
+use Rattle.desk_http.specs.declared.service.NoReply.{NoReply}
+use Rattle.desk_http.specs.declared.service.NoReply.TheVariants.{Failed}
+use Rattle.desk_http.specs.declared.served.Served.{Served}
+use Rattle.desk_http.specs.declared.served.Served.TheVariants as served
+use Rattle.desk_http.specs.declared.served.Stop.{Stop}
+use Rattle.desk_http.specs.declared.served.Stop.TheVariants.{Ended, ReadFailed, WriteFailed, Memory}
+
+-- ---- what the bytes of a connection are
+
+pub data Received : Type 0 where
+  -- they end before the request does
+  Incomplete : Received
+  Rejected : Rejection → Received
+  Complete : Operation → Received
+
+-- of a plan and the bytes behind the head: what follows the body doesn't count
+abbrev pub received_of : Result (Resource × ℕ) Rejection → List ℕ → Received
+received_of (Err rejection) rest = Rejected rejection
+received_of (Ok p) rest = if nat_lt (length rest) p.1 then Incomplete else Complete (operation p.0 (take p.1 rest))
+
+abbrev pub IsReceivedAt : Arrival → List ℕ → Received → Type 0
+IsReceivedAt arrival.Incomplete xs r = r ≡ Incomplete
+IsReceivedAt arrival.TooLong xs r = r ≡ Rejected HeadTooLarge
+IsReceivedAt (arrival.Head n) xs r = (class : Class) × IsHead (take n xs) class × (r ≡ received_of (plan_of class) (drop n xs))
+
+-- the bytes are that, as far as they are known
+abbrev pub IsReceived : Option (List ℕ) → Received → Type 0
+IsReceived None r = Unit {0}
+IsReceived (Some xs) r = IsReceivedAt (arrival xs) xs r
+
+-- the same, where it is known how far the head goes
+abbrev pub IsReceivedFrom : Arrival → Option (List ℕ) → Received → Type 0
+IsReceivedFrom a None r = Unit {0}
+IsReceivedFrom a (Some xs) r = IsReceivedAt a xs r
+
+-- ---- what comes of it
+
+abbrev pub result_of : Served → Result ℕ Stop
+result_of (served.Answered status) = Ok status
+result_of served.Ended = Err Ended
+result_of served.ReadFailed = Err ReadFailed
+result_of served.WriteFailed = Err WriteFailed
+result_of served.Memory = Err Memory
+
+-- a front of the bytes was written
+abbrev pub AppendsFront : Option (List ℕ) → Option (List ℕ) → List ℕ → Type 0
+AppendsFront w w' bytes = (n : ℕ) × (n ≤ length bytes) × Appends w w' (take n bytes)
+
+-- a response was written, or a front of it; or there was no memory for it, and nothing was written
+abbrev pub Sends : Response → Option (List ℕ) → Option (List ℕ) → Result ℕ Stop → Type 0
+Sends p w w' (Ok status) = (status ≡ p.status) × Appends w w' p.bytes
+Sends p w w' (Err WriteFailed) = AppendsFront w w' p.bytes
+Sends p w w' (Err Memory) = Keeps w w'
+Sends p w w' (Err Ended) = ⊥
+Sends p w w' (Err ReadFailed) = ⊥
+
+-- What becomes of a service that `performs` says what it may do, where `are` says what the bytes may be.
+module _ {D : Type 0} (performs : D → Operation → Result Said NoReply → D → Type 0) where
+  -- the service did the operation, and this is the response to it: its reply, or that it failed
+  abbrev pub Replies : D → Operation → D → Response → Type 0
+  Replies d o d' p =
+      ((reply : Said) × performs d o (Ok reply) d' × (p ≡ reply_response reply))
+      ⊎ ((e : Failure) × performs d o (Err (Failed e)) d' × (p ≡ failure_response e))
+
+  -- this is the response to what was received, and this becomes of the service
+  abbrev pub Responds : D → Received → D → Response → Type 0
+  Responds d Incomplete d' p = ⊥
+  Responds d (Rejected rejection) d' p = (d' ≡ d) × (p ≡ rejection_response rejection)
+  Responds d (Complete o) d' p = Replies d o d' p
+
+  -- the response to these bytes
+  abbrev pub Answers : (Received → Type 0) → D → D → Response → Type 0
+  Answers are d d' p = (r : Received) × are r × Responds d r d' p
+
+  -- the operation of these bytes was done, whatever came of it
+  abbrev pub Does : (Received → Type 0) → D → D → Type 0
+  Does are d d' = (o : Operation) × are (Complete o) × (outcome : Result Said NoReply) × performs d o outcome d'
+
+  -- What a call did. Answered: the response is written. Ended: the bytes aren't a whole request, and nothing was done or
+  -- written. ReadFailed: nothing was done or written. WriteFailed: what the response tells was done, and a front of it is
+  -- written. Memory: nothing is written, and the operation was done or nothing was.
+  abbrev pub Serves : (Received → Type 0) → D → D → Option (List ℕ) → Option (List ℕ) → Result ℕ Stop → Type 0
+  Serves are d d' w w' (Ok status) = (p : Response) × Answers are d d' p × (status ≡ p.status) × Appends w w' p.bytes
+  Serves are d d' w w' (Err Ended) = are Incomplete × (d' ≡ d) × Keeps w w'
+  Serves are d d' w w' (Err ReadFailed) = (d' ≡ d) × Keeps w w'
+  Serves are d d' w w' (Err WriteFailed) = (p : Response) × Answers are d d' p × AppendsFront w w' p.bytes
+  Serves are d d' w w' (Err Memory) = ((d' ≡ d) ⊎ Does are d d') × Keeps w w'
+
+  -- an operation was answered, and how that was sent; or there was no memory for its reply
+  abbrev pub PerformsAndSends : D → Operation → D → Option (List ℕ) → Option (List ℕ) → Result ℕ Stop → Type 0
+  PerformsAndSends d o d' w w' r =
+      ((p : Response) × Replies d o d' p × Sends p w w' r)
+      ⊎ ((r ≡ Err Memory) × ((outcome : Result Said NoReply) × performs d o outcome d') × Keeps w w')

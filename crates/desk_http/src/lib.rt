@@ -1,0 +1,26 @@
+//! One request of HTTP, read and answered. The connection gives the bytes, a service does what they ask: this crate
+//! knows what a request is, which are refused and how each is answered, and of the service only its trait.
+#![tactic(auto)]
+
+mod body_length;
+mod head;
+mod head_end;
+mod plan;
+mod receive;
+mod rejection;
+mod respond;
+mod response;
+mod route;
+mod send;
+mod serve;
+mod served;
+mod service;
+mod target;
+
+pub use head::one_class;
+pub use rejection::Rejection;
+pub use response::statuses_are_named;
+pub use serve::serve_one;
+pub use served::Served;
+pub use service::{Failure, NoReply, Outcome, Reply, Service};
+pub use target::{ImportKind, ReportName};

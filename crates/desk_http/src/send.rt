@@ -1,0 +1,41 @@
+//! Whole writes.
+ghost use Rattle.std.specs.Prelude.{◌≡◌, ◌≤◌, ◌++◌, List, ℕ, take, MatchResult, length};
+ghost use Rattle.std.specs.Io.KnownBytes.{Appends};
+ghost use Rattle.desk_http.specs.Responses.{response};
+ghost use Rattle.desk_http.specs.Serving.{AppendsFront, Sends};
+
+use crate::served::Stop;
+use http::StatusCode;
+use std::io::Write;
+
+/// Writes all the bytes and flushes; else a front of them.
+fn send<W: Write>(writer: &mut W, text: &[u8]) -> Result<(), Stop>
+    ensures { MatchResult result
+        (λ _. Appends (W.contents writer.old) (W.contents writer.new) text.now)
+        (λ e. (e ≡ Stop.WriteFailed)
+        × AppendsFront (W.contents writer.old) (W.contents writer.new) text.now) }
+{
+    let mut at = 0;
+    while at < text.len() {
+        match writer.write(&text[at..]) {
+            Ok(0) => return Err(Stop::WriteFailed),
+            Ok(n) => at += n,
+            Err(_) => return Err(Stop::WriteFailed),
+        }
+    }
+    match writer.flush() {
+        Ok(()) => Ok(()),
+        Err(_) => Err(Stop::WriteFailed),
+    }
+}
+
+/// Sends a response of this status.
+pub fn send_response<W: Write>(writer: &mut W, status: StatusCode, text: &str) -> Result<u16, Stop>
+    ensures { Sends (response status text.now)
+        (W.contents writer.old) (W.contents writer.new) result }
+{
+    match send(writer, text.as_bytes()) {
+        Ok(()) => Ok(status.as_u16()),
+        Err(_) => Err(Stop::WriteFailed),
+    }
+}

@@ -1,0 +1,113 @@
+//! One request, read and answered.
+ghost use Rattle.std.specs.Prelude.{◌≡◌, ◌≤◌, length, IfOk};
+ghost use Rattle.desk_http.specs.HeadEnds.{all_of};
+ghost use Rattle.desk_http.specs.Routes.{all_routes};
+ghost use Rattle.desk_http.specs.Services.{Performs};
+ghost use Rattle.desk_http.specs.Serving.{IsReceived, IsReceivedFrom, Serves, result_of};
+
+use crate::head::read_head;
+use crate::plan::make_plan;
+use crate::receive::{Arrival, receive_body, receive_head};
+use crate::rejection::Rejection;
+use crate::respond::{reject, respond};
+use crate::route::{Route, make_router};
+use crate::served::{Served, Stop};
+use crate::service::Service;
+use httparse::spans::EMPTY_HEADER_SPAN;
+use matchit::Router;
+use std::alloc::{AllocError, Global};
+use std::io::{Read, Write};
+
+fn copy(alloc: Global, bytes: &[u8]) -> Result<Vec<u8>, AllocError>
+    ensures { IfOk result (λ copy. copy.items ≡ bytes.now) }
+{
+    let mut copy = Vec::new(alloc);
+    copy.extend_from_slice(bytes)?;
+    Ok(copy)
+}
+
+/// Answers a request whose head has come, and has so many bytes.
+fn serve_head<R: Read, W: Write, S: Service>(
+    alloc: Global,
+    reader: &mut R,
+    writer: &mut W,
+    service: &mut S,
+    reads: &mut u64,
+    bytes: &mut Vec<u8>,
+    router: &Router<Route>,
+    n: usize,
+) -> Result<u16, Stop>
+    requires inside { n ≤ length bytes.old.items }
+    requires router { router.now ≡ all_routes }
+    requires kept { S.is_kept service.old }
+    ensures kept { S.is_kept service.new }
+    ensures serves { Serves (Performs S.state S.machine S.left S.relates)
+        (IsReceivedFrom (Arrival.Head n) (all_of (R.remaining reader.old) bytes.old.items))
+        service.old service.new (W.contents writer.old) (W.contents writer.new) result }
+{
+    let head = copy(alloc, &bytes[..n])?;
+    let mut spans = [EMPTY_HEADER_SPAN; 64];
+    let class = read_head(&head, &mut spans);
+    match make_plan(router, &head, class, &spans) {
+        Err(rejection) => reject(alloc, writer, rejection),
+        Ok((target, len)) => {
+            if !receive_body(reader, reads, bytes, n, len)? {
+                return Err(Stop::Ended);
+            }
+            let body = &bytes[n..n + len];
+            respond(alloc, writer, service, &target, body)
+        }
+    }
+}
+
+fn answer_one<R: Read, W: Write, S: Service>(
+    alloc: Global,
+    reader: &mut R,
+    writer: &mut W,
+    service: &mut S,
+) -> Result<u16, Stop>
+    requires { S.is_kept service.old }
+    ensures kept { S.is_kept service.new }
+    ensures serves { Serves (Performs S.state S.machine S.left S.relates)
+        (IsReceived (R.remaining reader.old))
+        service.old service.new (W.contents writer.old) (W.contents writer.new) result }
+{
+    let Ok(router) = make_router(alloc) else {
+        return Err(Stop::Memory);
+    };
+    let mut reads = 2_000_000;
+    let mut bytes = Vec::new(alloc);
+    match receive_head(reader, &mut reads, &mut bytes)? {
+        Arrival::Incomplete => Err(Stop::Ended),
+        Arrival::TooLong => reject(alloc, writer, Rejection::HeadTooLarge),
+        Arrival::Head(n) => serve_head(
+            alloc, reader, writer, service, &mut reads, &mut bytes, &router, n,
+        ),
+    }
+}
+
+/// Reads one request, has the service do what it asks, and answers it.
+///
+/// A request is read as far as its body goes, and nothing behind it; of a GET no body is read. There is one answer, and
+/// the connection is the caller's to close. There are at most 2,000,000 reads.
+pub fn serve_one<R: Read, W: Write, S: Service>(
+    alloc: Global,
+    reader: &mut R,
+    writer: &mut W,
+    service: &mut S,
+) -> Served
+    requires { S.is_kept service.old }
+    ensures kept { S.is_kept service.new }
+    ensures serves { Serves (Performs S.state S.machine S.left S.relates)
+        (IsReceived (R.remaining reader.old))
+        service.old service.new (W.contents writer.old) (W.contents writer.new)
+        (result_of result) }
+{
+    match answer_one(alloc, reader, writer, service) {
+        Ok(status) => Served::Answered(status),
+        Err(Stop::Ended) => Served::Ended,
+        Err(Stop::ReadFailed) => Served::ReadFailed,
+        Err(Stop::WriteFailed) => Served::WriteFailed,
+        Err(Stop::Memory) => Served::Memory,
+    }
+}

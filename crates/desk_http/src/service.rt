@@ -1,0 +1,105 @@
+//! The service that requests are handed to.
+ghost use Rattle.std.specs.Prelude.{◌≡◌, ℕ, List, Option, true, IfOk, IfErr};
+ghost use Rattle.desk_http.specs.Targets.{is_document};
+ghost use Rattle.desk_http.specs.Services.{Machine, Operation, RunLine, ImportFile, ShowReport, Stops, heard, said, step, why_none};
+
+use crate::target::{ImportKind, ReportName};
+use part_core::Day;
+use std::alloc::Global;
+
+/// Of what kind a reply is.
+#[derive(Clone, Copy, Debug)]
+pub enum Outcome {
+    /// A line was run: 200, as JSON.
+    Answered,
+    /// Nothing was done, and the reply says why: 409, as JSON.
+    Refused,
+    /// The body isn't what it has to be: 400, as JSON.
+    Faulty,
+    /// A report, or the report of an import: 200, as plain text.
+    Reported,
+}
+
+/// What the service replies, the LF at its end too.
+#[derive(Drop)]
+pub struct Reply {
+    pub outcome: Outcome,
+    pub text: String,
+}
+
+/// Why an operation failed.
+#[derive(Clone, Copy, Debug)]
+pub enum Failure {
+    /// The store failed, or has been closed: 500.
+    Store,
+    /// There was no memory for the operation: 503.
+    Memory,
+}
+
+/// Why there is no reply.
+#[derive(Clone, Copy, Debug)]
+pub enum NoReply {
+    Failed(Failure),
+    /// There was no memory to read the body, or to tell the reply: nothing is answered.
+    Untold,
+}
+
+/// A service that runs lines, takes files in and shows reports.
+///
+/// It is a state, and a machine on states that says of each operation what it does to the state and what is replied.
+pub trait Service {
+    ghost use Rattle.desk_http.specs.declared.service.Failure.{Failure};
+    ghost use Rattle.desk_http.specs.declared.service.NoReply.{NoReply};
+
+    // what the service is a state of
+    ghost State: { Type 0 };
+
+    ghost state: { Self → State };
+
+    ghost machine: { Machine State };
+
+    // what a failure leaves of a state
+    ghost left: { Failure → State → Operation → State → Type 0 };
+
+    // what holds of the service before a call and after it
+    ghost is_kept: { Self → Type 0 };
+
+    // what is to be said besides of the service before an operation and after it, and why there was no reply, if so
+    ghost relates: { Self → Operation → Option NoReply → Self → Type 0 };
+
+    /// Runs one line.
+    fn run(&mut self, alloc: Global, line: &[u8]) -> Result<Reply, NoReply>
+        requires { is_kept self.old }
+        ensures kept { is_kept self.new }
+        ensures ok { IfOk result (λ reply. (state self.new, said reply)
+            ≡ step machine (state self.old) (RunLine line.now)) }
+        ensures err { IfErr result (λ e. Stops machine left e (state self.old)
+            (RunLine line.now) (state self.new)) }
+        ensures relates { relates self.old (RunLine line.now) (why_none result) self.new };
+
+    /// Takes the rows of a file in, as those of a document on a day.
+    fn import(
+        &mut self,
+        alloc: Global,
+        kind: ImportKind,
+        document: &str,
+        day: Day,
+        rows: &[u8],
+    ) -> Result<Reply, NoReply>
+        requires kept { is_kept self.old }
+        requires document { is_document document.now ≡ true }
+        ensures kept { is_kept self.new }
+        ensures ok { IfOk result (λ reply. (state self.new, said reply)
+            ≡ step machine (state self.old) (ImportFile kind document.now day rows.now)) }
+        ensures err { IfErr result (λ e. Stops machine left e (state self.old)
+            (ImportFile kind document.now day rows.now) (state self.new)) }
+        ensures relates { relates self.old (ImportFile kind document.now day rows.now)
+            (why_none result) self.new };
+
+    /// Shows a report of the number.
+    fn report(&self, alloc: Global, name: ReportName, number: u64) -> Result<Reply, NoReply>
+        requires { is_kept self.now }
+        ensures ok { IfOk result (λ reply. (state self.now, said reply)
+            ≡ step machine (state self.now) (ShowReport name number)) }
+        ensures relates { relates self.now (ShowReport name number) (why_none result) self.now };
+}

@@ -1,0 +1,182 @@
+//! What the target of a request names. It is looked at byte by byte: nothing is decoded, and there is no query.
+ghost use Rattle.std.specs.Prelude.{◌≡◌, ◌<◌, IfSome, true, length};
+ghost use Rattle.std.specs.List.{list_all};
+ghost use Rattle.part_core.specs.Day.{day_of};
+ghost use Rattle.desk_http.specs.Targets.{number_of, cut, kind_of, name_of, slash_in, is_document_byte, is_document, where_it, file_resource, import_resource, report_resource, some_parts, some_resource, some_text, IsProper};
+
+use part_core::Day;
+
+/// What the rows of a file are.
+#[derive(Clone, Copy, Debug)]
+pub enum ImportKind {
+    Receipts,
+    Counts,
+}
+
+/// Which report is shown.
+#[derive(Clone, Copy, Debug)]
+pub enum ReportName {
+    Ledger,
+    Stock,
+    Content,
+    WhereUsed,
+    Shortage,
+    History,
+}
+
+/// What a target names.
+#[derive(Clone, Copy)]
+pub enum Target<'b> {
+    Run,
+    /// An import, of a document and on a day.
+    Import(ImportKind, &'b str, Day),
+    /// A report, and the number of what it is of.
+    Report(ReportName, u64),
+}
+
+/// A number of 1 to 19 digits.
+pub fn read_number(bytes: &[u8]) -> Option<u64>
+    ensures { result ≡ number_of bytes.now }
+{
+    if bytes.is_empty() || bytes.len() > 19 {
+        return None;
+    }
+    let mut value = 0;
+    for b in bytes {
+        if !b.is_ascii_digit() {
+            return None;
+        }
+        value = value * 10 + (*b - b'0') as u64;
+    }
+    Some(value)
+}
+
+#[tactic(auto, unfolding(crate::specs::Targets::slash_in))]
+fn find_slash(bytes: &[u8]) -> Option<usize>
+    ensures at { result ≡ slash_in bytes.now }
+    ensures within { IfSome result (λ i. i < length bytes.now) }
+{
+    for (i, b) in bytes.iter().enumerate() {
+        if *b == b'/' {
+            return Some(i);
+        }
+    }
+    None
+}
+
+/// The bytes before the first slash, and those behind it.
+#[tactic(auto, using(crate::proofs::Numbers::from_index))]
+fn split(bytes: &[u8]) -> Option<(&[u8], &[u8])>
+    ensures { some_parts result ≡ cut bytes.now }
+{
+    match find_slash(bytes) {
+        Some(i) => Some((&bytes[..i], &bytes[i + 1..])),
+        None => None,
+    }
+}
+
+fn read_kind(bytes: &[u8]) -> Option<ImportKind>
+    ensures { result ≡ kind_of bytes.now }
+{
+    if bytes == b"receipts".as_slice() {
+        Some(ImportKind::Receipts)
+    } else if bytes == b"counts".as_slice() {
+        Some(ImportKind::Counts)
+    } else {
+        None
+    }
+}
+
+fn read_name(bytes: &[u8]) -> Option<ReportName>
+    ensures { result ≡ name_of bytes.now }
+{
+    if bytes == b"ledger".as_slice() {
+        Some(ReportName::Ledger)
+    } else if bytes == b"stock".as_slice() {
+        Some(ReportName::Stock)
+    } else if bytes == b"content".as_slice() {
+        Some(ReportName::Content)
+    } else if bytes == b"where_used".as_slice() {
+        Some(ReportName::WhereUsed)
+    } else if bytes == b"shortage".as_slice() {
+        Some(ReportName::Shortage)
+    } else if bytes == b"history".as_slice() {
+        Some(ReportName::History)
+    } else {
+        None
+    }
+}
+
+fn is_document_byte(b: u8) -> bool
+    ensures { result ≡ is_document_byte b }
+{
+    b.is_ascii_alphanumeric() || b == b'.' || b == b'_' || b == b'-'
+}
+
+fn are_document(bytes: &[u8]) -> bool
+    ensures { result ≡ list_all is_document_byte bytes.now }
+{
+    bytes.iter().all(|b| is_document_byte(*b))
+}
+
+fn is_document(bytes: &[u8]) -> bool
+    ensures { result ≡ is_document bytes.now }
+{
+    0 < bytes.len() && bytes.len() <= 32 && are_document(bytes)
+}
+
+/// The name of a document, where the bytes are one.
+fn read_document(bytes: &[u8]) -> Option<&str>
+    ensures value { some_text result ≡ where_it is_document bytes.now }
+    ensures proper { IfSome result (λ text. is_document text.now ≡ true) }
+{
+    if !is_document(bytes) {
+        return None;
+    }
+    match str::from_utf8(bytes) {
+        Ok(text) => Some(text),
+        Err(_) => None,
+    }
+}
+
+#[tactic(auto, using(crate::proofs::Days::no_text))]
+fn read_day(bytes: &[u8]) -> Option<Day>
+    ensures { result ≡ day_of bytes.now }
+{
+    match str::from_utf8(bytes) {
+        Ok(text) => Day::parse(text),
+        Err(_) => None,
+    }
+}
+
+/// A document and a day, behind the kind of an import.
+fn read_file(kind: ImportKind, bytes: &[u8]) -> Option<Target>
+    ensures value { some_resource result ≡ file_resource kind bytes.now }
+    ensures proper { IfSome result IsProper }
+{
+    let (document_part, day_part) = split(bytes)?;
+    let document = read_document(document_part)?;
+    let day = read_day(day_part)?;
+    Some(Target::Import(kind, document, day))
+}
+
+/// What stands behind `/import/`.
+pub fn read_import(bytes: &[u8]) -> Option<Target>
+    ensures value { some_resource result ≡ import_resource bytes.now }
+    ensures proper { IfSome result IsProper }
+{
+    let (kind_part, rest) = split(bytes)?;
+    let kind = read_kind(kind_part)?;
+    read_file(kind, rest)
+}
+
+/// What stands behind `/report/`.
+pub fn read_report(bytes: &[u8]) -> Option<Target>
+    ensures value { some_resource result ≡ report_resource bytes.now }
+    ensures proper { IfSome result IsProper }
+{
+    let (name_part, rest) = split(bytes)?;
+    let name = read_name(name_part)?;
+    let number = read_number(rest)?;
+    Some(Target::Report(name, number))
+}

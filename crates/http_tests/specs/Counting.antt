@@ -1,0 +1,30 @@
+-- A service that counts the bytes that it is sent.
+use Rattle.std.specs.Prelude.{◌≡◌, ℕ, ◌+◌, ◌%◌, ◌==◌, ◌++◌, List, [], ◌∷◌, length, decimal, codes, if◌then◌else◌}
+use Rattle.std.specs.Str.{bytes_eq}
+use Rattle.desk_http.specs.Services.{Machine, Operation, Said}
+use Rattle.desk_http.specs.declared.service.Outcome.TheVariants.{Answered, Refused, Faulty, Reported}
+use Rattle.desk_http.specs.declared.service.Failure.{Failure}
+
+abbrev pub number_line : ℕ → List ℕ
+number_line n = decimal n ++ 10 ∷ []
+
+abbrev pub more : ℕ → List ℕ → ℕ
+more total body = (total % 65536 + length body % 65536) % 65536
+
+-- the report of no number is refused, and that of 9 has no lines
+abbrev pub report_said : ℕ → Said
+report_said number = if number == 0 then (Refused, number_line 0) else (if number == 9 then (Reported, []) else (Reported, number_line number))
+
+abbrev pub counting : Machine ℕ
+counting = record {
+  run_line = λ total body.
+      if length body == 0 then (total, (Refused, number_line total))
+      else (if bytes_eq body (codes "faulty") then (total, (Faulty, number_line total)) else (more total body, (Answered, number_line (more total body))));
+  import_file = λ total kind document day rows.
+      if bytes_eq rows (codes "faulty") then (total, (Faulty, number_line total)) else (more total rows, (Reported, document ++ 10 ∷ []));
+  show_report = λ total name number. report_said number;
+}
+
+-- a failure leaves the count as it was
+abbrev pub nothing_counted : Failure → ℕ → Operation → ℕ → Type 0
+nothing_counted e total o total' = total' ≡ total

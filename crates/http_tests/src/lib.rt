@@ -1,0 +1,14 @@
+//! Tests of requests of HTTP, over a service that counts bytes: what is answered, and how a connection ends.
+#![tactic(auto)]
+
+mod counting;
+#[cfg(test)]
+mod devices;
+#[cfg(test)]
+mod ends;
+#[cfg(test)]
+mod play;
+#[cfg(test)]
+mod requests;
+
+pub use counting::Counting;

@@ -1,0 +1,71 @@
+//! One connection, from the bytes that it is sent to those that answer it.
+use crate::counting::Counting;
+use crate::devices::{Sink, Source};
+use desk_http::{Served, serve_one};
+use std::alloc::{AllocError, Global};
+
+/// A response as the rules have it: `allow` is the line of that field, with its CR LF, or nothing.
+pub fn response(
+    alloc: Global,
+    (status, name): (u16, &str),
+    media: &str,
+    allow: &str,
+    body: &str,
+) -> Result<String, AllocError> {
+    let length = body.len();
+    format!(in alloc;
+        "HTTP/1.1 {status} {name}\r\nContent-Type: {media}\r\nContent-Length: {length}\r\n{allow}Connection: close\r\n\r\n{body}"
+    )
+}
+
+/// The response of an error that the service doesn't tell.
+pub fn error(
+    alloc: Global,
+    (status, name): (u16, &str),
+    allow: &str,
+) -> Result<String, AllocError> {
+    let body = format!(in alloc; "{{\"http\":{status}}}\n")?;
+    response(
+        alloc,
+        (status, name),
+        "application/json",
+        allow,
+        body.as_str(),
+    )
+}
+
+/// Whether the request is answered so, with this status, where its bytes come `step` at a time and as many are taken,
+/// and so many bytes are counted.
+pub fn is_answered_by(
+    alloc: Global,
+    step: usize,
+    request: &[u8],
+    (status, wanted): (u16, &[u8]),
+    counted: u64,
+) -> bool {
+    let mut source = Source::new(request, step);
+    let mut sink = Sink::new(alloc, step);
+    let mut service = Counting { total: 0 };
+    let served = serve_one(alloc, &mut source, &mut sink, &mut service);
+    served == Served::Answered(status)
+        && sink.bytes.as_slice() == wanted
+        && service.total == counted
+}
+
+/// The same, however its bytes come.
+pub fn is_answered(alloc: Global, request: &[u8], wanted: (u16, &[u8]), counted: u64) -> bool {
+    is_answered_by(alloc, 4096, request, wanted, counted)
+        && is_answered_by(alloc, 1, request, wanted, counted)
+}
+
+/// Whether the request is answered so and nothing is counted, where the service isn't to see it.
+pub fn is_rejected(
+    alloc: Global,
+    request: &str,
+    (status, name): (u16, &str),
+    allow: &str,
+) -> Result<bool, AllocError> {
+    let wanted = error(alloc, (status, name), allow)?;
+    let wanted = (status, wanted.as_str().as_bytes());
+    Ok(is_answered(alloc, request.as_bytes(), wanted, 0))
+}
