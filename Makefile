@@ -21,18 +21,25 @@ install: build
 	install -D $(PROGRAM) $(PREFIX)/bin/invdesk
 
 # Lines per second and peak memory over 20,000 and 40,000 lines of each kind, in memory and with a file; files beside
-# Python's sqlite3, a C program and the kit's sqlite alone; and how calls of the libraries grow.
+# Python's sqlite3, a C program and the kit's sqlite alone; imports beside lines; requests over HTTP beside Python's
+# http.server; and how calls of the libraries grow.
 bench: build
 	python3 tools/bench.py $(PROGRAM)
 	python3 tools/bench_file.py $(PROGRAM)
+	python3 tools/bench_http.py $(PROGRAM)
 	python3 tools/bench_calls.py
 
-# Files as Python's sqlite3 finds them, and files that are refused.
+# Files as Python's sqlite3 finds them, and files that are refused; deliveries and stocktakes that Python's csv wrote.
 file: build
 	python3 tools/check_file.py $(PROGRAM)
+	python3 tools/check_import.py $(PROGRAM)
+
+# The program as a server, asked by Python's http.client, by curl and by bare sockets, and killed.
+http: build
+	python3 tools/check_http.py $(PROGRAM)
 
 # The wrong bodies that the gate leaves out: each has to be refused. It takes hours; 'make refuse CRATES=forest' tries one crate's.
 refuse:
 	python3 tools/refuse.py $(CRATES)
 
-.PHONY: try run test build install bench file refuse
+.PHONY: try run test build install bench file http refuse

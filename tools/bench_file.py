@@ -3,7 +3,8 @@
 same run, the same three writes for each request: by Python's sqlite3; by a C program with prepared statements over the
 system's library, where there is a `cc` and that library; and by the kit's `sqlite` alone. All are in WAL with
 synchronous FULL. Then the opening of a file of 50,000 and of 100,000 rows, half of them items and half their entries,
-and transfers of single pieces among 1,000 items and among 20,000. Prints seconds, ratios and peak memory.
+and transfers of single pieces among 1,000 items and among 20,000. Then imports of 10,000 and 20,000 counts, beside the
+same requests as lines. Prints seconds, ratios and peak memory.
 
 The program over the kit's sqlite, tools/bench/three_writes.rt.txt, is no crate of the repository: a folder of its own
 gets it, and there `rt run` proves that it is safe and builds it, in some minutes.
@@ -154,6 +155,48 @@ def among(folder):
         print(f"2,000 transfers among {items} items: {seconds:.2f} s, {seconds / 2:.2f} ms each", flush=True)
 
 
+def measured(folder, words, lines=""):
+    """The seconds and the peak memory in KiB of a run that ends well."""
+    given = folder / "given"
+    given.write_text(lines)
+    begin = time.monotonic()
+    with given.open("rb") as reader:
+        child = subprocess.Popen([sys.argv[1], *words], stdin=reader, stdout=subprocess.DEVNULL)
+        _, status, used = os.wait4(child.pid, 0)
+    child.returncode = os.waitstatus_to_exitcode(status)
+    if child.returncode != 0:
+        sys.exit(f"bench_file: {words} ends with {child.returncode}")
+    return time.monotonic() - begin, used.ru_maxrss
+
+
+def imports(folder):
+    """Each row counts one of 1,000 items, and finds another quantity than before."""
+    before = None
+    for count in (10_000, 20_000):
+        counted = [(i + 1, i % 1_000 + 3, 1_000 + i) for i in range(count)]
+        rows = "number,item,quantity\n" + "".join(f"{n},{item},{quantity}\n" for n, item, quantity in counted)
+        lines = "".join(
+            f'{{{DAY},"do":"count","item":{item},"key":"counts/C1/{n}","quantity":{quantity}}}\n'
+            for n, item, quantity in counted
+        )
+        path = folder / "counted.csv"
+        path.write_text(rows)
+        words = ("--kind", "counts", "--document", "C1", "--day", "2030-01-02", str(path))
+        books = [str(folder / f"{what}-{count}.db") for what in ("rows", "lines")]
+        for db in books:
+            timed(("run", "--db", db), START + "".join(found(10) for _ in range(1_000)))
+        ours, peak = measured(folder, ("import", "--db", books[0], *words))
+        theirs, beside = measured(folder, ("run", "--db", books[1]), lines)
+        print(
+            f"{count} counts imported: {ours:.2f} s, {count / ours:.0f} a second, {theirs / ours:.2f} of the rate of"
+            f" lines; {peak} KiB at most, of lines {beside}, of a file of {len(rows) // 1024}",
+            flush=True,
+        )
+        if before:
+            print(f"    {ours / before:.2f} times the time of half as many", flush=True)
+        before = ours
+
+
 with tempfile.TemporaryDirectory(dir=".") as disk, tempfile.TemporaryDirectory(dir="/dev/shm") as memory:
     disk, memory = pathlib.Path(disk).resolve(), pathlib.Path(memory)
     programs = {"C": c_program(disk), "the kit's sqlite alone": kit_program(disk)}
@@ -161,3 +204,4 @@ with tempfile.TemporaryDirectory(dir=".") as disk, tempfile.TemporaryDirectory(d
     beside_others(memory, "a memory disk", programs)
     opening(memory)
     among(memory)
+    imports(memory)

@@ -2,9 +2,12 @@ pub mod Cutting
 pub mod Partway
 pub mod Stepping
 pub mod Running
+pub mod Rows
+pub mod Replies
+pub mod SentAgain
+pub mod Files
 pub mod CommandLines
 pub mod Faulty
-pub mod Numbers
 pub mod Parsed
 pub mod RunOn
 pub mod Told

@@ -7,7 +7,7 @@ use Rattle.clap.specs.Words.{App, HasKind, HasMatchesOf, Text, fault_of, is_simp
 use Rattle.clap.specs.declared.error.Error.{Error}
 use Rattle.clap.specs.declared.error.kind.ErrorKind.TheVariants.{OutOfMemory}
 use Rattle.clap.specs.declared.parser.matches.ArgMatches.{ArgMatches}
-use Rattle.desk_app.specs.Words.{IsCommandLine, Parses, Places, command_line, faults, report_names, table_names, wish, wish_met}
+use Rattle.desk_app.specs.Words.{IsCommandLine, Parses, Places, command_line, faults, kind_names, report_names, table_names, wish, wish_met}
 use Rattle.desk_app.proofs.Faulty.{is_faults, is_free, is_simple_line}
 
 abbrev lying : List Text → List (Bor Text)
@@ -18,6 +18,7 @@ pub anywhere : Places
 anywhere = record {
   reports = record { at = record { ref_ptr = (0, 0); now = lying report_names }; are = refl };
   tables = record { at = record { ref_ptr = (0, 0); now = lying table_names }; are = refl };
+  kinds = record { at = record { ref_ptr = (0, 0); now = lying kind_names }; are = refl };
 }
 
 is_wish : (places : Places) (words : List Text) → wish_met (subcommand_of (command_line places) words) ≡ wish places words

@@ -27,21 +27,21 @@ blank-held (b ∷ c ∷ bs) = refl
 line_long : (l : List ℕ) → nat_le (length l) 65536 ≡ false → line l ≡ Err TooLong
 line_long l e = rw e refl
 
-long_take : (m : ℕ) (l : List ℕ) → nat_le (length l) m ≡ false → nat_le (length (take (m + 1) l)) m ≡ false
+pub long_take : (m : ℕ) (l : List ℕ) → nat_le (length l) m ≡ false → nat_le (length (take (m + 1) l)) m ≡ false
 long_take m l e = grind (arith, length-take (m + 1) l)
 
 long-held : (l : List ℕ) → nat_le (length l) 65536 ≡ false → nat_le (length (held l)) 65536 ≡ false
 unfolding held
 long-held l e = long_take 65536 l e
 
-short_length : (l : List ℕ) → nat_le (length l) 65536 ≡ true → length l ≤ 65537
-short_length l e = grind arith
+pub short_length : (m : ℕ) (l : List ℕ) → nat_le (length l) m ≡ true → length l ≤ m + 1
+short_length m l e = grind arith
 
 line-held : (l : List ℕ) → line (held l) ≡ line l
 line-held l = cases (nat_le (length l) 65536) refl
   where
     cases : (b : Bool) → nat_le (length l) 65536 ≡ b → line (held l) ≡ line l
-    cases true e = ap line (held_short l (short_length l e))
+    cases true e = ap line (held_short l (short_length 65536 l e))
     cases false e = line_long (held l) (long-held l e) ∙ sym (line_long l e)
 
 pub step-held : (s : State) (n : ℕ) (l : List ℕ) → line_step s n (held l) ≡ line_step s n l

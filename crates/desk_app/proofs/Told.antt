@@ -3,14 +3,16 @@ use Rattle.std.proofs.Common.{◌≡◌, ◌∙◌, List, [], sym, refl, inr}
 use Rattle.std.specs.Prelude.{Option, Some, None, option_map}
 use Rattle.clap.specs.Words.{Text}
 use Rattle.desk_app.specs.declared.words.Asked.{Asked}
-use Rattle.desk_app.specs.declared.words.Asked.TheVariants.{Run, Report, Export, Help, Wrong, Unreadable, Memory}
-use Rattle.desk_app.specs.Words.{Places, Wish, run, report, export, wish, faults, Tells, AnswersAt, Runs, RunsOn}
+use Rattle.desk_app.specs.declared.words.Asked.TheVariants.{Run, Report, Export, Import, Serve, Help, Wrong, Unreadable, Memory}
+use Rattle.desk_app.specs.Words.{Places, Wish, run, report, export, import, serve, wish, faults, Tells, AnswersAt, Runs, RunsOn}
 
 pub told_answers : (places : Places) (words : List Text) (w : Option Wish) (asked : Asked) → faults places words ≡ [] → w ≡ wish places words
     → Tells w asked → AnswersAt places words asked
 told_answers places words w (Run file) free same t = (free, sym same ∙ t)
 told_answers places words w (Report file name number) free same t = (free, sym same ∙ t)
 told_answers places words w (Export file table) free same t = (free, sym same ∙ t)
+told_answers places words w (Import file kind document day path) free same t = (free, sym same ∙ t)
+told_answers places words w (Serve file port count) free same t = (free, sym same ∙ t)
 told_answers places words w (Help e) free same t = absurd t
 told_answers places words w (Wrong e) free same t = inr (free, sym same ∙ t.0, t.1)
 told_answers places words w Unreadable free same t = absurd t
@@ -24,6 +26,8 @@ pub told_runs : (w : Option Wish) (asked : Asked) → w ≡ Some (run None) → 
 told_runs w (Run file) e t = let f : Some (run None) ≡ Some (run (option_map (λ path. path.now) file)) = sym e ∙ t in no_file (λ path. path.now) file (cc)
 told_runs w (Report file name number) e t = let f : Some (run None) ≡ Some (report file.now name number) = sym e ∙ t in absurd (cc)
 told_runs w (Export file table) e t = let f : Some (run None) ≡ Some (export file.now table) = sym e ∙ t in absurd (cc)
+told_runs w (Import file kind document day path) e t = let f : Some (run None) ≡ Some (import file.now kind document day path.now) = sym e ∙ t in absurd (cc)
+told_runs w (Serve file port count) e t = let f : Some (run None) ≡ Some (serve (option_map (λ path. path.now) file) port count) = sym e ∙ t in absurd (cc)
 told_runs w (Help error) e t = absurd t
 told_runs w (Wrong error) e t = let f = t.0 in absurd (cc)
 told_runs w Unreadable e t = absurd t
@@ -33,6 +37,8 @@ pub told_runs_on : (path : Text) (w : Option Wish) (asked : Asked) → w ≡ Som
 told_runs_on path w (Run file) e t = let f : Some (run (Some path)) ≡ Some (run (option_map (λ given. given.now) file)) = sym e ∙ t in cc
 told_runs_on path w (Report file name number) e t = let f : Some (run (Some path)) ≡ Some (report file.now name number) = sym e ∙ t in absurd (cc)
 told_runs_on path w (Export file table) e t = let f : Some (run (Some path)) ≡ Some (export file.now table) = sym e ∙ t in absurd (cc)
+told_runs_on path w (Import file kind document day from) e t = let f : Some (run (Some path)) ≡ Some (import file.now kind document day from.now) = sym e ∙ t in absurd (cc)
+told_runs_on path w (Serve file port count) e t = let f : Some (run (Some path)) ≡ Some (serve (option_map (λ given. given.now) file) port count) = sym e ∙ t in absurd (cc)
 told_runs_on path w (Help error) e t = absurd t
 told_runs_on path w (Wrong error) e t = let f = t.0 in absurd (cc)
 told_runs_on path w Unreadable e t = absurd t

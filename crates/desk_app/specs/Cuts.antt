@@ -1,4 +1,4 @@
--- A text cut into lines.
+-- A text cut into lines, and a file read as far as it is wanted.
 use Rattle.std.specs.Prelude.{◌≡◌, ℕ, ◌<◌, ◌==◌, Bool, true, false, List, [], ◌∷◌, length, take, slice_range, if◌then◌else◌, Option, Some, None}
 use Rattle.std.specs.Io.KnownBytes.{prepend_known}
 use Rattle.desk_app.specs.declared.lines.Lines.{Lines}
@@ -34,3 +34,12 @@ TakesLine None found line new = Unit {0}
 TakesLine (Some xs) found line None = ⊥
 TakesLine (Some xs) false line (Some ys) = (xs ≡ []) × (ys ≡ [])
 TakesLine (Some xs) true line (Some ys) = (0 < length xs) × (line ≡ held (first_of xs)) × (ys ≡ rest_of xs)
+
+-- as much of a file as shows that it is too long
+unfoldable pub enough : List ℕ → List ℕ
+enough file = take 16777217 file
+
+-- a call read so much of the known bytes
+abbrev pub ReadsFile : Option (List ℕ) → List ℕ → Type 0
+ReadsFile None bytes = Unit {0}
+ReadsFile (Some file) bytes = bytes ≡ enough file

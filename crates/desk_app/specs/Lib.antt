@@ -1,9 +1,12 @@
 pub mod Cuts
 pub mod Ends
 pub mod Runs
+pub mod ImportRuns
+pub mod SentAgain
 pub mod Printed
 pub mod Words
 pub mod Statuses
 pub mod Empty
 pub mod FileFaults
 pub mod Closed
+pub mod Services

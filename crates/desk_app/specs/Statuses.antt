@@ -26,6 +26,8 @@ abbrev pub early_status : Asked → Option ℕ
 early_status (asked.Run file) = None
 early_status (asked.Report file name number) = None
 early_status (asked.Export file table) = None
+early_status (asked.Import file kind document day path) = None
+early_status (asked.Serve file port count) = None
 early_status (asked.Help e) = Some 0
 early_status (asked.Wrong e) = Some 2
 early_status asked.Unreadable = Some 2

@@ -1,10 +1,7 @@
 -- What the words ask for, of which the first is the program's name.
-use Rattle.std.specs.Prelude.{◌≡◌, ◌≢◌, ◌⊎◌, ◌||◌, ◌&&◌, ◌==◌, not, nat_lt, nat_le, length, ℕ, Bool, true, false, List, [], ◌∷◌, ◌++◌, codes, Option, Some, None, option_map, option_and_then, Result, IfOk, if◌then◌else◌}
+use Rattle.std.specs.Prelude.{◌≡◌, ◌≢◌, ◌⊎◌, ◌||◌, ◌&&◌, ◌==◌, not, nat_lt, nat_le, ℕ, Bool, true, false, List, [], ◌∷◌, ◌++◌, codes, Option, Some, None, option_map, option_and_then, Result, IfOk, if◌then◌else◌}
 use Rattle.std.specs.Borrow.{Bor}
-use Rattle.std.specs.Char.{is_ascii_digit}
-use Rattle.std.specs.List.{list_all}
 use Rattle.std.specs.Str.{bytes_eq}
-use Rattle.std.specs.Str.Parse.{digits_value}
 use Rattle.clap.specs.Words.{App, Rule, Row, Text, new_app, new_rule, with_rule, with_subcommand, fault_of, Kinds, IsAmong, FailsBy, kind_of, first_of, found_of, rows_of, subcommand_of, subcommand_rows_of}
 use Rattle.clap.specs.Simple.{on_top}
 use Rattle.clap.specs.Walk.{texts}
@@ -14,12 +11,17 @@ use Rattle.clap.specs.declared.error.Error.{Error}
 use Rattle.clap.specs.declared.error.kind.ErrorKind.TheVariants.{DisplayHelp, DisplayVersion, OutOfMemory, ValueValidation}
 use Rattle.clap.specs.declared.error.kind.ErrorKind.{ErrorKind}
 use Rattle.clap.specs.declared.parser.matches.ArgMatches.{ArgMatches}
+use Rattle.part_core.specs.Day.{CivilDay, day_of}
 use Rattle.report_core.specs.Names.{report_named}
 use Rattle.report_core.specs.declared.name.ReportName.{ReportName}
 use Rattle.table_store.specs.declared.name.TableName.{TableName}
 use Rattle.table_store.specs.declared.name.TableName.TheVariants as table
+use Rattle.desk_wire.specs.Documents.{is_document}
+use Rattle.desk_wire.specs.Kinds.{import_kind_named}
+use Rattle.desk_wire.specs.Numbers.{number_in}
+use Rattle.desk_wire.specs.declared.kind.ImportKind.{ImportKind}
 use Rattle.desk_app.specs.declared.words.Asked.{Asked}
-use Rattle.desk_app.specs.declared.words.Asked.TheVariants.{Run, Report, Export, Help, Wrong, Unreadable, Memory}
+use Rattle.desk_app.specs.declared.words.Asked.TheVariants.{Run, Report, Export, Import, Serve, Help, Wrong, Unreadable, Memory}
 
 -- no more words, or `run`
 abbrev pub asks_run : List (List ℕ) → Bool
@@ -55,7 +57,7 @@ abbrev pub is_path : Text → Bool
 is_path [] = false
 is_path (first ∷ rest) = not (first == 45)
 
--- the names that `report` and `export` take
+-- the names that `report`, `export` and `import` take
 abbrev pub report_names : List Text
 report_names = codes "ledger" ∷ codes "stock" ∷ codes "where_used" ∷ codes "history" ∷ codes "content" ∷ codes "shortage" ∷ []
 
@@ -65,6 +67,9 @@ table_names =
     ∷ codes "items" ∷ codes "history" ∷ codes "orders" ∷ codes "order_lines" ∷ codes "builds" ∷ codes "allocations"
     ∷ codes "kept" ∷ []
 
+abbrev pub kind_names : List Text
+kind_names = codes "receipts" ∷ codes "counts" ∷ []
+
 -- a reference to these texts, wherever they lie
 pub record Listing (names : List Text) : Type 0 where
   pub at : Bor (List (Bor Text))
@@ -73,6 +78,7 @@ pub record Listing (names : List Text) : Type 0 where
 pub record Places : Type 0 where
   pub reports : Listing report_names
   pub tables : Listing table_names
+  pub kinds : Listing kind_names
 
 -- `--db FILE`
 abbrev pub file_rule : Rule
@@ -81,6 +87,10 @@ file_rule = record (new_rule (codes "db")) { long = Some (codes "db"); value_nam
 -- a word that has to be there
 abbrev pub word_rule : Text → Rule
 word_rule id = record (new_rule id) { value_names = 1; required = true; action = Some Set }
+
+-- an option that has to be there
+abbrev pub option_rule : Text → Rule
+option_rule id = record (word_rule id) { long = Some id }
 
 abbrev pub needed : Rule → Rule
 needed rule = record rule { required = true }
@@ -100,20 +110,39 @@ abbrev pub export_line : Listing table_names → App
 export_line names =
     with_rule (with_rule (new_app (codes "export")) (needed file_rule)) (among names.at (word_rule (codes "table")))
 
+-- `--kind KIND`, of the names that are listed there
+abbrev pub kind_rule : Listing kind_names → Rule
+kind_rule names = among names.at (option_rule (codes "kind"))
+
+abbrev pub import_line : Listing kind_names → App
+import_line names =
+    with_rule (with_rule (with_rule (with_rule (with_rule (new_app (codes "import")) (needed file_rule)) (kind_rule names))
+    (option_rule (codes "document"))) (option_rule (codes "day"))) (word_rule (codes "path"))
+
+abbrev pub serve_line : App
+serve_line =
+    with_rule (with_rule (with_rule (new_app (codes "serve")) file_rule) (option_rule (codes "port"))) (option_rule (codes "count"))
+
 abbrev pub top_line : App
 top_line = on_top (λ shape. record shape { disable_help_subcommand = true; has_version = true }) (new_app (codes "invdesk"))
 
--- the program's command line, as `clap` sees it: it has a version, and three subcommands, none of them of help
+-- the program's command line, as `clap` sees it: it has a version, and five subcommands, none of them of help
 abbrev pub command_line : Places → App
 command_line places =
-    with_subcommand (with_subcommand (with_subcommand top_line run_line.top) (report_line places.reports).top)
-    (export_line places.tables).top
+    with_subcommand (with_subcommand (with_subcommand (with_subcommand (with_subcommand top_line run_line.top)
+    (report_line places.reports).top) (export_line places.tables).top) (import_line places.kinds).top) serve_line.top
 
 abbrev pub IsReportLine : App → Type 0
 IsReportLine app = (names : Listing report_names) × (app ≡ report_line names)
 
 abbrev pub IsExportLine : App → Type 0
 IsExportLine app = (names : Listing table_names) × (app ≡ export_line names)
+
+abbrev pub IsKindRule : Rule → Type 0
+IsKindRule rule = (names : Listing kind_names) × (rule ≡ kind_rule names)
+
+abbrev pub IsImportLine : App → Type 0
+IsImportLine app = (names : Listing kind_names) × (app ≡ import_line names)
 
 abbrev pub IsCommandLine : App → Type 0
 IsCommandLine app = (places : Places) × (app ≡ command_line places)
@@ -122,12 +151,16 @@ IsCommandLine app = (places : Places) × (app ≡ command_line places)
 unfoldable pub faults : Places → List Text → Kinds
 faults places words = fault_of (command_line places) words
 
--- 1 to 19 digits, without a sign
-abbrev pub is_number : Text → Bool
-is_number text = nat_lt 0 (length text) && nat_le (length text) 19 && list_all is_ascii_digit text
+-- the document of that name
+abbrev pub document_named : Text → Option Text
+document_named name = if is_document name then Some name else None
 
-abbrev pub number_of : Text → Option ℕ
-number_of text = if is_number text then Some (digits_value 10 text) else None
+-- a number from 1 to so many
+abbrev pub up_to : ℕ → ℕ → Option ℕ
+up_to most number = if nat_lt 0 number && nat_le number most then Some number else None
+
+abbrev pub number_up_to : ℕ → Text → Option ℕ
+number_up_to most text = option_and_then (up_to most) (number_in text)
 
 abbrev pub table_named : Text → Option TableName
 table_named name =
@@ -146,11 +179,14 @@ table_named name =
     else if bytes_eq name (codes "kept") then Some table.Kept
     else None
 
--- what is asked of a desk: a run, with the file if one is named; a report of a number; a table
+-- what is asked of a desk: a run, with the file if one is named; a report of a number; a table; the rows at a path;
+-- so many connections to a port
 pub data Wish : Type 0 where
   run : Option Text → Wish
   report : Text → ReportName → ℕ → Wish
   export : Text → TableName → Wish
+  import : Text → ImportKind → Text → CivilDay → Text → Wish
+  serve : Option Text → ℕ → ℕ → Wish
 
 abbrev pub report_with : Option Text → Option ReportName → Option ℕ → Option Wish
 report_with None name number = None
@@ -166,10 +202,30 @@ export_with (Some file) (Some table) = Some (export file table)
 -- by the matches of the subcommand
 unfoldable pub report_in : List Row → Option Wish
 report_in rows = report_with (first_of (codes "db") rows) (option_and_then report_named (first_of (codes "name") rows))
-    (option_and_then number_of (first_of (codes "number") rows))
+    (option_and_then number_in (first_of (codes "number") rows))
 
 unfoldable pub export_in : List Row → Option Wish
 export_in rows = export_with (first_of (codes "db") rows) (option_and_then table_named (first_of (codes "table") rows))
+
+infixl 10 ◌>>=◌
+abbrev ◌>>=◌ : {A B : Type 0} → Option A → (A → Option B) → Option B
+None >>= f = None
+(Some x) >>= f = f x
+
+unfoldable pub import_in : List Row → Option Wish
+import_in rows = do
+  file ← first_of (codes "db") rows
+  kind ← option_and_then import_kind_named (first_of (codes "kind") rows)
+  document ← option_and_then document_named (first_of (codes "document") rows)
+  day ← option_and_then day_of (first_of (codes "day") rows)
+  path ← first_of (codes "path") rows
+  Some (import file kind document day path)
+
+unfoldable pub serve_in : List Row → Option Wish
+serve_in rows = do
+  port ← option_and_then (number_up_to 65535) (first_of (codes "port") rows)
+  count ← option_and_then (number_up_to 1000000) (first_of (codes "count") rows)
+  Some (serve (first_of (codes "db") rows) port count)
 
 abbrev pub rows_in : ArgMatches → List Row
 rows_in m = rows_of (found_of m)
@@ -184,6 +240,8 @@ wish_met None = Some (run None)
 wish_met (Some met) =
     if bytes_eq met.0 (codes "report") then report_in met.1
     else if bytes_eq met.0 (codes "export") then export_in met.1
+    else if bytes_eq met.0 (codes "import") then import_in met.1
+    else if bytes_eq met.0 (codes "serve") then serve_in met.1
     else Some (run (first_of (codes "db") met.1))
 
 -- what the words ask of a desk, where nothing is found wrong
@@ -195,6 +253,8 @@ abbrev pub wish_of : Asked → Option Wish
 wish_of (Run file) = Some (run (option_map (λ path. path.now) file))
 wish_of (Report file name number) = Some (report file.now name number)
 wish_of (Export file table) = Some (export file.now table)
+wish_of (Import file kind document day path) = Some (import file.now kind document day path.now)
+wish_of (Serve file port count) = Some (serve (option_map (λ path. path.now) file) port count)
 wish_of (Help e) = None
 wish_of (Wrong e) = None
 wish_of Unreadable = None
@@ -208,20 +268,24 @@ abbrev pub file_of : Asked → Option (Bor Text)
 file_of (Run file) = file
 file_of (Report file name number) = Some file
 file_of (Export file table) = Some file
+file_of (Import file kind document day path) = Some file
+file_of (Serve file port count) = file
 file_of (Help e) = None
 file_of (Wrong e) = None
 file_of Unreadable = None
 file_of Memory = None
 
--- the wish is told as it is; where there is none, a value is wrong, unless memory ran out
+-- the wish is told as it is; where there is none, a value is wrong; unless memory ran out
 abbrev pub Tells : Option Wish → Asked → Type 0
 Tells wish (Run file) = wish ≡ wish_of (Run file)
 Tells wish (Report file name number) = wish ≡ wish_of (Report file name number)
 Tells wish (Export file table) = wish ≡ wish_of (Export file table)
+Tells wish (Import file kind document day path) = wish ≡ wish_of (Import file kind document day path)
+Tells wish (Serve file port count) = wish ≡ wish_of (Serve file port count)
 Tells wish (Help e) = ⊥
 Tells wish (Wrong e) = (wish ≡ None) × (kind_of e ≡ ValueValidation)
 Tells wish Unreadable = ⊥
-Tells wish Memory = wish ≡ None
+Tells wish Memory = Unit {0}
 
 -- what `clap` makes of the words
 pub record Parses (words : List Text) (r : Result ArgMatches Error) : Type 0 where
@@ -238,6 +302,10 @@ AnswersAt places words (Run file) = (faults places words ≡ []) × (wish places
 AnswersAt places words (Report file name number) =
     (faults places words ≡ []) × (wish places words ≡ wish_of (Report file name number))
 AnswersAt places words (Export file table) = (faults places words ≡ []) × (wish places words ≡ wish_of (Export file table))
+AnswersAt places words (Import file kind document day path) =
+    (faults places words ≡ []) × (wish places words ≡ wish_of (Import file kind document day path))
+AnswersAt places words (Serve file port count) =
+    (faults places words ≡ []) × (wish places words ≡ wish_of (Serve file port count))
 AnswersAt places words (Help e) = IsShown (kind_of e) × IsAmong (kind_of e) (faults places words)
 AnswersAt places words (Wrong e) =
     ((¬ IsShown (kind_of e)) × (kind_of e ≢ OutOfMemory) × IsAmong (kind_of e) (faults places words))
@@ -254,6 +322,8 @@ abbrev pub Runs : Asked → Type 0
 Runs (Run file) = file ≡ None
 Runs (Report file name number) = ⊥
 Runs (Export file table) = ⊥
+Runs (Import file kind document day path) = ⊥
+Runs (Serve file port count) = ⊥
 Runs (Help e) = ⊥
 Runs (Wrong e) = ⊥
 Runs Unreadable = ⊥
@@ -264,6 +334,8 @@ abbrev pub RunsOn : Text → Asked → Type 0
 RunsOn path (Run file) = option_map (λ given. given.now) file ≡ Some path
 RunsOn path (Report file name number) = ⊥
 RunsOn path (Export file table) = ⊥
+RunsOn path (Import file kind document day from) = ⊥
+RunsOn path (Serve file port count) = ⊥
 RunsOn path (Help e) = ⊥
 RunsOn path (Wrong e) = ⊥
 RunsOn path Unreadable = ⊥
@@ -274,6 +346,8 @@ abbrev pub HelpsBy : ErrorKind → Asked → Type 0
 HelpsBy kind (Run file) = ⊥
 HelpsBy kind (Report file name number) = ⊥
 HelpsBy kind (Export file table) = ⊥
+HelpsBy kind (Import file of document day path) = ⊥
+HelpsBy kind (Serve file port count) = ⊥
 HelpsBy kind (Help e) = kind_of e ≡ kind
 HelpsBy kind (Wrong e) = ⊥
 HelpsBy kind Unreadable = ⊥

@@ -116,7 +116,12 @@ pub fn take_desk<S: Alter + Drop>(
 }
 
 /// What is printed for a report of a shop.
-fn told_as_text(alloc: Global, shop: &Shop, name: ReportName, of: u64) -> Result<Told, Stop>
+pub(crate) fn told_as_text(
+    alloc: Global,
+    shop: &Shop,
+    name: ReportName,
+    of: u64,
+) -> Result<Told, Stop>
     requires { IsSoundState (state_of shop.now) }
     ensures ok { IfOk result (λ told. printed (report_lines name of (state_of shop.now))
         ≡ (string_bytes told.text, told.fine)) }

@@ -5,7 +5,7 @@
 ghost use Rattle.std.specs.Prelude.{◌≡◌, ◌⊎◌, ◌≤◌, ◌<◌, ◌+◌, ◌++◌, [], ◌∷◌, length, take, drop, vec_len, IfOk, OnOk, OnErr, IfErr, Err, true, false, IsTrue};
 
 use crate::end::Stop;
-use crate::pieces::{end_of, hold};
+use crate::pieces::{end_of, hold, hold_up_to};
 use std::alloc::{AllocError, Global};
 use std::io::{ErrorKind, Read};
 
@@ -24,7 +24,7 @@ pub struct Lines {
 impl Lines {
     ghost use Rattle.std.specs.Io.KnownBytes.{Keeps, IsAtEnd};
     ghost use Rattle.desk_app.specs.Runs.{IsOfReading};
-    ghost use Rattle.desk_app.specs.Cuts.{unread, left, held, first_of, rest_of, has_end, TakesLine};
+    ghost use Rattle.desk_app.specs.Cuts.{unread, left, enough, held, first_of, rest_of, has_end, TakesLine};
 
     pub fn new(alloc: Global) -> Result<Self, AllocError>
         ensures empty { IfOk result (λ s. unread s ≡ []) }
@@ -39,7 +39,7 @@ impl Lines {
     }
 
     /// Reads once more, where nothing is left: false is the end.
-    fn fill<R: Read>(&mut self, reader: &mut R) -> Result<bool, Stop>
+    pub fn fill<R: Read>(&mut self, reader: &mut R) -> Result<bool, Stop>
         ensures bytes { Keeps (left (R.remaining reader.old) self.old)
             (left (R.remaining reader.new) self.new) }
         ensures some { IfOk result (λ more. more ≡ true → self.new.at < self.new.filled) }
@@ -98,6 +98,20 @@ impl Lines {
                 Ok(false)
             }
         }
+    }
+
+    /// Takes all that was read, as a part of a file. No more bytes are held than show that it is too long.
+    #[tactic(auto, unfolding(crate::specs::Cuts::enough))]
+    pub fn take_read(&mut self, bytes: &mut Vec<u8>) -> Result<(), AllocError>
+        requires { length bytes.old.items ≤ 16777217 }
+        ensures bytes { OnOk result (bytes.new.items ≡ enough (bytes.old.items ++ unread self.old)) }
+        ensures left { OnOk result (unread self.new ≡ []) }
+        ensures reads { self.new.reads ≡ self.old.reads }
+        ensures spent { OnOk result (self.new.at ≡ self.new.filled) }
+    {
+        hold_up_to(16_777_217, bytes, &self.buffer[self.at..self.filled])?;
+        self.at = self.filled;
+        Ok(())
     }
 
     /// Takes the next line: false where there is none. As much is held as shows it too long.

@@ -19,16 +19,25 @@ pub fn end_of(piece: &[u8]) -> Option<usize>
     None
 }
 
-#[tactic(auto, using(crate::proofs::Cutting::held_all, crate::proofs::Cutting::held_some))]
+#[tactic(auto, using(crate::proofs::Cutting::all_taken, crate::proofs::Cutting::front_taken))]
+/// Adds a piece to bytes of which no more than so many are held.
+pub fn hold_up_to(most: usize, bytes: &mut Vec<u8>, piece: &[u8]) -> Result<(), AllocError>
+    requires { length bytes.old.items ≤ most }
+    ensures { OnOk result (bytes.new.items ≡ take most (bytes.old.items ++ piece.now)) }
+{
+    let room = most - bytes.len();
+    if piece.len() <= room {
+        bytes.extend_from_slice(piece)
+    } else {
+        bytes.extend_from_slice(&piece[..room])
+    }
+}
+
 /// Adds a piece to a line, as far as it is held.
+#[tactic(auto, unfolding(crate::specs::Cuts::held))]
 pub fn hold(line: &mut Vec<u8>, piece: &[u8]) -> Result<(), AllocError>
     requires { length line.old.items ≤ 65537 }
     ensures { OnOk result (line.new.items ≡ held (line.old.items ++ piece.now)) }
 {
-    let room = 65_537 - line.len();
-    if piece.len() <= room {
-        line.extend_from_slice(piece)
-    } else {
-        line.extend_from_slice(&piece[..room])
-    }
+    hold_up_to(65_537, line, piece)
 }

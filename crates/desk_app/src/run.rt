@@ -45,7 +45,11 @@ fn is_blank(line: &[u8]) -> bool
 }
 
 /// Runs a request, and tells its outcome.
-fn tell_outcome<B: Books>(alloc: Global, books: &mut B, request: &Request) -> Result<Told, Stop>
+pub(crate) fn tell_outcome<B: Books>(
+    alloc: Global,
+    books: &mut B,
+    request: &Request,
+) -> Result<Told, Stop>
     requires { B.are_kept books.old }
     ensures ok { IfOk result (λ told. by_outcome (step (B.state_in books.old) request.now)
         ≡ (B.state_in books.new, string_bytes told.text, told.fine)) }

@@ -43,6 +43,7 @@ pub fn early_status(asked: &Asked<'_>) -> Option<u8>
 {
     match asked {
         Asked::Run(_) | Asked::Report(..) | Asked::Export(..) => None,
+        Asked::Import { .. } | Asked::Serve { .. } => None,
         Asked::Help(_) => Some(0),
         Asked::Wrong(_) | Asked::Unreadable => Some(WRONG_WORDS),
         Asked::Memory => Some(MEMORY),

@@ -1,23 +1,27 @@
 //! The words that the program is called with.
-ghost use Rattle.std.specs.Prelude.{◌≡◌, ℕ, List, map, option_map, option_and_then, codes, true, false, IfOk};
-ghost use Rattle.std.specs.Char.{is_ascii_digit};
-ghost use Rattle.std.specs.List.{list_all};
+ghost use Rattle.std.specs.Prelude.{◌≡◌, ◌≤◌, ℕ, List, map, option_map, option_and_then, codes, true, false, IfOk, IfSome};
 ghost use Rattle.clap.specs.Words.{app_of, kind_of, rule_of, subcommand_rows_of};
+ghost use Rattle.part_core.specs.Day.{day_of};
 ghost use Rattle.report_core.specs.Names.{report_named};
-ghost use Rattle.desk_app.specs.Words.{file_rule, word_rule, run_line, IsReportLine, IsExportLine, IsCommandLine};
-ghost use Rattle.desk_app.specs.Words.{number_of, is_number, table_named, report_in, export_in, wish_met};
+ghost use Rattle.desk_wire.specs.Numbers.{number_in};
+ghost use Rattle.desk_wire.specs.Kinds.{import_kind_named};
+ghost use Rattle.desk_app.specs.Words.{file_rule, option_rule, word_rule, run_line, serve_line, IsKindRule};
+ghost use Rattle.desk_app.specs.Words.{IsReportLine, IsExportLine, IsImportLine, IsCommandLine};
+ghost use Rattle.desk_app.specs.Words.{document_named, number_up_to, table_named, report_in, export_in, import_in, serve_in, wish_met};
 ghost use Rattle.desk_app.specs.Words.{given_in, rows_in, AsksFor, Tells, Parses, file_of};
 ghost use Rattle.desk_app.specs.Words.{asks_run, asks_help, asks_version, run_on, run_with, is_path, Answers, Runs, RunsOn, HelpsBy};
 
 use clap::error::ErrorKind;
 use clap::{Arg, ArgAction, ArgMatches, Command, Error};
+use desk_wire::{Document, ImportKind, import_kind_named, number_in};
+use part_core::Day;
 use report_core::{ReportName, report_named};
 use std::alloc::{AllocError, Global};
 use std::convert::AsStr;
 use table_store::TableName;
 
 /// What the words ask for. A file is named by its path.
-#[derive(Debug, Drop)]
+#[derive(Drop)]
 pub enum Asked<'a> {
     /// Each line of the standard input is answered, by the desk in the file, or by a new one in memory.
     Run(Option<&'a str>),
@@ -25,6 +29,20 @@ pub enum Asked<'a> {
     Report(&'a str, ReportName, u64),
     /// A table of the desk in the file is printed.
     Export(&'a str, TableName),
+    /// The rows of the file at the path are run by the desk in the file.
+    Import {
+        file: &'a str,
+        kind: ImportKind,
+        document: Document,
+        day: Day,
+        path: &'a str,
+    },
+    /// So many connections to a port of the loopback are served, by the desk in the file, or by a new one in memory.
+    Serve {
+        file: Option<&'a str>,
+        port: u16,
+        count: u64,
+    },
     /// Help, or the version, is printed.
     Help(Error),
     /// The words are wrong.
@@ -41,21 +59,28 @@ impl<'a> Asked<'a> {
         ensures { result ≡ file_of self.now }
     {
         match self {
-            Asked::Run(file) => *file,
-            Asked::Report(file, _, _) | Asked::Export(file, _) => Some(*file),
+            Asked::Run(file) | Asked::Serve { file, .. } => *file,
+            Asked::Report(file, _, _) | Asked::Export(file, _) | Asked::Import { file, .. } => {
+                Some(*file)
+            }
             _ => None,
         }
     }
 }
 
 /// The version of the program.
-const VERSION: &str = "0.3";
+const VERSION: &str = "0.4";
 
 const RUN_EXAMPLE: &str = "Example: invdesk run --db workshop.db < requests";
 
 const REPORT_EXAMPLE: &str = "Example: invdesk report --db workshop.db ledger 2";
 
 const EXPORT_EXAMPLE: &str = "Example: invdesk export --db workshop.db items";
+
+const IMPORT_EXAMPLE: &str =
+    "Example: invdesk import --db workshop.db --kind receipts --document D7 --day 2026-05-02 delivery.csv";
+
+const SERVE_EXAMPLE: &str = "Example: invdesk serve --db workshop.db --port 8080 --count 100";
 
 /// The names of the reports.
 const REPORTS: [&str; 6] = [
@@ -84,6 +109,9 @@ const TABLES: [&str; 13] = [
     "kept",
 ];
 
+/// The names of the kinds of imports.
+const KINDS: [&str; 2] = ["receipts", "counts"];
+
 /// The option that names the file.
 fn file<'a>(alloc: Global) -> Arg<'a>
     ensures rule { rule_of result ≡ file_rule }
@@ -105,6 +133,14 @@ fn word<'a>(alloc: Global, id: &'a str, name: &'a str) -> Arg<'a>
         .value_name(name)
         .required(true)
         .action(ArgAction::Set)
+}
+
+/// An option that has to be there.
+fn option<'a>(alloc: Global, id: &'a str, name: &'a str) -> Arg<'a>
+    ensures rule { rule_of result ≡ option_rule id.now }
+    ensures local { result.global ≡ false }
+{
+    word(alloc, id, name).long(id)
 }
 
 fn run_command<'a>(alloc: Global) -> Result<Command<'a>, AllocError>
@@ -146,6 +182,45 @@ fn export_command<'a>(alloc: Global) -> Result<Command<'a>, AllocError>
         .arg(table)
 }
 
+/// The option that says what the rows of a file are.
+fn kind_option<'a>(alloc: Global) -> Arg<'a>
+    ensures rule { IsKindRule (rule_of result) }
+    ensures local { result.global ≡ false }
+{
+    option(alloc, "kind", "KIND")
+        .value_parser(KINDS.as_slice())
+        .help("What its rows are: receipts of order lines, or counts of items")
+}
+
+fn import_command<'a>(alloc: Global) -> Result<Command<'a>, AllocError>
+    ensures { IfOk result (λ command. IsImportLine (app_of command)) }
+{
+    let document = option(alloc, "document", "D").help("The name of the document that it is");
+    let day = option(alloc, "day", "DAY").help("The day of its rows, as YYYY-MM-DD");
+    let path = word(alloc, "path", "PATH").help("The file of comma-separated values");
+    Command::new(alloc, "import")
+        .about("Runs each row of a file of comma-separated values")
+        .after_help(IMPORT_EXAMPLE)
+        .arg(file(alloc).required(true))?
+        .arg(kind_option(alloc))?
+        .arg(document)?
+        .arg(day)?
+        .arg(path)
+}
+
+fn serve_command<'a>(alloc: Global) -> Result<Command<'a>, AllocError>
+    ensures { IfOk result (λ command. app_of command ≡ serve_line) }
+{
+    let port = option(alloc, "port", "P").help("The port of the loopback, 1 to 65535");
+    let count = option(alloc, "count", "N").help("How many connections, 1 to 1000000");
+    Command::new(alloc, "serve")
+        .about("Answers requests over HTTP, one a connection")
+        .after_help(SERVE_EXAMPLE)
+        .arg(file(alloc))?
+        .arg(port)?
+        .arg(count)
+}
+
 fn command<'a>(alloc: Global) -> Result<Command<'a>, AllocError>
     ensures { IfOk result (λ command. IsCommandLine (app_of command)) }
 {
@@ -155,29 +230,19 @@ fn command<'a>(alloc: Global) -> Result<Command<'a>, AllocError>
         .version(VERSION)
         .subcommand(run_command(alloc)?)?
         .subcommand(report_command(alloc)?)?
-        .subcommand(export_command(alloc)?)
+        .subcommand(export_command(alloc)?)?
+        .subcommand(import_command(alloc)?)?
+        .subcommand(serve_command(alloc)?)
 }
 
-fn are_digits(bytes: &[u8]) -> bool
-    ensures { result ≡ list_all is_ascii_digit bytes.now }
+/// The number from 1 to so many that 1 to 19 digits are.
+fn number_up_to(most: u64, text: &str) -> Option<u64>
+    ensures value { result ≡ number_up_to most text.now }
+    ensures bound { IfSome result (λ number. number ≤ most) }
 {
-    bytes.iter().all(|b| b.is_ascii_digit())
-}
-
-/// Whether a text is 1 to 19 digits.
-fn is_number(text: &str) -> bool
-    ensures { result ≡ is_number text.now }
-{
-    let bytes = text.as_bytes();
-    0 < bytes.len() && bytes.len() <= 19 && are_digits(bytes)
-}
-
-/// The number that 1 to 19 digits are.
-fn number_of(text: &str) -> Option<u64>
-    ensures { result ≡ number_of text.now }
-{
-    if is_number(text) {
-        text.parse().ok()
+    let number = number_in(text)?;
+    if 0 < number && number <= most {
+        Some(number)
     } else {
         None
     }
@@ -219,15 +284,50 @@ fn report_name(matches: &ArgMatches<'_>) -> Option<ReportName>
 }
 
 fn report_number(matches: &ArgMatches<'_>) -> Option<u64>
-    ensures { result ≡ option_and_then number_of (given_in (codes "number") matches.now) }
+    ensures { result ≡ option_and_then number_in (given_in (codes "number") matches.now) }
 {
-    number_of(given(matches, "number")?)
+    number_in(given(matches, "number")?)
 }
 
 fn export_table(matches: &ArgMatches<'_>) -> Option<TableName>
     ensures { result ≡ option_and_then table_named (given_in (codes "table") matches.now) }
 {
     table_named(given(matches, "table")?)
+}
+
+fn import_kind(matches: &ArgMatches<'_>) -> Option<ImportKind>
+    ensures { result ≡ option_and_then import_kind_named (given_in (codes "kind") matches.now) }
+{
+    import_kind_named(given(matches, "kind")?)
+}
+
+fn import_day(matches: &ArgMatches<'_>) -> Option<Day>
+    ensures { result ≡ option_and_then day_of (given_in (codes "day") matches.now) }
+{
+    Day::parse(given(matches, "day")?)
+}
+
+fn import_document(alloc: Global, matches: &ArgMatches<'_>) -> Result<Option<Document>, AllocError>
+    ensures { IfOk result (λ document.
+        document ≡ option_and_then document_named (given_in (codes "document") matches.now)) }
+{
+    match given(matches, "document") {
+        Some(name) => Ok(Document::new(String::from_str(alloc, name)?)),
+        None => Ok(None),
+    }
+}
+
+fn serve_port(matches: &ArgMatches<'_>) -> Option<u16>
+    ensures { result ≡ option_and_then (number_up_to 65535) (given_in (codes "port") matches.now) }
+{
+    let port = number_up_to(65_535, given(matches, "port")?)?;
+    Some(port as u16)
+}
+
+fn serve_count(matches: &ArgMatches<'_>) -> Option<u64>
+    ensures { result ≡ option_and_then (number_up_to 1000000) (given_in (codes "count") matches.now) }
+{
+    number_up_to(1_000_000, given(matches, "count")?)
 }
 
 /// The report that is asked for, if the words name one.
@@ -251,15 +351,58 @@ fn export_asked<'a>(matches: &ArgMatches<'a>) -> Option<Asked<'a>>
     Some(Asked::Export(file, table))
 }
 
-/// What words ask for in which nothing is wrong but, it may be, a name or a number.
-fn asked_by<'a>(matches: &ArgMatches<'a>) -> Option<Asked<'a>>
-    ensures { AsksFor (wish_met (subcommand_rows_of matches.now)) result }
+/// The import of that document that is asked for, if the words name one.
+#[tactic(auto, unfolding(crate::specs::Words::import_in))]
+fn import_of<'a>(matches: &ArgMatches<'a>, document: Option<Document>) -> Option<Asked<'a>>
+    requires { document ≡ option_and_then document_named (given_in (codes "document") matches.now) }
+    ensures { AsksFor (import_in (rows_in matches.now)) result }
+{
+    let file = given(matches, "db")?;
+    let kind = import_kind(matches)?;
+    let document = document?;
+    let day = import_day(matches)?;
+    let path = given(matches, "path")?;
+    Some(Asked::Import {
+        file,
+        kind,
+        document,
+        day,
+        path,
+    })
+}
+
+fn import_asked<'a>(
+    alloc: Global,
+    matches: &ArgMatches<'a>,
+) -> Result<Option<Asked<'a>>, AllocError>
+    ensures { IfOk result (AsksFor (import_in (rows_in matches.now))) }
+{
+    let document = import_document(alloc, matches)?;
+    Ok(import_of(matches, document))
+}
+
+/// The serving that is asked for, if the words name a port and a count.
+#[tactic(auto, unfolding(crate::specs::Words::serve_in))]
+fn serve_asked<'a>(matches: &ArgMatches<'a>) -> Option<Asked<'a>>
+    ensures { AsksFor (serve_in (rows_in matches.now)) result }
+{
+    let file = given(matches, "db");
+    let port = serve_port(matches)?;
+    let count = serve_count(matches)?;
+    Some(Asked::Serve { file, port, count })
+}
+
+/// What words ask for in which nothing is wrong but, it may be, the form of a value.
+fn asked_by<'a>(alloc: Global, matches: &ArgMatches<'a>) -> Result<Option<Asked<'a>>, AllocError>
+    ensures { IfOk result (AsksFor (wish_met (subcommand_rows_of matches.now))) }
 {
     match matches.subcommand() {
-        Some(("report", matches)) => report_asked(matches),
-        Some(("export", matches)) => export_asked(matches),
-        Some((_, matches)) => Some(Asked::Run(given(matches, "db"))),
-        None => Some(Asked::Run(None)),
+        Some(("report", matches)) => Ok(report_asked(matches)),
+        Some(("export", matches)) => Ok(export_asked(matches)),
+        Some(("import", matches)) => import_asked(alloc, matches),
+        Some(("serve", matches)) => Ok(serve_asked(matches)),
+        Some((_, matches)) => Ok(Some(Asked::Run(given(matches, "db")))),
+        None => Ok(Some(Asked::Run(None))),
     }
 }
 
@@ -271,28 +414,54 @@ fn parse<'a, S: AsStr>(alloc: Global, words: &'a [S]) -> Result<ArgMatches<'a>, 
     Ok(matches)
 }
 
-/// That the number of a report is none.
-fn wrong_number(alloc: Global) -> Result<Error, AllocError>
+/// What the values of an import are to be.
+fn import_wants(alloc: Global, matches: &ArgMatches<'_>) -> Result<&'static str, AllocError> {
+    Ok(match import_document(alloc, matches)? {
+        Some(_) => "DAY is YYYY-MM-DD, a day of the years 2000 to 2099",
+        None => "D has 1 to 32 letters, digits, dots, underscores and hyphens",
+    })
+}
+
+/// What the values of a serving are to be.
+fn serve_wants(matches: &ArgMatches<'_>) -> &'static str {
+    match serve_port(matches) {
+        Some(_) => "N is 1 to 1000000",
+        None => "P is 1 to 65535",
+    }
+}
+
+/// What the values are to be where one isn't so.
+fn wants(alloc: Global, matches: &ArgMatches<'_>) -> Result<&'static str, AllocError> {
+    match matches.subcommand() {
+        Some(("import", matches)) => import_wants(alloc, matches),
+        Some(("serve", matches)) => Ok(serve_wants(matches)),
+        _ => Ok("NUMBER has 1 to 19 digits"),
+    }
+}
+
+/// That a value isn't what it is to be.
+fn wrong_value(alloc: Global, matches: &ArgMatches<'_>) -> Result<Error, AllocError>
     ensures { IfOk result (λ e. kind_of e ≡ ErrorKind.ValueValidation) }
 {
-    command(alloc)?.error(ErrorKind::ValueValidation, "NUMBER has 1 to 19 digits")
+    command(alloc)?.error(ErrorKind::ValueValidation, wants(alloc, matches)?)
 }
 
 /// What words ask for in which `clap` finds nothing wrong.
 fn told_by<'a>(alloc: Global, matches: &ArgMatches<'a>) -> Asked<'a>
     ensures { Tells (wish_met (subcommand_rows_of matches.now)) result }
 {
-    if let Some(asked) = asked_by(matches) {
-        return asked;
-    }
-    match wrong_number(alloc) {
-        Ok(error) => Asked::Wrong(error),
+    match asked_by(alloc, matches) {
+        Ok(Some(asked)) => asked,
+        Ok(None) => match wrong_value(alloc, matches) {
+            Ok(error) => Asked::Wrong(error),
+            Err(_) => Asked::Memory,
+        },
         Err(_) => Asked::Memory,
     }
 }
 
-/// Reads the words, of which the first is the program's name: no more, or `run`, `report` or `export`
-/// with theirs.
+/// Reads the words, of which the first is the program's name: no more, or `run`, `report`, `export`,
+/// `import` or `serve` with theirs.
 pub fn read_words<'a, S: AsStr>(alloc: Global, words: &'a [S]) -> Asked<'a>
     ensures answers { Answers (map S.text words.now) result }
     ensures runs { asks_run (map S.text words.now) ≡ true → Runs result }

@@ -1,18 +1,25 @@
 //! An inventory desk: reads requests from the standard input, one line of JSON each, and writes one line of answer for
-//! each to the standard output. Its books are kept in a file, or, where none is named, in memory alone.
+//! each to the standard output. Its books are kept in a file, or, where none is named, in memory alone. Deliveries and
+//! stocktakes are read as files of comma-separated values. Requests over HTTP are answered on the loopback.
 #![tactic(auto)]
+
+mod serve;
 
 ghost use Rattle.sqlite.specs.Files.{over_files};
 ghost use Rattle.desk_store.specs.Desks.{IsDesk};
 
+use crate::serve::serve;
 use desk_app::{
-    Asked, DEVICE, FileFault, MEMORY, Refused, RunEnd, connect, early_status, end_of_work, let_go,
-    print_export, print_report, read_words, run_in_memory, run_lines, status_of, status_of_fault,
-    take_desk,
+    Asked, BooksService, DEVICE, FileFault, MEMORY, Refused, RunEnd, connect, early_status,
+    end_of_work, import_file, let_go, print_export, print_report, read_file, read_words,
+    run_in_memory, run_lines, status_of, status_of_fault, take_desk,
 };
+use desk_core::Shop;
 use desk_store::Desk;
+use part_core::Limits;
 use sqlite::{File, FileStore};
 use std::env::{self, Env};
+use std::fs;
 use std::io::{self, Input};
 use std::process::ExitCode;
 
@@ -47,6 +54,23 @@ fn at_once<R: Print + Eprint>(rt: &R, asked: &Asked<'_>) -> Option<u8> {
     }
 }
 
+/// The bytes of the file at the path that is imported. Where it can't be opened, it is told why.
+fn bytes_at(rt: &HostRuntime, path: &str) -> Result<Vec<u8>, RunEnd> {
+    let mut file = match fs::open(rt, path) {
+        Ok(file) => file,
+        Err(error) => {
+            // Where the standard error fails too, the status alone tells.
+            let _ = eprintln!(rt; "invdesk: {path}: {error}");
+            return Err(if error.kind() == io::ErrorKind::OutOfMemory {
+                RunEnd::Memory
+            } else {
+                RunEnd::ReadFailed
+            });
+        }
+    };
+    read_file(rt.alloc(), &mut file).map_err(|stop| stop.end())
+}
+
 /// Does what the words ask for, on the desk.
 fn act(rt: &HostRuntime, asked: &Asked<'_>, desk: &mut Desk<FileStore<File>>) -> RunEnd
     requires { IsDesk over_files desk.old }
@@ -57,6 +81,16 @@ fn act(rt: &HostRuntime, asked: &Asked<'_>, desk: &mut Desk<FileStore<File>>) ->
     match asked {
         Asked::Report(_, name, number) => print_report(alloc, desk, *name, *number, &mut writer),
         Asked::Export(_, table) => print_export(desk, *table, &mut writer),
+        Asked::Import {
+            kind,
+            document,
+            day,
+            path,
+            ..
+        } => match bytes_at(rt, path) {
+            Ok(bytes) => import_file(alloc, &bytes, *kind, document, *day, &mut writer, desk),
+            Err(end) => end,
+        },
         _ => run_lines(alloc, &mut rt.reader(), &mut writer, desk),
     }
 }
@@ -70,15 +104,26 @@ fn closed(desk: Desk<FileStore<File>>, end: RunEnd) -> RunEnd
     end
 }
 
+/// Does what the words ask for, and closes the desk.
+fn done(rt: &HostRuntime, asked: &Asked<'_>, mut desk: Desk<FileStore<File>>) -> RunEnd
+    requires { IsDesk over_files desk }
+{
+    if let Asked::Serve { port, count, .. } = asked {
+        let mut service = BooksService { books: desk };
+        let end = serve(rt, *port, *count, &mut service);
+        return closed(service.books, end);
+    }
+    let end = act(rt, asked, &mut desk);
+    closed(desk, end)
+}
+
 /// Does what the words ask for, with the desk of the file.
 fn act_on_file(rt: &HostRuntime, path: &str, asked: &Asked<'_>) -> Result<RunEnd, FileFault> {
     let conn = connect(rt, path)?;
-    let mut desk = match take_desk(rt.alloc(), conn) {
-        Ok(desk) => desk,
-        Err((fault, _store)) => return Err(fault),
-    };
-    let end = act(rt, asked, &mut desk);
-    Ok(closed(desk, end))
+    match take_desk(rt.alloc(), conn) {
+        Ok(desk) => Ok(done(rt, asked, desk)),
+        Err((fault, _store)) => Err(fault),
+    }
 }
 
 /// Does what the words ask for with a file, and says why not, where the file is the reason.
@@ -95,11 +140,21 @@ fn status_on_file(rt: &HostRuntime, path: &str, asked: &Asked<'_>) -> u8 {
     }
 }
 
-/// Does what the words ask for, with the desk of the file, or with a new one in memory.
+/// Does what the words ask for, with new books in memory.
+fn act_in_memory(rt: &HostRuntime, asked: &Asked<'_>) -> RunEnd {
+    let alloc = rt.alloc();
+    if let Asked::Serve { port, count, .. } = asked {
+        let books = Shop::new(alloc, Limits::LARGEST);
+        return serve(rt, *port, *count, &mut BooksService { books });
+    }
+    run_in_memory(alloc, &mut rt.reader(), &mut io::writer(rt))
+}
+
+/// Does what the words ask for, with the desk of the file, or with new books in memory.
 fn status_after(rt: &HostRuntime, asked: &Asked<'_>) -> u8 {
     match asked.file() {
         Some(path) => status_on_file(rt, path, asked),
-        None => status_of(run_in_memory(rt.alloc(), &mut rt.reader(), &mut io::writer(rt))),
+        None => status_of(act_in_memory(rt, asked)),
     }
 }
 

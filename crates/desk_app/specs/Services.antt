@@ -1,0 +1,110 @@
+-- The books as a service of HTTP: what each operation does to a state, and what is replied.
+use Rattle.std.specs.Prelude.{◌≡◌, ◌⊎◌, ℕ, List, Bool, true, false, Option, Some, None, IsSome, Result, Ok, Err}
+use Rattle.sqlite.specs.Tree.{Trees}
+use Rattle.part_core.specs.Day.{CivilDay}
+use Rattle.desk_core.specs.Machine.{State, Outcome, step}
+use Rattle.desk_core.specs.declared.command.Request.{Request}
+use Rattle.report_core.specs.Reports.{report_lines}
+use Rattle.report_core.specs.declared.name.ReportName as report
+use Rattle.report_core.specs.declared.name.ReportName.TheVariants as reports
+use Rattle.desk_store.specs.Books.{TablesAre}
+use Rattle.desk_wire.specs.declared.fault.What.{What}
+use Rattle.desk_wire.specs.declared.kind.ImportKind as wire_kind
+use Rattle.desk_wire.specs.declared.kind.ImportKind.TheVariants as wire_kinds
+use Rattle.desk_wire.specs.Imports.{import}
+use Rattle.desk_wire.specs.Reading as reading
+use Rattle.desk_wire.specs.Writing.{answer_text, refused_text, fault_text}
+use Rattle.desk_http.specs.Services.{Machine, Operation, RunLine, ImportFile, ShowReport, Said}
+use Rattle.desk_http.specs.declared.target.ImportKind.{ImportKind}
+use Rattle.desk_http.specs.declared.target.ImportKind.TheVariants.{Receipts, Counts}
+use Rattle.desk_http.specs.declared.target.ReportName.{ReportName}
+use Rattle.desk_http.specs.declared.target.ReportName.TheVariants.{Ledger, Stock, Content, WhereUsed, Shortage, History}
+use Rattle.desk_http.specs.declared.service.Outcome.TheVariants.{Answered, Refused, Faulty, Reported}
+use Rattle.desk_http.specs.declared.service.Failure.{Failure}
+use Rattle.desk_http.specs.declared.service.Failure.TheVariants.{Store, Memory}
+use Rattle.desk_http.specs.declared.service.NoReply.{NoReply}
+use Rattle.desk_http.specs.declared.service.NoReply.TheVariants.{Failed, Untold}
+use Rattle.desk_app.specs.ImportRuns.{Reading, rows_after, rows_out, RanSome, IsLeftByImport}
+use Rattle.desk_app.specs.Printed.{printed}
+
+-- a kind and a name, as the lines and the reports have them
+abbrev pub import_kind : ImportKind → wire_kind.ImportKind
+import_kind Receipts = wire_kinds.Receipts
+import_kind Counts = wire_kinds.Counts
+
+abbrev pub report_name : ReportName → report.ReportName
+report_name Ledger = reports.Ledger
+report_name Stock = reports.Stock
+report_name Content = reports.Content
+report_name WhereUsed = reports.WhereUsed
+report_name Shortage = reports.Shortage
+report_name History = reports.History
+
+-- ---- each operation: the state after it, and what is replied
+
+abbrev pub by_outcome : State × Outcome → State × Said
+by_outcome (s, Ok answer) = (s, (Answered, answer_text answer))
+by_outcome (s, Err refusal) = (s, (Refused, refused_text refusal))
+
+-- a body is one line, of number 1, that asks for no report
+abbrev pub by_request : State → Result Request What → State × Said
+by_request s (Ok request) = by_outcome (step s request)
+by_request s (Err what) = (s, (Faulty, fault_text (record { line = 1; what = what })))
+
+unfoldable pub run_line : State → List ℕ → State × Said
+run_line s line = by_request s (reading.request line)
+
+-- a report is told though rows of it were refused
+abbrev pub by_reading : State → Reading → State × Said
+by_reading s (Ok rows) = (rows_after s rows, (Reported, rows_out s rows))
+by_reading s (Err fault) = (s, (Faulty, fault_text fault))
+
+unfoldable pub import_file : State → ImportKind → List ℕ → CivilDay → List ℕ → State × Said
+import_file s kind document day rows = by_reading s (import (import_kind kind) document day rows)
+
+abbrev pub by_printed : List ℕ × Bool → Said
+by_printed (text, true) = (Reported, text)
+by_printed (text, false) = (Refused, text)
+
+unfoldable pub show_report : State → ReportName → ℕ → Said
+show_report s name number = by_printed (printed (report_lines (report_name name) number s))
+
+abbrev pub desk_machine : Machine State
+desk_machine = record { run_line = run_line; import_file = import_file; show_report = show_report }
+
+-- ---- what is left where there was no reply
+
+-- of a line nothing was run, of a file the first of its rows
+abbrev pub leaves : Failure → State → Operation → State → Type 0
+leaves e s (RunLine line) s' = s' ≡ s
+leaves e s (ImportFile kind document day rows) s' = RanSome (import (import_kind kind) document day rows) s s'
+leaves e s (ShowReport name number) s' = s' ≡ s
+
+-- a request that failed was not run; where its reply was not told, it was
+abbrev pub IsFailedRequest : NoReply → State → State → Request → Type 0
+IsFailedRequest (Failed e) s s' r = s' ≡ s
+IsFailedRequest Untold s s' r = s' ≡ (step s r).0
+
+-- it is the books that failed
+abbrev pub IsFailed : NoReply → Type 0
+IsFailed (Failed e) = Unit {0}
+IsFailed Untold = ⊥
+
+-- books that weren't closed aren't, unless the database failed; where it failed, they are closed
+abbrev pub StaysOpenBy : {F : Type 0} → Option F → Option F → Option NoReply → Type 0
+StaysOpenBy old new None = old ≡ None → new ≡ None
+StaysOpenBy old new (Some (Failed Memory)) = old ≡ None → new ≡ None
+StaysOpenBy old new (Some (Failed Store)) = IsSome new
+StaysOpenBy old new (Some Untold) = old ≡ None → new ≡ None
+
+-- what a crash leaves of books in this state: its tables or, where the database failed, those after the request that
+-- failed
+abbrev pub IsLeftByOperation : Operation → State → State → Trees → Type 0
+IsLeftByOperation (RunLine line) s s' trees = TablesAre s' trees ⊎ TablesAre (run_line s' line).0 trees
+IsLeftByOperation (ImportFile kind document day rows) s s' trees = IsLeftByImport (import (import_kind kind) document day rows) s s' trees
+IsLeftByOperation (ShowReport name number) s s' trees = TablesAre s' trees
+
+-- of books with these faults of the database before and after, of which a crash may leave these tables
+abbrev pub Relates : {F : Type 0} → Option F → Option F → (Trees → Type 0) → State → State → Operation → Option NoReply → Type 0
+Relates old new may_leave s s' o why =
+    StaysOpenBy old new why × (old ≡ None → (trees : Trees) → may_leave trees → IsLeftByOperation o s s' trees)

@@ -1,0 +1,149 @@
+//! The import of a file. Every row is read before the first is run. The rows are run in their order, and
+//! what each changes is kept before the next one is run. No row is run after a failure. The report is
+//! written once all have been run: where a row wasn't answered there is none, and the rows before it stay.
+ghost use Rattle.std.specs.Prelude.{◌≡◌, ◌≢◌, Bool, None, IfOk, IfErr, IsSome, MatchResult, Ok};
+ghost use Rattle.std.specs.String.{string_bytes};
+ghost use Rattle.sqlite.specs.Tree.{Trees};
+ghost use Rattle.desk_wire.specs.Imports.{import};
+ghost use Rattle.desk_app.specs.declared.end.Stop.{Stop};
+ghost use Rattle.desk_app.specs.Ends.{end_of};
+ghost use Rattle.desk_app.specs.Runs.{IsOfBooks, StaysOpen};
+ghost use Rattle.desk_app.specs.ImportRuns.{import_told, rows_told, AreLeftByRows, ImportStopped, ImportedWhole, IsLeftByImport, RanFront, RanSome};
+
+use crate::books::Books;
+use crate::end::{RunEnd, Stop};
+use crate::run::{Told, tell_outcome};
+use crate::send::send;
+use desk_wire::{
+    Document, ImportKind, ImportRow, ReadError, fault_text, import_rows, push_report_line,
+};
+use part_core::Day;
+use std::alloc::Global;
+use std::io::Write;
+
+/// Runs the rows in their order, and tells their report.
+pub(crate) fn tell_rows<B: Books>(
+    alloc: Global,
+    rows: &[ImportRow],
+    books: &mut B,
+) -> Result<Told, Stop>
+    requires { B.are_kept books.old }
+    ensures ok { IfOk result (λ told. rows_told (B.state_in books.old) rows.now
+        ≡ (B.state_in books.new, string_bytes told.text, told.fine)) }
+    ensures cut { IfErr result (λ stop. IsOfBooks stop
+        × RanFront rows.now (B.state_in books.old) (B.state_in books.new)) }
+    ensures kept { B.are_kept books.new }
+    ensures stays_open { StaysOpen (B.failure_of books.old) (B.failure_of books.new) result }
+    ensures left { B.failure_of books.old ≡ None → (trees : Trees)
+        → B.may_leave books.new trees
+        → AreLeftByRows rows.now (B.state_in books.old) (B.state_in books.new) trees }
+{
+    let mut text = String::new(alloc);
+    let mut fine = true;
+    for row in rows {
+        let told = tell_outcome(alloc, books, &row.request)?;
+        push_report_line(&mut text, row.number, told.text.as_str())?;
+        fine = fine && told.fine;
+    }
+    Ok(Told { text, fine })
+}
+
+/// Runs the rows of a file in their order, and tells their report. Of a faulty file it runs none, and
+/// tells the fault.
+fn tell_import<B: Books>(
+    alloc: Global,
+    bytes: &[u8],
+    kind: ImportKind,
+    document: &Document,
+    day: Day,
+    books: &mut B,
+) -> Result<Told, Stop>
+    requires { B.are_kept books.old }
+    ensures ok { IfOk result (λ told.
+        import_told (B.state_in books.old) (import kind document.now day bytes.now)
+        ≡ (B.state_in books.new, string_bytes told.text, told.fine)) }
+    ensures cut { IfErr result (λ stop. IsOfBooks stop
+        × RanSome (import kind document.now day bytes.now)
+        (B.state_in books.old) (B.state_in books.new)) }
+    ensures kept { B.are_kept books.new }
+    ensures stays_open { StaysOpen (B.failure_of books.old) (B.failure_of books.new) result }
+    ensures left { B.failure_of books.old ≡ None → (trees : Trees)
+        → B.may_leave books.new trees
+        → IsLeftByImport (import kind document.now day bytes.now)
+        (B.state_in books.old) (B.state_in books.new) trees }
+{
+    match import_rows(alloc, bytes, kind, document, day) {
+        Ok(rows) => tell_rows(alloc, &rows, books),
+        Err(ReadError::Wrong(fault)) => Ok(Told {
+            text: fault_text(alloc, fault)?,
+            fine: false,
+        }),
+        Err(ReadError::Memory) => Err(Stop::Memory),
+    }
+}
+
+/// Runs the rows of a file, and then writes what is told of them.
+fn import_all<B: Books, W: Write>(
+    alloc: Global,
+    bytes: &[u8],
+    kind: ImportKind,
+    document: &Document,
+    day: Day,
+    writer: &mut W,
+    books: &mut B,
+) -> Result<bool, Stop>
+    requires { B.are_kept books.old }
+    ensures done { IfOk result (λ all. ImportedWhole (import kind document.now day bytes.now)
+        (W.contents writer.old) (W.contents writer.new)
+        (B.state_in books.old) (B.state_in books.new) all) }
+    ensures stopped { IfErr result (λ stop.
+        ImportStopped stop (import kind document.now day bytes.now)
+        (W.contents writer.old) (W.contents writer.new)
+        (B.state_in books.old) (B.state_in books.new)) }
+    ensures kept { B.are_kept books.new }
+    ensures stays_open { StaysOpen (B.failure_of books.old) (B.failure_of books.new) result }
+    ensures left { B.failure_of books.old ≡ None → (trees : Trees)
+        → B.may_leave books.new trees
+        → IsLeftByImport (import kind document.now day bytes.now)
+        (B.state_in books.old) (B.state_in books.new) trees }
+{
+    let told = tell_import(alloc, bytes, kind, document, day, books)?;
+    send(writer, told.text.as_bytes())?;
+    Ok(told.fine)
+}
+
+/// Runs the rows of a file of comma-separated values, and then writes their report; of a faulty file
+/// it runs none, and writes the fault's line. The end is `Done(true)` where nothing was refused or faulty.
+pub fn import_file<B: Books, W: Write>(
+    alloc: Global,
+    bytes: &[u8],
+    kind: ImportKind,
+    document: &Document,
+    day: Day,
+    writer: &mut W,
+    books: &mut B,
+) -> RunEnd
+    requires { B.are_kept books.old }
+    ensures done { (all : Bool) → result ≡ RunEnd.Done all
+        → ImportedWhole (import kind document.now day bytes.now)
+        (W.contents writer.old) (W.contents writer.new)
+        (B.state_in books.old) (B.state_in books.new) all }
+    ensures stopped { (stop : Stop) → result ≡ end_of stop
+        → ImportStopped stop (import kind document.now day bytes.now)
+        (W.contents writer.old) (W.contents writer.new)
+        (B.state_in books.old) (B.state_in books.new) }
+    ensures never { result ≢ RunEnd.ReadFailed }
+    ensures kept { B.are_kept books.new }
+    ensures stays_open { B.failure_of books.old ≡ None → result ≢ RunEnd.Store
+        → B.failure_of books.new ≡ None }
+    ensures closed { result ≡ RunEnd.Store → IsSome (B.failure_of books.new) }
+    ensures left { B.failure_of books.old ≡ None → (trees : Trees)
+        → B.may_leave books.new trees
+        → IsLeftByImport (import kind document.now day bytes.now)
+        (B.state_in books.old) (B.state_in books.new) trees }
+{
+    match import_all(alloc, bytes, kind, document, day, writer, books) {
+        Ok(all) => RunEnd::Done(all),
+        Err(stop) => stop.end(),
+    }
+}

@@ -1,0 +1,119 @@
+#!/usr/bin/env python3
+"""Times the program as a server: finds by POST /run from a client in one thread, a connection for each, in memory and with
+a file on a memory disk; and beside them, in the same run, as many requests to a server of Python's http.server that reads
+the body and does nothing. Prints requests a second, the median and the 99th percentile in milliseconds, for 2,000 and for
+20,000 requests.
+
+usage: tools/bench_http.py PROGRAM"""
+import contextlib
+import http.server
+import json
+import multiprocessing
+import os
+import socket
+import statistics
+import subprocess
+import sys
+import tempfile
+import time
+
+COUNTS = (2_000, 20_000)
+DAY = "2030-01-02"
+START = (
+    {"day": DAY, "do": "add_location", "name": "A"},
+    {"day": DAY, "do": "add_part", "flags": ["component"], "name": "Screw"},
+)
+FOUND = {"day": DAY, "do": "found", "location": 1, "part": 2, "quantity": 10}
+
+
+def posted(request):
+    body = json.dumps(request)
+    return f"POST /run HTTP/1.1\r\nHost: a\r\nContent-Length: {len(body)}\r\n\r\n{body}".encode()
+
+
+def answer(port, data):
+    """All that is answered, up to the end of the connection."""
+    with contextlib.closing(socket.create_connection(("127.0.0.1", port))) as stream:
+        stream.sendall(data)
+        text = b""
+        while piece := stream.recv(65536):
+            text += piece
+        return text
+
+
+def times(name, port, count):
+    data = posted(FOUND)
+    taken = []
+    begin = time.monotonic()
+    for _ in range(count):
+        start = time.monotonic()
+        text = answer(port, data)
+        taken.append(time.monotonic() - start)
+        if not text.startswith(b"HTTP/1.") or b" 200 " not in text[:16]:
+            sys.exit(f"bench_http: {name} answers {text[:80]!r}")
+    seconds = time.monotonic() - begin
+    taken.sort()
+    print(
+        f"{name}({count}): {count / seconds:.0f} requests a second, median {statistics.median(taken) * 1000:.2f} ms,"
+        f" 99th percentile {taken[count * 99 // 100] * 1000:.2f} ms",
+        flush=True,
+    )
+    return count / seconds
+
+
+def free_port():
+    with contextlib.closing(socket.socket()) as taken:
+        taken.bind(("127.0.0.1", 0))
+        return taken.getsockname()[1]
+
+
+def served(program, name, count, *words):
+    port = free_port()
+    server = subprocess.Popen(
+        [program, "serve", *words, "--port", str(port), "--count", str(count + len(START))], stdout=subprocess.PIPE)
+    server.stdout.readline()
+    for request in START:
+        answer(port, posted(request))
+    rate = times(name, port, count)
+    server.wait(timeout=20)
+    server.stdout.close()
+    return rate
+
+
+class Nothing(http.server.BaseHTTPRequestHandler):
+    """Reads the body, and answers that it did."""
+
+    def do_POST(self):
+        self.rfile.read(int(self.headers["Content-Length"]))
+        self.send_response(200)
+        self.send_header("Content-Length", "3")
+        self.send_header("Connection", "close")
+        self.end_headers()
+        self.wfile.write(b"{}\n")
+
+    def log_message(self, *_):
+        pass
+
+
+def of_python(count):
+    with http.server.HTTPServer(("127.0.0.1", 0), Nothing) as server:
+        process = multiprocessing.Process(target=server.serve_forever, daemon=True)
+        process.start()
+        rate = times("http.server", server.server_address[1], count)
+        process.terminate()
+        return rate
+
+
+def main(program):
+    for count in COUNTS:
+        beside = of_python(count)
+        for name, rate in (("memory", served(program, "memory", count)), ("--db", on_file(program, count))):
+            print(f"{name}({count}): {rate / beside:.2f} times the rate of http.server", flush=True)
+
+
+def on_file(program, count):
+    with tempfile.TemporaryDirectory(dir="/dev/shm") as folder:
+        return served(program, "--db", count, "--db", f"{folder}/x.db")
+
+
+main(os.path.abspath(sys.argv[1]))

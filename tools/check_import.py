@@ -1,0 +1,168 @@
+#!/usr/bin/env python3
+"""Runs the program's word `import` on files that Python's csv module wrote: each with other line ends, with all fields in
+quotes or only those that need it, with a byte order mark and without; with batches that have quotes, commas and line
+ends in them. Looks at what the program tells, and with sqlite3 at what is kept: that a file sent again, on another day
+too, is told the same and changes nothing; that a row with another quantity is KeyTaken in its line alone; that of a
+faulty file nothing is run; and which status a missing path, a folder and wrong words end with.
+
+usage: tools/check_import.py PROGRAM"""
+import codecs
+import contextlib
+import csv
+import io
+import itertools
+import os
+import pathlib
+import sqlite3
+import subprocess
+import sys
+import tempfile
+
+DAY = '"day":"2030-01-02"'
+ORDERED = f"""{{{DAY},"do":"add_location","name":"A"}}
+{{{DAY},"do":"add_part","flags":["component","purchaseable"],"name":"Screw"}}
+{{{DAY},"do":"add_part","flags":["component","purchaseable","trackable"],"name":"Motor"}}
+{{{DAY},"do":"order","partner":"Acme","side":"purchase"}}
+{{{DAY},"do":"order_line","order":4,"part":2,"quantity":500}}
+{{{DAY},"do":"order_line","order":4,"part":3,"quantity":2}}
+{{{DAY},"do":"issue_order","order":4}}
+"""
+RECEIPTS = ["number", "line", "location", "quantity", "batch", "serials"]
+COUNTS = ["number", "item", "quantity"]
+BATCH = 'L "1", left'
+DELIVERY = [[1, 5, 1, 100, BATCH, ""], [2, 5, 1, 50, "", ""], [3, 6, 1, 2, "", "M1,M2"]]
+DELIVERED = (
+    b'1\t{"entries":1,"ids":[7]}\n2\t{"entries":1,"ids":[8]}\n3\t{"entries":2,"ids":[9,10]}\n'
+)
+failures = 0
+
+
+def expect(what, told, wanted):
+    global failures
+    if told != wanted:
+        failures += 1
+        print(f"check_import: {what}: {told!r}, and not {wanted!r}")
+
+
+def written(header, rows, ends="\n", quoting=csv.QUOTE_MINIMAL, mark=False):
+    text = io.StringIO()
+    csv.writer(text, lineterminator=ends, quoting=quoting).writerows([header, *rows])
+    return (codecs.BOM_UTF8 if mark else b"") + text.getvalue().encode()
+
+
+def run(*words, lines=""):
+    done = subprocess.run([sys.argv[1], *words], input=lines.encode(), capture_output=True, check=False)
+    return done.returncode, done.stdout
+
+
+def imported(folder, kind, bytes_, document="D7", day="2030-03-01"):
+    path = folder / "sent.csv"
+    path.write_bytes(bytes_)
+    return run(
+        "import", "--db", str(folder / "w.db"), "--kind", kind, "--document", document, "--day", day, str(path)
+    )
+
+
+@contextlib.contextmanager
+def workshop():
+    """A folder with a workshop that has ordered screws and motors."""
+    with tempfile.TemporaryDirectory() as name:
+        folder = pathlib.Path(name)
+        expect("the order", run("run", "--db", str(folder / "w.db"), lines=ORDERED)[0], 0)
+        yield folder
+
+
+def rows_of(folder, what):
+    with contextlib.closing(sqlite3.connect(folder / "w.db")) as conn:
+        return conn.execute(what).fetchall()
+
+
+def all_rows(folder):
+    tables = "meta items history orders order_lines kept".split()
+    return [rows_of(folder, f"SELECT * FROM {table} ORDER BY 1") for table in tables]
+
+
+def forms():
+    for ends, quoting, mark in itertools.product(
+        ("\n", "\r\n", "\r"), (csv.QUOTE_MINIMAL, csv.QUOTE_ALL, csv.QUOTE_NONNUMERIC), (False, True)
+    ):
+        with workshop() as folder:
+            file = written(RECEIPTS, DELIVERY, ends, quoting, mark)
+            what = f"a delivery with {ends!r}, quoting {quoting}, mark {mark}"
+            expect(what, imported(folder, "receipts", file), (0, DELIVERED))
+            batches = rows_of(folder, "SELECT batch, serial, quantity FROM items ORDER BY id")
+            expect(what, batches, [(BATCH, None, 100), (None, None, 50), (None, "M1", 1), (None, "M2", 1)])
+            before = all_rows(folder)
+            for day in ("2030-03-01", "2031-12-31"):
+                expect(f"{what}, again", imported(folder, "receipts", file, day=day), (0, DELIVERED))
+                expect(f"{what}, again", all_rows(folder) == before, True)
+
+
+def corrections():
+    with workshop() as folder:
+        imported(folder, "receipts", written(RECEIPTS, DELIVERY))
+        before = all_rows(folder)
+        other = written(RECEIPTS, [[1, 5, 1, 101, BATCH, ""], *DELIVERY[1:]])
+        lines = DELIVERED.split(b"\n")
+        taken = b"\n".join([b'1\t{"refused":"KeyTaken"}', *lines[1:]])
+        expect("another quantity", imported(folder, "receipts", other), (1, taken))
+        expect("another quantity", all_rows(folder) == before, True)
+        expect("another document", imported(folder, "receipts", written(RECEIPTS, DELIVERY[:1]), "D8")[0], 0)
+        counted = written(COUNTS, [[1, 7, 97], [2, 99, 1], [3, 8, 0]])
+        report = b'1\t{"entries":1,"ids":[]}\n2\t{"refused":"NoSuch"}\n3\t{"entries":1,"ids":[]}\n'
+        for _ in range(2):
+            expect("a stocktake", imported(folder, "counts", counted, "C3"), (1, report))
+        expect("a stocktake", rows_of(folder, "SELECT quantity FROM items WHERE id = 7"), [(97,)])
+
+
+def faults():
+    line = [9, 5, 1, 1, "", ""]
+    ends = "a\nb"
+    cases = [
+        (b"", "Header", 1),
+        (b"\n\r\n", "Header", 1),
+        (written(COUNTS, []), "Header", 1),
+        (codecs.BOM_UTF8 * 2 + written(RECEIPTS, [line]), "Header", 1),
+        (written(RECEIPTS, [line, line[:-1]]), "Csv", 3),
+        (written(RECEIPTS, [line, [*line, ""]]), "Csv", 3),
+        (written(RECEIPTS, [line]) + b"8,5,1,1,\xff,\n", "Csv", 3),
+        (written(RECEIPTS, [line, ["0", *line[1:]]]), "WrongType", 3),
+        (written(RECEIPTS, [line, ["08", *line[1:]]]), "WrongType", 3),
+        (written(RECEIPTS, [line, [8, 5, 1, "-1", "", ""]]), "WrongType", 3),
+        (written(RECEIPTS, [line, [8, 5, 1, 1, ends, ""]]), "BadText", 3),
+        (written(RECEIPTS, [line, [8, 5, 1, 1, "", "1 2"]]), "BadSerials", 3),
+        (written(RECEIPTS, [line]) + b"\n" * 16_777_216, "TooLong", 0),
+    ]
+    for file, name, number in cases:
+        with workshop() as folder:
+            before = all_rows(folder)
+            told = f'{{"fault":"{name}","line":{number}}}\n'.encode()
+            expect(f"a file that begins {file[:60]!r}", imported(folder, "receipts", file), (1, told))
+            expect(f"a file that begins {file[:60]!r}", all_rows(folder) == before, True)
+
+
+def statuses():
+    with workshop() as folder:
+        db, there = str(folder / "w.db"), folder / "sent.csv"
+        there.write_bytes(written(RECEIPTS, DELIVERY))
+
+        def status(path, kind="receipts", document="D7", day="2030-03-01"):
+            words = ("--kind", kind, "--document", document, "--day", day, str(path))
+            return run("import", "--db", db, *words)[0]
+
+        before = all_rows(folder)
+        expect("no such path", status(folder / "none.csv"), 3)
+        expect("a folder", status(folder), 3)
+        for words in (("sales",), ("receipts", "a/b"), ("receipts", "D7", "2030-02-30"), ("receipts", "D" * 33)):
+            expect(f"wrong words {words}", status(there, *words), 2)
+        expect("no document", run("import", "--db", db, "--kind", "counts", "--day", "2030-03-01", str(there))[0], 2)
+        expect("after wrong words", all_rows(folder) == before, True)
+        expect("a path beside the folder's", status(os.path.relpath(there)), 0)
+
+
+forms()
+corrections()
+faults()
+statuses()
+print("check_import: all as it should be" if failures == 0 else f"check_import: {failures} differ")
+sys.exit(failures != 0)
