@@ -2,10 +2,10 @@
 ghost use Rattle.desk_core.specs.Machine.{IsSoundState};
 ghost use Rattle.desk_core.specs.Shops.{state_of};
 
-use crate::outcomes::holds;
-use crate::play::plays_on_shop;
 use bom_core::Substitute;
 use desk_core::{AssembleFault, Shop, Tables};
+use desk_play::outcomes::holds;
+use desk_play::play::plays_on_shop;
 use part_core::{Limits, MOST, Row, Sheet};
 use std::alloc::Global;
 use std::test::Fail;

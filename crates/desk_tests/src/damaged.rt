@@ -1,6 +1,6 @@
 //! Databases that no run could have left: one change by SQL of a small workshop's tables each.
-use crate::outcomes::holds;
-use crate::play::{created, plays_on};
+use desk_play::outcomes::holds;
+use desk_play::play::{created, plays_on};
 use desk_store::{Desk, OpenFault};
 use sqlite::{Connection, MemStore};
 use std::alloc::Global;

@@ -1,7 +1,7 @@
 //! Tables as text, whole and through writers that fail.
-use crate::devices::Sink;
-use crate::outcomes::holds;
-use crate::play::{created, plays_on};
+use desk_play::devices::Sink;
+use desk_play::outcomes::holds;
+use desk_play::play::{created, plays_on};
 use desk_store::{Desk, ExportFault};
 use sqlite::{Alter, Connection};
 use std::alloc::Global;

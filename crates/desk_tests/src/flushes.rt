@@ -1,6 +1,6 @@
 //! What a writer sees of the answers.
-use crate::play::created;
 use desk_app::{RunEnd, run_lines};
+use desk_play::play::created;
 use sqlite::Connection;
 use std::io::{self, Write};
 use std::test::Fail;

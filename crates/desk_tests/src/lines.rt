@@ -1,7 +1,7 @@
 //! Lines, a repeat and reports among them, through slow and failing readers and writers.
-use crate::devices::{Sink, Source};
-use crate::play::created;
 use desk_app::{RunEnd, run_lines};
+use desk_play::devices::{Sink, Source};
+use desk_play::play::created;
 use sqlite::Connection;
 use std::alloc::Global;
 use std::io::ErrorKind;

@@ -1,8 +1,8 @@
 //! A stop at each call of a disk. What a file then holds is opened again, and the whole list, sent again, is answered as
 //! if there had been no stop: each request was kept whole or not at all.
-use crate::devices::Sink;
-use crate::outcomes::holds;
 use desk_app::{RunEnd, run_lines};
+use desk_play::devices::Sink;
+use desk_play::outcomes::holds;
 use desk_store::Desk;
 use part_core::Limits;
 use sqlite::{Alter, Connection, FileStore, Files, Options};

@@ -21,7 +21,9 @@ const HELP: &str = concat!(
     "Commands:\n",
     "  run     Answers each line of the standard input\n",
     "  report  Prints a report\n",
-    "  export  Prints a table as comma-separated values\n\n",
+    "  export  Prints a table as comma-separated values\n",
+    "  import  Runs each row of a file of comma-separated values\n",
+    "  serve   Answers requests over HTTP, one a connection\n\n",
     "Options:\n",
     "  -h, --help     Print help\n",
     "  -V, --version  Print version\n"
@@ -47,6 +49,8 @@ fn told(alloc: Global, asked: &Asked<'_>) -> Result<String, AllocError> {
         Asked::Run(Some(file)) => format!(in alloc; "run {file}"),
         Asked::Report(file, name, number) => format!(in alloc; "report {file} {name:?} {number}"),
         Asked::Export(file, table) => format!(in alloc; "export {file} {table:?}"),
+        Asked::Import { .. } => format!(in alloc; "import"),
+        Asked::Serve { .. } => format!(in alloc; "serve"),
         Asked::Help(_) => format!(in alloc; "help"),
         Asked::Wrong(_) => format!(in alloc; "wrong"),
         Asked::Unreadable => format!(in alloc; "unreadable"),
@@ -267,7 +271,7 @@ fn prints_help(rt: HostRuntime) -> Result<(), Fail> {
     let Asked::Help(version) = read_words(alloc, &["invdesk", "--version"]) else {
         return Err("the version is asked for".into());
     };
-    assert_eq!(rt; format!(in alloc; "{version}")?.as_str(), "invdesk 0.3\n");
+    assert_eq!(rt; format!(in alloc; "{version}")?.as_str(), "invdesk 0.4\n");
     Ok(())
 }
 

@@ -6,6 +6,8 @@ mod build_limits;
 #[cfg(test)]
 mod builds;
 #[cfg(test)]
+mod full;
+#[cfg(test)]
 mod limits;
 #[cfg(test)]
 mod nested;

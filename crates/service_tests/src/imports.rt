@@ -1,0 +1,195 @@
+//! Files that are imported: a delivery and a stocktake, sent once and again, faulty files, and writers and readers that
+//! fail.
+ghost use Rattle.std.specs.Prelude.{IfOk};
+ghost use Rattle.desk_core.specs.Machine.{IsSoundState};
+ghost use Rattle.desk_core.specs.Shops.{state_of};
+
+use crate::delivery::{
+    DELIVERY, DELIVERY_OUT, ORDERED, ORDERED_OUT, OTHER, OTHER_OUT, STOCK, STOCK_OUT,
+};
+use desk_app::{RunEnd, Stop, import_file, read_file};
+use desk_core::Shop;
+use desk_play::devices::{Sink, Source};
+use desk_play::outcomes::holds;
+use desk_play::play::plays_on_shop;
+use desk_wire::{Document, ImportKind};
+use part_core::{Day, Limits};
+use std::alloc::Global;
+use std::io::ErrorKind;
+use std::test::Fail;
+
+/// A shop that ordered screws and motors.
+fn ordered(alloc: Global) -> Result<Shop, Fail>
+    ensures { IfOk result (λ shop. IsSoundState (state_of shop)) }
+{
+    let mut shop = Shop::new(alloc, Limits::LARGEST);
+    plays_on_shop(alloc, &mut shop, ORDERED, ORDERED_OUT)?;
+    Ok(shop)
+}
+
+fn document(alloc: Global) -> Result<Document, Fail> {
+    match Document::new(String::from_str(alloc, "D1")?) {
+        Some(document) => Ok(document),
+        None => Err(Fail::from("it is a document")),
+    }
+}
+
+fn day(text: &str) -> Result<Day, Fail> {
+    match Day::parse(text) {
+        Some(day) => Ok(day),
+        None => Err(Fail::from("it is a day")),
+    }
+}
+
+/// How the import of a file ends, and what it writes.
+fn imports(
+    alloc: Global,
+    shop: &mut Shop,
+    kind: ImportKind,
+    on: &str,
+    file: &str,
+    sink: &mut Sink,
+) -> Result<RunEnd, Fail>
+    requires { IsSoundState (state_of shop.old) }
+    ensures { IsSoundState (state_of shop.new) }
+{
+    let bytes = file.as_bytes();
+    Ok(import_file(alloc, bytes, kind, &document(alloc)?, day(on)?, sink, shop))
+}
+
+fn delivers(alloc: Global, shop: &mut Shop, on: &str, sink: &mut Sink) -> Result<RunEnd, Fail>
+    requires { IsSoundState (state_of shop.old) }
+    ensures { IsSoundState (state_of shop.new) }
+{
+    imports(alloc, shop, ImportKind::Receipts, on, DELIVERY, sink)
+}
+
+/// Sends the delivery on that day: it is told its report, and the stock is that of one delivery.
+fn delivers_once(alloc: Global, shop: &mut Shop, on: &str) -> Result<(), Fail>
+    requires { IsSoundState (state_of shop.old) }
+    ensures { IsSoundState (state_of shop.new) }
+{
+    let mut sink = Sink::new(alloc, 7);
+    let end = delivers(alloc, shop, on, &mut sink)?;
+    holds(end == RunEnd::Done(true), "a row is refused")?;
+    holds(
+        sink.bytes.as_slice() == DELIVERY_OUT.as_bytes(),
+        "another report",
+    )?;
+    plays_on_shop(alloc, shop, STOCK, STOCK_OUT)
+}
+
+/// A delivery comes once, however often and on whatever day it is sent.
+#[test]
+fn a_delivery(rt: HostRuntime) -> Result<(), Fail> {
+    let alloc = rt.alloc();
+    let mut shop = ordered(alloc)?;
+    delivers_once(alloc, &mut shop, "2030-03-01")?;
+    delivers_once(alloc, &mut shop, "2030-03-01")?;
+    delivers_once(alloc, &mut shop, "2030-03-02")?;
+    let mut sink = Sink::new(alloc, 4096);
+    let end = imports(
+        alloc,
+        &mut shop,
+        ImportKind::Receipts,
+        "2030-03-02",
+        OTHER,
+        &mut sink,
+    )?;
+    holds(end == RunEnd::Done(false), "another quantity is taken")?;
+    holds(
+        sink.bytes.as_slice() == OTHER_OUT.as_bytes(),
+        "another report",
+    )?;
+    plays_on_shop(alloc, &mut shop, STOCK, STOCK_OUT)
+}
+
+/// Counts the screws of the batch, and an item that isn't there.
+fn counts(alloc: Global, shop: &mut Shop) -> Result<(), Fail>
+    requires { IsSoundState (state_of shop.old) }
+    ensures { IsSoundState (state_of shop.new) }
+{
+    let counted = "\u{feff}number,item,quantity\r\n1,7,97\r\n2,99,1\r\n";
+    let mut sink = Sink::new(alloc, 4096);
+    let end = imports(
+        alloc,
+        shop,
+        ImportKind::Counts,
+        "2030-03-03",
+        counted,
+        &mut sink,
+    )?;
+    holds(end == RunEnd::Done(false), "no row is refused")?;
+    let told = "1\t{\"entries\":1,\"ids\":[]}\n2\t{\"refused\":\"NoSuch\"}\n";
+    holds(sink.bytes.as_slice() == told.as_bytes(), "another report")
+}
+
+/// A stocktake after the delivery, sent twice.
+#[test]
+fn a_stocktake(rt: HostRuntime) -> Result<(), Fail> {
+    let alloc = rt.alloc();
+    let mut shop = ordered(alloc)?;
+    let mut sink = Sink::new(alloc, 4096);
+    delivers(alloc, &mut shop, "2030-03-01", &mut sink)?;
+    counts(alloc, &mut shop)?;
+    counts(alloc, &mut shop)
+}
+
+/// A fault at the last row: none is run.
+#[test]
+fn a_faulty_file(rt: HostRuntime) -> Result<(), Fail> {
+    let alloc = rt.alloc();
+    let mut shop = ordered(alloc)?;
+    let faulty = "number,line,location,quantity,batch,serials\n1,5,1,100,L1,\n2,5,1,x,,\n";
+    let mut sink = Sink::new(alloc, 4096);
+    let end = imports(
+        alloc,
+        &mut shop,
+        ImportKind::Receipts,
+        "2030-03-01",
+        faulty,
+        &mut sink,
+    )?;
+    assert!(rt; end == RunEnd::Done(false));
+    assert!(rt; sink.bytes.as_slice() == "{\"fault\":\"WrongType\",\"line\":3}\n".as_bytes());
+    plays_on_shop(alloc, &mut shop, STOCK, "{\"report\":[]}\n")
+}
+
+/// Where the report isn't written, the rows were run: the file is sent again, and its report is whole.
+#[test]
+fn each_write_fails(rt: HostRuntime) -> Result<(), Fail> {
+    let alloc = rt.alloc();
+    for fails in 1..12u64 {
+        let mut shop = ordered(alloc)?;
+        let mut sink = Sink::new(alloc, 10);
+        sink.fails = fails;
+        let end = delivers(alloc, &mut shop, "2030-03-01", &mut sink)?;
+        assert!(rt; DELIVERY_OUT.as_bytes().starts_with(sink.bytes.as_slice()));
+        assert!(rt; end == RunEnd::WriteFailed || end == RunEnd::Done(true));
+        plays_on_shop(alloc, &mut shop, STOCK, STOCK_OUT)?;
+        let mut sink = Sink::new(alloc, 4096);
+        let end = delivers(alloc, &mut shop, "2030-03-02", &mut sink)?;
+        assert!(rt; end == RunEnd::Done(true));
+        assert!(rt; sink.bytes.as_slice() == DELIVERY_OUT.as_bytes());
+    }
+    Ok(())
+}
+
+/// A file comes whole in pieces of any length, and past an interruption; a read that fails ends it.
+#[test]
+fn reads_in_pieces(rt: HostRuntime) -> Result<(), Fail> {
+    let alloc = rt.alloc();
+    for step in [1, 7, 4096, 100_000] {
+        let mut source = Source::new(DELIVERY.as_bytes(), step);
+        source.fails = 2;
+        source.failure = ErrorKind::Interrupted;
+        match read_file(alloc, &mut source) {
+            Ok(bytes) => assert!(rt; bytes.as_slice() == DELIVERY.as_bytes()),
+            Err(_) => return Err("it reads on past an interruption".into()),
+        }
+        let mut source = Source::new(DELIVERY.as_bytes(), step);
+        source.fails = 2;
+        assert!(rt; matches!(read_file(alloc, &mut source), Err(Stop::ReadFailed)));
+    }
+    Ok(())
+}

@@ -1,0 +1,178 @@
+//! Requests of HTTP, on a shop and on a desk.
+ghost use Rattle.std.specs.Prelude.{◌≡◌, false};
+ghost use Rattle.sqlite.specs.Held.{state};
+ghost use Rattle.sqlite.specs.State.{HasCleanDisk};
+
+use crate::delivery::{ORDERED, ORDERED_OUT};
+use desk_app::{Books, BooksService};
+use desk_core::Shop;
+use desk_http::{Served, serve_one};
+use desk_play::devices::Sink;
+use desk_play::outcomes::holds;
+use desk_play::play::{created, plays_on};
+use part_core::Limits;
+use sqlite::{Alter, Connection};
+use std::alloc::Global;
+use std::test::Fail;
+
+/// A delivery, the same on another day, and with another quantity in its first row.
+const FILES: [[&str; 2]; 3] = [
+    [
+        "POST /import/receipts/D1/2030-03-01 HTTP/1.1\r\nContent-Length: 86\r\n\r\nnumber,line,location,quantity,batch,serials\n1,5,1,100,L1,\n2,5,1,50,,\n3,6,1,2,,\"M1,M2\"\n",
+        "HTTP/1.1 200 OK\r\nContent-Type: text/plain; charset=utf-8\r\nContent-Length: 81\r\nConnection: close\r\n\r\n1\t{\"entries\":1,\"ids\":[7]}\n2\t{\"entries\":1,\"ids\":[8]}\n3\t{\"entries\":2,\"ids\":[9,10]}\n",
+    ],
+    [
+        "POST /import/receipts/D1/2030-03-02 HTTP/1.1\r\nContent-Length: 86\r\n\r\nnumber,line,location,quantity,batch,serials\n1,5,1,100,L1,\n2,5,1,50,,\n3,6,1,2,,\"M1,M2\"\n",
+        "HTTP/1.1 200 OK\r\nContent-Type: text/plain; charset=utf-8\r\nContent-Length: 81\r\nConnection: close\r\n\r\n1\t{\"entries\":1,\"ids\":[7]}\n2\t{\"entries\":1,\"ids\":[8]}\n3\t{\"entries\":2,\"ids\":[9,10]}\n",
+    ],
+    [
+        "POST /import/receipts/D1/2030-03-02 HTTP/1.1\r\nContent-Length: 86\r\n\r\nnumber,line,location,quantity,batch,serials\n1,5,1,101,L1,\n2,5,1,50,,\n3,6,1,2,,\"M1,M2\"\n",
+        "HTTP/1.1 200 OK\r\nContent-Type: text/plain; charset=utf-8\r\nContent-Length: 80\r\nConnection: close\r\n\r\n1\t{\"refused\":\"KeyTaken\"}\n2\t{\"entries\":1,\"ids\":[8]}\n3\t{\"entries\":2,\"ids\":[9,10]}\n",
+    ],
+];
+
+/// A request, and the same again, which is refused; and bodies that are none.
+const LINES: [[&str; 2]; 5] = [
+    [
+        "POST /run HTTP/1.1\r\nContent-Length: 51\r\n\r\n{\"day\":\"2030-01-02\",\"do\":\"add_location\",\"name\":\"C\"}",
+        "HTTP/1.1 200 OK\r\nContent-Type: application/json\r\nContent-Length: 25\r\nConnection: close\r\n\r\n{\"entries\":0,\"ids\":[11]}\n",
+    ],
+    [
+        "POST /run HTTP/1.1\r\nContent-Length: 51\r\n\r\n{\"day\":\"2030-01-02\",\"do\":\"add_location\",\"name\":\"C\"}",
+        "HTTP/1.1 409 Conflict\r\nContent-Type: application/json\r\nContent-Length: 24\r\nConnection: close\r\n\r\n{\"refused\":\"NameTaken\"}\n",
+    ],
+    [
+        "POST /run HTTP/1.1\r\nContent-Length: 2\r\n\r\n[]",
+        "HTTP/1.1 400 Bad Request\r\nContent-Type: application/json\r\nContent-Length: 31\r\nConnection: close\r\n\r\n{\"fault\":\"NotObject\",\"line\":1}\n",
+    ],
+    [
+        "POST /run HTTP/1.1\r\nContent-Length: 0\r\n\r\n",
+        "HTTP/1.1 400 Bad Request\r\nContent-Type: application/json\r\nContent-Length: 29\r\nConnection: close\r\n\r\n{\"fault\":\"NotJson\",\"line\":1}\n",
+    ],
+    [
+        "POST /run HTTP/1.1\r\nContent-Length: 26\r\n\r\n{\"of\":2,\"report\":\"ledger\"}",
+        "HTTP/1.1 400 Bad Request\r\nContent-Type: application/json\r\nContent-Length: 29\r\nConnection: close\r\n\r\n{\"fault\":\"NoField\",\"line\":1}\n",
+    ],
+];
+
+/// Reports of what is there.
+const REPORTS: [[&str; 2]; 5] = [
+    [
+        "GET /report/ledger/002 HTTP/1.1\r\n\r\n",
+        "HTTP/1.1 200 OK\r\nContent-Type: text/plain; charset=utf-8\r\nContent-Length: 112\r\nConnection: close\r\n\r\nledger\t2\tScrew\nreceived\t150\nfound\t0\nbuilt\t0\nreturned\t0\nconsumed\t0\nshipped\t0\nwritten\t0\npresent\t150\nsent\t0\nused\t0\n",
+    ],
+    [
+        "GET /report/stock/2 HTTP/1.1\r\n\r\n",
+        "HTTP/1.1 200 OK\r\nContent-Type: text/plain; charset=utf-8\r\nContent-Length: 33\r\nConnection: close\r\n\r\n7\t100\tOK\tat 1\tL1\t\n8\t50\tOK\tat 1\t\t\n",
+    ],
+    [
+        "GET /report/content/7 HTTP/1.1\r\n\r\n",
+        "HTTP/1.1 200 OK\r\nContent-Type: text/plain; charset=utf-8\r\nContent-Length: 15\r\nConnection: close\r\n\r\n1\t7\tScrew\t100\t\n",
+    ],
+    [
+        "GET /report/where_used/2 HTTP/1.1\r\n\r\n",
+        "HTTP/1.1 200 OK\r\nContent-Type: text/plain; charset=utf-8\r\nContent-Length: 0\r\nConnection: close\r\n\r\n",
+    ],
+    [
+        "GET /report/history/7 HTTP/1.1\r\n\r\n",
+        "HTTP/1.1 200 OK\r\nContent-Type: text/plain; charset=utf-8\r\nContent-Length: 31\r\nConnection: close\r\n\r\n1\t2030-03-01\treceived\t100\tat 1\n",
+    ],
+];
+
+/// Reports of nothing that is there, a file that is none, what is no route, and another method.
+const NOTHING: [[&str; 2]; 5] = [
+    [
+        "GET /report/stock/99 HTTP/1.1\r\n\r\n",
+        "HTTP/1.1 409 Conflict\r\nContent-Type: application/json\r\nContent-Length: 21\r\nConnection: close\r\n\r\n{\"refused\":\"NoSuch\"}\n",
+    ],
+    [
+        "GET /report/shortage/1 HTTP/1.1\r\n\r\n",
+        "HTTP/1.1 409 Conflict\r\nContent-Type: application/json\r\nContent-Length: 21\r\nConnection: close\r\n\r\n{\"refused\":\"NoSuch\"}\n",
+    ],
+    [
+        "POST /import/counts/C1/2030-03-03 HTTP/1.1\r\nContent-Length: 12\r\n\r\nnumber,item\n",
+        "HTTP/1.1 400 Bad Request\r\nContent-Type: application/json\r\nContent-Length: 28\r\nConnection: close\r\n\r\n{\"fault\":\"Header\",\"line\":1}\n",
+    ],
+    [
+        "GET /x HTTP/1.1\r\n\r\n",
+        "HTTP/1.1 404 Not Found\r\nContent-Type: application/json\r\nContent-Length: 13\r\nConnection: close\r\n\r\n{\"http\":404}\n",
+    ],
+    [
+        "GET /run HTTP/1.1\r\n\r\n",
+        "HTTP/1.1 405 Method Not Allowed\r\nContent-Type: application/json\r\nContent-Length: 13\r\nAllow: POST\r\nConnection: close\r\n\r\n{\"http\":405}\n",
+    ],
+];
+
+/// A request whose body is one byte short.
+const SHORT: &str =
+    "POST /run HTTP/1.1\r\nContent-Length: 51\r\n\r\n{\"day\":\"2030-01-02\",\"do\":\"add_location\",\"name\":\"D\"";
+
+/// Sends the bytes, and fails where they are answered otherwise.
+fn asks<B: Books>(
+    alloc: Global,
+    service: &mut BooksService<B>,
+    bytes: &str,
+    answer: &str,
+) -> Result<Served, Fail>
+    requires { B.are_kept service.old.books }
+    ensures { B.are_kept service.new.books }
+{
+    let mut reader = bytes.as_bytes();
+    let mut sink = Sink::new(alloc, 4096);
+    let served = serve_one(alloc, &mut reader, &mut sink, service);
+    holds(sink.bytes.as_slice() == answer.as_bytes(), "another answer")?;
+    Ok(served)
+}
+
+/// Sends each, which is answered.
+fn asks_all<B: Books>(
+    alloc: Global,
+    service: &mut BooksService<B>,
+    exchanges: &[[&str; 2]],
+) -> Result<(), Fail>
+    requires { B.are_kept service.old.books }
+    ensures { B.are_kept service.new.books }
+{
+    for exchange in exchanges {
+        let served = asks(alloc, service, exchange[0], exchange[1])?;
+        holds(matches!(served, Served::Answered(_)), "it is not answered")?;
+    }
+    Ok(())
+}
+
+/// A delivery and other requests, and one that doesn't come whole, on books with nothing in them.
+fn is_served<B: Books>(alloc: Global, service: &mut BooksService<B>) -> Result<(), Fail>
+    requires { B.are_kept service.old.books }
+    ensures { B.are_kept service.new.books }
+{
+    plays_on(alloc, &mut service.books, ORDERED, ORDERED_OUT)?;
+    asks_all(alloc, service, FILES.as_slice())?;
+    asks_all(alloc, service, LINES.as_slice())?;
+    asks_all(alloc, service, REPORTS.as_slice())?;
+    asks_all(alloc, service, NOTHING.as_slice())?;
+    let served = asks(alloc, service, SHORT, "")?;
+    holds(served == Served::Ended, "a short body is run")
+}
+
+/// The same on a desk in a database.
+fn is_served_by_desk<S: Alter + Drop>(alloc: Global, conn: Connection<S>) -> Result<(), Fail>
+    requires { HasCleanDisk (state S.Store conn) → (state S.Store conn).in_transaction ≡ false }
+{
+    let books = created(alloc, conn)?;
+    let mut service = BooksService { books };
+    is_served(alloc, &mut service)
+}
+
+#[test]
+fn a_shop_is_asked(rt: HostRuntime) -> Result<(), Fail> {
+    let alloc = rt.alloc();
+    let books = Shop::new(alloc, Limits::LARGEST);
+    let mut service = BooksService { books };
+    is_served(alloc, &mut service)
+}
+
+#[test]
+fn a_desk_is_asked(rt: HostRuntime) -> Result<(), Fail> {
+    let alloc = rt.alloc();
+    is_served_by_desk(alloc, Connection::open_in_memory(alloc)?)
+}
