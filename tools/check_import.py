@@ -3,7 +3,8 @@
 quotes or only those that need it, with a byte order mark and without; with batches that have quotes, commas and line
 ends in them. Looks at what the program tells, and with sqlite3 at what is kept: that a file sent again, on another day
 too, is told the same and changes nothing; that a row with another quantity is KeyTaken in its line alone; that of a
-faulty file nothing is run; and which status a missing path, a folder and wrong words end with.
+faulty file nothing is run; which status a missing path, a folder and wrong words end with; and what a terminal is told
+of the rows that are done.
 
 usage: tools/check_import.py PROGRAM"""
 import codecs
@@ -13,6 +14,7 @@ import io
 import itertools
 import os
 import pathlib
+import pty
 import sqlite3
 import subprocess
 import sys
@@ -160,9 +162,36 @@ def statuses():
         expect("a path beside the folder's", status(os.path.relpath(there)), 0)
 
 
+def counted(folder, rows):
+    """What is told of the rows that are done, on a terminal and elsewhere."""
+    path = folder / "counts.csv"
+    path.write_bytes(written(COUNTS, [[number, 7, 100] for number in range(1, rows + 1)]))
+    words = (sys.argv[1], "import", "--db", str(folder / "w.db"), "--kind", "counts", "--day", "2030-03-01")
+    ours, theirs = pty.openpty()
+    done = subprocess.run((*words, "--document", f"T{rows}", str(path)), stdout=subprocess.DEVNULL, stderr=theirs, check=False)
+    os.close(theirs)
+    expect(f"{rows} rows on a terminal", done.returncode, 0)
+    told = b""
+    with contextlib.suppress(OSError):
+        while piece := os.read(ours, 4096):
+            told += piece
+    os.close(ours)
+    done = subprocess.run((*words, "--document", f"P{rows}", str(path)), capture_output=True, check=False)
+    return told.replace(b"\r\n", b"\n"), done.stderr
+
+
+def terminals():
+    with workshop() as folder:
+        imported(folder, "receipts", written(RECEIPTS, DELIVERY))
+        expect("1000 rows", counted(folder, 1_000), (b"", b""))
+        expect("1001 rows", counted(folder, 1_001), (b"1000 rows done\n", b""))
+        expect("2500 rows", counted(folder, 2_500), (b"1000 rows done\n2000 rows done\n", b""))
+
+
 forms()
 corrections()
 faults()
 statuses()
+terminals()
 print("check_import: all as it should be" if failures == 0 else f"check_import: {failures} differ")
 sys.exit(failures != 0)

@@ -5,6 +5,7 @@
 mod again;
 mod books;
 mod close;
+mod counted;
 mod database;
 mod end;
 mod file;
@@ -22,6 +23,7 @@ mod words;
 pub use again::files_sent_again_change_nothing;
 pub use books::Books;
 pub use close::{close_desk, end_of_work, let_go};
+pub use counted::CountedBooks;
 pub use database::{FileFault, Refused, connect};
 pub use end::{RunEnd, Stop};
 pub use file::{print_export, print_report, take_desk};

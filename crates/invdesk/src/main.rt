@@ -10,17 +10,18 @@ ghost use Rattle.desk_store.specs.Desks.{IsDesk};
 
 use crate::serve::serve;
 use desk_app::{
-    Asked, BooksService, DEVICE, FileFault, MEMORY, Refused, RunEnd, connect, early_status,
-    end_of_work, import_file, let_go, print_export, print_report, read_file, read_words,
-    run_in_memory, run_lines, status_of, status_of_fault, take_desk,
+    Asked, Books, BooksService, CountedBooks, DEVICE, FileFault, MEMORY, Refused, RunEnd, connect,
+    early_status, end_of_work, import_file, let_go, print_export, print_report, read_file,
+    read_words, run_in_memory, run_lines, status_of, status_of_fault, take_desk,
 };
 use desk_core::Shop;
 use desk_store::Desk;
-use part_core::Limits;
+use desk_wire::{Document, ImportKind};
+use part_core::{Day, Limits};
 use sqlite::{File, FileStore};
 use std::env::{self, Env};
 use std::fs;
-use std::io::{self, Input};
+use std::io::{self, Input, IsTerminal, Stderr};
 use std::process::ExitCode;
 
 /// The words that the program is called with, the first its name.
@@ -71,6 +72,40 @@ fn bytes_at(rt: &HostRuntime, path: &str) -> Result<Vec<u8>, RunEnd> {
     read_file(rt.alloc(), &mut file).map_err(|stop| stop.end())
 }
 
+/// Runs the rows of the file at the path on the books.
+fn import<B: Books>(
+    rt: &HostRuntime,
+    path: &str,
+    kind: ImportKind,
+    document: &Document,
+    day: Day,
+    books: &mut B,
+) -> RunEnd
+    requires { B.are_kept books.old }
+    ensures { B.are_kept books.new }
+{
+    match bytes_at(rt, path) {
+        Ok(bytes) => {
+            import_file(
+                rt.alloc(),
+                &bytes,
+                kind,
+                document,
+                day,
+                &mut io::writer(rt),
+                books,
+            )
+        }
+        Err(end) => end,
+    }
+}
+
+/// The terminal that is told how an import goes on: the standard error, where it is one.
+fn terminal(rt: &HostRuntime) -> Option<Stderr> {
+    let stderr = rt.stderr();
+    stderr.is_terminal().then_some(stderr)
+}
+
 /// Does what the words ask for, on the desk.
 fn act(rt: &HostRuntime, asked: &Asked<'_>, desk: &mut Desk<FileStore<File>>) -> RunEnd
     requires { IsDesk over_files desk.old }
@@ -81,16 +116,6 @@ fn act(rt: &HostRuntime, asked: &Asked<'_>, desk: &mut Desk<FileStore<File>>) ->
     match asked {
         Asked::Report(_, name, number) => print_report(alloc, desk, *name, *number, &mut writer),
         Asked::Export(_, table) => print_export(desk, *table, &mut writer),
-        Asked::Import {
-            kind,
-            document,
-            day,
-            path,
-            ..
-        } => match bytes_at(rt, path) {
-            Ok(bytes) => import_file(alloc, &bytes, *kind, document, *day, &mut writer, desk),
-            Err(end) => end,
-        },
         _ => run_lines(alloc, &mut rt.reader(), &mut writer, desk),
     }
 }
@@ -108,13 +133,28 @@ fn closed(desk: Desk<FileStore<File>>, end: RunEnd) -> RunEnd
 fn done(rt: &HostRuntime, asked: &Asked<'_>, mut desk: Desk<FileStore<File>>) -> RunEnd
     requires { IsDesk over_files desk }
 {
-    if let Asked::Serve { port, count, .. } = asked {
-        let mut service = BooksService { books: desk };
-        let end = serve(rt, *port, *count, &mut service);
-        return closed(service.books, end);
+    match asked {
+        Asked::Serve { port, count, .. } => {
+            let mut service = BooksService { books: desk };
+            let end = serve(rt, *port, *count, &mut service);
+            closed(service.books, end)
+        }
+        Asked::Import {
+            kind,
+            document,
+            day,
+            path,
+            ..
+        } => {
+            let mut books = CountedBooks::new(desk, terminal(rt));
+            let end = import(rt, path, *kind, document, *day, &mut books);
+            closed(books.into_books(), end)
+        }
+        _ => {
+            let end = act(rt, asked, &mut desk);
+            closed(desk, end)
+        }
     }
-    let end = act(rt, asked, &mut desk);
-    closed(desk, end)
 }
 
 /// Does what the words ask for, with the desk of the file.

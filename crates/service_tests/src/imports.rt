@@ -7,7 +7,7 @@ ghost use Rattle.desk_core.specs.Shops.{state_of};
 use crate::delivery::{
     DELIVERY, DELIVERY_OUT, ORDERED, ORDERED_OUT, OTHER, OTHER_OUT, STOCK, STOCK_OUT,
 };
-use desk_app::{RunEnd, Stop, import_file, read_file};
+use desk_app::{CountedBooks, RunEnd, Stop, import_file, read_file};
 use desk_core::Shop;
 use desk_play::devices::{Sink, Source};
 use desk_play::outcomes::holds;
@@ -192,4 +192,45 @@ fn reads_in_pieces(rt: HostRuntime) -> Result<(), Fail> {
         assert!(rt; matches!(read_file(alloc, &mut source), Err(Stop::ReadFailed)));
     }
     Ok(())
+}
+
+/// The file of a stocktake in which an item is found as it is, so many times.
+fn counted(alloc: Global, times: u64) -> Result<String, Fail> {
+    let mut file = String::from_str(alloc, "number,item,quantity\n")?;
+    for number in 1..=times {
+        file.push_str(format!(in alloc; "{number},7,100\n")?.as_str())?;
+    }
+    Ok(file)
+}
+
+/// Imports such a file: whoever waits is told each thousand that others follow.
+fn tells_how_many(alloc: Global, times: u64, told: &str) -> Result<(), Fail> {
+    let mut shop = ordered(alloc)?;
+    delivers(alloc, &mut shop, "2030-03-01", &mut Sink::new(alloc, 4096))?;
+    let file = counted(alloc, times)?;
+    let mut terminal = Sink::new(alloc, 4096);
+    let mut books = CountedBooks::new(shop, Some(&mut terminal));
+    let end = import_file(
+        alloc,
+        file.as_bytes(),
+        ImportKind::Counts,
+        &document(alloc)?,
+        day("2030-03-02")?,
+        &mut Sink::new(alloc, 4096),
+        &mut books,
+    );
+    let mut shop = books.into_books();
+    holds(end == RunEnd::Done(true), "a row is refused")?;
+    holds(
+        terminal.bytes.as_slice() == told.as_bytes(),
+        "another count is told",
+    )?;
+    plays_on_shop(alloc, &mut shop, STOCK, STOCK_OUT)
+}
+
+#[test]
+fn long_files(rt: HostRuntime) -> Result<(), Fail> {
+    let alloc = rt.alloc();
+    tells_how_many(alloc, 1_000, "")?;
+    tells_how_many(alloc, 2_001, "1000 rows done\n2000 rows done\n")
 }
