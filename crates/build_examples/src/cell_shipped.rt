@@ -1,5 +1,6 @@
 //! A built robot goes into a cell, which is shipped, comes back and is taken apart.
 use desk_play::play::plays;
+use desk_play::stops::{Keyed, stops_at_each_call};
 use std::test::Fail;
 
 const LINES: &str = r#"{"day":"2030-01-02","do":"add_location","name":"A"}
@@ -91,4 +92,12 @@ const ANSWERS: &str = r#"{"entries":0,"ids":[1]}
 #[test]
 fn cell_shipped(rt: HostRuntime) -> Result<(), Fail> {
     plays(rt.alloc(), LINES, ANSWERS)
+}
+
+#[test]
+fn stops(rt: HostRuntime) -> Result<(), Fail> {
+    let alloc = rt.alloc();
+    let keyed = Keyed::new(alloc, LINES, ANSWERS)?;
+    stops_at_each_call(alloc, &keyed, true)?;
+    stops_at_each_call(alloc, &keyed, false)
 }

@@ -1,5 +1,6 @@
 //! A robot is built of screws and two motors, which lie in it then. The screws are used up.
 use desk_play::play::plays;
+use desk_play::stops::{Keyed, stops_at_each_call};
 use std::test::Fail;
 
 pub const LINES: &str = r#"{"day":"2030-01-02","do":"add_location","name":"A"}
@@ -59,4 +60,12 @@ pub const ANSWERS: &str = r#"{"entries":0,"ids":[1]}
 #[test]
 fn robot_build(rt: HostRuntime) -> Result<(), Fail> {
     plays(rt.alloc(), LINES, ANSWERS)
+}
+
+#[test]
+fn stops(rt: HostRuntime) -> Result<(), Fail> {
+    let alloc = rt.alloc();
+    let keyed = Keyed::new(alloc, LINES, ANSWERS)?;
+    stops_at_each_call(alloc, &keyed, true)?;
+    stops_at_each_call(alloc, &keyed, false)
 }

@@ -5,3 +5,4 @@
 pub mod devices;
 pub mod outcomes;
 pub mod play;
+pub mod stops;
