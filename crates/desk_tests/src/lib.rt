@@ -11,6 +11,8 @@ mod exports;
 #[cfg(test)]
 mod flushes;
 #[cfg(test)]
+mod import_words;
+#[cfg(test)]
 mod lines;
 #[cfg(test)]
 mod stops;
