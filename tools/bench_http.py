@@ -1,8 +1,9 @@
 #!/usr/bin/env python3
 """Times the program as a server: finds by POST /run from a client in one thread, a connection for each, in memory and with
 a file on a memory disk; and beside them, in the same run, as many requests to a server of Python's http.server that reads
-the body and does nothing. Prints requests a second, the median and the 99th percentile in milliseconds, for 2,000 and for
-20,000 requests.
+the body and does nothing. The client is a C program, tools/bench/http_client.c, where there is a `cc`, so that little of
+what is timed is the client's; else it is Python's. Prints requests a second, the median and the 99th percentile in
+milliseconds, for 2,000 and for 20,000 requests.
 
 usage: tools/bench_http.py PROGRAM"""
 import contextlib
@@ -10,6 +11,8 @@ import http.server
 import json
 import multiprocessing
 import os
+import pathlib
+import shutil
 import socket
 import statistics
 import subprocess
@@ -17,6 +20,7 @@ import sys
 import tempfile
 import time
 
+CLIENT = pathlib.Path(__file__).resolve().parent / "bench" / "http_client.c"
 COUNTS = (2_000, 20_000)
 DAY = "2030-01-02"
 START = (
@@ -41,24 +45,38 @@ def answer(port, data):
         return text
 
 
-def times(name, port, count):
-    data = posted(FOUND)
+def built_client(folder):
+    """The C client, built into the folder: none where there is no compiler."""
+    words = ["cc", "-O2", "-o", f"{folder}/client", str(CLIENT)]
+    if not shutil.which("cc") or subprocess.run(words, check=False).returncode:
+        return None
+    return f"{folder}/client"
+
+
+def taken_by(client, port, count, data):
+    """The seconds that each of so many requests took."""
+    if client:
+        done = subprocess.run([client, str(port), str(count)], input=data, stdout=subprocess.PIPE, check=True)
+        return [float(line) for line in done.stdout.split()]
     taken = []
-    begin = time.monotonic()
     for _ in range(count):
         start = time.monotonic()
         text = answer(port, data)
         taken.append(time.monotonic() - start)
         if not text.startswith(b"HTTP/1.") or b" 200 " not in text[:16]:
-            sys.exit(f"bench_http: {name} answers {text[:80]!r}")
-    seconds = time.monotonic() - begin
-    taken.sort()
+            sys.exit(f"bench_http: answered {text[:80]!r}")
+    return taken
+
+
+def times(name, client, port, count):
+    taken = sorted(taken_by(client, port, count, posted(FOUND)))
+    rate = count / sum(taken)
     print(
-        f"{name}({count}): {count / seconds:.0f} requests a second, median {statistics.median(taken) * 1000:.2f} ms,"
-        f" 99th percentile {taken[count * 99 // 100] * 1000:.2f} ms",
+        f"{name}({count}): {rate:.0f} requests a second, median {statistics.median(taken) * 1000:.3f} ms,"
+        f" 99th percentile {taken[count * 99 // 100] * 1000:.3f} ms",
         flush=True,
     )
-    return count / seconds
+    return rate
 
 
 def free_port():
@@ -67,14 +85,14 @@ def free_port():
         return taken.getsockname()[1]
 
 
-def served(program, name, count, *words):
+def served(program, client, name, count, *words):
     port = free_port()
     server = subprocess.Popen(
         [program, "serve", *words, "--port", str(port), "--count", str(count + len(START))], stdout=subprocess.PIPE)
     server.stdout.readline()
     for request in START:
         answer(port, posted(request))
-    rate = times(name, port, count)
+    rate = times(name, client, port, count)
     server.wait(timeout=20)
     server.stdout.close()
     return rate
@@ -95,25 +113,28 @@ class Nothing(http.server.BaseHTTPRequestHandler):
         pass
 
 
-def of_python(count):
+def of_python(client, count):
     with http.server.HTTPServer(("127.0.0.1", 0), Nothing) as server:
         process = multiprocessing.Process(target=server.serve_forever, daemon=True)
         process.start()
-        rate = times("http.server", server.server_address[1], count)
+        rate = times("http.server", client, server.server_address[1], count)
         process.terminate()
         return rate
 
 
-def main(program):
-    for count in COUNTS:
-        beside = of_python(count)
-        for name, rate in (("memory", served(program, "memory", count)), ("--db", on_file(program, count))):
-            print(f"{name}({count}): {rate / beside:.2f} times the rate of http.server", flush=True)
-
-
-def on_file(program, count):
+def on_file(program, client, count):
     with tempfile.TemporaryDirectory(dir="/dev/shm") as folder:
-        return served(program, "--db", count, "--db", f"{folder}/x.db")
+        return served(program, client, "--db", count, "--db", f"{folder}/x.db")
+
+
+def main(program):
+    with tempfile.TemporaryDirectory() as folder:
+        client = built_client(folder)
+        for count in COUNTS:
+            beside = of_python(client, count)
+            rates = (("memory", served(program, client, "memory", count)), ("--db", on_file(program, client, count)))
+            for name, rate in rates:
+                print(f"{name}({count}): {rate / beside:.2f} times the rate of http.server", flush=True)
 
 
 main(os.path.abspath(sys.argv[1]))
