@@ -19,8 +19,8 @@ pub fn end_of(piece: &[u8]) -> Option<usize>
     None
 }
 
-#[tactic(auto, using(crate::proofs::Cutting::all_taken, crate::proofs::Cutting::front_taken))]
 /// Adds a piece to bytes of which no more than so many are held.
+#[tactic(auto, using(crate::proofs::Cutting::all_taken, crate::proofs::Cutting::front_taken))]
 pub fn hold_up_to(most: usize, bytes: &mut Vec<u8>, piece: &[u8]) -> Result<(), AllocError>
     requires { length bytes.old.items ≤ most }
     ensures { OnOk result (bytes.new.items ≡ take most (bytes.old.items ++ piece.now)) }

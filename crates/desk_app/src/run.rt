@@ -117,8 +117,8 @@ fn tell_of_books<B: Books>(
     }
 }
 
-#[tactic(auto, unfolding(crate::specs::Runs::line_step))]
 /// Runs one line that isn't blank, and tells what is answered.
+#[tactic(auto, unfolding(crate::specs::Runs::line_step))]
 fn tell<B: Books>(alloc: Global, books: &mut B, number: u64, line: &[u8]) -> Result<Told, Stop>
     requires filled { is_blank line.now ≡ false }
     requires kept { B.are_kept books.old }

@@ -4,23 +4,23 @@
 //! and runs. Nothing is said of a request that was refused: sent again, it may be accepted.
 ghost use Rattle.desk_core.specs.Repeats.{LaterRepeatsChangeNothing, RepeatsChangeNothing, SendingAgainEndsAlike};
 
-#[tactic(auto, using(crate::proofs::Again::later_repeat))]
 /// The law that a later repeat of an accepted request gets its answer and changes nothing, wherever it stands in a
 /// list: taken out of the list, it leaves the last state and the other outcomes as they were.
+#[tactic(auto, using(crate::proofs::Again::later_repeat))]
 pub fn later_repeats_change_nothing()
     ensures { LaterRepeatsChangeNothing }
 {}
 
-#[tactic(auto, using(crate::proofs::Again::repeats))]
 /// The law that a list of accepted requests, each with a key, ends in the same state with the same outcomes when it is
 /// run again.
+#[tactic(auto, using(crate::proofs::Again::repeats))]
 pub fn repeats_change_nothing()
     ensures { RepeatsChangeNothing }
 {}
 
-#[tactic(auto, using(crate::proofs::Again::sending_again))]
 /// The law that a list whose first requests have keys and were accepted before a stop can be sent again whole: it ends
 /// as the list would have ended without the stop, with its outcomes. Nothing else was accepted in between.
+#[tactic(auto, using(crate::proofs::Again::sending_again))]
 pub fn sending_again_ends_alike()
     ensures { SendingAgainEndsAlike }
 {}

@@ -47,8 +47,8 @@ fn make_tables<S: Alter>(conn: &mut Connection<S>) -> Result<(), TableFault>
     Ok(())
 }
 
-#[tactic(auto, using(crate::proofs::Starting::of_store))]
 /// Makes the tables of a shop that has nothing, in a transaction that stays open.
+#[tactic(auto, using(crate::proofs::Starting::of_store))]
 fn make<S: Alter>(
     alloc: Global,
     conn: &mut Connection<S>,

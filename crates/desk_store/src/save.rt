@@ -131,8 +131,8 @@ fn write_tables<S: Alter>(
     Ok(())
 }
 
-#[tactic(auto, using(crate::proofs::Starting::of_store))]
 /// The whole transaction. After a fault it is undone, or still open without a commit.
+#[tactic(auto, using(crate::proofs::Starting::of_store))]
 fn write<S: Alter>(alloc: Global, conn: &mut Connection<S>, shop: &Shop) -> Result<(), TableFault>
     requires follows { MayFollow (kept_state shop.now) (state_of shop.now) }
     requires books { HasCleanDisk (state S.Store conn.old)

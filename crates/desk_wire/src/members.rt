@@ -37,8 +37,8 @@ fn is_known(name: &str, names: &[&str], blanks: &[(&str, Kind)]) -> bool
     is_among(name, names) || is_field(name, blanks)
 }
 
-#[tactic(auto, using(crate::proofs::MemberNames::knows_all_members))]
 /// Each member of the object has one of these names, or is one of these fields.
+#[tactic(auto, using(crate::proofs::MemberNames::knows_all_members))]
 pub fn knows_all(names: &[&str], blanks: &[(&str, Kind)], object: &Value) -> bool
     ensures { result ≡ knows_all
         (map (λ name. name.now) names.now ++ names_of (shown_fields blanks.now)) (view object.now) }
