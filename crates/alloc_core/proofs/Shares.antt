@@ -1,4 +1,4 @@
--- What each gives by the closed form is what counting down gives; none gives more than it has, nor all more than is missing.
+-- What each gives by the closed form is what counting down gives, and none gives more than it has.
 use Rattle.std.proofs.Common.{◌≡◌, ℕ, suc, zero, ◌+◌, ◌-◌, ◌≤◌, List, [], ◌∷◌, get_or, length, map, min, take, refl, ap, ◌∙◌, arith}
 use Rattle.std.specs.Prelude.{sum}
 use Rattle.std.specs.List.{range_with_len}
@@ -49,18 +49,6 @@ shares-counted missing free =
     map-alike (share missing free) (share_after missing 0 free) (range_with_len 0 (length free))
     (λ k. ap (λ m. min (get_or free k 0) m) (let e : missing - sum (take k free) ≡ missing - (0 + sum (take k free)) = omega arith in e))
     ∙ shares-after missing 0 free ∙ ap (λ m. counted_down m free) (let e : missing - 0 ≡ missing = omega arith in e)
-
--- all together give what is missing, or all that is free where that is less
-pub sum-counted : (missing : ℕ) (free : List ℕ) → sum (counted_down missing free) ≡ min missing (sum free)
-sum-counted missing [] = omega arith
-sum-counted missing (f ∷ fs) =
-    let rest = sum-counted (missing - min f missing) fs in
-    let total = sum-cons (min f missing) (counted_down (missing - min f missing) fs) in
-    let all = sum-cons f fs in
-    omega (arith, rest, total, all)
-
-pub sum-shares : (missing : ℕ) (free : List ℕ) → sum (shares missing free) ≡ min missing (sum free)
-sum-shares missing free = ap sum (shares-counted missing free) ∙ sum-counted missing free
 
 -- none gives more than is free of it, each at its place
 abbrev pub Within : List ℕ → List ℕ → Type 0

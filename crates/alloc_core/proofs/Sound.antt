@@ -22,7 +22,7 @@ use Rattle.alloc_core.specs.Sound.{AreSoundAllocations, IsSoundAllocation}
 use Rattle.alloc_core.specs.declared.alloc_command.AllocCommand.TheVariants.{Release}
 use Rattle.alloc_core.specs.declared.allocation.Allocation.{Allocation}
 use Rattle.alloc_core.specs.declared.purpose.Owner.{Owner}
-use Rattle.alloc_core.proofs.Covers.{AreSound, IsCovered, covered-moved, covered-of, stands-sound, sum-away}
+use Rattle.alloc_core.proofs.Covers.{AreSound, IsCovered, covered-moved, covered-of, stands-sound}
 use Rattle.alloc_core.proofs.Sums.{amount-in, amount-out, sum-no_one, sum-split, sum-stands}
 use Rattle.part_core.proofs.TableRows.{get-kept, get-without, values-without}
 
@@ -43,12 +43,6 @@ module _ (t : Table Allocation) (b : Books) (sound : AreSoundAllocations t b) wh
   -- the owner's go
   pub sound-released : (owner : Owner) → AreSoundAllocations (released_for owner t) b
   sound-released owner = sound-without (is_owned owner)
-
-  -- ---- what is not allocated
-
-  -- an item that isn't loose has no allocations
-  pub none-away : (n : ℕ) → is_at (item_at n b.stock).place ≡ false → allocated n t ≡ 0
-  none-away n away = sum-away b.stock n (table.values t) (covered-of t b sound).each away
 
   -- ---- one comes
 

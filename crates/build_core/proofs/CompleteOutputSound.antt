@@ -80,9 +80,6 @@ build_row o = unwrap_or o no_build
 same_output : (m n : ℕ) → Output m ≡ Output n → m ≡ n
 same_output m n e = ap build_of e
 
-same_item : (x y : Item) → ◌≡◌ {A = Option Item} (Some x) (Some y) → x ≡ y
-same_item x y e = cc
-
 module _ (n l : ℕ) (day : CivilDay) (is_order : ℕ → Bool) (parts : Parts) (bills : Bills) (b : BuildBooks) (sound : AreSoundBooks is_order parts bills b)
     (begun : IsReady n l b) where
   abbrev pub s : Stock

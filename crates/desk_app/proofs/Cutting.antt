@@ -60,10 +60,6 @@ Gathers None bytes left = Unit {0}
 Gathers (Some file) bytes None = ⊥
 Gathers (Some file) bytes (Some rest) = enough (bytes ++ rest) ≡ enough file
 
-pub gathers_start : (o : Option (List ℕ)) (u : List ℕ) → u ≡ [] → Gathers o [] (prepend_known u o)
-gathers_start None u e = tt
-gathers_start (Some file) u e = ap (λ v. enough (v ++ file)) e
-
 pub gathers_more : (o k k' : Option (List ℕ)) (bytes bytes' u u' : List ℕ) → Gathers o bytes k → Keeps k (prepend_known u k') → bytes' ≡ enough (bytes ++ u) → u' ≡ []
     → Gathers o bytes' (prepend_known u' k')
 gathers_more None k k' bytes bytes' u u' g h is none = tt

@@ -1,7 +1,7 @@
 -- A run over the rows of a file, row by row.
 use Rattle.std.proofs.Common.{◌≡◌, ◌+◌, ◌<◌, ℕ, Bool, true, false, ◌&&◌, List, [], ◌∷◌, ◌++◌, take, drop, length, map, get_or, ap, sym, refl, ◌∙◌, subst, append_assoc, take-append-drop, ◌⊎◌, inl, inr}
-use Rattle.std.specs.Prelude.{Option, Some, None, Result, Ok, Err}
-use Rattle.std.specs.Io.KnownBytes.{Appends, Keeps}
+use Rattle.std.specs.Prelude.{Option, None, Result, Ok, Err}
+use Rattle.std.specs.Io.KnownBytes.{Appends}
 use Rattle.std.proofs.lemmas.List.{take_more, drop_more}
 use Rattle.sqlite.specs.Tree.{Trees}
 use Rattle.desk_core.specs.Machine.{State, Outcome, step}
@@ -12,7 +12,7 @@ use Rattle.desk_app.specs.declared.run.Told.{Told}
 use Rattle.desk_app.specs.declared.end.Stop.{Stop}
 use Rattle.desk_app.specs.declared.end.Stop.TheVariants.{ReadFailed, WriteFailed, Memory, Store}
 use Rattle.desk_app.specs.Runs.{by_outcome, CutRequest, IsOfBooks, StaysOpen}
-use Rattle.desk_app.specs.ImportRuns.{are_answers, import_told, rows_after, rows_out, rows_outcomes, AreLeftByRows, ImportCutWriting, ImportStopped, IsLeftByImport, RanFront, RanSome, Reading}
+use Rattle.desk_app.specs.ImportRuns.{are_answers, import_told, rows_after, rows_out, rows_outcomes, AreLeftByRows, ImportCutWriting, ImportStopped, IsLeftByImport, RanFront, Reading}
 
 -- the first `at` rows were run from s to s', and this is the text of theirs
 pub record RowsRunning (rows : List ImportRow) (at : ℕ) (s s' : State) (text : List ℕ) (fine : Bool) : Type 0 where
@@ -124,17 +124,6 @@ left_by_rows Store rows i row s s' s'' text fine trees old new h is run same sta
     })
 
 -- ---- an import
-
-Keeps-refl : (w : Option (List ℕ)) → Keeps w w
-Keeps-refl None = tt
-Keeps-refl (Some x) = refl
-
--- it ended before anything was written
-pub import_unwritten : (stop : Stop) (reading : Reading) (w : Option (List ℕ)) (s s' : State) → IsOfBooks stop × RanSome reading s s' → ImportStopped stop reading w w s s'
-import_unwritten ReadFailed reading w s s' h = absurd h.0
-import_unwritten WriteFailed reading w s s' h = absurd h.0
-import_unwritten Memory reading w s s' h = (h.1, Keeps-refl w)
-import_unwritten Store reading w s s' h = (h.1, Keeps-refl w)
 
 -- it ended as its report was written
 pub import_written : (stop : Stop) (reading : Reading) (w w' : Option (List ℕ)) (s s' : State) (text : List ℕ) (f : Bool) (k : ℕ) → stop ≡ WriteFailed → import_told s reading ≡ (s', text, f)

@@ -335,11 +335,6 @@ decided-plain s t r (Err x) none acts =
     let none_kept : kept_for r s ≡ None = ap (λ k. option_and_then (λ key. table.get s.answers key) k) none in
     decided-err s t r x none_kept acts
 
--- what acts so, and keeps its answer, is accepted
-pub accepted-anew : (s t u : State) (r : Request) (a : Answer) → kept_for r s ≡ None
-    → Acts (checks s r.day r.command) (effect s r.day r.command, answer_of s (effect s r.day r.command)) s (Ok a) t → u ≡ with_answer r.key (command_text r.command) a t → Accepts s r (Ok (Anew a)) u
-accepted-anew s t u r a none acts kept = (anew s r none acts.0, subst (λ (v : State). step s r ≡ (v, Ok a)) (sym kept) (decided-ok s t r a none acts))
-
 pub decides-all : (s t : State) (r : Request) (o : Result Accepted CoreFault) → Accepts s r o t → t ≡ s ⊎ (t ≡ (step s r).0)
 decides-all s t r (Ok (Anew answer)) h = inr (ap (λ p. p.0) (sym h.1))
 decides-all s t r (Ok (Again answer)) h = inl h.1

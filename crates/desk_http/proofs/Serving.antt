@@ -69,10 +69,6 @@ pub is_too_long : (known : Option (List ℕ)) → IsReceivedFrom arrival.TooLong
 is_too_long None = tt
 is_too_long (Some xs) = refl
 
-pub is_cut_short : (known : Option (List ℕ)) → IsReceivedFrom arrival.Incomplete known Incomplete
-is_cut_short None = tt
-is_cut_short (Some xs) = refl
-
 -- what was read and is still to come are the bytes at the start
 pub is_of_all : (o r : Option (List ℕ)) (bs : List ℕ) (a : Arrival) → Keeps (all_of o []) (all_of r bs) → IfSome (all_of r bs) (λ xs. a ≡ arrival xs)
     → (q : Received) → IsReceivedFrom a (all_of r bs) q → IsReceived o q

@@ -1,5 +1,5 @@
 -- Records as rows.
-use Rattle.std.proofs.Common.{◌≡◌, ◌≢◌, ℕ, zero, suc, ◌<◌, ◌+◌, true, false, Bool, ◌&&◌, ◌==◌, List, [], ◌∷◌, ◌++◌, length, drop, map, get_or, arith, refl, sym, ap, subst, ◌∙◌, Option, Some, Ok, Err, inl, inr}
+use Rattle.std.proofs.Common.{◌≡◌, ◌≢◌, ℕ, zero, suc, ◌<◌, ◌+◌, true, false, Bool, ◌&&◌, ◌==◌, List, [], ◌∷◌, length, drop, map, get_or, arith, refl, sym, ap, subst, ◌∙◌, Option, Ok, Err, inl, inr}
 use Rattle.std.specs.Prelude.{Result, nat_le}
 use Rattle.std.specs.Borrow.{Bor}
 use Rattle.std.proofs.lemmas.List.{length-map}
@@ -14,7 +14,7 @@ use Rattle.std.proofs.lemmas.Bool.{and_parts, cases_Bool, false≢true, ltb-true
 use Rattle.std.proofs.lemmas.Slice.Eq.{bytes_eq-Decides}
 use Rattle.csv.specs.Records.{field_at}
 use Rattle.desk_wire.specs.Records.{BytesReader, Fields, ReadsRecord, are_texts, left}
-use Rattle.desk_wire.specs.Imports.{ReadsRow, field, import, names_of, row_of, rows_in, with_rows}
+use Rattle.desk_wire.specs.Imports.{ReadsRow, field, import, names_of, row_of, rows_in}
 use Rattle.desk_wire.specs.declared.fault.Bad.{Bad}
 use Rattle.desk_wire.specs.declared.fault.Bad.TheVariants.{Memory, Wrong}
 use Rattle.desk_wire.specs.declared.fault.What.{What}
@@ -133,13 +133,3 @@ pub row-wrong : (kind : ImportKind) (document : List ℕ) (day : CivilDay) (a b 
     → ReadsRecord a b fields (Err bad) → ReadsRow (row_of kind document day) (left a) (left b) r
 row-wrong kind document day a b fields bad (Ok x) is h = absurd is
 row-wrong kind document day a b fields bad (Err d) is h = subst (λ v. ReadsRow (row_of kind document day) (left a) (left b) (Err v)) (sym is) (wrong (row_of kind document day) a b fields bad h (untold kind document day))
-
--- ---- all rows
-
-pub with-row : (kind : ImportKind) (document : List ℕ) (day : CivilDay) (number : ℕ) (rows : List ImportRow) (row : ImportRow) (old new : List Fields) → ReadsRow (row_of kind document day) old new (Ok (Some row))
-    → with_rows kind document day number rows old ≡ with_rows kind document day (number + 1) (rows ++ row ∷ []) new
-with-row kind document day number rows row old new (f, e, h) = rw (e, h) refl
-
-pub with-wrong : (kind : ImportKind) (document : List ℕ) (day : CivilDay) (number : ℕ) (rows : List ImportRow) (what : What) (old new : List Fields) → ReadsRow (row_of kind document day) old new (Err (Wrong what))
-    → with_rows kind document day number rows old ≡ Err (record { line = number; what = what })
-with-wrong kind document day number rows what old new (f, rest, e, h) = rw (e, h) refl

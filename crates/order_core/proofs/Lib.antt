@@ -14,7 +14,6 @@ pub mod Beside
 pub mod ForBuilds
 pub mod Sending
 pub mod SendEach
-pub mod Ended
 pub mod Shipping
 pub mod Returning
 pub mod Staying

@@ -23,11 +23,9 @@ use Rattle.alloc_core.proofs.Sound.{sound-served}
 use Rattle.alloc_core.proofs.Sums.{sum-split}
 use Rattle.part_core.proofs.TableRows.{get-without, values-without}
 use Rattle.yard_core.specs.Books.{Books, is_full}
-use Rattle.yard_core.specs.Stock.{IsLifted, item_at, tree_of}
+use Rattle.yard_core.specs.Stock.{item_at, tree_of}
 use Rattle.yard_core.specs.Outputs.{LeavesOutputs}
-use Rattle.yard_core.proofs.Keeping.{lifted}
 use Rattle.yard_core.proofs.Quiet.{leaves-more, leaves-none}
-use Rattle.stock_core.proofs.Able.{lift-loose}
 use Rattle.yard_core.proofs.Rows.{get-other}
 use Rattle.stock_core.specs.Serving.{serve, serve_each}
 use Rattle.stock_core.specs.Sound.{IsSoundStock, Owners}
@@ -68,11 +66,6 @@ sent-on owners parts n q order day b t is_order taken =
           let own : (item_at t.1 s).number ≡ t.1 = right-number (λ (i : Item). i.number) t.0.counter.next t.1 (item_at t.1 s) s.items up.rows there in
           get-other (item_at t.1 s).number k (row_of (lifted_root (Sent order) (tree_of t.1 s))) s.items (ap (λ j. j == k) own ∙ turned k t.1 other);
     }
-
--- that is the lift of the move table: each node is recorded as shipped
-pub sent-lifted : (owners : Owners) (parts : Parts) (n q order : ℕ) (day : CivilDay) (b : Books) (t : Books × ℕ) → IsTaken owners parts n q b t
-    → IsLifted t.1 (Sent order) t.0.stock (sent_for order day t).stock
-sent-lifted owners parts n q order day b t taken = (lifted t.1 (Sent order) day t.0.stock taken.leads.upright.stock (lift-loose t.1 (Sent order) t.0.stock taken.loose tt)).1
 
 module _ (is_build : ℕ → Bool) (parts : Parts) (n : ℕ) (day : CivilDay) (b : OrderBooks) (sound : AreSoundBooks is_build parts b) (e : first (ship_checks n day b) ≡ None) where
   abbrev owners : Owners
