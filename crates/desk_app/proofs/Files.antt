@@ -1,5 +1,5 @@
 -- A file of which as much was read as shows that it is too long.
-use Rattle.std.proofs.Common.{◌≡◌, ℕ, Bool, true, false, List, length, nat_le, ap, sym, refl, ◌∙◌, subst}
+use Rattle.std.proofs.Common.{◌≡◌, ℕ, Bool, true, false, List, length, nat_le, ap, sym, refl, ◌∙◌}
 use Rattle.std.specs.Prelude.{Option, Some, None, Err, IfSome}
 use Rattle.part_core.specs.Day.{CivilDay}
 use Rattle.desk_wire.specs.Imports.{import}

@@ -1,6 +1,6 @@
 -- A run over the rows of a file, row by row.
-use Rattle.std.proofs.Common.{◌≡◌, ◌+◌, ◌<◌, ℕ, Bool, true, false, ◌&&◌, List, [], ◌∷◌, ◌++◌, take, drop, length, map, get_or, ap, sym, refl, ◌∙◌, subst, append_assoc, take-append-drop, ◌⊎◌, inl, inr}
-use Rattle.std.specs.Prelude.{Option, None, Result, Ok, Err}
+use Rattle.std.proofs.Common.{◌≡◌, ◌+◌, ◌<◌, ℕ, Bool, true, false, ◌&&◌, List, [], ◌∷◌, ◌++◌, take, drop, length, get_or, ap, sym, refl, ◌∙◌, subst, append_assoc, take-append-drop, ◌⊎◌, inl, inr}
+use Rattle.std.specs.Prelude.{Option, None, Ok, Err}
 use Rattle.std.specs.Io.KnownBytes.{Appends}
 use Rattle.std.proofs.lemmas.List.{take_more, drop_more}
 use Rattle.sqlite.specs.Tree.{Trees}
@@ -12,7 +12,7 @@ use Rattle.desk_app.specs.declared.run.Told.{Told}
 use Rattle.desk_app.specs.declared.end.Stop.{Stop}
 use Rattle.desk_app.specs.declared.end.Stop.TheVariants.{ReadFailed, WriteFailed, Memory, Store}
 use Rattle.desk_app.specs.Runs.{by_outcome, CutRequest, IsOfBooks, StaysOpen}
-use Rattle.desk_app.specs.ImportRuns.{are_answers, import_told, rows_after, rows_out, rows_outcomes, AreLeftByRows, ImportCutWriting, ImportStopped, IsLeftByImport, RanFront, Reading}
+use Rattle.desk_app.specs.ImportRuns.{are_answers, import_told, rows_after, rows_out, rows_outcomes, AreLeftByRows, ImportStopped, IsLeftByImport, RanFront, Reading}
 
 -- the first `at` rows were run from s to s', and this is the text of theirs
 pub record RowsRunning (rows : List ImportRow) (at : ℕ) (s s' : State) (text : List ℕ) (fine : Bool) : Type 0 where

@@ -1,6 +1,6 @@
 -- A file that is sent again.
-use Rattle.std.proofs.Common.{◌≡◌, ◌+◌, ◌==◌, ℕ, Bool, true, false, List, [], ◌∷◌, ◌++◌, length, nat_le, map, ap, sym, refl, ◌∙◌, subst, append_assoc}
-use Rattle.std.specs.Prelude.{Some, Option, Result, Ok, Err}
+use Rattle.std.proofs.Common.{◌≡◌, ◌+◌, ◌==◌, ℕ, true, List, [], ◌∷◌, ◌++◌, length, nat_le, map, ap, sym, refl, ◌∙◌, subst, append_assoc}
+use Rattle.std.specs.Prelude.{Some, Result, Ok, Err}
 use Rattle.std.specs.Cmp.Lexicographic.{pointwise}
 use Rattle.std.specs.Str.{bytes_eq}
 use Rattle.csv.specs.Reading.{default_config, records, strip_bom}
@@ -20,7 +20,7 @@ use Rattle.desk_wire.specs.declared.fault.What.TheVariants.{Csv, Header, TooLong
 use Rattle.desk_wire.specs.declared.fault.WireFault.{WireFault}
 use Rattle.desk_wire.specs.declared.kind.ImportKind.{ImportKind}
 use Rattle.desk_wire.specs.declared.row.ImportRow.{ImportRow}
-use Rattle.desk_app.specs.ImportRuns.{are_answers, import_told, numbers_of, requests_of, rows_after, rows_out, rows_outcomes, rows_told}
+use Rattle.desk_app.specs.ImportRuns.{are_answers, import_told, numbers_of, requests_of, rows_out, rows_outcomes, rows_told}
 use Rattle.desk_app.specs.SentAgain.{FilesSentAgainChangeNothing}
 
 -- ---- what a file says of its rows, whatever the document and the day

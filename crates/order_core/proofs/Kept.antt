@@ -1,14 +1,12 @@
 -- What is asked of allocations for sales holds on, where lines and items stay of their orders and parts.
-use Rattle.std.proofs.Common.{◌≡◌, ℕ, Bool, true, false, List, [], ◌∷◌, Option, Some, None, refl, sym, ap, ◌∙◌, subst, is_none, is_some}
+use Rattle.std.proofs.Common.{◌≡◌, ℕ, true, false, [], ◌∷◌, Option, Some, None, refl, sym, ap, ◌∙◌, is_none, is_some}
 use Rattle.std.specs.Prelude.{unwrap_or}
 use Rattle.std.specs.FinMap as table
-use Rattle.part_core.specs.Rows.{IsThere}
 use Rattle.part_core.specs.Sheet.{Table}
 use Rattle.part_core.proofs.RowLemmas.{row_there, there}
 use Rattle.alloc_core.specs.declared.purpose.Purpose.{Purpose}
 use Rattle.alloc_core.specs.declared.purpose.Purpose.TheVariants.{Sale, Build}
 use Rattle.yard_core.specs.Stock.{Stock, item_at}
-use Rattle.forest.specs.declared.item.Item.{Item}
 use Rattle.forest.specs.Forest.{is_at}
 use Rattle.stock_core.specs.Asked.{part_at}
 use Rattle.stock_core.specs.Sound.{PartsStay}

@@ -1,5 +1,5 @@
 -- Orders and their lines: the tables, and what is read from them.
-use Rattle.std.specs.Prelude.{ℕ, ◌+◌, Bool, true, false, is_none, is_some, [], ◌∷◌, Option, unwrap_or}
+use Rattle.std.specs.Prelude.{ℕ, ◌+◌, Bool, true, false, is_none, is_some, [], ◌∷◌, unwrap_or}
 use Rattle.std.specs.FinMap as table
 use Rattle.part_core.specs.Sheet.{Table}
 use Rattle.alloc_core.specs.declared.allocation.Allocation.{Allocation}

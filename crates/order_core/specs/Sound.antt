@@ -5,7 +5,6 @@ use Rattle.part_core.specs.Quantity.{largest}
 use Rattle.part_core.specs.Rows.{EachRow, IsThere, StandRight}
 use Rattle.alloc_core.specs.Allocations.{allocated_for_sale_line}
 use Rattle.alloc_core.specs.Sound.{AreSoundAllocations}
-use Rattle.alloc_core.specs.declared.allocation.Allocation.{Allocation}
 use Rattle.alloc_core.specs.declared.purpose.Purpose.{Purpose}
 use Rattle.alloc_core.specs.declared.purpose.Purpose.TheVariants.{Sale, Build}
 use Rattle.stock_core.specs.Asked.{part_at}

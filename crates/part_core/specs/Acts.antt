@@ -1,5 +1,5 @@
 -- What a call that stands for a command comes to.
-use Rattle.std.specs.Prelude.{◌≡◌, Option, Some, None, List, Result, Ok, Err}
+use Rattle.std.specs.Prelude.{◌≡◌, Some, None, List, Result, Ok, Err}
 use Rattle.part_core.specs.Checks.{Check, first}
 use Rattle.part_core.specs.declared.refusal.CoreFault.{CoreFault}
 use Rattle.part_core.specs.declared.refusal.CoreFault.TheVariants.{Refused, Memory}

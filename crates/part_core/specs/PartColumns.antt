@@ -1,5 +1,5 @@
 -- A part as a row of a file: id, name, category, template, flags, retired.
-use Rattle.std.specs.Prelude.{ℕ, ◌+◌, ◌*◌, ◌/◌, ◌%◌, ◌==◌, nat_lt, Bool, List, [], ◌∷◌, Option, Some, None, if◌then◌else◌}
+use Rattle.std.specs.Prelude.{ℕ, ◌+◌, ◌*◌, nat_lt, List, [], ◌∷◌, Option, Some, None, if◌then◌else◌}
 use Rattle.part_core.specs.declared.flags.Flags.{Flags}
 use Rattle.part_core.specs.declared.part.Part.{Part}
 use Rattle.part_core.specs.declared.column.Column.{Column}

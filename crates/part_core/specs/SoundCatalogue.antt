@@ -1,7 +1,6 @@
 -- What always holds of the catalogue.
-use Rattle.std.specs.Prelude.{◌≡◌, ◌<◌, ◌≤◌, ℕ, true, [], ◌∷◌, None, Some}
-use Rattle.std.specs.FinMap as table
-use Rattle.part_core.specs.Catalogue.{Parts, Register, category_in, part_in}
+use Rattle.std.specs.Prelude.{◌≡◌, ◌<◌, ◌≤◌, ℕ, true, [], None, Some}
+use Rattle.part_core.specs.Catalogue.{Parts, part_in}
 use Rattle.part_core.specs.Rows.{EachRow, IsThere, StandRight}
 use Rattle.part_core.specs.declared.category.Category.{Category}
 use Rattle.part_core.specs.declared.part.Part.{Part}

@@ -1,4 +1,4 @@
-use Rattle.std.proofs.Common.{◌≡◌, ◌++◌, List, ℕ, ap, ◌∙◌, sym}
+use Rattle.std.proofs.Common.{◌++◌, ℕ, ap, ◌∙◌}
 use Rattle.part_core.specs.Catalogues.{parts_of}
 use Rattle.bom_core.specs.Boms.{bills_of}
 use Rattle.yard_core.specs.Yards.{stock_of}

@@ -1,5 +1,4 @@
-use Rattle.std.proofs.Common.{List, map, ap, ◌∙◌, Bor}
-use Rattle.std.specs.Prelude.{filter}
+use Rattle.std.proofs.Common.{map, ap, ◌∙◌, Bor}
 use Rattle.std.proofs.lemmas.Result.{IfOk-weaker}
 use Rattle.forest.specs.declared.item.Item.{Item}
 use Rattle.yard_core.specs.Yards.{stock_of}

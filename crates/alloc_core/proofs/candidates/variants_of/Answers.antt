@@ -1,4 +1,4 @@
-use Rattle.std.proofs.Common.{List, map, ap, ◌∙◌, Bor}
+use Rattle.std.proofs.Common.{map, ap, ◌∙◌, Bor}
 use Rattle.std.proofs.lemmas.Result.{IfOk-weaker}
 use Rattle.part_core.specs.declared.part.Part.{Part}
 use Rattle.alloc_core.proofs.Finding.{named-lent}

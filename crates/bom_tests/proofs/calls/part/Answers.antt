@@ -1,8 +1,6 @@
 use Rattle.std.proofs.Common.{sym, ap, ◌∙◌, subst}
 use Rattle.part_core.specs.Catalogues.{register_of}
 use Rattle.part_core.specs.Counter.{Numbering}
-use Rattle.part_core.specs.Catalogue.{Parts, Register}
-use Rattle.bom_core.specs.Bills.{Bills}
 use Rattle.bom_core.specs.Boms.{bills_of}
 use Rattle.bom_core.specs.Changes.{BillBooks}
 use Rattle.bom_core.specs.Sound.{IsSoundBill}

@@ -1,7 +1,7 @@
-use Rattle.std.proofs.Common.{map, sym, subst, ◌∙◌, inl, inr}
+use Rattle.std.proofs.Common.{map, sym, ◌∙◌, inl, inr}
 use Rattle.std.specs.Prelude.{◌≢◌}
-use Rattle.clap.specs.Words.{IsAmong, kind_of}
-use Rattle.clap.specs.declared.error.kind.ErrorKind.TheVariants.{DisplayHelp, DisplayVersion, OutOfMemory}
+use Rattle.clap.specs.Words.{kind_of}
+use Rattle.clap.specs.declared.error.kind.ErrorKind.TheVariants.{OutOfMemory}
 use Rattle.desk_app.specs.Words.{IsShown, faults}
 use Rattle.desk_app.proofs.Faulty.{found, no_run, is_help, is_version, not_free, versions_not_free, shown_remembers, run_is_wished}
 use Rattle.desk_app.proofs.RunOn.{no_run_on, no_run_with, run_on_wished, run_with_wished}

@@ -1,4 +1,4 @@
-use Rattle.std.proofs.Common.{◌∷◌, [], sym, ap, subst}
+use Rattle.std.proofs.Common.{◌∷◌, [], sym, subst}
 use Rattle.part_core.specs.Filled.{StandUnderKeys}
 use Rattle.part_core.proofs.FilledTables.{filled-own}
 use Rattle.forest.specs.declared.entry.Entry.{Entry}
