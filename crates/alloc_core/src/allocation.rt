@@ -1,17 +1,13 @@
 //! The rows of allocations.
-ghost use Rattle.std.specs.Prelude.{◌≡◌, ◌↔◌, ◌∷◌, [], IsTrue, refl, slice_get};
+ghost use Rattle.std.specs.Prelude.{◌≡◌, ◌∷◌, []};
 ghost use Rattle.alloc_core.specs.AllocationColumns.{allocation_columns, allocation_from};
 ghost use Rattle.alloc_core.specs.AllocationKeys.{allocation_keys, item_key};
 ghost use Rattle.alloc_core.specs.Allocations.{is_owned};
-ghost use Rattle.part_core.specs.Numbered.{number_digits, number_exact};
 
 use crate::purpose::{AllocationLookup, Owner, Purpose, purpose_at};
 use part_core::column::{has, number_at};
-use part_core::{
-    Column, ColumnFault, Id, Indexed, Quantity, Row, Stored, compare_numbers, index_key_of,
-};
+use part_core::{Column, ColumnFault, Id, Indexed, Quantity, Row, Stored, index_key_of};
 use std::alloc::{AllocError, Global};
-use std::cmp::Ordering;
 
 /// An amount of an item that is meant for an order or a build.
 #[derive(Drop, Debug)]
@@ -39,18 +35,10 @@ impl Allocation {
 impl Row for Allocation {
     type Key = u64;
 
-    ghost digits = { number_digits };
-
     ghost key_of = { λ row. row.number ∷ [] };
-
-    ghost exact = { number_exact };
 
     fn key(&self, _alloc: Global) -> Result<u64, AllocError> {
         Ok(self.number)
-    }
-
-    fn compare(key: &u64, other: &u64) -> Ordering {
-        compare_numbers(*key, *other)
     }
 
     fn equals(&self, other: &Self) -> bool {
@@ -85,8 +73,6 @@ pub fn item_key(number: Id) -> u64
 
 impl Indexed for Allocation {
     ghost index_keys = { allocation_keys };
-
-    ghost numbered = { λ _. refl };
 
     fn index_key(&self, place: usize) -> Option<u64> {
         if place == 0 {

@@ -2,7 +2,7 @@
 use Rattle.std.proofs.Common.{◌+◌, ◌≡◌, ◌⊎◌, inl, inr, ◌≤◌, ℕ, Bool, true, false, List, [], ◌∷◌, Option, Some, None, refl, sym, ap, ◌∙◌, subst, arith}
 use Rattle.std.specs.FinMap as table
 use Rattle.part_core.specs.Sheet.{Table}
-use Rattle.part_core.specs.declared.category.Category.{Category}
+use Rattle.part_core.specs.declared.named_row.NamedRow.{NamedRow as Category}
 use Rattle.part_core.specs.declared.part.Part.{Part}
 use Rattle.part_core.specs.AddCategory.{add_category}
 use Rattle.part_core.specs.AddPart.{part_row}

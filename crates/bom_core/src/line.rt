@@ -1,16 +1,12 @@
 //! Lines of bills.
-ghost use Rattle.std.specs.Prelude.{◌≡◌, ◌↔◌, ◌∷◌, [], IsTrue, IfOk, refl};
+ghost use Rattle.std.specs.Prelude.{◌≡◌, ◌↔◌, ◌∷◌, [], IsTrue};
 ghost use Rattle.bom_core.specs.BillColumns.{line_columns, line_flags_at, line_flags_number, line_flags_of, line_from};
 ghost use Rattle.part_core.specs.Columns.{Finds};
-ghost use Rattle.part_core.specs.Numbered.{number_digits, number_exact};
 ghost use Rattle.bom_core.specs.BillKeys.{line_key, line_keys};
 
 use part_core::column::{has, is_bit, number_at};
-use part_core::{
-    Column, ColumnFault, Id, Indexed, Quantity, Row, Stored, compare_numbers, index_key_of,
-};
+use part_core::{Column, ColumnFault, Id, Indexed, Quantity, Row, Stored, index_key_of};
 use std::alloc::{AllocError, Global};
-use std::cmp::Ordering;
 
 /// What a line asks for.
 #[derive(Clone, Copy, Debug, Default, PartialEq, Eq)]
@@ -155,18 +151,10 @@ fn flags_at(columns: &[Column], at: usize) -> Result<LineFlags, ColumnFault>
 impl Row for Line {
     type Key = u64;
 
-    ghost digits = { number_digits };
-
     ghost key_of = { λ row. row.number ∷ [] };
-
-    ghost exact = { number_exact };
 
     fn key(&self, _alloc: Global) -> Result<u64, AllocError> {
         Ok(self.number)
-    }
-
-    fn compare(key: &u64, other: &u64) -> Ordering {
-        compare_numbers(*key, *other)
     }
 
     fn equals(&self, other: &Self) -> bool {
@@ -208,8 +196,6 @@ pub fn line_key(side: Side, number: Id) -> u64
 
 impl Indexed for Line {
     ghost index_keys = { line_keys };
-
-    ghost numbered = { λ _. refl };
 
     fn index_key(&self, place: usize) -> Option<u64> {
         match place {

@@ -1,13 +1,11 @@
 //! Substitutes on lines of bills.
-ghost use Rattle.std.specs.Prelude.{◌≡◌, ◌↔◌, ◌∷◌, [], IsTrue, IfOk, refl};
+ghost use Rattle.std.specs.Prelude.{◌≡◌, ◌∷◌, []};
 ghost use Rattle.bom_core.specs.BillColumns.{substitute_columns, substitute_from};
-ghost use Rattle.part_core.specs.Numbered.{number_digits, number_exact};
 ghost use Rattle.bom_core.specs.BillKeys.{of_part_key, on_line_key, substitute_keys};
 
 use part_core::column::{has, number_at};
-use part_core::{Column, ColumnFault, Id, Indexed, Row, Stored, compare_numbers, index_key_of};
+use part_core::{Column, ColumnFault, Id, Indexed, Row, Stored, index_key_of};
 use std::alloc::{AllocError, Global};
-use std::cmp::Ordering;
 
 /// A part that may go in for a line's component.
 #[derive(Drop, Debug)]
@@ -28,18 +26,10 @@ pub enum SubstituteLookup {
 impl Row for Substitute {
     type Key = u64;
 
-    ghost digits = { number_digits };
-
     ghost key_of = { λ row. row.number ∷ [] };
-
-    ghost exact = { number_exact };
 
     fn key(&self, _alloc: Global) -> Result<u64, AllocError> {
         Ok(self.number)
-    }
-
-    fn compare(key: &u64, other: &u64) -> Ordering {
-        compare_numbers(*key, *other)
     }
 
     fn equals(&self, other: &Self) -> bool {
@@ -77,8 +67,6 @@ pub fn of_part_key(number: Id) -> u64
 
 impl Indexed for Substitute {
     ghost index_keys = { substitute_keys };
-
-    ghost numbered = { λ _. refl };
 
     fn index_key(&self, place: usize) -> Option<u64> {
         match place {

@@ -1,7 +1,6 @@
 //! Rows that are found by what stands in them, also after changes, kept and taken back.
-use part_core::{Indexed, IndexedSheet, Row, compare_numbers};
+use part_core::{Indexed, IndexedSheet, Row};
 use std::alloc::{AllocError, Global};
-use std::cmp::Ordering;
 use std::process::Abort;
 use std::test::Fail;
 
@@ -16,15 +15,10 @@ struct Tool {
 
 impl Row for Tool {
     ghost use Rattle.std.specs.Prelude.{◌∷◌, []};
-    ghost use Rattle.part_core.specs.Numbered.{number_digits, number_exact};
 
     type Key = u64;
 
-    ghost digits = { number_digits };
-
     ghost key_of = { λ row. row.number ∷ [] };
-
-    ghost exact = { number_exact };
 
     fn key(&self, _alloc: Global) -> Result<u64, AllocError> {
         Ok(self.number)
@@ -41,18 +35,12 @@ impl Row for Tool {
     fn equals(&self, other: &Self) -> bool {
         self.number == other.number && self.drawer == other.drawer && self.maker == other.maker
     }
-
-    fn compare(key: &u64, other: &u64) -> Ordering {
-        compare_numbers(*key, *other)
-    }
 }
 
 impl Indexed for Tool {
-    ghost use Rattle.std.specs.Prelude.{◌∷◌, [], refl};
+    ghost use Rattle.std.specs.Prelude.{◌∷◌, []};
 
     ghost index_keys = { λ row. row.drawer ∷ row.maker ∷ [] };
-
-    ghost numbered = { λ _. refl };
 
     fn index_key(&self, place: usize) -> Option<u64> {
         match place {

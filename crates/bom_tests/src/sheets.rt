@@ -1,7 +1,6 @@
 //! Rows that are put, changed, kept and taken back.
-use part_core::{Row, Sheet, compare_numbers};
+use part_core::{Row, Sheet};
 use std::alloc::{AllocError, Global};
-use std::cmp::Ordering;
 use std::process::Abort;
 use std::test::Fail;
 
@@ -14,15 +13,10 @@ struct Stock {
 
 impl Row for Stock {
     ghost use Rattle.std.specs.Prelude.{◌∷◌, []};
-    ghost use Rattle.part_core.specs.Numbered.{number_digits, number_exact};
 
     type Key = u64;
 
-    ghost digits = { number_digits };
-
     ghost key_of = { λ row. row.number ∷ [] };
-
-    ghost exact = { number_exact };
 
     fn key(&self, _alloc: Global) -> Result<u64, AllocError> {
         Ok(self.number)
@@ -37,10 +31,6 @@ impl Row for Stock {
 
     fn equals(&self, other: &Self) -> bool {
         self.number == other.number && self.count == other.count
-    }
-
-    fn compare(key: &u64, other: &u64) -> Ordering {
-        compare_numbers(*key, *other)
     }
 }
 

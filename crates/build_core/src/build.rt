@@ -1,17 +1,13 @@
 //! The rows of builds.
-ghost use Rattle.std.specs.Prelude.{◌≡◌, ◌↔◌, ◌∷◌, [], IsTrue, refl};
+ghost use Rattle.std.specs.Prelude.{◌≡◌, ◌∷◌, []};
 ghost use Rattle.part_core.specs.Columns.{Finds};
-ghost use Rattle.part_core.specs.Numbered.{number_digits, number_exact};
 ghost use Rattle.build_core.specs.BuildColumns.{build_columns, build_from, state_at};
 ghost use Rattle.build_core.specs.BuildKeys.{build_keys, open_key, open_of_key};
 
 use crate::state::BuildState;
 use part_core::column::{has, number_at};
-use part_core::{
-    Column, ColumnFault, Id, Indexed, Quantity, Row, Stored, compare_numbers, index_key_of,
-};
+use part_core::{Column, ColumnFault, Id, Indexed, Quantity, Row, Stored, index_key_of};
 use std::alloc::{AllocError, Global};
-use std::cmp::Ordering;
 
 /// So many of an assembly that are to be built.
 #[derive(Drop, Debug)]
@@ -60,18 +56,10 @@ fn state_at(columns: &[Column], at: usize) -> Result<BuildState, ColumnFault>
 impl Row for Build {
     type Key = u64;
 
-    ghost digits = { number_digits };
-
     ghost key_of = { λ row. row.number ∷ [] };
-
-    ghost exact = { number_exact };
 
     fn key(&self, _alloc: Global) -> Result<u64, AllocError> {
         Ok(self.number)
-    }
-
-    fn compare(key: &u64, other: &u64) -> Ordering {
-        compare_numbers(*key, *other)
     }
 
     fn equals(&self, other: &Self) -> bool {
@@ -103,8 +91,6 @@ impl Row for Build {
 
 impl Indexed for Build {
     ghost index_keys = { build_keys };
-
-    ghost numbered = { λ _. refl };
 
     fn index_key(&self, place: usize) -> Option<u64> {
         if !self.state.is_open() {

@@ -4,7 +4,7 @@ use Rattle.std.specs.Prelude.{unwrap_or}
 use Rattle.std.specs.FinMap as table
 use Rattle.std.proofs.lemmas.List.{length-map}
 use Rattle.std.proofs.lemmas.List.Elements.{All-from_recursion}
-use Rattle.part_core.specs.CategoryColumns.{category_columns}
+use Rattle.part_core.specs.NamedRows.{named_columns}
 use Rattle.part_core.specs.Columns.{AreSmall, IsSmall, number_or_absent, text_or_absent, yes_number}
 use Rattle.part_core.specs.PartColumns.{flags_number, part_columns}
 use Rattle.part_core.specs.Rows.{IsThere, StandRight}
@@ -14,7 +14,7 @@ use Rattle.part_core.specs.Status.{status_code}
 use Rattle.part_core.specs.declared.side.Side.{Side}
 use Rattle.part_core.specs.declared.side.Side.TheVariants as side
 use Rattle.part_core.specs.Sheet.{Table}
-use Rattle.part_core.specs.declared.category.Category.{Category}
+use Rattle.part_core.specs.declared.named_row.NamedRow.{NamedRow as Category}
 use Rattle.part_core.specs.declared.flags.Flags.{Flags}
 use Rattle.part_core.specs.declared.part.Part.{Part}
 use Rattle.part_core.specs.declared.status.Status.{Status}
@@ -37,9 +37,8 @@ use Rattle.forest.specs.declared.place.Place.{Place}
 use Rattle.forest.specs.declared.place.Place.TheVariants.{At, In, Output, Sent, Used, Off, Gone}
 use Rattle.forest.specs.declared.place.Reason.{Reason}
 use Rattle.forest.specs.declared.place.Reason.TheVariants.{Removed, Counted, Disassembled, Scrapped}
-use Rattle.yard_core.specs.LocationColumns.{location_columns}
 use Rattle.yard_core.specs.Stock.{AreItems, IsItem, IsRun, Stock, no_item}
-use Rattle.yard_core.specs.declared.location.Location.{Location}
+use Rattle.part_core.specs.declared.named_row.NamedRow.{NamedRow as Location}
 use Rattle.alloc_core.specs.AllocationColumns.{allocation_columns, output_number, purpose_line, purpose_output, purpose_owner, purpose_side}
 use Rattle.alloc_core.specs.declared.allocation.Allocation.{Allocation}
 use Rattle.alloc_core.specs.declared.purpose.Purpose.{Purpose}
@@ -260,9 +259,9 @@ module _ (s : State) (sound : IsSoundState s) (next : Fits s.counter.next) where
   build : (n : ℕ) → IsThere s.builds n → Fits n
   build = there-fits (λ (x : Build). x.number) s.counter.next s.builds sound.builds.rows next
 
-  small-categories : AreSmall category_columns s.parts.categories
+  small-categories : AreSmall named_columns s.parts.categories
   small-categories k row e =
-      All-from_recursion IsSmall (category_columns row) (
+      All-from_recursion IsSmall (named_columns row) (
         own-fits (λ (c : Category). c.number) s.counter.next s.parts.categories catalogue.categories next k row e,
         (tt, (maybe-fits row.parent (λ n is. category n (catalogue.parents k row e n is).0), tt)),
       )
@@ -303,9 +302,9 @@ module _ (s : State) (sound : IsSoundState s) (next : Fits s.counter.next) where
         (line row.line (sound.bills.lines k row e), (part row.part (sound.bills.substitutes k row e), tt)),
       )
 
-  small-locations : AreSmall location_columns s.stock.locations
+  small-locations : AreSmall named_columns s.stock.locations
   small-locations k row e =
-      All-from_recursion IsSmall (location_columns row) (
+      All-from_recursion IsSmall (named_columns row) (
         own-fits (λ (l : Location). l.number) s.counter.next s.stock.locations sound.stock.items.locations.rows next k row e,
         (tt, (maybe-fits row.parent (λ n is. location n (sound.stock.items.locations.parents k row e n is).0), tt)),
       )

@@ -3,7 +3,6 @@ ghost use Rattle.std.specs.Prelude.{◌≡◌, ◌↔◌, IsTrue, IfOk};
 ghost use Rattle.std.specs.Str.{bytes_eq};
 ghost use Rattle.std.specs.String.{string_bytes};
 ghost use Rattle.part_core.specs.Columns.{Finds};
-ghost use Rattle.desk_core.specs.Key.{text_digits, text_exact};
 ghost use Rattle.desk_core.specs.KeptColumns.{answer_at, kept_columns, kept_from, key_at};
 
 use crate::answers::{answer_line, are_fit, read_answer};
@@ -11,7 +10,6 @@ use crate::key::Key;
 use part_core::column::{has, text_at};
 use part_core::{Answer, Column, ColumnFault, Row, Stored, Words};
 use std::alloc::{AllocError, Global};
-use std::cmp::Ordering;
 use std::marker::Model;
 
 /// A command's text, as `command_text` gives it. A clause sees its bytes.
@@ -71,18 +69,10 @@ pub struct Kept {
 impl Row for Kept {
     type Key = String;
 
-    ghost digits = { text_digits };
-
     ghost key_of = { λ row. row.word };
-
-    ghost exact = { text_exact };
 
     fn key(&self, alloc: Global) -> Result<String, AllocError> {
         String::from_str(alloc, self.word.as_str())
-    }
-
-    fn compare(key: &String, other: &String) -> Ordering {
-        key.as_bytes().cmp(other.as_bytes())
     }
 
     fn equals(&self, other: &Self) -> bool {

@@ -1,10 +1,10 @@
 -- What the sheets of a shop bring to the tables that they are written into: one law for each table.
 use Rattle.std.proofs.Common.{◌≡◌, inl, inr, ℕ, List, [], ◌∷◌, Option, sym, subst}
-use Rattle.part_core.specs.CategoryColumns.{category_columns, category_from}
+use Rattle.part_core.specs.NamedRows.{named_columns, named_from}
 use Rattle.part_core.specs.Filled.{StandUnderKeys}
-use Rattle.part_core.specs.Numbered.{number_digits}
+use Rattle.part_core.specs.RowKeys.{number_digits}
 use Rattle.part_core.specs.PartColumns.{part_columns, part_from}
-use Rattle.part_core.specs.declared.category.Category.{Category}
+use Rattle.part_core.specs.declared.named_row.NamedRow.{NamedRow as Category}
 use Rattle.part_core.specs.declared.part.Part.{Part}
 use Rattle.part_core.specs.Rows.{StandRight}
 use Rattle.part_core.specs.Sheet.{Rows, Table}
@@ -16,8 +16,7 @@ use Rattle.forest.specs.EntryColumns.{entry_columns, entry_from}
 use Rattle.forest.specs.ItemColumns.{item_columns, item_from}
 use Rattle.forest.specs.declared.entry.Entry.{Entry}
 use Rattle.forest.specs.declared.item.Item.{Item}
-use Rattle.yard_core.specs.LocationColumns.{location_columns, location_from}
-use Rattle.yard_core.specs.declared.location.Location.{Location}
+use Rattle.part_core.specs.declared.named_row.NamedRow.{NamedRow as Location}
 use Rattle.alloc_core.specs.AllocationColumns.{allocation_columns, allocation_from}
 use Rattle.alloc_core.specs.declared.allocation.Allocation.{Allocation}
 use Rattle.order_core.specs.OrderColumns as orders
@@ -45,7 +44,7 @@ at_table {from} {columns} {key} {digits} {old} {new} table given sheet source is
     subst (λ t. IsSheetIn from columns key digits old new t sheet) (sym is) (subst (IsSheetIn from columns key digits old new given) (sym same) h)
 
 module _ (shop : Shop) (f : MayFollow (kept_state shop) (state_of shop)) where
-  pub category-sheet : IsSheetIn category_from category_columns (λ (x : Category). x.number ∷ []) number_digits (kept_state shop) (state_of shop) Categories shop.catalogue.categories
+  pub category-sheet : IsSheetIn named_from named_columns (λ (x : Category). x.number ∷ []) number_digits (kept_state shop) (state_of shop) Categories shop.catalogue.categories
   category-sheet = record {
     suits = category-suits;
     own = (own_keys (λ (x : Category). x.number) _ _ f.after.bills.catalogue.categories, own_keys (λ (x : Category). x.number) _ _ f.before.bills.catalogue.categories);
@@ -85,7 +84,7 @@ module _ (shop : Shop) (f : MayFollow (kept_state shop) (state_of shop)) where
     is = λ tree h. h;
   }
 
-  pub location-sheet : IsSheetIn location_from location_columns (λ (x : Location). x.number ∷ []) number_digits (kept_state shop) (state_of shop) Locations shop.yard.locations
+  pub location-sheet : IsSheetIn named_from named_columns (λ (x : Location). x.number ∷ []) number_digits (kept_state shop) (state_of shop) Locations shop.yard.locations
   location-sheet = record {
     suits = location-suits;
     own = (own_keys (λ (x : Location). x.number) _ _ f.after.stock.items.locations.rows, own_keys (λ (x : Location). x.number) _ _ f.before.stock.items.locations.rows);

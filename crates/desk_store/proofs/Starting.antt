@@ -9,7 +9,7 @@ use Rattle.sqlite.specs.Tree.{Trees}
 use Rattle.sqlite_trees.specs.View.{IsClean, IsRolledBack as IsUndone, IsShaped}
 use Rattle.sqlite_trees.specs.declared.store.Store.{Ghosts}
 use Rattle.sqlite_trees.specs.declared.store.Shape.TheVariants.{Table}
-use Rattle.part_core.specs.CategoryColumns.{category_columns, category_from}
+use Rattle.part_core.specs.NamedRows.{named_columns, named_from}
 use Rattle.part_core.specs.PartColumns.{part_columns, part_from}
 use Rattle.part_core.specs.declared.column.Column.{Column}
 use Rattle.part_core.specs.declared.limits.Limits.{Limits}
@@ -17,7 +17,6 @@ use Rattle.part_core.proofs.RowLemmas.{each-empty}
 use Rattle.bom_core.specs.BillColumns.{line_columns, line_from, substitute_columns, substitute_from}
 use Rattle.forest.specs.EntryColumns.{entry_columns, entry_from}
 use Rattle.forest.specs.ItemColumns.{item_columns, item_from}
-use Rattle.yard_core.specs.LocationColumns.{location_columns, location_from}
 use Rattle.alloc_core.specs.AllocationColumns.{allocation_columns, allocation_from}
 use Rattle.order_core.specs.OrderColumns as orders
 use Rattle.build_core.specs.BuildColumns.{build_columns, build_from}
@@ -50,8 +49,8 @@ started limits d e fresh wrote meta = record { ready = ((wrote.tables, wrote.sho
   where
     each_one : TablesAre (start limits) e.now.trees
     each_one Meta = meta
-    each_one Categories = no_rows category_from category_columns Categories (tree_of Categories e) (wrote.others Categories (λ e. cc) ∙ fresh.empty Categories)
-    each_one Locations = no_rows location_from location_columns Locations (tree_of Locations e) (wrote.others Locations (λ e. cc) ∙ fresh.empty Locations)
+    each_one Categories = no_rows named_from named_columns Categories (tree_of Categories e) (wrote.others Categories (λ e. cc) ∙ fresh.empty Categories)
+    each_one Locations = no_rows named_from named_columns Locations (tree_of Locations e) (wrote.others Locations (λ e. cc) ∙ fresh.empty Locations)
     each_one Parts = no_rows part_from part_columns Parts (tree_of Parts e) (wrote.others Parts (λ e. cc) ∙ fresh.empty Parts)
     each_one Lines = no_rows line_from line_columns Lines (tree_of Lines e) (wrote.others Lines (λ e. cc) ∙ fresh.empty Lines)
     each_one Substitutes = no_rows substitute_from substitute_columns Substitutes (tree_of Substitutes e) (wrote.others Substitutes (λ e. cc) ∙ fresh.empty Substitutes)

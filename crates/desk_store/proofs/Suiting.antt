@@ -1,11 +1,11 @@
 -- The rows of the machine are rows of their tables, which stand under their numbers, and under their words in `kept`.
 use Rattle.std.proofs.Common.{ℕ, false, List, [], ◌∷◌, Option, Some, None, refl}
 use Rattle.sqlite.specs.Kind.TheVariants.{Integer, Text as Words}
-use Rattle.part_core.specs.CategoryColumns.{category_columns}
+use Rattle.part_core.specs.NamedRows.{named_columns}
 use Rattle.part_core.specs.Columns.{number_or_absent, text_or_absent}
-use Rattle.part_core.specs.Numbered.{number_digits}
+use Rattle.part_core.specs.RowKeys.{number_digits}
 use Rattle.part_core.specs.PartColumns.{part_columns}
-use Rattle.part_core.specs.declared.category.Category.{Category}
+use Rattle.part_core.specs.declared.named_row.NamedRow.{NamedRow as Category}
 use Rattle.part_core.specs.declared.part.Part.{Part}
 use Rattle.bom_core.specs.BillColumns.{line_columns, substitute_columns}
 use Rattle.bom_core.specs.declared.line.Line.{Line}
@@ -14,8 +14,7 @@ use Rattle.forest.specs.EntryColumns.{entry_columns}
 use Rattle.forest.specs.ItemColumns.{item_columns}
 use Rattle.forest.specs.declared.entry.Entry.{Entry}
 use Rattle.forest.specs.declared.item.Item.{Item}
-use Rattle.yard_core.specs.LocationColumns.{location_columns}
-use Rattle.yard_core.specs.declared.location.Location.{Location}
+use Rattle.part_core.specs.declared.named_row.NamedRow.{NamedRow as Location}
 use Rattle.alloc_core.specs.AllocationColumns.{allocation_columns}
 use Rattle.alloc_core.specs.declared.allocation.Allocation.{Allocation}
 use Rattle.order_core.specs.OrderColumns as orders
@@ -47,14 +46,14 @@ meta-suits = record {
   keys = λ n. refl;
 }
 
-pub category-suits : Suits category_columns (λ (c : Category). c.number ∷ []) number_digits Categories
+pub category-suits : Suits named_columns (λ (c : Category). c.number ∷ []) number_digits Categories
 category-suits = record {
   numbered = λ c. (c.number, _, refl, refl);
   fits = λ c. (tt, (number-fits c.parent, tt));
   keys = λ n. refl;
 }
 
-pub location-suits : Suits location_columns (λ (l : Location). l.number ∷ []) number_digits Locations
+pub location-suits : Suits named_columns (λ (l : Location). l.number ∷ []) number_digits Locations
 location-suits = record {
   numbered = λ l. (l.number, _, refl, refl);
   fits = λ l. (tt, (number-fits l.parent, tt));

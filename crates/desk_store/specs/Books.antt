@@ -3,12 +3,11 @@ use Rattle.std.specs.Prelude.{List}
 use Rattle.sqlite.specs.Order.{Row}
 use Rattle.sqlite.specs.State as sqlite
 use Rattle.sqlite.specs.Tree.{Trees}
-use Rattle.part_core.specs.CategoryColumns.{category_columns, category_from}
+use Rattle.part_core.specs.NamedRows.{named_columns, named_from}
 use Rattle.part_core.specs.PartColumns.{part_columns, part_from}
 use Rattle.bom_core.specs.BillColumns.{line_columns, line_from, substitute_columns, substitute_from}
 use Rattle.forest.specs.EntryColumns.{entry_columns, entry_from}
 use Rattle.forest.specs.ItemColumns.{item_columns, item_from}
-use Rattle.yard_core.specs.LocationColumns.{location_columns, location_from}
 use Rattle.alloc_core.specs.AllocationColumns.{allocation_columns, allocation_from}
 use Rattle.order_core.specs.OrderColumns as orders
 use Rattle.build_core.specs.BuildColumns.{build_columns, build_from}
@@ -25,8 +24,8 @@ use Rattle.table_store.specs.declared.name.TableName.TheVariants.{Meta, Categori
 -- the tree is this table of the state: the rows of its sheet, read as they are, or the one row of `meta`
 abbrev pub IsTableIn : State → TableName → List Row → Type 0
 IsTableIn s Meta tree = IsTableOf meta_from meta_columns Meta tree (only (meta_of s))
-IsTableIn s Categories tree = IsTableOf category_from category_columns Categories tree s.parts.categories
-IsTableIn s Locations tree = IsTableOf location_from location_columns Locations tree s.stock.locations
+IsTableIn s Categories tree = IsTableOf named_from named_columns Categories tree s.parts.categories
+IsTableIn s Locations tree = IsTableOf named_from named_columns Locations tree s.stock.locations
 IsTableIn s Parts tree = IsTableOf part_from part_columns Parts tree s.parts.parts
 IsTableIn s Lines tree = IsTableOf line_from line_columns Lines tree s.bills.lines
 IsTableIn s Substitutes tree = IsTableOf substitute_from substitute_columns Substitutes tree s.bills.substitutes

@@ -5,7 +5,7 @@ use Rattle.std.specs.Io.KnownBytes.{Appends}
 use Rattle.std.specs.declared.vec.Vec.{Vec}
 use Rattle.csv.specs.Writing.{default_writer, row_text, text_written, writer_setup, fields_written, has_written}
 use Rattle.csv.specs.declared.writer.Writer.{Writer}
-use Rattle.part_core.specs.CategoryColumns.{category_columns}
+use Rattle.part_core.specs.NamedRows.{named_columns}
 use Rattle.part_core.specs.PartColumns.{part_columns}
 use Rattle.part_core.specs.Sheet.{Table}
 use Rattle.part_core.specs.declared.column.Column.{Column}
@@ -13,7 +13,6 @@ use Rattle.part_core.specs.declared.column.Column.TheVariants.{Whole, Text, Abse
 use Rattle.bom_core.specs.BillColumns.{line_columns, substitute_columns}
 use Rattle.forest.specs.EntryColumns.{entry_columns}
 use Rattle.forest.specs.ItemColumns.{item_columns}
-use Rattle.yard_core.specs.LocationColumns.{location_columns}
 use Rattle.alloc_core.specs.AllocationColumns.{allocation_columns}
 use Rattle.order_core.specs.OrderColumns as orders
 use Rattle.build_core.specs.BuildColumns.{build_columns}
@@ -57,8 +56,8 @@ header_line table = row_text default_writer (names_of table)
 -- the lines of the rows that a state has in the table
 abbrev pub rows_text : TableName → State → List ℕ
 rows_text Meta s = row_line (meta_columns (meta_of s))
-rows_text Categories s = sheet_lines category_columns s.parts.categories
-rows_text Locations s = sheet_lines location_columns s.stock.locations
+rows_text Categories s = sheet_lines named_columns s.parts.categories
+rows_text Locations s = sheet_lines named_columns s.stock.locations
 rows_text Parts s = sheet_lines part_columns s.parts.parts
 rows_text Lines s = sheet_lines line_columns s.bills.lines
 rows_text Substitutes s = sheet_lines substitute_columns s.bills.substitutes

@@ -3,9 +3,9 @@ use Rattle.std.specs.Prelude.{◌≡◌, ◌⊎◌, ℕ, List, [], ◌∷◌, Op
 use Rattle.sqlite.specs.Order.{Row}
 use Rattle.sqlite.specs.State.{State, HasCleanDisk, IsUnchanged, IsRolledBack, Survives}
 use Rattle.sqlite.specs.Tree.{Trees}
-use Rattle.part_core.specs.CategoryColumns.{category_columns, category_from}
+use Rattle.part_core.specs.NamedRows.{named_columns, named_from}
 use Rattle.part_core.specs.PartColumns.{part_columns, part_from}
-use Rattle.part_core.specs.declared.category.Category.{Category}
+use Rattle.part_core.specs.declared.named_row.NamedRow.{NamedRow as Category}
 use Rattle.part_core.specs.declared.column.Column.{Column}
 use Rattle.part_core.specs.declared.part.Part.{Part}
 use Rattle.bom_core.specs.BillColumns.{line_columns, line_from, substitute_columns, substitute_from}
@@ -15,8 +15,7 @@ use Rattle.forest.specs.EntryColumns.{entry_columns, entry_from}
 use Rattle.forest.specs.ItemColumns.{item_columns, item_from}
 use Rattle.forest.specs.declared.entry.Entry.{Entry}
 use Rattle.forest.specs.declared.item.Item.{Item}
-use Rattle.yard_core.specs.LocationColumns.{location_columns, location_from}
-use Rattle.yard_core.specs.declared.location.Location.{Location}
+use Rattle.part_core.specs.declared.named_row.NamedRow.{NamedRow as Location}
 use Rattle.alloc_core.specs.AllocationColumns.{allocation_columns, allocation_from}
 use Rattle.alloc_core.specs.declared.allocation.Allocation.{Allocation}
 use Rattle.order_core.specs.OrderColumns as orders
@@ -61,7 +60,7 @@ module _ {R : Type 0} (row_from : List Column → Option R) (columns_of : R → 
     pub its : AreItsRows row_from columns_of key_of table tree rows
 
 pub record ArePartRows (trees : Trees) (categories : List Category) (parts : List Part) : Type 0 where
-  pub categories_are : AreTheRows category_from category_columns (λ row. row.number ∷ []) Categories (trees (position Categories)) categories
+  pub categories_are : AreTheRows named_from named_columns (λ row. row.number ∷ []) Categories (trees (position Categories)) categories
   pub parts_are : AreTheRows part_from part_columns (λ row. row.number ∷ []) Parts (trees (position Parts)) parts
 
 pub record AreBillRows (trees : Trees) (lines : List Line) (substitutes : List Substitute) : Type 0 where
@@ -69,7 +68,7 @@ pub record AreBillRows (trees : Trees) (lines : List Line) (substitutes : List S
   pub substitutes_are : AreTheRows substitute_from substitute_columns (λ row. row.number ∷ []) Substitutes (trees (position Substitutes)) substitutes
 
 pub record AreStockRows (trees : Trees) (locations : List Location) (items : List Item) (history : List Entry) : Type 0 where
-  pub locations_are : AreTheRows location_from location_columns (λ row. row.number ∷ []) Locations (trees (position Locations)) locations
+  pub locations_are : AreTheRows named_from named_columns (λ row. row.number ∷ []) Locations (trees (position Locations)) locations
   pub items_are : AreTheRows item_from item_columns (λ row. row.number ∷ []) Items (trees (position Items)) items
   pub history_are : AreTheRows entry_from entry_columns (λ row. row.number ∷ []) History (trees (position History)) history
 

@@ -1,14 +1,13 @@
 -- Why a database is no desk's.
 use Rattle.std.specs.Prelude.{codes, ◌≡◌, ◌≢◌, ◌⊎◌, ℕ, List, Option, None, Some, Contains}
 use Rattle.sqlite.specs.Tree.{Trees}
-use Rattle.part_core.specs.CategoryColumns.{category_columns, category_from}
+use Rattle.part_core.specs.NamedRows.{named_columns, named_from}
 use Rattle.part_core.specs.Counter.{IsNext}
 use Rattle.part_core.specs.PartColumns.{part_columns, part_from}
 use Rattle.part_core.specs.declared.limits.Limits.{Limits}
 use Rattle.bom_core.specs.BillColumns.{line_columns, line_from, substitute_columns, substitute_from}
 use Rattle.forest.specs.EntryColumns.{entry_columns, entry_from}
 use Rattle.forest.specs.ItemColumns.{item_columns, item_from}
-use Rattle.yard_core.specs.LocationColumns.{location_columns, location_from}
 use Rattle.alloc_core.specs.AllocationColumns.{allocation_columns, allocation_from}
 use Rattle.order_core.specs.OrderColumns as orders
 use Rattle.build_core.specs.BuildColumns.{build_columns, build_from}
@@ -46,8 +45,8 @@ AreNoBooks trees = (s : State) → IsSoundState s → IsNext s.counter.limits s.
 -- the table is that of no rows of the machine, and `kept` of none that stand under their words
 abbrev pub IsBroken : TableName → Trees → Type 0
 IsBroken Meta trees = IsTableOfNone meta_from meta_columns Meta (trees (position Meta))
-IsBroken Categories trees = IsTableOfNone category_from category_columns Categories (trees (position Categories))
-IsBroken Locations trees = IsTableOfNone location_from location_columns Locations (trees (position Locations))
+IsBroken Categories trees = IsTableOfNone named_from named_columns Categories (trees (position Categories))
+IsBroken Locations trees = IsTableOfNone named_from named_columns Locations (trees (position Locations))
 IsBroken Parts trees = IsTableOfNone part_from part_columns Parts (trees (position Parts))
 IsBroken Lines trees = IsTableOfNone line_from line_columns Lines (trees (position Lines))
 IsBroken Substitutes trees = IsTableOfNone substitute_from substitute_columns Substitutes (trees (position Substitutes))

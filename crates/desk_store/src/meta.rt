@@ -1,14 +1,12 @@
 //! The row of the counter.
 ghost use Rattle.std.specs.Prelude.{◌≡◌, ◌∷◌, []};
-ghost use Rattle.part_core.specs.Numbered.{number_digits, number_exact};
 ghost use Rattle.desk_core.specs.Shops.{state_of};
 ghost use Rattle.desk_store.specs.MetaColumns.{meta_columns, meta_from, meta_of};
 
 use desk_core::Shop;
 use part_core::column::{has, number_at};
-use part_core::{Column, ColumnFault, Row, Stored, compare_numbers};
+use part_core::{Column, ColumnFault, Row, Stored};
 use std::alloc::{AllocError, Global};
-use std::cmp::Ordering;
 
 /// A row of the table `meta`, which has one.
 #[derive(Clone, Copy, Debug, PartialEq, Eq, Drop)]
@@ -45,18 +43,10 @@ impl MetaRow {
 impl Row for MetaRow {
     type Key = u64;
 
-    ghost digits = { number_digits };
-
     ghost key_of = { λ row. row.one ∷ [] };
-
-    ghost exact = { number_exact };
 
     fn key(&self, _alloc: Global) -> Result<u64, AllocError> {
         Ok(self.one)
-    }
-
-    fn compare(key: &u64, other: &u64) -> Ordering {
-        compare_numbers(*key, *other)
     }
 
     fn equals(&self, other: &Self) -> bool {

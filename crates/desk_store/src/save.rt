@@ -9,6 +9,7 @@
 ghost use Rattle.std.specs.Prelude.{◌≡◌, ◌⊎◌, ◌+◌, false, IfErr, OnErr, OnOk, Ok, Err};
 ghost use Rattle.sqlite.specs.Held.{state};
 ghost use Rattle.sqlite.specs.State.{HasCleanDisk, KeepsCommit, Survives};
+ghost use Rattle.part_core.specs.RowKeys.{number_digits};
 ghost use Rattle.desk_core.specs.Machine.{IsSoundState};
 ghost use Rattle.desk_core.specs.Shops.{kept_state, state_of};
 ghost use Rattle.desk_core.specs.Staying.{AllStay};
@@ -40,7 +41,7 @@ fn write_sheet<S: Alter, R: Stored + Row<Key = u64>>(
     requires under_way { HasCleanDisk (state S.Store conn.old)
         → IsUnderWay (kept_state shop.now) (state_of shop.now) (position table)
         (state S.Store conn.old) }
-    requires sheet { IsSheetIn R.row_from R.columns_of R.key_of R.digits
+    requires sheet { IsSheetIn R.row_from R.columns_of R.key_of number_digits
         (kept_state shop.now) (state_of shop.now) table sheet.now }
     ensures { Goes (kept_state shop.now) (state_of shop.now) (position table + 1)
         (state S.Store conn.old) (state S.Store conn.new) result }

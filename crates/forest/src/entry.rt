@@ -1,16 +1,14 @@
 //! The history of the stock.
-ghost use Rattle.std.specs.Prelude.{◌≡◌, ◌↔◌, ◌∷◌, [], IsTrue, IfOk, Some};
+ghost use Rattle.std.specs.Prelude.{◌≡◌, ◌↔◌, ◌∷◌, [], IsTrue, Some};
 ghost use Rattle.forest.specs.EntryColumns.{entry_columns, entry_from, note_at};
 ghost use Rattle.forest.specs.Forest.{kind_code};
 ghost use Rattle.forest.specs.PlaceColumns.{kind_at, kind_of};
 ghost use Rattle.part_core.specs.Columns.{Finds};
-ghost use Rattle.part_core.specs.Numbered.{number_digits, number_exact};
 
 use crate::place::{Place, place_at};
 use part_core::column::{day_at, has, number_at};
-use part_core::{Column, ColumnFault, Day, Id, Quantity, Row, Stored, compare_numbers};
+use part_core::{Column, ColumnFault, Day, Id, Quantity, Row, Stored};
 use std::alloc::{AllocError, Global};
-use std::cmp::Ordering;
 
 /// What an entry records.
 #[derive(Clone, Copy, Debug, PartialEq, Eq)]
@@ -150,18 +148,10 @@ fn note_at(columns: &[Column]) -> Result<Note, ColumnFault>
 impl Row for Entry {
     type Key = u64;
 
-    ghost digits = { number_digits };
-
     ghost key_of = { λ row. row.number ∷ [] };
-
-    ghost exact = { number_exact };
 
     fn key(&self, _alloc: Global) -> Result<u64, AllocError> {
         Ok(self.number)
-    }
-
-    fn compare(key: &u64, other: &u64) -> Ordering {
-        compare_numbers(*key, *other)
     }
 
     fn equals(&self, other: &Self) -> bool {

@@ -1,15 +1,11 @@
 //! Lines of orders.
-ghost use Rattle.std.specs.Prelude.{◌≡◌, ◌↔◌, ◌∷◌, [], IsTrue, refl};
-ghost use Rattle.part_core.specs.Numbered.{number_digits, number_exact};
+ghost use Rattle.std.specs.Prelude.{◌≡◌, ◌∷◌, []};
 ghost use Rattle.order_core.specs.OrderColumns.{line_columns, line_from};
 ghost use Rattle.order_core.specs.OrderKeys.{line_keys, of_order_key};
 
 use part_core::column::{has, number_at};
-use part_core::{
-    Column, ColumnFault, Id, Indexed, Quantity, Row, Stored, compare_numbers, index_key_of,
-};
+use part_core::{Column, ColumnFault, Id, Indexed, Quantity, Row, Stored, index_key_of};
 use std::alloc::{AllocError, Global};
-use std::cmp::Ordering;
 
 /// A line of an order: so many of a part. `done` is what was received or shipped of it.
 #[derive(Drop, Debug)]
@@ -39,18 +35,10 @@ pub fn of_order_key(number: Id) -> u64
 impl Row for OrderLine {
     type Key = u64;
 
-    ghost digits = { number_digits };
-
     ghost key_of = { λ row. row.number ∷ [] };
-
-    ghost exact = { number_exact };
 
     fn key(&self, _alloc: Global) -> Result<u64, AllocError> {
         Ok(self.number)
-    }
-
-    fn compare(key: &u64, other: &u64) -> Ordering {
-        compare_numbers(*key, *other)
     }
 
     fn equals(&self, other: &Self) -> bool {
@@ -82,8 +70,6 @@ impl Row for OrderLine {
 
 impl Indexed for OrderLine {
     ghost index_keys = { line_keys };
-
-    ghost numbered = { λ _. refl };
 
     fn index_key(&self, place: usize) -> Option<u64> {
         match place {

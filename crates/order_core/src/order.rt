@@ -1,14 +1,12 @@
 //! Orders.
-ghost use Rattle.std.specs.Prelude.{◌≡◌, ◌↔◌, ◌∷◌, [], IsTrue};
+ghost use Rattle.std.specs.Prelude.{◌∷◌, []};
 ghost use Rattle.order_core.specs.OrderColumns.{order_columns, order_from, side_at, state_at};
 ghost use Rattle.part_core.specs.Columns.{Finds};
-ghost use Rattle.part_core.specs.Numbered.{number_digits, number_exact};
 
 use crate::state::OrderState;
 use part_core::column::{has, number_at, row_text_at};
-use part_core::{Column, ColumnFault, Id, Row, Side, Stored, Text, compare_numbers};
+use part_core::{Column, ColumnFault, Id, Row, Side, Stored, Text};
 use std::alloc::{AllocError, Global};
-use std::cmp::Ordering;
 
 /// The name of whom an order is with.
 pub type Partner = Text;
@@ -41,18 +39,10 @@ fn state_at(columns: &[Column], at: usize) -> Result<OrderState, ColumnFault>
 impl Row for Order {
     type Key = u64;
 
-    ghost digits = { number_digits };
-
     ghost key_of = { λ row. row.number ∷ [] };
-
-    ghost exact = { number_exact };
 
     fn key(&self, _alloc: Global) -> Result<u64, AllocError> {
         Ok(self.number)
-    }
-
-    fn compare(key: &u64, other: &u64) -> Ordering {
-        compare_numbers(*key, *other)
     }
 
     fn equals(&self, other: &Self) -> bool {

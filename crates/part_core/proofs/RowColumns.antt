@@ -1,12 +1,13 @@
 -- The columns from which a row was read are the row's.
-use Rattle.std.proofs.Common.{◌≡◌, ℕ, zero, suc, ◌<◌, ◌≤◌, ◌/◌, ◌%◌, Bool, true, false, List, [], ◌∷◌, length, Option, Some, None, refl, sym, ap, ◌∙◌, arith}
-use Rattle.std.specs.Prelude.{slice_get, ◌==◌, ◌&&◌, nat_lt, if◌then◌else◌}
-use Rattle.std.proofs.lemmas.Bool.{eqb-true, eqb-false, ltb-true, lt-ltb}
+use Rattle.std.proofs.Common.{◌≡◌, ℕ, Bool, true, false, List, Option, Some, None, refl, sym, ap, ◌∙◌, arith}
+use Rattle.std.specs.Prelude.{slice_get, ◌==◌, nat_lt, if◌then◌else◌}
+use Rattle.std.proofs.lemmas.Bool.{eqb-true, ltb-true, lt-ltb}
 use Rattle.part_core.specs.declared.part.Part.{Part}
 use Rattle.part_core.specs.declared.flags.Flags.{Flags}
 use Rattle.part_core.specs.declared.column.Column.{Column}
-use Rattle.part_core.specs.declared.column.Column.TheVariants.{Whole, Text}
-use Rattle.part_core.specs.Columns.{has, is_bit, named_columns, whole_or_none_of, yes_of, number_or_absent, yes_number, number_at, number_or_none_at, row_text_at, yes_at}
+use Rattle.part_core.specs.declared.column.Column.TheVariants.{Whole}
+use Rattle.part_core.specs.Columns.{has, is_bit, number_at, number_or_none_at, row_text_at, yes_at}
+use Rattle.part_core.specs.NamedRows.{named_columns}
 use Rattle.part_core.specs.PartColumns.{part_columns, part_from, flags_at, flags_number, flags_of, flags_of_bits}
 use Rattle.part_core.specs.Text.{is_text}
 use Rattle.part_core.proofs.ColumnLemmas.{absent-read, below, bit-is, bound, found, has-is, number_at-is, number_or_none_at-is, row_text_at-is, yes_at-is, same_columns, yes-small, yes_of-number}
@@ -14,9 +15,9 @@ use Rattle.part_core.proofs.ColumnLemmas.{absent-read, below, bit-is, bound, fou
 -- those of a row with a name and a parent
 pub named_told : (cs : List Column) (number : ℕ) (name : List ℕ) (parent : Option ℕ)
     → has 3 cs ≡ Some tt → number_at 0 cs ≡ Some number → row_text_at 1 cs ≡ Some name → number_or_none_at 2 cs ≡ Some parent
-    → named_columns number name parent ≡ cs
+    → named_columns (record { number = number; name = name; parent = parent }) ≡ cs
 named_told cs number name parent all c0 c1 c2 =
-    same_columns cs (named_columns number name parent) (has-is 3 cs tt all)
+    same_columns cs (named_columns (record { number = number; name = name; parent = parent })) (has-is 3 cs tt all)
     (number_at-is 0 cs number c0, (row_text_at-is 1 cs name c1, (number_or_none_at-is 2 cs parent c2, tt)))
 
 -- each number of flags is that of its flags

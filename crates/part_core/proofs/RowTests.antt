@@ -6,11 +6,13 @@ use Rattle.std.specs.FinMap as table
 use Rattle.std.proofs.lemmas.Bool.{ltb-true, lt-ltb}
 use Rattle.part_core.specs.Catalogue.{Parts, category_in, is_flagged, part_in}
 use Rattle.part_core.specs.Filled.{StandUnderKeys}
-use Rattle.part_core.specs.RowTests.{has_category, has_parent, has_template, is_drawn, is_plain, passes_where_named}
+use Rattle.part_core.specs.NamedRows.{HasParent, has_parent}
+use Rattle.part_core.specs.Numbered.{passes_where_named}
+use Rattle.part_core.specs.RowTests.{has_category, has_template, is_drawn, is_plain}
 use Rattle.part_core.specs.Rows.{EachRow, StandRight}
 use Rattle.part_core.specs.Sheet.{Table}
-use Rattle.part_core.specs.SoundCatalogue.{HasCategory, HasParent, HasTemplate, IsPlain}
-use Rattle.part_core.specs.declared.category.Category.{Category}
+use Rattle.part_core.specs.SoundCatalogue.{HasCategory, HasTemplate, IsPlain}
+use Rattle.part_core.specs.declared.named_row.NamedRow.{NamedRow}
 use Rattle.part_core.specs.declared.part.Part.{Part}
 use Rattle.part_core.proofs.Conditions.{and_both, and_parts, not_false}
 use Rattle.part_core.proofs.Standing.{Stands, each-value}
@@ -56,10 +58,10 @@ named-passes : (test : ℕ → Bool) (named : Option ℕ) → (passes_where_name
 named-passes test None = (λ e n f. cc, λ all. refl)
 named-passes test (Some m) = (λ e n f. (let same : m ≡ n = cc in subst (λ (k : ℕ). test k ≡ true) same e), λ all. all m refl)
 
-pub has_parent-is : (s : Parts) (c : Category) → (has_parent s c ≡ true) ↔ HasParent s c
-has_parent-is s c =
-    let named = named-passes (λ n. is_some (category_in n s) && nat_lt n c.number) c.parent in (
-      λ e n f. let both = and_parts (is_some (category_in n s)) _ (named.0 e n f) in (both.0, ltb-true _ _ both.1),
+pub has_parent-is : (rows : Table NamedRow) (row : NamedRow) → (has_parent rows row ≡ true) ↔ HasParent rows row
+has_parent-is rows row =
+    let named = named-passes (λ n. is_some (table.get rows (n ∷ [])) && nat_lt n row.number) row.parent in (
+      λ e n f. let both = and_parts (is_some (table.get rows (n ∷ []))) _ (named.0 e n f) in (both.0, ltb-true _ _ both.1),
       λ has. named.1 (λ n f. let h = has n f in and_both _ _ h.0 (lt-ltb _ _ h.1)),
     )
 

@@ -1,25 +1,26 @@
 -- What passes its checks leaves a sound catalogue sound.
-use Rattle.std.proofs.Common.{◌≡◌, ◌≤◌, ◌<◌, ◌+◌, ◌||◌, inl, inr, ℕ, Bool, true, false, not, List, [], ◌∷◌, Option, Some, None, is_none, is_some, refl, sym, ap, ◌∙◌, subst, arith}
+use Rattle.std.proofs.Common.{◌≡◌, ◌≤◌, ◌+◌, ◌||◌, inl, inr, ℕ, Bool, true, false, not, List, [], ◌∷◌, Option, Some, None, refl, sym, ap, ◌∙◌, subst, arith}
 use Rattle.std.specs.FinMap as table
 use Rattle.std.proofs.lemmas.Bool.Decides.{eqb_tells}
-use Rattle.part_core.specs.AddCategory.{add_category, add_category_checks, with_category}
-use Rattle.part_core.specs.AddPart.{add_part, add_part_checks, is_no_template, is_template_variant, part_row, with_part}
+use Rattle.part_core.specs.AddCategory.{add_category, add_category_checks}
+use Rattle.part_core.specs.AddPart.{add_part, add_part_checks, is_no_template, is_template_variant, part_row}
 use Rattle.part_core.specs.Catalogue.{Parts, Register, category_in, is_flagged, is_missing, part_in, no_parts}
 use Rattle.part_core.specs.Checks.{first}
 use Rattle.part_core.specs.Flags.{is_mixed}
 use Rattle.part_core.specs.PartMachine.{checks, effect}
-use Rattle.part_core.specs.RetirePart.{retire_part, retire_part_checks, retired_part}
-use Rattle.part_core.specs.Rows.{EachRow, IsThere, StandRight}
-use Rattle.part_core.specs.SoundCatalogue.{HasCategory, HasParent, HasTemplate, IsPlain, IsSoundCatalogue}
-use Rattle.part_core.specs.Sheet.{Table}
+use Rattle.part_core.specs.RetirePart.{retire_part, retired_part}
+use Rattle.part_core.specs.Rows.{IsThere, StandRight}
+use Rattle.part_core.specs.NamedRows.{HasParent}
+use Rattle.part_core.specs.SoundCatalogue.{HasCategory, HasTemplate, IsPlain, IsSoundCatalogue}
 use Rattle.part_core.specs.declared.part_command.PartCommand.{PartCommand}
 use Rattle.part_core.specs.declared.part_command.PartCommand.TheVariants.{AddCategory, AddPart, RetirePart}
-use Rattle.part_core.specs.declared.category.Category.{Category}
+use Rattle.part_core.specs.declared.named_row.NamedRow.{NamedRow as Category}
 use Rattle.part_core.specs.declared.flags.Flags.{Flags}
 use Rattle.part_core.specs.declared.part.NewPart.{NewPart}
 use Rattle.part_core.specs.declared.part.Part.{Part}
-use Rattle.part_core.proofs.Conditions.{is_there, none-holds, not_false, not_true, or_none}
-use Rattle.part_core.proofs.RowLemmas.{each-insert, each-so, get-insert_cases, get-insert_new, get-insert_other, right-changed, right-later, right-new, right-none, row_there, same_digit, there, there-insert, each-empty, right-empty}
+use Rattle.part_core.proofs.Conditions.{is_there, none-holds, not_false, or_none}
+use Rattle.part_core.proofs.NamedRows.{parents-new}
+use Rattle.part_core.proofs.RowLemmas.{each-insert, each-so, get-insert_new, get-insert_other, right-changed, right-later, right-new, right-none, same_digit, there, there-insert, each-empty, right-empty}
 
 -- a number that is named is there
 pub named_there : {X : Type 0} (o : Option ℕ) (row : ℕ → Option X) (n : ℕ) → o ≡ Some n → is_missing o row ≡ false → (x : X) × (row n ≡ Some x)
@@ -46,7 +47,7 @@ pub sound-nothing : (next : ℕ) → 1 ≤ next → IsSoundCatalogue next no_par
 sound-nothing next some = record {
   some = some;
   categories = right-empty (λ (c : Category). c.number) next;
-  parents = each-empty (HasParent no_parts);
+  parents = each-empty (HasParent table.empty);
   parts = right-empty (λ (p : Part). p.number) next;
   in_categories = each-empty (HasCategory no_parts);
   templates = each-empty (HasTemplate no_parts);
@@ -59,30 +60,16 @@ module _ (name : List ℕ) (parent : Option ℕ) (r : Register) (sound : IsSound
   abbrev row : Category
   row = record { number = r.counter.next; name = name; parent = parent }
 
-  abbrev after : Parts
-  after = (add_category name parent r).parts
-
-  more : (n : ℕ) → IsThere r.parts.categories n → IsThere after.categories n
-  more = there-insert r.parts.categories (r.counter.next ∷ []) row
-
-  under : (c : Category) → HasParent r.parts c → HasParent after c
-  under c h n e = let p = h n e in (more n p.0, p.1)
-
   parent_there : first (add_category_checks name parent r) ≡ None → (n : ℕ) → parent ≡ Some n → IsThere r.parts.categories n
   parent_there e n is = let x = named_there parent (λ m. category_in m r.parts) n is (none-holds (add_category_checks name parent r) e).0 in there r.parts.categories n x.0 x.1
 
-  below : (n : ℕ) → IsThere r.parts.categories n → n < r.counter.next
-  below n h = let x = row_there r.parts.categories n h in let s = sound.categories (n ∷ []) x.0 x.1 in let own = same_digit n x.0.number s.own in omega (arith, own, s.drawn)
-
-  pub sound-add_category : first (add_category_checks name parent r) ≡ None → IsSoundCatalogue (r.counter.next + 1) after
+  pub sound-add_category : first (add_category_checks name parent r) ≡ None → IsSoundCatalogue (r.counter.next + 1) (add_category name parent r).parts
   sound-add_category e = record {
     some = omega arith;
     categories = right-new (λ (c : Category). c.number) r.counter.next row r.parts.categories refl sound.some sound.categories;
-    parents = each-insert (HasParent after) r.parts.categories (r.counter.next ∷ []) row
-        (λ n is. let h = parent_there e n is in (more n h, below n h))
-        (each-so (HasParent r.parts) (HasParent after) r.parts.categories (λ k c at h. under c h) sound.parents);
+    parents = parents-new r.counter.next name parent r.parts.categories sound.categories (parent_there e) sound.parents;
     parts = right-later (λ (p : Part). p.number) r.counter.next (r.counter.next + 1) r.parts.parts (omega arith) sound.parts;
-    in_categories = λ k p at n is. more n (sound.in_categories k p at n is);
+    in_categories = λ k p at n is. there-insert r.parts.categories (r.counter.next ∷ []) row n (sound.in_categories k p at n is);
     templates = sound.templates;
     plain = sound.plain;
   }

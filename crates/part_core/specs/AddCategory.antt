@@ -1,17 +1,11 @@
 -- A new category of parts, under a parent or at the top.
-use Rattle.std.specs.Prelude.{ℕ, ◌&&◌, Bool, List, [], ◌∷◌, Option}
+use Rattle.std.specs.Prelude.{ℕ, List, [], ◌∷◌, Option}
 use Rattle.std.specs.FinMap as table
-use Rattle.std.specs.List.{list_any}
-use Rattle.std.specs.Str.{bytes_eq}
 use Rattle.part_core.specs.Catalogue.{Parts, Register, category_in, is_missing}
 use Rattle.part_core.specs.Checks.{Check}
 use Rattle.part_core.specs.Counter.{drawn, passes_limit}
-use Rattle.part_core.specs.Numbered.{is_same_number}
+use Rattle.part_core.specs.NamedRows.{is_named}
 use Rattle.part_core.specs.declared.refusal.Refusal.TheVariants.{NoSuch, NameTaken, Full}
-
--- whether a category under this parent has this name
-abbrev pub is_category_named : List ℕ → Option ℕ → Parts → Bool
-is_category_named name parent s = list_any (λ c. is_same_number c.parent parent && bytes_eq c.name name) (table.values s.categories)
 
 -- the catalogue with a category under that number
 abbrev pub with_category : ℕ → List ℕ → Option ℕ → Parts → Parts
@@ -25,6 +19,6 @@ add_category name parent r = record { parts = with_category r.counter.next name 
 abbrev pub add_category_checks : List ℕ → Option ℕ → Register → List Check
 add_category_checks name parent r =
     (is_missing parent (λ n. category_in n r.parts), NoSuch)
-    ∷ (is_category_named name parent r.parts, NameTaken)
+    ∷ (is_named name parent r.parts.categories, NameTaken)
     ∷ (passes_limit (add_category name parent r).counter, Full)
     ∷ []

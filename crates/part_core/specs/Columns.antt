@@ -1,5 +1,5 @@
 -- Rows as columns: what a file has of a row, and which row columns are.
-use Rattle.std.specs.Prelude.{◌≡◌, ℕ, ◌==◌, ◌/◌, ◌%◌, ◌<◌, ◌^◌, All, Bool, true, false, cond, if◌then◌else◌, List, [], ◌∷◌, length, slice_get, Option, Some, None, Result, Ok, Err}
+use Rattle.std.specs.Prelude.{◌≡◌, ℕ, ◌==◌, ◌/◌, ◌%◌, ◌<◌, ◌^◌, All, Bool, true, false, cond, if◌then◌else◌, List, length, slice_get, Option, Some, None, Result, Ok, Err}
 use Rattle.std.specs.Str.{bytes_eq}
 use Rattle.part_core.specs.Day.{CivilDay, day_of, day_text}
 use Rattle.part_core.specs.Rows.{EachRow}
@@ -147,8 +147,3 @@ IsSmall _ = Unit {0}
 -- no number of a row is too large for a file
 abbrev pub AreSmall : {R : Type 0} → (R → List Column) → Table R → Type 0
 AreSmall columns rows = EachRow (λ row. All IsSmall (columns row)) rows
-
--- ---- rows under a number, with a name and a parent
-
-abbrev pub named_columns : ℕ → List ℕ → Option ℕ → List Column
-named_columns number name parent = Whole number ∷ Text name ∷ number_or_absent parent ∷ []

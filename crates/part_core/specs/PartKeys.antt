@@ -1,8 +1,7 @@
--- What a part and a category are looked up by in an index.
+-- What a part is looked up by in an index.
 use Rattle.std.specs.Prelude.{ℕ, List, [], ◌∷◌, ◌++◌, Option, Some, None, pos}
 use Rattle.std.specs.Hash as fed
 use Rattle.part_core.specs.Indexed.{index_key_of}
-use Rattle.part_core.specs.declared.category.Category.{Category}
 use Rattle.part_core.specs.declared.part.Part.{Part}
 
 -- the index key of what has the name
@@ -19,11 +18,3 @@ part_keys part = name_key part.name ∷ under part.template
     under : Option ℕ → List ℕ
     under None = []
     under (Some n) = template_key n ∷ []
-
--- the index key of what has the name under this parent
-abbrev pub named_key : Option ℕ → List ℕ → ℕ
-named_key None name = index_key_of (fed.isize (pos 0) ++ fed.str name)
-named_key (Some n) name = index_key_of (fed.isize (pos 1) ++ (fed.u64 n ++ fed.str name))
-
-abbrev pub category_keys : Category → List ℕ
-category_keys category = named_key category.parent category.name ∷ []

@@ -1,5 +1,5 @@
 -- The commands of the catalogue as a machine: checks, effect, and what stays sound.
-use Rattle.std.specs.Prelude.{◌≡◌, ◌≤◌, ℕ, List, None}
+use Rattle.std.specs.Prelude.{◌≡◌, ◌≤◌, List, None}
 use Rattle.part_core.specs.AddCategory.{add_category, add_category_checks}
 use Rattle.part_core.specs.AddPart.{add_part, add_part_checks}
 use Rattle.part_core.specs.RetirePart.{retire_part, retire_part_checks}

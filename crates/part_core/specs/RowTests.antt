@@ -1,25 +1,16 @@
 -- What is asked of each row of a catalogue, to tell whether it is sound.
-use Rattle.std.specs.Prelude.{ℕ, Bool, true, not, ◌&&◌, nat_lt, is_some, Option, Some, None}
+use Rattle.std.specs.Prelude.{ℕ, Bool, not, ◌&&◌, nat_lt, is_some, Option}
 use Rattle.part_core.specs.Catalogue.{Parts, category_in, is_flagged, part_in}
-use Rattle.part_core.specs.declared.category.Category.{Category}
+use Rattle.part_core.specs.Numbered.{passes_where_named}
 use Rattle.part_core.specs.declared.part.Part.{Part}
 
 -- the number was drawn, where those below the next were
 abbrev pub is_drawn : ℕ → ℕ → Bool
 is_drawn next n = nat_lt 0 n && nat_lt n next
 
--- what is named passes, where something is
-abbrev pub passes_where_named : (ℕ → Bool) → Option ℕ → Bool
-passes_where_named test None = true
-passes_where_named test (Some n) = test n
-
 -- the category that is named is there
 abbrev pub has_category : Parts → Option ℕ → Bool
 has_category s named = passes_where_named (λ n. is_some (category_in n s)) named
-
--- the parent that the category names is there, and has a smaller number
-abbrev pub has_parent : Parts → Category → Bool
-has_parent s c = passes_where_named (λ n. is_some (category_in n s) && nat_lt n c.number) c.parent
 
 -- the template that is named is there, and is flagged so
 abbrev pub has_template : Parts → Option ℕ → Bool

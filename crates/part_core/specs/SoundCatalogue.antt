@@ -1,13 +1,9 @@
 -- What always holds of the catalogue.
-use Rattle.std.specs.Prelude.{◌≡◌, ◌<◌, ◌≤◌, ℕ, true, [], None, Some}
+use Rattle.std.specs.Prelude.{◌≡◌, ◌≤◌, ℕ, true, [], None, Some}
 use Rattle.part_core.specs.Catalogue.{Parts, part_in}
+use Rattle.part_core.specs.NamedRows.{HasParent}
 use Rattle.part_core.specs.Rows.{EachRow, IsThere, StandRight}
-use Rattle.part_core.specs.declared.category.Category.{Category}
 use Rattle.part_core.specs.declared.part.Part.{Part}
-
--- the parent of a category is one, of a smaller number
-abbrev pub HasParent : Parts → Category → Type 0
-HasParent s c = (n : ℕ) → c.parent ≡ Some n → IsThere s.categories n × (n < c.number)
 
 -- the category of a part is one
 abbrev pub HasCategory : Parts → Part → Type 0
@@ -25,7 +21,7 @@ IsPlain p = p.flags.template ≡ true → p.template ≡ None
 pub record IsSoundCatalogue (next : ℕ) (s : Parts) : Type 0 where
   pub some : 1 ≤ next
   pub categories : StandRight (λ c. c.number) next s.categories
-  pub parents : EachRow (HasParent s) s.categories
+  pub parents : EachRow (HasParent s.categories) s.categories
   pub parts : StandRight (λ p. p.number) next s.parts
   pub in_categories : EachRow (HasCategory s) s.parts
   pub templates : EachRow (HasTemplate s) s.parts

@@ -22,9 +22,6 @@ pub trait Indexed: Row<Key = u64> {
     /// The row's index key at that place, where there is one.
     fn index_key(&self, place: usize) -> Option<u64>
         ensures { result ≡ slice_get (index_keys self.now) place };
-
-    /// A number is a key of one digit.
-    ghost numbered: { (number : ℕ) → Self.digits number ≡ number ∷ [] };
 }
 
 /// The index key of what a row is looked up by: its hash. What differs has another key, but for rare accidents.

@@ -74,12 +74,12 @@ impl<R: Row> Model for Sheet<R> {
     ghost coded = { rows_code R.code };
 
     ghost view = { λ s. record {
-      rows = table_by now_row (slots_of R.digits s.slots.entries);
-      kept = table_by kept_row (slots_of R.digits s.slots.entries);
+      rows = table_by now_row (slots_of R.Key.digits s.slots.entries);
+      kept = table_by kept_row (slots_of R.Key.digits s.slots.entries);
     } };
 
     ghost invariant = { λ s.
-        IsSound (slots_of R.digits s.slots.entries) s.changed.items s.len s.kept_len };
+        IsSound (slots_of R.Key.digits s.slots.entries) s.changed.items s.len s.kept_len };
 }
 
 impl<R: Row> Sheet<R> {
@@ -135,7 +135,7 @@ impl<R: Row> Sheet<R> {
 
     /// The row under the key, found by its hash. It takes no memory.
     pub fn get(&self, key: &R::Key) -> Option<&R>
-        ensures { option_copied result ≡ table.get (now_of self.now) (R.digits key.now) }
+        ensures { option_copied result ≡ table.get (now_of self.now) (R.Key.digits key.now) }
     {
         row_of::<R>(&self.slots, key)
     }
@@ -175,11 +175,11 @@ impl<R: Row> Sheet<R> {
     /// A copy of it is made, for `back`, where it has not changed yet since the rows were kept. The row stays under this
     /// key, whatever is written. An error is one of memory.
     pub fn get_mut(&mut self, key: R::Key) -> Result<&mut R, AllocError>
-        requires { IsSome (table.get (now_of self.old) (R.digits key)) }
+        requires { IsSome (table.get (now_of self.old) (R.Key.digits key)) }
         ensures* writes_back { sem
-            𝓛 (lends_row R.row R.Key.row R.Row R.Key.Hash self.entry (R.digits key) result) }
+            𝓛 (lends_row R.row R.Key.row R.Row R.Key.RowKey.own R.Key.Hash self.entry (R.Key.digits key) result) }
         ensures value { IfOk result (λ row.
-            table.get (now_of self.old) (R.digits key) ≡ Some row.now) }
+            table.get (now_of self.old) (R.Key.digits key) ≡ Some row.now) }
     {
         let i = note::<R>(self.alloc, &mut self.slots, &mut self.changed, &key)?;
         let held = &mut self.slots[i];
@@ -215,7 +215,7 @@ impl<R: Row> Sheet<R> {
     /// Removes the row under the key, if there is one. An error is one of memory.
     pub fn remove(&mut self, key: &R::Key) -> Result<(), AllocError>
         ensures ok { OnOk result (now_of self.new
-            ≡ table.remove (now_of self.old) (R.digits key.now)) }
+            ≡ table.remove (now_of self.old) (R.Key.digits key.now)) }
         ensures err { OnErr result (self.new ≡ self.old) }
         ensures kept { self.new.kept ≡ self.old.kept }
     {
@@ -234,11 +234,11 @@ impl<R: Row> Sheet<R> {
     /// were kept. An error is one of memory.
     pub fn pending(&self) -> Result<Vec<Pending<'_, R>>, AllocError>
         ensures once { IfOk result (λ pending.
-            IsEachOnce (map (λ p. R.digits p.key.now) pending.items)) }
+            IsEachOnce (map (λ p. R.Key.digits p.key.now) pending.items)) }
         ensures exact { IfOk result (λ pending. IsDifference
-            (map (λ p. R.digits p.key.now) pending.items) (now_of self.now) self.now.kept) }
+            (map (λ p. R.Key.digits p.key.now) pending.items) (now_of self.now) self.now.kept) }
         ensures rows { IfOk result (λ pending. All (λ p. option_copied p.row
-            ≡ table.get (now_of self.now) (R.digits p.key.now)) pending.items) }
+            ≡ table.get (now_of self.now) (R.Key.digits p.key.now)) pending.items) }
     {
         list_pending::<R>(self.alloc, &self.slots, self.changed.as_slice())
     }

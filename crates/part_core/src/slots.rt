@@ -7,7 +7,7 @@ ghost use Rattle.part_core.specs.Sheet.{key_cmp, HasKeyAt, IsDifference, IsDisti
 ghost use Rattle.part_core.specs.Select.{IsMeasure, IsTest};
 ghost use Rattle.part_core.specs.Slots.{ArePlaces, AreUsed, IsUnnoted, NoneFrom, kept_row, noted_at, now_row, row_found, rows_by, slots_of, table_by};
 
-use crate::row::Row;
+use crate::row::{Row, RowKey};
 use crate::sheet::Pending;
 use indexmap::IndexMap;
 use std::alloc::{AllocError, Global};
@@ -33,9 +33,9 @@ pub(crate) struct Found<'a, K, R> {
 pub(crate) fn place<R: Row>(slots: &IndexMap<R::Key, Held<R>>, key: &R::Key) -> Option<usize>
     ensures in_range { IfSome result (λ i. i < length slots.now.entries) }
     ensures found { IfSome result (λ i.
-        HasKeyAt (slots_of R.digits slots.now.entries) i (R.digits key.now)) }
+        HasKeyAt (slots_of R.Key.digits slots.now.entries) i (R.Key.digits key.now)) }
     ensures absent { IfNone result
-        (table.find key_cmp (R.digits key.now) (slots_of R.digits slots.now.entries) ≡ None) }
+        (table.find key_cmp (R.Key.digits key.now) (slots_of R.Key.digits slots.now.entries) ≡ None) }
 {
     slots.get_index_of(key)
 }
@@ -45,9 +45,9 @@ pub(crate) fn row_of<'a, R: Row>(
     slots: &'a IndexMap<R::Key, Held<R>>,
     key: &R::Key,
 ) -> Option<&'a R>
-    requires { IsDistinct (slots_of R.digits slots.now.entries) }
+    requires { IsDistinct (slots_of R.Key.digits slots.now.entries) }
     ensures { option_copied result
-        ≡ table.get (table_by now_row (slots_of R.digits slots.now.entries)) (R.digits key.now) }
+        ≡ table.get (table_by now_row (slots_of R.Key.digits slots.now.entries)) (R.Key.digits key.now) }
 {
     let held = slots.get(key)?;
     held.row.as_ref()
@@ -70,20 +70,20 @@ pub(crate) fn rewrite<R: Row>(
 ) -> bool
     requires in_range { i < length slots.old.entries }
     requires room { length changed.old.items < vec_capacity changed.old }
-    requires distinct { IsDistinct (slots_of R.digits slots.old.entries) }
-    requires used { AreUsed (slots_of R.digits slots.old.entries) }
-    requires places { ArePlaces changed.old.items (slots_of R.digits slots.old.entries) }
-    ensures distinct { IsDistinct (slots_of R.digits slots.new.entries) }
-    ensures used { AreUsed (slots_of R.digits slots.new.entries) }
-    ensures places { ArePlaces changed.new.items (slots_of R.digits slots.new.entries) }
-    ensures rows { (k : List ℕ) → HasKeyAt (slots_of R.digits slots.old.entries) i k
-        → table_by now_row (slots_of R.digits slots.new.entries)
-        ≡ given k row (table_by now_row (slots_of R.digits slots.old.entries)) }
-    ensures kept { table_by kept_row (slots_of R.digits slots.new.entries)
-        ≡ table_by kept_row (slots_of R.digits slots.old.entries) }
+    requires distinct { IsDistinct (slots_of R.Key.digits slots.old.entries) }
+    requires used { AreUsed (slots_of R.Key.digits slots.old.entries) }
+    requires places { ArePlaces changed.old.items (slots_of R.Key.digits slots.old.entries) }
+    ensures distinct { IsDistinct (slots_of R.Key.digits slots.new.entries) }
+    ensures used { AreUsed (slots_of R.Key.digits slots.new.entries) }
+    ensures places { ArePlaces changed.new.items (slots_of R.Key.digits slots.new.entries) }
+    ensures rows { (k : List ℕ) → HasKeyAt (slots_of R.Key.digits slots.old.entries) i k
+        → table_by now_row (slots_of R.Key.digits slots.new.entries)
+        ≡ given k row (table_by now_row (slots_of R.Key.digits slots.old.entries)) }
+    ensures kept { table_by kept_row (slots_of R.Key.digits slots.new.entries)
+        ≡ table_by kept_row (slots_of R.Key.digits slots.old.entries) }
     ensures few { length slots.old.entries < 2 ^ 63 }
-    ensures had { (k : List ℕ) → HasKeyAt (slots_of R.digits slots.old.entries) i k
-        → result ≡ table.contains_key (table_by now_row (slots_of R.digits slots.old.entries)) k }
+    ensures had { (k : List ℕ) → HasKeyAt (slots_of R.Key.digits slots.old.entries) i k
+        → result ≡ table.contains_key (table_by now_row (slots_of R.Key.digits slots.old.entries)) k }
 {
     // `len` is called for its clause that there are fewer than 2^63 slots.
     let _len = slots.len();
@@ -104,20 +104,20 @@ pub(crate) fn add<R: Row>(
     key: R::Key,
     row: R,
 ) -> Result<(), AllocError>
-    requires absent { table.find key_cmp (R.digits key) (slots_of R.digits slots.old.entries)
+    requires absent { table.find key_cmp (R.Key.digits key) (slots_of R.Key.digits slots.old.entries)
         ≡ None }
     requires room { length changed.old.items < vec_capacity changed.old }
-    requires distinct { IsDistinct (slots_of R.digits slots.old.entries) }
-    requires used { AreUsed (slots_of R.digits slots.old.entries) }
-    requires places { ArePlaces changed.old.items (slots_of R.digits slots.old.entries) }
-    ensures distinct { IsDistinct (slots_of R.digits slots.new.entries) }
-    ensures used { AreUsed (slots_of R.digits slots.new.entries) }
-    ensures places { ArePlaces changed.new.items (slots_of R.digits slots.new.entries) }
-    ensures rows { OnOk result (table_by now_row (slots_of R.digits slots.new.entries)
+    requires distinct { IsDistinct (slots_of R.Key.digits slots.old.entries) }
+    requires used { AreUsed (slots_of R.Key.digits slots.old.entries) }
+    requires places { ArePlaces changed.old.items (slots_of R.Key.digits slots.old.entries) }
+    ensures distinct { IsDistinct (slots_of R.Key.digits slots.new.entries) }
+    ensures used { AreUsed (slots_of R.Key.digits slots.new.entries) }
+    ensures places { ArePlaces changed.new.items (slots_of R.Key.digits slots.new.entries) }
+    ensures rows { OnOk result (table_by now_row (slots_of R.Key.digits slots.new.entries)
         ≡ table.insert
-        (table_by now_row (slots_of R.digits slots.old.entries)) (R.digits key) row) }
-    ensures kept { table_by kept_row (slots_of R.digits slots.new.entries)
-        ≡ table_by kept_row (slots_of R.digits slots.old.entries) }
+        (table_by now_row (slots_of R.Key.digits slots.old.entries)) (R.Key.digits key) row) }
+    ensures kept { table_by kept_row (slots_of R.Key.digits slots.new.entries)
+        ≡ table_by kept_row (slots_of R.Key.digits slots.old.entries) }
     ensures few { length slots.old.entries < 2 ^ 63 }
     ensures err { OnErr result (slots.new.entries ≡ slots.old.entries) }
 {
@@ -136,13 +136,13 @@ pub(crate) fn add<R: Row>(
 // Takes out the slot that stands there, and with it the change that is noted there. No later place has one.
 fn take_out<R: Row>(slots: &mut IndexMap<R::Key, Held<R>>, i: usize)
     requires in_range { i < length slots.old.entries }
-    requires last { NoneFrom (i + 1) (slots_of R.digits slots.old.entries) }
+    requires last { NoneFrom (i + 1) (slots_of R.Key.digits slots.old.entries) }
     ensures noted { IsUnnoted
-        (slots_of R.digits slots.old.entries) (slots_of R.digits slots.new.entries) i }
+        (slots_of R.Key.digits slots.old.entries) (slots_of R.Key.digits slots.new.entries) i }
     ensures taken { (k : List ℕ)
-        → (held : Held R) → slice_get (slots_of R.digits slots.old.entries) i ≡ Some (k, held)
-        → IsPermutation (slots_of R.digits slots.old.entries)
-        ((k, held) ∷ slots_of R.digits slots.new.entries) }
+        → (held : Held R) → slice_get (slots_of R.Key.digits slots.old.entries) i ≡ Some (k, held)
+        → IsPermutation (slots_of R.Key.digits slots.old.entries)
+        ((k, held) ∷ slots_of R.Key.digits slots.new.entries) }
 {
     let _ = slots.swap_remove_index(i);
 }
@@ -150,15 +150,15 @@ fn take_out<R: Row>(slots: &mut IndexMap<R::Key, Held<R>>, i: usize)
 // Makes the change that is noted there final. No later place has one.
 fn keep_at<R: Row>(slots: &mut IndexMap<R::Key, Held<R>>, i: usize)
     requires in_range { i < length slots.old.entries }
-    requires distinct { IsDistinct (slots_of R.digits slots.old.entries) }
-    requires used { AreUsed (slots_of R.digits slots.old.entries) }
-    requires last { NoneFrom (i + 1) (slots_of R.digits slots.old.entries) }
-    ensures distinct { IsDistinct (slots_of R.digits slots.new.entries) }
-    ensures used { AreUsed (slots_of R.digits slots.new.entries) }
+    requires distinct { IsDistinct (slots_of R.Key.digits slots.old.entries) }
+    requires used { AreUsed (slots_of R.Key.digits slots.old.entries) }
+    requires last { NoneFrom (i + 1) (slots_of R.Key.digits slots.old.entries) }
+    ensures distinct { IsDistinct (slots_of R.Key.digits slots.new.entries) }
+    ensures used { AreUsed (slots_of R.Key.digits slots.new.entries) }
     ensures noted { IsUnnoted
-        (slots_of R.digits slots.old.entries) (slots_of R.digits slots.new.entries) i }
-    ensures rows { table_by now_row (slots_of R.digits slots.new.entries)
-        ≡ table_by now_row (slots_of R.digits slots.old.entries) }
+        (slots_of R.Key.digits slots.old.entries) (slots_of R.Key.digits slots.new.entries) i }
+    ensures rows { table_by now_row (slots_of R.Key.digits slots.new.entries)
+        ≡ table_by now_row (slots_of R.Key.digits slots.old.entries) }
 {
     if slots[i].row.is_some() {
         let held = &mut slots[i];
@@ -191,15 +191,15 @@ fn restore<R: Drop>(held: &mut Held<R>)
 // Takes back the change that is noted there. No later place has one.
 fn back_at<R: Row>(slots: &mut IndexMap<R::Key, Held<R>>, i: usize)
     requires in_range { i < length slots.old.entries }
-    requires distinct { IsDistinct (slots_of R.digits slots.old.entries) }
-    requires used { AreUsed (slots_of R.digits slots.old.entries) }
-    requires last { NoneFrom (i + 1) (slots_of R.digits slots.old.entries) }
-    ensures distinct { IsDistinct (slots_of R.digits slots.new.entries) }
-    ensures used { AreUsed (slots_of R.digits slots.new.entries) }
+    requires distinct { IsDistinct (slots_of R.Key.digits slots.old.entries) }
+    requires used { AreUsed (slots_of R.Key.digits slots.old.entries) }
+    requires last { NoneFrom (i + 1) (slots_of R.Key.digits slots.old.entries) }
+    ensures distinct { IsDistinct (slots_of R.Key.digits slots.new.entries) }
+    ensures used { AreUsed (slots_of R.Key.digits slots.new.entries) }
     ensures noted { IsUnnoted
-        (slots_of R.digits slots.old.entries) (slots_of R.digits slots.new.entries) i }
-    ensures kept { table_by kept_row (slots_of R.digits slots.new.entries)
-        ≡ table_by kept_row (slots_of R.digits slots.old.entries) }
+        (slots_of R.Key.digits slots.old.entries) (slots_of R.Key.digits slots.new.entries) i }
+    ensures kept { table_by kept_row (slots_of R.Key.digits slots.new.entries)
+        ≡ table_by kept_row (slots_of R.Key.digits slots.old.entries) }
 {
     if had_row(&slots[i]) {
         restore(&mut slots[i]);
@@ -210,16 +210,16 @@ fn back_at<R: Row>(slots: &mut IndexMap<R::Key, Held<R>>, i: usize)
 
 // Makes the changes final, from the last place on. It takes no memory.
 pub(crate) fn keep_all<R: Row>(slots: &mut IndexMap<R::Key, Held<R>>, changed: &mut Vec<usize>)
-    requires distinct { IsDistinct (slots_of R.digits slots.old.entries) }
-    requires used { AreUsed (slots_of R.digits slots.old.entries) }
-    requires places { ArePlaces changed.old.items (slots_of R.digits slots.old.entries) }
-    ensures distinct { IsDistinct (slots_of R.digits slots.new.entries) }
-    ensures used { AreUsed (slots_of R.digits slots.new.entries) }
-    ensures places { ArePlaces changed.new.items (slots_of R.digits slots.new.entries) }
-    ensures rows { table_by now_row (slots_of R.digits slots.new.entries)
-        ≡ table_by now_row (slots_of R.digits slots.old.entries) }
-    ensures kept { table_by kept_row (slots_of R.digits slots.new.entries)
-        ≡ table_by now_row (slots_of R.digits slots.old.entries) }
+    requires distinct { IsDistinct (slots_of R.Key.digits slots.old.entries) }
+    requires used { AreUsed (slots_of R.Key.digits slots.old.entries) }
+    requires places { ArePlaces changed.old.items (slots_of R.Key.digits slots.old.entries) }
+    ensures distinct { IsDistinct (slots_of R.Key.digits slots.new.entries) }
+    ensures used { AreUsed (slots_of R.Key.digits slots.new.entries) }
+    ensures places { ArePlaces changed.new.items (slots_of R.Key.digits slots.new.entries) }
+    ensures rows { table_by now_row (slots_of R.Key.digits slots.new.entries)
+        ≡ table_by now_row (slots_of R.Key.digits slots.old.entries) }
+    ensures kept { table_by kept_row (slots_of R.Key.digits slots.new.entries)
+        ≡ table_by now_row (slots_of R.Key.digits slots.old.entries) }
 {
     changed.sort_unstable();
     while let Some(i) = changed.pop() {
@@ -229,16 +229,16 @@ pub(crate) fn keep_all<R: Row>(slots: &mut IndexMap<R::Key, Held<R>>, changed: &
 
 // Takes the changes back, from the last place on. It takes no memory.
 pub(crate) fn back_all<R: Row>(slots: &mut IndexMap<R::Key, Held<R>>, changed: &mut Vec<usize>)
-    requires distinct { IsDistinct (slots_of R.digits slots.old.entries) }
-    requires used { AreUsed (slots_of R.digits slots.old.entries) }
-    requires places { ArePlaces changed.old.items (slots_of R.digits slots.old.entries) }
-    ensures distinct { IsDistinct (slots_of R.digits slots.new.entries) }
-    ensures used { AreUsed (slots_of R.digits slots.new.entries) }
-    ensures places { ArePlaces changed.new.items (slots_of R.digits slots.new.entries) }
-    ensures rows { table_by now_row (slots_of R.digits slots.new.entries)
-        ≡ table_by kept_row (slots_of R.digits slots.old.entries) }
-    ensures kept { table_by kept_row (slots_of R.digits slots.new.entries)
-        ≡ table_by kept_row (slots_of R.digits slots.old.entries) }
+    requires distinct { IsDistinct (slots_of R.Key.digits slots.old.entries) }
+    requires used { AreUsed (slots_of R.Key.digits slots.old.entries) }
+    requires places { ArePlaces changed.old.items (slots_of R.Key.digits slots.old.entries) }
+    ensures distinct { IsDistinct (slots_of R.Key.digits slots.new.entries) }
+    ensures used { AreUsed (slots_of R.Key.digits slots.new.entries) }
+    ensures places { ArePlaces changed.new.items (slots_of R.Key.digits slots.new.entries) }
+    ensures rows { table_by now_row (slots_of R.Key.digits slots.new.entries)
+        ≡ table_by kept_row (slots_of R.Key.digits slots.old.entries) }
+    ensures kept { table_by kept_row (slots_of R.Key.digits slots.new.entries)
+        ≡ table_by kept_row (slots_of R.Key.digits slots.old.entries) }
 {
     changed.sort_unstable();
     while let Some(i) = changed.pop() {
@@ -271,7 +271,7 @@ pub(crate) fn is_as_kept<R: Row>(held: &Held<R>) -> bool
 pub(crate) fn any_row<R: Row, F: Fn(&R) -> bool>(slots: &IndexMap<R::Key, Held<R>>, test: F) -> bool
     requires { F.IsAlwaysCallable test }
     ensures { (p : R → Bool) → IsTest F.Fn test p → result
-        ≡ list_any p (map (λ e. e.1) (rows_by now_row (slots_of R.digits slots.now.entries))) }
+        ≡ list_any p (map (λ e. e.1) (rows_by now_row (slots_of R.Key.digits slots.now.entries))) }
 {
     for i in 0..slots.len() {
         if let Some(row) = &slots[i].row {
@@ -290,7 +290,7 @@ pub(crate) fn sum_rows<R: Row, F: Fn(&R) -> u64>(
 ) -> u128
     requires { F.IsAlwaysCallable measure }
     ensures { (f : R → ℕ) → IsMeasure F.Fn measure f → result
-        ≡ sum_by f (map (λ e. e.1) (rows_by now_row (slots_of R.digits slots.now.entries))) }
+        ≡ sum_by f (map (λ e. e.1) (rows_by now_row (slots_of R.Key.digits slots.now.entries))) }
 {
     let mut total = 0;
     for i in 0..slots.len() {
@@ -309,8 +309,8 @@ pub(crate) fn find_rows<'a, R: Row, F: Fn(&R) -> bool>(
 ) -> Result<Vec<Found<'a, R::Key, R>>, AllocError>
     requires { F.IsAlwaysCallable test }
     ensures { IfOk result (λ found. (p : R → Bool) → IsTest F.Fn test p
-        → map (row_found R.digits) found.items
-        ≡ filter (λ e. p e.1) (rows_by now_row (slots_of R.digits slots.now.entries))) }
+        → map (row_found R.Key.digits) found.items
+        ≡ filter (λ e. p e.1) (rows_by now_row (slots_of R.Key.digits slots.now.entries))) }
 {
     let mut found = Vec::new(alloc);
     for i in 0..slots.len() {
@@ -329,9 +329,9 @@ pub(crate) fn find_rows<'a, R: Row, F: Fn(&R) -> bool>(
 // Sorts by key.
 pub(crate) fn sort_found<'a, R: Row>(found: &mut Vec<Found<'a, R::Key, R>>)
     ensures permutation { IsPermutation found.old.items found.new.items }
-    ensures sorted { IsSortedByKey (λ f. R.digits f.key.now) key_cmp found.new.items }
+    ensures sorted { IsSortedByKey (λ f. R.Key.digits f.key.now) key_cmp found.new.items }
 {
-    found.sort_unstable_by(|one, other| R::compare(one.key, other.key));
+    found.sort_unstable_by(|one, other| one.key.compare(other.key));
 }
 
 // The rows of these.
@@ -364,16 +364,16 @@ pub(crate) fn list_pending<'a, R: Row>(
     slots: &'a IndexMap<R::Key, Held<R>>,
     changed: &[usize],
 ) -> Result<Vec<Pending<'a, R>>, AllocError>
-    requires distinct { IsDistinct (slots_of R.digits slots.now.entries) }
-    requires places { ArePlaces changed.now (slots_of R.digits slots.now.entries) }
+    requires distinct { IsDistinct (slots_of R.Key.digits slots.now.entries) }
+    requires places { ArePlaces changed.now (slots_of R.Key.digits slots.now.entries) }
     ensures once { IfOk result (λ pending.
-        IsEachOnce (map (λ p. R.digits p.key.now) pending.items)) }
+        IsEachOnce (map (λ p. R.Key.digits p.key.now) pending.items)) }
     ensures exact { IfOk result (λ pending.
-        IsDifference (map (λ p. R.digits p.key.now) pending.items)
-        (table_by now_row (slots_of R.digits slots.now.entries))
-        (table_by kept_row (slots_of R.digits slots.now.entries))) }
+        IsDifference (map (λ p. R.Key.digits p.key.now) pending.items)
+        (table_by now_row (slots_of R.Key.digits slots.now.entries))
+        (table_by kept_row (slots_of R.Key.digits slots.now.entries))) }
     ensures rows { IfOk result (λ pending. All (λ p. option_copied p.row
-        ≡ table.get (table_by now_row (slots_of R.digits slots.now.entries)) (R.digits p.key.now))
+        ≡ table.get (table_by now_row (slots_of R.Key.digits slots.now.entries)) (R.Key.digits p.key.now))
         pending.items) }
 {
     let mut pending = Vec::new(alloc);
@@ -398,22 +398,22 @@ pub(crate) fn note<R: Row>(
     changed: &mut Vec<usize>,
     key: &R::Key,
 ) -> Result<usize, AllocError>
-    requires distinct { IsDistinct (slots_of R.digits slots.old.entries) }
-    requires used { AreUsed (slots_of R.digits slots.old.entries) }
-    requires places { ArePlaces changed.old.items (slots_of R.digits slots.old.entries) }
+    requires distinct { IsDistinct (slots_of R.Key.digits slots.old.entries) }
+    requires used { AreUsed (slots_of R.Key.digits slots.old.entries) }
+    requires places { ArePlaces changed.old.items (slots_of R.Key.digits slots.old.entries) }
     requires present { IsSome
-        (table.get (table_by now_row (slots_of R.digits slots.old.entries)) (R.digits key.now)) }
-    ensures distinct { IsDistinct (slots_of R.digits slots.new.entries) }
-    ensures used { AreUsed (slots_of R.digits slots.new.entries) }
-    ensures places { ArePlaces changed.new.items (slots_of R.digits slots.new.entries) }
-    ensures rows { table_by now_row (slots_of R.digits slots.new.entries)
-        ≡ table_by now_row (slots_of R.digits slots.old.entries) }
-    ensures kept { table_by kept_row (slots_of R.digits slots.new.entries)
-        ≡ table_by kept_row (slots_of R.digits slots.old.entries) }
+        (table.get (table_by now_row (slots_of R.Key.digits slots.old.entries)) (R.Key.digits key.now)) }
+    ensures distinct { IsDistinct (slots_of R.Key.digits slots.new.entries) }
+    ensures used { AreUsed (slots_of R.Key.digits slots.new.entries) }
+    ensures places { ArePlaces changed.new.items (slots_of R.Key.digits slots.new.entries) }
+    ensures rows { table_by now_row (slots_of R.Key.digits slots.new.entries)
+        ≡ table_by now_row (slots_of R.Key.digits slots.old.entries) }
+    ensures kept { table_by kept_row (slots_of R.Key.digits slots.new.entries)
+        ≡ table_by kept_row (slots_of R.Key.digits slots.old.entries) }
     ensures in_range { IfOk result (λ i. i < length slots.new.entries) }
     ensures found { IfOk result (λ i.
-        HasKeyAt (slots_of R.digits slots.new.entries) i (R.digits key.now)) }
-    ensures noted { IfOk result (λ i. noted_at (slots_of R.digits slots.new.entries) i ≡ 1) }
+        HasKeyAt (slots_of R.Key.digits slots.new.entries) i (R.Key.digits key.now)) }
+    ensures noted { IfOk result (λ i. noted_at (slots_of R.Key.digits slots.new.entries) i ≡ 1) }
 {
     let Some(i) = place::<R>(slots, key) else {
         unreachable!()

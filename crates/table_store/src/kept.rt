@@ -55,16 +55,16 @@ fn add_change<S: Alter, R: Stored>(
     requires ready { HasCleanDisk (state S.Store conn.old) → IsReady (state S.Store conn.old) }
     requires suits { SuitKept R.columns_of R.key_of }
     requires takes { KeptTakes R.columns_of R.key_of
-        (R.digits change.now.key.now) (option_copied change.now.row) }
+        (R.Key.digits change.now.key.now) (option_copied change.now.row) }
     ensures set { HasCleanDisk (state S.Store conn.new)
         → OnOk result (Writes Kept (state S.Store conn.old) (state S.Store conn.new)) }
     ensures made { HasCleanDisk (state S.Store conn.new) → (rows : Table R)
         → StandUnderKeys R.key_of rows
-        → get rows (R.digits change.now.key.now) ≡ None
+        → get rows (R.Key.digits change.now.key.now) ≡ None
         → IsTableOf R.row_from R.columns_of Kept (tree_of Kept (state S.Store conn.old)) rows
         → OnOk result (IsTableOf R.row_from R.columns_of Kept
         (tree_of Kept (state S.Store conn.new))
-        (given (R.digits change.now.key.now) (option_copied change.now.row) rows)) }
+        (given (R.Key.digits change.now.key.now) (option_copied change.now.row) rows)) }
     ensures failed { HasCleanDisk (state S.Store conn.new)
         → IfErr result (MayUndo (state S.Store conn.old) (state S.Store conn.new)) }
     ensures fault { IfErr result IsOfMemoryOrStore }
@@ -85,16 +85,16 @@ fn add_changes<S: Alter, R: Stored>(
     requires ready { HasCleanDisk (state S.Store conn.old) → IsReady (state S.Store conn.old) }
     requires suits { SuitKept R.columns_of R.key_of }
     requires takes { All (λ c. KeptTakes R.columns_of R.key_of c.0 c.1)
-        (changes_of R.digits changes.now) }
+        (changes_of R.Key.digits changes.now) }
     ensures set { HasCleanDisk (state S.Store conn.new)
         → OnOk result (Writes Kept (state S.Store conn.old) (state S.Store conn.new)) }
     ensures made { HasCleanDisk (state S.Store conn.new) → (rows : Table R)
         → StandUnderKeys R.key_of rows
-        → AreNew (changes_of R.digits changes.now) rows
+        → AreNew (changes_of R.Key.digits changes.now) rows
         → IsTableOf R.row_from R.columns_of Kept (tree_of Kept (state S.Store conn.old)) rows
         → OnOk result (IsTableOf R.row_from R.columns_of Kept
         (tree_of Kept (state S.Store conn.new))
-        (given_all (changes_of R.digits changes.now) rows)) }
+        (given_all (changes_of R.Key.digits changes.now) rows)) }
     ensures failed { HasCleanDisk (state S.Store conn.new)
         → IfErr result (MayStop Kept (state S.Store conn.old) (state S.Store conn.new)) }
     ensures fault { IfErr result IsOfMemoryOrStore }

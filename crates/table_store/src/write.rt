@@ -7,6 +7,7 @@ ghost use Rattle.sqlite.specs.Values.{bound, bound_value};
 ghost use Rattle.sqlite_value.specs.Value.{owned};
 ghost use Rattle.part_core.specs.Columns.{IsSmall, AreSmall};
 ghost use Rattle.part_core.specs.Filled.{StandUnderKeys};
+ghost use Rattle.part_core.specs.RowKeys.{number_digits};
 ghost use Rattle.part_core.specs.Rows.{StayThere};
 ghost use Rattle.part_core.specs.Sheet.{Table, given, now_of};
 ghost use Rattle.table_store.specs.Stored.{value_of, column_of, columns_in};
@@ -57,7 +58,7 @@ pub fn write_row<S: Alter, R: Stored + Row<Key = u64>>(
     row: &R,
 ) -> Result<(), TableFault>
     requires ready { HasCleanDisk (state S.Store conn.old) → IsReady (state S.Store conn.old) }
-    requires suits { Suits R.columns_of R.key_of R.digits table }
+    requires suits { Suits R.columns_of R.key_of number_digits table }
     requires small { All IsSmall (R.columns_of row.now) }
     ensures set { HasCleanDisk (state S.Store conn.new)
         → OnOk result (Writes table (state S.Store conn.old) (state S.Store conn.new)) }
@@ -84,7 +85,7 @@ fn remove_row<S: Alter, R: Stored + Row<Key = u64>>(
     number: u64,
 ) -> Result<(), TableFault>
     requires ready { HasCleanDisk (state S.Store conn.old) → IsReady (state S.Store conn.old) }
-    requires suits { Suits R.columns_of R.key_of R.digits table }
+    requires suits { Suits R.columns_of R.key_of number_digits table }
     requires dropped { AreDropped table }
     requires small { number < 2 ^ 63 }
     ensures set { HasCleanDisk (state S.Store conn.new)
@@ -111,9 +112,9 @@ fn write_change<S: Alter, R: Stored + Row<Key = u64>>(
     change: &Pending<'_, R>,
 ) -> Result<(), TableFault>
     requires ready { HasCleanDisk (state S.Store conn.old) → IsReady (state S.Store conn.old) }
-    requires suits { Suits R.columns_of R.key_of R.digits table }
+    requires suits { Suits R.columns_of R.key_of number_digits table }
     requires takes { Takes R.columns_of R.key_of table
-        (R.digits change.now.key.now) (option_copied change.now.row) }
+        (number_digits change.now.key.now) (option_copied change.now.row) }
     ensures set { HasCleanDisk (state S.Store conn.new)
         → OnOk result (Writes table (state S.Store conn.old) (state S.Store conn.new)) }
     ensures made { HasCleanDisk (state S.Store conn.new) → (rows : Table R)
@@ -121,7 +122,7 @@ fn write_change<S: Alter, R: Stored + Row<Key = u64>>(
         → IsTableOf R.row_from R.columns_of table (tree_of table (state S.Store conn.old)) rows
         → OnOk result (IsTableOf R.row_from R.columns_of table
         (tree_of table (state S.Store conn.new))
-        (given (R.digits change.now.key.now) (option_copied change.now.row) rows)) }
+        (given (number_digits change.now.key.now) (option_copied change.now.row) rows)) }
     ensures failed { HasCleanDisk (state S.Store conn.new)
         → IfErr result (MayUndo (state S.Store conn.old) (state S.Store conn.new)) }
     ensures fault { IfErr result IsOfMemoryOrStore }
@@ -141,9 +142,9 @@ fn write_changes<S: Alter, R: Stored + Row<Key = u64>>(
     changes: &[Pending<'_, R>],
 ) -> Result<(), TableFault>
     requires ready { HasCleanDisk (state S.Store conn.old) → IsReady (state S.Store conn.old) }
-    requires suits { Suits R.columns_of R.key_of R.digits table }
+    requires suits { Suits R.columns_of R.key_of number_digits table }
     requires takes { All (λ c. Takes R.columns_of R.key_of table c.0 c.1)
-        (changes_of R.digits changes.now) }
+        (changes_of number_digits changes.now) }
     ensures set { HasCleanDisk (state S.Store conn.new)
         → OnOk result (Writes table (state S.Store conn.old) (state S.Store conn.new)) }
     ensures made { HasCleanDisk (state S.Store conn.new) → (rows : Table R)
@@ -151,7 +152,7 @@ fn write_changes<S: Alter, R: Stored + Row<Key = u64>>(
         → IsTableOf R.row_from R.columns_of table (tree_of table (state S.Store conn.old)) rows
         → OnOk result (IsTableOf R.row_from R.columns_of table
         (tree_of table (state S.Store conn.new))
-        (given_all (changes_of R.digits changes.now) rows)) }
+        (given_all (changes_of number_digits changes.now) rows)) }
     ensures failed { HasCleanDisk (state S.Store conn.new)
         → IfErr result (MayStop table (state S.Store conn.old) (state S.Store conn.new)) }
     ensures fault { IfErr result IsOfMemoryOrStore }
@@ -176,7 +177,7 @@ pub fn write_pending<S: Alter, R: Stored + Row<Key = u64>>(
     sheet: &Sheet<R>,
 ) -> Result<(), TableFault>
     requires ready { HasCleanDisk (state S.Store conn.old) → IsReady (state S.Store conn.old) }
-    requires suits { Suits R.columns_of R.key_of R.digits table }
+    requires suits { Suits R.columns_of R.key_of number_digits table }
     requires own { StandUnderKeys R.key_of (now_of sheet.now)
         × StandUnderKeys R.key_of sheet.now.kept }
     requires small { AreSmall R.columns_of (now_of sheet.now)

@@ -3,7 +3,7 @@ ghost use Rattle.std.specs.Prelude.{◌≡◌, ◌∷◌, ◌<◌, ◌^◌, [], 
 ghost use Rattle.std.specs.FinMap.{empty};
 ghost use Rattle.sqlite.specs.Held.{state};
 ghost use Rattle.sqlite.specs.State.{HasCleanDisk};
-ghost use Rattle.part_core.specs.CategoryColumns.{category_columns, category_from};
+ghost use Rattle.part_core.specs.NamedRows.{named_columns, named_from};
 ghost use Rattle.part_core.specs.Columns.{IsSmall, AreSmall};
 ghost use Rattle.part_core.specs.Filled.{StandUnderKeys};
 ghost use Rattle.part_core.specs.Rows.{StayThere};
@@ -43,7 +43,7 @@ fn fresh<S: Alter>(conn: &mut Connection<S>) -> Result<(), Fail>
 
 fn category(alloc: Global, number: u64, name: &str) -> Result<Category, Fail>
     requires { number < 2 ^ 63 }
-    ensures { IfOk result (λ row. All IsSmall (category_columns row)) }
+    ensures { IfOk result (λ row. All IsSmall (named_columns row)) }
 {
     let text = String::from_str(alloc, name)?;
     let name = Name::new(text).ok_or("a name")?;
@@ -57,7 +57,7 @@ fn category(alloc: Global, number: u64, name: &str) -> Result<Category, Fail>
 /// Two categories, put and not kept.
 fn categories(alloc: Global) -> Result<Sheet<Category>, Fail>
     ensures own { IfOk result (λ sheet. StandUnderKeys (λ row. row.number ∷ []) (now_of sheet)) }
-    ensures small { IfOk result (λ sheet. AreSmall category_columns (now_of sheet)) }
+    ensures small { IfOk result (λ sheet. AreSmall named_columns (now_of sheet)) }
     ensures kept { IfOk result (λ sheet. sheet.kept ≡ empty) }
 {
     let mut sheet = Sheet::new(alloc);
@@ -71,10 +71,10 @@ fn categories(alloc: Global) -> Result<Sheet<Category>, Fail>
 /// Keeps the categories, and puts the later one again under another name.
 fn renamed(alloc: Global, sheet: &mut Sheet<Category>) -> Result<(), Fail>
     requires own { StandUnderKeys (λ row. row.number ∷ []) (now_of sheet.old) }
-    requires small { AreSmall category_columns (now_of sheet.old) }
+    requires small { AreSmall named_columns (now_of sheet.old) }
     ensures own { IfOk result (λ _. StandUnderKeys (λ row. row.number ∷ [])
         (now_of sheet.new)) }
-    ensures small { IfOk result (λ _. AreSmall category_columns (now_of sheet.new)) }
+    ensures small { IfOk result (λ _. AreSmall named_columns (now_of sheet.new)) }
     ensures stays { IfOk result (λ _. StayThere sheet.new.kept (now_of sheet.new)) }
     ensures kept { sheet.new.kept ≡ now_of sheet.old }
 {
@@ -92,16 +92,16 @@ fn written<S: Alter>(
     requires ready { HasCleanDisk (state S.Store conn.old) → IsReady (state S.Store conn.old) }
     requires own { StandUnderKeys (λ row. row.number ∷ []) (now_of sheet.now)
         × StandUnderKeys (λ row. row.number ∷ []) sheet.now.kept }
-    requires small { AreSmall category_columns (now_of sheet.now)
-        × AreSmall category_columns sheet.now.kept }
+    requires small { AreSmall named_columns (now_of sheet.now)
+        × AreSmall named_columns sheet.now.kept }
     requires stays { StayThere sheet.now.kept (now_of sheet.now) }
     requires kept { HasCleanDisk (state S.Store conn.old)
-        → IsTableOf category_from category_columns Categories
+        → IsTableOf named_from named_columns Categories
         (tree_of Categories (state S.Store conn.old)) sheet.now.kept }
     ensures ready { IfOk result (λ _. HasCleanDisk (state S.Store conn.new)
         → IsReady (state S.Store conn.new)) }
     ensures table { IfOk result (λ _. HasCleanDisk (state S.Store conn.new)
-        → IsTableOf category_from category_columns Categories
+        → IsTableOf named_from named_columns Categories
         (tree_of Categories (state S.Store conn.new)) (now_of sheet.now)) }
 {
     Ok(write_pending::<S, Category>(alloc, conn, TableName::Categories, sheet)?)

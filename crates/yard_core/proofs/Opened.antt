@@ -16,7 +16,7 @@ use Rattle.yard_core.specs.Climbs as climbs
 use Rattle.yard_core.specs.Opening.{AreSoundRows}
 use Rattle.yard_core.specs.SoundLocations.{AreSoundLocations, IsSoundLocation}
 use Rattle.yard_core.specs.Stock.{Stock, IsSound}
-use Rattle.yard_core.specs.declared.location.Location.{Location}
+use Rattle.part_core.specs.declared.named_row.NamedRow.{NamedRow as Location}
 use Rattle.yard_core.proofs.ByIndex.{all-each}
 use Rattle.yard_core.proofs.OwnKeys.{own-keyed}
 use Rattle.yard_core.proofs.Rows.{any, by_number, by_number-rises}

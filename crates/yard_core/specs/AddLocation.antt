@@ -1,19 +1,13 @@
 -- A new location, under a parent or at the top.
-use Rattle.std.specs.Prelude.{ℕ, ◌&&◌, Bool, List, [], ◌∷◌, Option}
+use Rattle.std.specs.Prelude.{ℕ, List, [], ◌∷◌, Option}
 use Rattle.std.specs.FinMap as table
-use Rattle.std.specs.List.{list_any}
-use Rattle.std.specs.Str.{bytes_eq}
 use Rattle.part_core.specs.Catalogue.{is_missing}
 use Rattle.part_core.specs.Checks.{Check}
 use Rattle.part_core.specs.Counter.{passes_limit}
-use Rattle.part_core.specs.Numbered.{is_same_number}
+use Rattle.part_core.specs.NamedRows.{is_named}
 use Rattle.part_core.specs.declared.refusal.Refusal.TheVariants.{NoSuch, NameTaken, Full}
 use Rattle.yard_core.specs.Books.{Books, with_drawn}
 use Rattle.yard_core.specs.Stock.{Stock, has_location}
-
--- whether a location under this parent has this name
-abbrev pub is_location_named : List ℕ → Option ℕ → Stock → Bool
-is_location_named name parent s = list_any (λ l. is_same_number l.parent parent && bytes_eq l.name name) (table.values s.locations)
 
 -- the stock with a location under that number
 abbrev pub with_location : ℕ → List ℕ → Option ℕ → Stock → Stock
@@ -27,6 +21,6 @@ add_location name parent b = with_drawn (with_location b.counter.next name paren
 abbrev pub add_location_checks : List ℕ → Option ℕ → Books → List Check
 add_location_checks name parent b =
     (is_missing parent (λ n. has_location n b.stock), NoSuch)
-    ∷ (is_location_named name parent b.stock, NameTaken)
+    ∷ (is_named name parent b.stock.locations, NameTaken)
     ∷ (passes_limit (add_location name parent b).counter, Full)
     ∷ []

@@ -3,8 +3,6 @@ pub mod Books
 pub mod Climbs
 pub mod Contents
 pub mod Equations
-pub mod LocationColumns
-pub mod LocationKeys
 pub mod Opening
 pub mod Outputs
 pub mod Shares

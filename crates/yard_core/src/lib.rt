@@ -2,7 +2,6 @@
 #![tactic(auto)]
 
 mod change;
-mod location;
 mod opening;
 mod sums;
 mod walks;
@@ -11,9 +10,11 @@ pub mod yard_command;
 mod yard_forms;
 
 pub use forest::{Entry, Item, Kind, Lot, Note, Place, Reason, copy_batch, is_same_batch};
-pub use location::Location;
 pub use opening::rows_in_order;
 pub use sums::Sums;
 pub use walks::{Inside, Tree};
 pub use yard::Yard;
 pub use yard_command::YardCommand;
+
+/// A place where stock lies. Locations are a tree, fixed when they are made.
+pub type Location = part_core::NamedRow;

@@ -1,25 +1,13 @@
 //! A new category of parts, under a parent or at the top.
 ghost use Rattle.std.specs.Prelude.{◌≡◌};
 ghost use Rattle.part_core.specs.Acts.{Acts};
-ghost use Rattle.part_core.specs.AddCategory.{add_category, add_category_checks, is_category_named};
+ghost use Rattle.part_core.specs.AddCategory.{add_category, add_category_checks};
 ghost use Rattle.part_core.specs.Catalogues.{kept_register, parts_of, register_of};
 
 use crate::catalogue::Catalogue;
-use crate::category::{Category, named_key};
-use crate::row::is_same_number;
-use crate::{CoreFault, Counter, Id, Name, Refusal};
+use crate::{Category, CoreFault, Counter, Id, Name, Refusal, is_named};
 
 impl Catalogue {
-    /// Whether a category under this parent has this name. It looks at those that have the index key of both.
-    fn is_category_named(&self, name: &Name, parent: Option<Id>) -> bool
-        ensures { result ≡ is_category_named name.now parent (parts_of self.now) }
-    {
-        self.categories.any_under(
-            named_key(parent, name),
-            |category| is_same_number(category.parent, parent) && category.name.equals(name),
-        )
-    }
-
     /// A new category, under a number that is drawn for it. `NoSuch` where the parent is no category,
     /// `NameTaken` where a category under this parent has the name, `Full` where there is no number left.
     pub fn add_category(
@@ -38,7 +26,7 @@ impl Catalogue {
         if self.is_category_missing(parent) {
             return Err(CoreFault::Refused(Refusal::NoSuch));
         }
-        if self.is_category_named(name, parent) {
+        if is_named(&self.categories, name, parent) {
             return Err(CoreFault::Refused(Refusal::NameTaken));
         }
         if counter.lacks(1) {

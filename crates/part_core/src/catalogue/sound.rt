@@ -1,15 +1,15 @@
 //! Whether a catalogue is sound: each of its rows is asked once, and looks up at most one other.
 ghost use Rattle.std.specs.Prelude.{◌≡◌, ◌↔◌, IsTrue};
 ghost use Rattle.part_core.specs.Catalogues.{parts_of};
-ghost use Rattle.part_core.specs.RowTests.{has_category, has_parent, has_template, is_plain};
+ghost use Rattle.part_core.specs.NamedRows.{HasParent};
+ghost use Rattle.part_core.specs.RowTests.{has_category, has_template, is_plain};
 ghost use Rattle.part_core.specs.Rows.{EachRow, StandRight};
-ghost use Rattle.part_core.specs.SoundCatalogue.{HasCategory, HasParent, HasTemplate, IsPlain, IsSoundCatalogue};
+ghost use Rattle.part_core.specs.SoundCatalogue.{HasCategory, HasTemplate, IsPlain, IsSoundCatalogue};
 
-use crate::Id;
 use crate::catalogue::Catalogue;
-use crate::category::Category;
 use crate::part::Part;
 use crate::row::is_drawn;
+use crate::{Id, has_parent};
 
 fn is_plain(part: &Part) -> bool
     ensures { result ≡ is_plain part.now }
@@ -18,15 +18,6 @@ fn is_plain(part: &Part) -> bool
 }
 
 impl Catalogue {
-    fn has_parent(&self, category: &Category) -> bool
-        ensures { result ≡ has_parent (parts_of self.now) category.now }
-    {
-        match category.parent {
-            None => true,
-            Some(parent) => self.category(parent).is_some() && parent < category.number,
-        }
-    }
-
     fn has_category(&self, category: Option<Id>) -> bool
         ensures { result ≡ has_category (parts_of self.now) category }
     {
@@ -59,9 +50,11 @@ impl Catalogue {
 
     fn have_parents(&self) -> bool
         ensures { IsTrue result
-            ↔ EachRow (HasParent (parts_of self.now)) (parts_of self.now).categories }
+            ↔ EachRow (HasParent (parts_of self.now).categories)
+            (parts_of self.now).categories }
     {
-        !self.categories.rows().any(|row| !self.has_parent(row))
+        let categories = &self.categories;
+        !categories.rows().any(|row| !has_parent(categories, row))
     }
 
     fn are_parts_drawn(&self, next: Id) -> bool

@@ -2,15 +2,15 @@
 ghost use Rattle.std.specs.Prelude.{◌≡◌, ◌↔◌, ◌∷◌, [], IsTrue, IfOk, map};
 ghost use Rattle.std.specs.List.{All};
 ghost use Rattle.part_core.specs.Filled.{StandUnderKeys};
-ghost use Rattle.yard_core.specs.SoundLocations.{AreSoundLocations, HasParent, IsSoundLocation};
+ghost use Rattle.yard_core.specs.SoundLocations.{AreSoundLocations, IsSoundLocation};
 ghost use Rattle.yard_core.specs.Stock.{IsSound};
 ghost use Rattle.yard_core.specs.Yards.{kept_of, stock_from, stock_of};
 
-use crate::location::Location;
+use crate::Location;
 use crate::opening::{are_sound_rows, rows_in_order};
 use crate::yard::Yard;
 use forest::{Entry, Item};
-use part_core::{Id, IndexedSheet, Sheet};
+use part_core::{Id, IndexedSheet, Sheet, has_parent};
 use std::alloc::{AllocError, Global};
 
 impl Yard {
@@ -37,21 +37,11 @@ impl Yard {
         })
     }
 
-    /// Whether the location has no parent, or one that is there and has a smaller number.
-    fn has_parent(&self, location: &Location) -> bool
-        ensures { IsTrue result ↔ HasParent (stock_of self.now) location.now }
-    {
-        match location.parent {
-            None => true,
-            Some(parent) => parent < location.number && self.location(parent).is_some(),
-        }
-    }
-
     /// Whether the location is sound, where the numbers below `next` were drawn.
     fn is_location_sound(&self, next: Id, location: &Location) -> bool
         ensures { IsTrue result ↔ IsSoundLocation next (stock_of self.now) location.now }
     {
-        location.number >= 1 && location.number < next && self.has_parent(location)
+        location.number >= 1 && location.number < next && has_parent(&self.locations, location)
     }
 
     /// Whether each of the locations is sound, where the numbers below `next` were drawn.

@@ -1,11 +1,10 @@
 use Rattle.std.proofs.Common.{ap}
-use Rattle.part_core.specs.CategoryColumns.{category_columns}
+use Rattle.part_core.specs.NamedRows.{named_columns}
 use Rattle.part_core.specs.PartColumns.{part_columns}
 use Rattle.part_core.specs.Sheet.{now_of}
 use Rattle.bom_core.specs.BillColumns.{line_columns, substitute_columns}
 use Rattle.forest.specs.EntryColumns.{entry_columns}
 use Rattle.forest.specs.ItemColumns.{item_columns}
-use Rattle.yard_core.specs.LocationColumns.{location_columns}
 use Rattle.alloc_core.specs.AllocationColumns.{allocation_columns}
 use Rattle.order_core.specs.OrderColumns as orders
 use Rattle.build_core.specs.BuildColumns.{build_columns}
@@ -20,10 +19,10 @@ pub returns-in-Meta : goal.returns-in-Meta
 returns-in-Meta c = same_lines c.write_meta.result c.args.writer.now c.write_meta.new.writer (row_line (meta_columns c.of.result)) (rows_text c.args.table (state_of c.args.shop.now)) (rw c.in-Meta.is (ap (λ m. row_line (meta_columns m)) c.of.ensures)) c.write_meta.ensures
 
 pub returns-in-Categories : goal.returns-in-Categories
-returns-in-Categories c = same_lines c.write_sheet.result c.args.writer.now c.write_sheet.new.writer (sheet_lines category_columns (now_of c.categories.result.now)) (rows_text c.args.table (state_of c.args.shop.now)) (rw c.in-Categories.is cc) c.write_sheet.ensures
+returns-in-Categories c = same_lines c.write_sheet.result c.args.writer.now c.write_sheet.new.writer (sheet_lines named_columns (now_of c.categories.result.now)) (rows_text c.args.table (state_of c.args.shop.now)) (rw c.in-Categories.is cc) c.write_sheet.ensures
 
 pub returns-in-Locations : goal.returns-in-Locations
-returns-in-Locations c = same_lines c.write_sheet-in-Locations.result c.args.writer.now c.write_sheet-in-Locations.new.writer (sheet_lines location_columns (now_of c.locations.result.now)) (rows_text c.args.table (state_of c.args.shop.now)) (rw c.in-Locations.is cc) c.write_sheet-in-Locations.ensures
+returns-in-Locations c = same_lines c.write_sheet-in-Locations.result c.args.writer.now c.write_sheet-in-Locations.new.writer (sheet_lines named_columns (now_of c.locations.result.now)) (rows_text c.args.table (state_of c.args.shop.now)) (rw c.in-Locations.is cc) c.write_sheet-in-Locations.ensures
 
 pub returns-in-Parts : goal.returns-in-Parts
 returns-in-Parts c = same_lines c.write_sheet-in-Parts.result c.args.writer.now c.write_sheet-in-Parts.new.writer (sheet_lines part_columns (now_of c.parts.result.now)) (rows_text c.args.table (state_of c.args.shop.now)) (rw c.in-Parts.is cc) c.write_sheet-in-Parts.ensures

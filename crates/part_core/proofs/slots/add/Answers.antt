@@ -8,45 +8,45 @@ use Rattle.part_core.proofs.slots.add.Goals as goal
 
 pub returns-clause-distinct : goal.returns-clause-distinct
 returns-clause-distinct g c =
-    let digits = g.R.Row.digits in
+    let digits = g.R.Key.RowKey.digits in
     let es = c.args.slots.now.entries in
     let h : Held g.row.R.Denot = record { row = Some c.args.row; before = Some None } in
-    let none = sym (find-lookup digits _ g.met.R.Row.exact es c.args.key) ∙ c.requires.absent in
+    let none = sym (find-lookup digits _ g.met.R.Key.RowKey.exact es c.args.key) ∙ c.requires.absent in
     let is = c.in_ok-insert.ensures.entries ∙ insert_entry-new _ c.args.slots.now c.args.key h none in
     rw is (distinct-added digits es c.args.key h c.requires.distinct c.requires.absent)
 
 pub returns-clause-places : goal.returns-clause-places
 returns-clause-places g c =
-    let digits = g.R.Row.digits in
+    let digits = g.R.Key.RowKey.digits in
     let es = c.args.slots.now.entries in
     let h : Held g.row.R.Denot = record { row = Some c.args.row; before = Some None } in
-    let none = sym (find-lookup digits _ g.met.R.Row.exact es c.args.key) ∙ c.requires.absent in
+    let none = sym (find-lookup digits _ g.met.R.Key.RowKey.exact es c.args.key) ∙ c.requires.absent in
     let is = c.in_ok-insert.ensures.entries ∙ insert_entry-new _ c.args.slots.now c.args.key h none in
     rw (is, c.push_within.ensures.items, c.len-i.ensures.len) (places-added digits es c.args.key h c.requires.distinct c.requires.absent c.args.changed.now.items c.requires.places refl)
 
 pub returns-clause-rows : goal.returns-clause-rows
 returns-clause-rows g c =
-    let digits = g.R.Row.digits in
+    let digits = g.R.Key.RowKey.digits in
     let es = c.args.slots.now.entries in
     let h : Held g.row.R.Denot = record { row = Some c.args.row; before = Some None } in
-    let none = sym (find-lookup digits _ g.met.R.Row.exact es c.args.key) ∙ c.requires.absent in
+    let none = sym (find-lookup digits _ g.met.R.Key.RowKey.exact es c.args.key) ∙ c.requires.absent in
     let is = c.in_ok-insert.ensures.entries ∙ insert_entry-new _ c.args.slots.now c.args.key h none in
     rw is (rows-added digits es c.args.key h c.requires.distinct c.requires.absent now_row)
 
 pub returns-clause-kept : goal.returns-clause-kept
 returns-clause-kept g c =
-    let digits = g.R.Row.digits in
+    let digits = g.R.Key.RowKey.digits in
     let es = c.args.slots.now.entries in
     let h : Held g.row.R.Denot = record { row = Some c.args.row; before = Some None } in
-    let none = sym (find-lookup digits _ g.met.R.Row.exact es c.args.key) ∙ c.requires.absent in
+    let none = sym (find-lookup digits _ g.met.R.Key.RowKey.exact es c.args.key) ∙ c.requires.absent in
     let is = c.in_ok-insert.ensures.entries ∙ insert_entry-new _ c.args.slots.now c.args.key h none in
     rw is (rows-added_none digits es c.args.key h c.requires.distinct c.requires.absent kept_row refl)
 
 pub returns-clause-used : goal.returns-clause-used
 returns-clause-used g c =
-    let digits = g.R.Row.digits in
+    let digits = g.R.Key.RowKey.digits in
     let es = c.args.slots.now.entries in
     let h : Held g.row.R.Denot = record { row = Some c.args.row; before = Some None } in
-    let none = sym (find-lookup digits _ g.met.R.Row.exact es c.args.key) ∙ c.requires.absent in
+    let none = sym (find-lookup digits _ g.met.R.Key.RowKey.exact es c.args.key) ∙ c.requires.absent in
     let is = c.in_ok-insert.ensures.entries ∙ insert_entry-new _ c.args.slots.now c.args.key h none in
     rw is (used-added digits es c.args.key h c.requires.distinct c.requires.absent refl c.requires.used)

@@ -9,7 +9,7 @@ use Rattle.part_core.proofs.slots.back_at.Goals as goal
 
 pub returns-then-had_row : goal.returns-then-had_row
 returns-then-had_row g c =
-    let digits = g.R.Row.digits in
+    let digits = g.R.Key.RowKey.digits in
     let es = c.args.slots.now.entries in
     let h = c.index_mut.result.now in
     let w = c.restore.new.held in
@@ -25,7 +25,7 @@ returns-then-had_row g c =
 
 pub returns-else-had_row : goal.returns-else-had_row
 returns-else-had_row g c =
-    let digits = g.R.Row.digits in
+    let digits = g.R.Key.RowKey.digits in
     let es = c.args.slots.now.entries in
     let h = c.index.result.now in
     let s = slot_of_value digits es c.args.i h c.index.ensures in

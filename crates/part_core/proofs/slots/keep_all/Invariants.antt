@@ -8,11 +8,11 @@ use Rattle.part_core.proofs.slots.keep_all.Given as goal
 abbrev pub invariant-loop-i : goal.invariant-loop-i
 invariant-loop-i g l =
     record {
-      distinct : IsDistinct (slots_of g.R.Row.digits l.slots.entries);
-      used : AreUsed (slots_of g.R.Row.digits l.slots.entries);
-      places : ArePlaces l.changed.items (slots_of g.R.Row.digits l.slots.entries);
+      distinct : IsDistinct (slots_of g.R.Key.RowKey.digits l.slots.entries);
+      used : AreUsed (slots_of g.R.Key.RowKey.digits l.slots.entries);
+      places : ArePlaces l.changed.items (slots_of g.R.Key.RowKey.digits l.slots.entries);
       up : IsNonDecreasing l.changed.items;
-      rows : table_by now_row (slots_of g.R.Row.digits l.slots.entries) ≡ table_by now_row (slots_of g.R.Row.digits l.fn.slots.entries);
+      rows : table_by now_row (slots_of g.R.Key.RowKey.digits l.slots.entries) ≡ table_by now_row (slots_of g.R.Key.RowKey.digits l.fn.slots.entries);
     }
 
 abbrev pub decreases-loop-i : goal.decreases-loop-i

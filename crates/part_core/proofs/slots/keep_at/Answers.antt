@@ -9,7 +9,7 @@ use Rattle.part_core.proofs.slots.keep_at.Goals as goal
 
 pub returns-then-is_some : goal.returns-then-is_some
 returns-then-is_some g c =
-    let digits = g.R.Row.digits in
+    let digits = g.R.Key.RowKey.digits in
     let es = c.args.slots.now.entries in
     let h = c.index_mut-held.result.now in
     let w : Held g.row.R.Denot = record { row = h.row; before = None } in
@@ -25,7 +25,7 @@ returns-then-is_some g c =
 
 pub returns-else-is_some : goal.returns-else-is_some
 returns-else-is_some g c =
-    let digits = g.R.Row.digits in
+    let digits = g.R.Key.RowKey.digits in
     let es = c.args.slots.now.entries in
     let h = c.index.result.now in
     let s = slot_of_value digits es c.args.i h c.index.ensures in

@@ -11,13 +11,13 @@ use Rattle.part_core.proofs.slots.note.Goals as goal
 
 pub unreachable-requires : goal.unreachable-requires
 unreachable-requires g c =
-    let digits = g.R.Row.digits in
+    let digits = g.R.Key.RowKey.digits in
     let none = get-no_slot now_row (slots_of digits c.args.slots.now.entries) (digits c.args.key.now) c.requires.distinct c.in_default.ensures.absent in
     let some = rw none at c.requires.present in cc
 
 pub returns-in_ok-reserve-clause-distinct : goal.returns-in_ok-reserve-clause-distinct
 returns-in_ok-reserve-clause-distinct g c =
-    let digits = g.R.Row.digits in
+    let digits = g.R.Key.RowKey.digits in
     let es = c.args.slots.now.entries in
     let i = c.in-Some.i in
     let h = c.index_mut-held.result.now in
@@ -27,7 +27,7 @@ returns-in_ok-reserve-clause-distinct g c =
 
 pub returns-in_ok-reserve-clause-places : goal.returns-in_ok-reserve-clause-places
 returns-in_ok-reserve-clause-places g c =
-    let digits = g.R.Row.digits in
+    let digits = g.R.Key.RowKey.digits in
     let es = c.args.slots.now.entries in
     let i = c.in-Some.i in
     let h = c.index_mut-held.result.now in
@@ -39,7 +39,7 @@ returns-in_ok-reserve-clause-places g c =
 
 pub returns-in_ok-reserve-clause-rows : goal.returns-in_ok-reserve-clause-rows
 returns-in_ok-reserve-clause-rows g c =
-    let digits = g.R.Row.digits in
+    let digits = g.R.Key.RowKey.digits in
     let es = c.args.slots.now.entries in
     let i = c.in-Some.i in
     let h = c.index_mut-held.result.now in
@@ -49,7 +49,7 @@ returns-in_ok-reserve-clause-rows g c =
 
 pub returns-in_ok-reserve-clause-kept : goal.returns-in_ok-reserve-clause-kept
 returns-in_ok-reserve-clause-kept g c =
-    let digits = g.R.Row.digits in
+    let digits = g.R.Key.RowKey.digits in
     let es = c.args.slots.now.entries in
     let i = c.in-Some.i in
     let h = c.index_mut-held.result.now in
@@ -68,11 +68,11 @@ returns-in_ok-reserve-clause-in_range g c =
 pub returns-in_ok-reserve-clause-found : goal.returns-in_ok-reserve-clause-found
 returns-in_ok-reserve-clause-found g c =
     let w : Held g.row.R.Denot = record { row = c.index_mut-held.result.now.row; before = Some c.in_ok-before.before } in
-    key-stays g.R.Row.digits c.args.slots.now.entries c.in-Some.i c.in-Some.i w (g.R.Row.digits c.args.key.now) c.in-Some.ensures.found
+    key-stays g.R.Key.RowKey.digits c.args.slots.now.entries c.in-Some.i c.in-Some.i w (g.R.Key.RowKey.digits c.args.key.now) c.in-Some.ensures.found
 
 pub returns-in_ok-reserve-clause-noted : goal.returns-in_ok-reserve-clause-noted
 returns-in_ok-reserve-clause-noted g c =
-    let digits = g.R.Row.digits in
+    let digits = g.R.Key.RowKey.digits in
     let es = c.args.slots.now.entries in
     let i = c.in-Some.i in
     let h = c.index_mut-held.result.now in
@@ -82,7 +82,7 @@ returns-in_ok-reserve-clause-noted g c =
 
 pub returns-else-is_none-clause-noted : goal.returns-else-is_none-clause-noted
 returns-else-is_none-clause-noted g c =
-    let digits = g.R.Row.digits in
+    let digits = g.R.Key.RowKey.digits in
     let es = c.args.slots.now.entries in
     let h = c.index-held.result.now in
     let s = slot_of_value digits es c.in-Some.i h c.index-held.ensures in
@@ -90,7 +90,7 @@ returns-else-is_none-clause-noted g c =
 
 pub returns-in_ok-reserve-clause-used : goal.returns-in_ok-reserve-clause-used
 returns-in_ok-reserve-clause-used g c =
-    let digits = g.R.Row.digits in
+    let digits = g.R.Key.RowKey.digits in
     let es = c.args.slots.now.entries in
     let i = c.in-Some.i in
     let h = c.index_mut-held.result.now in

@@ -6,7 +6,7 @@ use Rattle.part_core.proofs.slots.take_out.Goals as goal
 
 pub returns : goal.returns
 returns g c =
-    let digits = g.R.Row.digits in
+    let digits = g.R.Key.RowKey.digits in
     let es = c.args.slots.now.entries in
     let e = entry_at digits es c.args.i c.requires.in_range in
     let is = subst (λ o. IfSome o (λ p. c.swap_remove_index.new.self.entries ≡ swap_remove es c.args.i p)) (c.swap_remove_index.ensures.entry ∙ e.1) c.swap_remove_index.ensures.entries in

@@ -1,6 +1,7 @@
 use Rattle.std.proofs.Common.{drop}
 use Rattle.sqlite.specs.Held.{state}
 use Rattle.sqlite.specs.State.{HasCleanDisk, Survives}
+use Rattle.part_core.specs.RowKeys.{number_digits}
 use Rattle.table_store.specs.Written.{IsTableOf, changes_of}
 use Rattle.table_store.proofs.Changes.{IsMidway}
 use Rattle.table_store.proofs.write.write_changes.Given as goal
@@ -12,5 +13,5 @@ invariant-loop-change g l =
     record {
       crash : Survives old now (λ _. ⊥);
       midway : HasCleanDisk now
-          → IsMidway (IsTableOf g.R.Stored.row_from g.R.Stored.columns_of l.table) g.R.Row.key_of l.table (changes_of g.R.Row.digits (drop l.change-index l.changes)) (changes_of g.R.Row.digits l.changes) old now;
+          → IsMidway (IsTableOf g.R.Stored.row_from g.R.Stored.columns_of l.table) g.R.Row.key_of l.table (changes_of number_digits (drop l.change-index l.changes)) (changes_of number_digits l.changes) old now;
     }

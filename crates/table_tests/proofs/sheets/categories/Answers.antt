@@ -1,7 +1,7 @@
 use Rattle.std.proofs.Common.{ℕ, List, [], ◌∷◌, sym, subst}
 use Rattle.std.specs.Prelude.{All}
-use Rattle.part_core.specs.declared.category.Category.{Category}
-use Rattle.part_core.specs.CategoryColumns.{category_columns}
+use Rattle.part_core.specs.declared.named_row.NamedRow.{NamedRow as Category}
+use Rattle.part_core.specs.NamedRows.{named_columns}
 use Rattle.part_core.specs.Columns.{IsSmall}
 use Rattle.part_core.specs.Filled.{StandUnderKeys}
 use Rattle.part_core.specs.Rows.{EachRow}
@@ -17,11 +17,11 @@ key row = row.number ∷ []
 pub returns-clause-own : goal.returns-clause-own
 unfolding key
 returns-clause-own c =
-    subst (StandUnderKeys key) (sym c.in_ok-put-2.ensures.ok) (own-put category_columns key (now_of c.put.new.self) c.in_ok-first.first
-    (subst (StandUnderKeys key) (sym c.in_ok-put.ensures.ok) (own-put category_columns key (now_of c.new-sheet.result) c.in_ok-later.later (subst (StandUnderKeys key) (sym c.new-sheet.ensures.rows) (filled-own key [])))))
+    subst (StandUnderKeys key) (sym c.in_ok-put-2.ensures.ok) (own-put named_columns key (now_of c.put.new.self) c.in_ok-first.first
+    (subst (StandUnderKeys key) (sym c.in_ok-put.ensures.ok) (own-put named_columns key (now_of c.new-sheet.result) c.in_ok-later.later (subst (StandUnderKeys key) (sym c.new-sheet.ensures.rows) (filled-own key [])))))
 
 IsLow : Category → Type 0
-IsLow row = All IsSmall (category_columns row)
+IsLow row = All IsSmall (named_columns row)
 
 pub returns-clause-small : goal.returns-clause-small
 unfolding IsLow

@@ -1,8 +1,8 @@
 use Rattle.std.proofs.Common.{◌≡◌, ℕ, List, [], ◌∷◌, sym, ap, subst, ◌∙◌}
 use Rattle.std.specs.Prelude.{All}
 use Rattle.std.specs.FinMap.{insert}
-use Rattle.part_core.specs.declared.category.Category.{Category}
-use Rattle.part_core.specs.CategoryColumns.{category_columns}
+use Rattle.part_core.specs.declared.named_row.NamedRow.{NamedRow as Category}
+use Rattle.part_core.specs.NamedRows.{named_columns}
 use Rattle.part_core.specs.Columns.{IsSmall}
 use Rattle.part_core.specs.Filled.{StandUnderKeys}
 use Rattle.part_core.specs.Rows.{EachRow, StayThere}
@@ -15,7 +15,7 @@ key : Category → List ℕ
 key row = row.number ∷ []
 
 IsLow : Category → Type 0
-IsLow row = All IsSmall (category_columns row)
+IsLow row = All IsSmall (named_columns row)
 
 -- the rows are those that were kept, with one more row in its place
 is-put : (now mid old : Table Category) (row : Category) → now ≡ insert mid (row.number ∷ []) row → mid ≡ old → now ≡ insert old (row.number ∷ []) row
@@ -25,7 +25,7 @@ pub returns-clause-own : goal.returns-clause-own
 unfolding key
 returns-clause-own c =
     let old = now_of c.args.sheet.now in
-    subst (StandUnderKeys key) (sym (is-put (now_of c.put.new.self) (now_of c.keep.new.self) old c.in_ok-row.row c.in_ok-put.ensures.ok c.keep.ensures.rows)) (own-put category_columns key old c.in_ok-row.row c.requires.own)
+    subst (StandUnderKeys key) (sym (is-put (now_of c.put.new.self) (now_of c.keep.new.self) old c.in_ok-row.row c.in_ok-put.ensures.ok c.keep.ensures.rows)) (own-put named_columns key old c.in_ok-row.row c.requires.own)
 
 pub returns-clause-small : goal.returns-clause-small
 unfolding IsLow

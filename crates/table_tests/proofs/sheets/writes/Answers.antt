@@ -2,8 +2,8 @@ use Rattle.std.proofs.Common.{◌≡◌, ℕ, List, [], ◌∷◌, Option, Some,
 use Rattle.std.specs.Prelude.{All}
 use Rattle.std.specs.FinMap.{empty, get, get-empty}
 use Rattle.sqlite.specs.Held.{state}
-use Rattle.part_core.specs.declared.category.Category.{Category}
-use Rattle.part_core.specs.CategoryColumns.{category_columns, category_from}
+use Rattle.part_core.specs.declared.named_row.NamedRow.{NamedRow as Category}
+use Rattle.part_core.specs.NamedRows.{named_columns, named_from}
 use Rattle.part_core.specs.Columns.{IsSmall}
 use Rattle.part_core.specs.Filled.{StandUnderKeys}
 use Rattle.part_core.specs.Rows.{EachRow}
@@ -19,7 +19,7 @@ abbrev key : Category → List ℕ
 key row = row.number ∷ []
 
 abbrev IsLow : Category → Type 0
-IsLow row = All IsSmall (category_columns row)
+IsLow row = All IsSmall (named_columns row)
 
 pub written-requires-clause-own : goal.written-requires-clause-own
 written-requires-clause-own g c = (c.in_ok-sheet.ensures.own, subst (StandUnderKeys key) (sym c.in_ok-sheet.ensures.kept) (filled-own key []))
@@ -40,4 +40,4 @@ written-requires-clause-stays g c k some = absurd (nothing-there c.in_ok-sheet.s
 pub written-requires-clause-kept : goal.written-requires-clause-kept
 written-requires-clause-kept g c clean =
     let tree = tree_of Categories (state g.S.Store c.fresh.new.conn) in
-    subst (IsTableOf category_from category_columns Categories tree) (sym c.in_ok-sheet.ensures.kept) (table-empty category_from category_columns Categories tree ((c.in_ok-fresh.ensures.fresh clean).empty Categories))
+    subst (IsTableOf named_from named_columns Categories tree) (sym c.in_ok-sheet.ensures.kept) (table-empty named_from named_columns Categories tree ((c.in_ok-fresh.ensures.fresh clean).empty Categories))

@@ -20,7 +20,7 @@ returns-then-test-clause-any g c = λ p is.
     let n = c.in-Some.filing.now.number in
     let rest = rows_at t (numbers_of c.next.new.self) in
     let step = ap (λ fs. list_any p (of_rows (rows_at t (numbers_of fs)))) c.in-Some.ensures.steps ∙ any-with_row p (n ∷ []) (table.get t (n ∷ [])) rest in
-    let row = ap (table.get t) (sym (g.met.R.Indexed.numbered n)) ∙ sym c.in-Some-get.ensures in
+    let row = sym c.in-Some-get.ensures in
     let answer : c.test.result ≡ p c.in-Some-get.row.now = is c.in-Some-get.row.now c.test.result (record { shown = _; shows = refl; says = record { met = c.test.ensures } }) in
     let here : passes p (table.get t (n ∷ [])) ≡ true = ap (passes p) row ∙ sym answer ∙ c.if-test.true in
     sym (sym (c.loop-filing.invariant.left p is) ∙ step ∙ ap (λ b. b || list_any p (of_rows rest)) here)
@@ -33,7 +33,7 @@ loop-filing-preserved-else-test g c = record {
       let n = c.in-Some.filing.now.number in
       let rest = rows_at t (numbers_of c.next.new.self) in
       let step = ap (λ fs. list_any p (of_rows (rows_at t (numbers_of fs)))) c.in-Some.ensures.steps ∙ any-with_row p (n ∷ []) (table.get t (n ∷ [])) rest in
-      let row = ap (table.get t) (sym (g.met.R.Indexed.numbered n)) ∙ sym c.in-Some-get.ensures in
+      let row = sym c.in-Some-get.ensures in
       let answer : c.test.result ≡ p c.in-Some-get.row.now = is c.in-Some-get.row.now c.test.result (record { shown = _; shows = refl; says = record { met = c.test.ensures } }) in
       let none : passes p (table.get t (n ∷ [])) ≡ false = ap (passes p) row ∙ sym answer ∙ c.if-test.false in
       sym (step ∙ ap (λ b. b || list_any p (of_rows rest)) none) ∙ c.loop-filing.invariant.left p is;
@@ -47,7 +47,7 @@ loop-filing-preserved g c = record {
       let n = c.in-Some.filing.now.number in
       let rest = rows_at t (numbers_of c.next.new.self) in
       let step = ap (λ fs. list_any p (of_rows (rows_at t (numbers_of fs)))) c.in-Some.ensures.steps ∙ any-with_row p (n ∷ []) (table.get t (n ∷ [])) rest in
-      let row = ap (table.get t) (sym (g.met.R.Indexed.numbered n)) ∙ sym c.in_default.ensures in
+      let row = sym c.in_default.ensures in
       sym (step ∙ ap (λ o. passes p o || list_any p (of_rows rest)) row) ∙ c.loop-filing.invariant.left p is;
 }
 

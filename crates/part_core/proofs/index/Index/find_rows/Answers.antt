@@ -1,6 +1,5 @@
 use Rattle.std.proofs.Common.{◌≡◌, ◌++◌, ◌∷◌, [], map, refl, sym, ap, ◌∙◌, append_assoc, append-nil}
 use Rattle.std.specs.Prelude.{filter}
-use Rattle.std.specs.FinMap as table
 use Rattle.std.specs.Map.Iter.{deref}
 use Rattle.std.proofs.lemmas.List.{map-append}
 use Rattle.std.proofs.lemmas.Map.Iter.{rest_all}
@@ -27,7 +26,7 @@ loop-filed-preserved-in-Continue-1 g c = record {
       let n = c.in-Some.filed.now.number in
       let rest = rows_at t (numbers_of c.next.new.self) in
       let step = ap (λ fs. filter p (of_rows (rows_at t (numbers_of fs)))) c.in-Some.ensures.steps in
-      let row = ap (table.get t) (sym (g.met.R.Indexed.numbered n)) ∙ sym c.in-Some-get.ensures in
+      let row = sym c.in-Some-get.ensures in
       let x = c.in-Some-get.row.now in
       let answer : c.test.result ≡ p x = is x c.test.result (record { shown = _; shows = refl; says = record { met = c.test.ensures } }) in
       let old = map (λ r. r.now) c.loop-filed.found.items in
@@ -47,7 +46,7 @@ loop-filed-preserved-else-test g c = record {
       let n = c.in-Some.filed.now.number in
       let rest = rows_at t (numbers_of c.next.new.self) in
       let step = ap (λ fs. filter p (of_rows (rows_at t (numbers_of fs)))) c.in-Some.ensures.steps in
-      let row = ap (table.get t) (sym (g.met.R.Indexed.numbered n)) ∙ sym c.in-Some-get.ensures in
+      let row = sym c.in-Some-get.ensures in
       let x = c.in-Some-get.row.now in
       let answer : c.test.result ≡ p x = is x c.test.result (record { shown = _; shows = refl; says = record { met = c.test.ensures } }) in
       let old = map (λ r. r.now) c.loop-filed.found.items in
@@ -63,7 +62,7 @@ loop-filed-preserved g c = record {
       let n = c.in-Some.filed.now.number in
       let rest = rows_at t (numbers_of c.next.new.self) in
       let step = ap (λ fs. filter p (of_rows (rows_at t (numbers_of fs)))) c.in-Some.ensures.steps in
-      let none = ap (table.get t) (sym (g.met.R.Indexed.numbered n)) ∙ sym c.in_default.ensures in
+      let none = sym c.in_default.ensures in
       ap (λ l. map (λ r. r.now) c.loop-filed.found.items ++ l) (sym (step ∙ ap (λ o. filter p (of_rows (with_row (n ∷ []) o rest))) none)) ∙ c.loop-filed.invariant.found p is;
 }
 

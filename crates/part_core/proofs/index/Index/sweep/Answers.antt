@@ -10,17 +10,16 @@ pub loop-filing-init : goal.loop-filing-init
 loop-filing-init g c = c.requires.index
 
 pub has_key-stays-requires : goal.has_key-stays-requires
-has_key-stays-requires g c = (c.loop-filing.invariant.own (g.R.Row.digits c.in-Some.filing.number) c.in-Some-get.row.now (sym c.in-Some-get.ensures)).few
+has_key-stays-requires g c = (c.loop-filing.invariant.own (c.in-Some.filing.number ∷ []) c.in-Some-get.row.now (sym c.in-Some-get.ensures)).few
 
 pub loop-filing-preserved-then-not-stays : goal.loop-filing-preserved-then-not-stays
 loop-filing-preserved-then-not-stays g c =
     let keys = g.R.Indexed.index_keys in
     let f = c.in-Some.filing in
     let t = now_of c.args.sheet.now in
-    let digits = ap (table.get t) (sym (g.met.R.Indexed.numbered f.number)) in
     let lacks : has_key keys f.key (table.get t (f.number ∷ [])) ≡ false = elim c.match-get.branch [
-      | in-Some-get w ↦ ap (has_key keys f.key) (digits ∙ sym w.in-Some-get.ensures) ∙ sym w.has_key-stays.ensures ∙ sym w.stays-is ∙ c.if-not-stays.true
-      | in-None w ↦ ap (has_key keys f.key) (digits ∙ sym w.in-None.ensures)
+      | in-Some-get w ↦ ap (has_key keys f.key) (sym w.in-Some-get.ensures) ∙ sym w.has_key-stays.ensures ∙ sym w.stays-is ∙ c.if-not-stays.true
+      | in-None w ↦ ap (has_key keys f.key) (sym w.in-None.ensures)
     ] in
     IsIndex-out keys g.R.Row.key_of c.args.sheet.now c.loop-filing.self.filings.keys c.loop-filing.self.touched.items c.loop-filing.invariant c.requires.settled
     c.pop.new.self.items f c.in-Some.ensures.items lacks c.loop-filing.self.filings c.remove.new.self refl c.remove.ensures.updates.0
@@ -30,9 +29,8 @@ loop-filing-preserved g c =
     let keys = g.R.Indexed.index_keys in
     let f = c.in-Some.filing in
     let t = now_of c.args.sheet.now in
-    let digits = ap (table.get t) (sym (g.met.R.Indexed.numbered f.number)) in
     let has : has_key keys f.key (table.get t (f.number ∷ [])) ≡ true = elim c.match-get.branch [
-      | in-Some-get w ↦ ap (has_key keys f.key) (digits ∙ sym w.in-Some-get.ensures) ∙ sym w.has_key-stays.ensures ∙ sym w.stays-is ∙ c.if-not-stays.false
+      | in-Some-get w ↦ ap (has_key keys f.key) (sym w.in-Some-get.ensures) ∙ sym w.has_key-stays.ensures ∙ sym w.stays-is ∙ c.if-not-stays.false
       | in-None w ↦ let no = w.stays-is in let yes = c.if-not-stays.false in cc
     ] in
     IsIndex-stays keys g.R.Row.key_of c.args.sheet.now c.loop-filing.self.filings.keys c.loop-filing.self.touched.items c.loop-filing.invariant c.requires.settled

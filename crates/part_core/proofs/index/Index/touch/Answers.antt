@@ -16,7 +16,7 @@ returns-in_default-index_key-clause-grown g c = c.loop-place.invariant.grown
 pub returns-in_default-index_key-clause-logged : goal.returns-in_default-index_key-clause-logged
 returns-in_default-index_key-clause-logged g c = λ key has.
     let keys = g.R.Indexed.index_keys c.in-Some.row.now in
-    let here : table.get (now_of c.args.sheet.now) (c.args.number ∷ []) ≡ Some c.in-Some.row.now = ap (table.get (now_of c.args.sheet.now)) (sym (g.met.R.Indexed.numbered c.args.number)) ∙ sym c.in-Some.ensures in
+    let here : table.get (now_of c.args.sheet.now) (c.args.number ∷ []) ≡ Some c.in-Some.row.now = sym c.in-Some.ensures in
     each-key (λ k. is_filed k c.args.number c.loop-place.self.touched.items ≡ true) keys c.loop-place.place key c.loop-place.invariant.logged
     (past-end keys c.loop-place.place (sym c.index_key.ensures ∙ c.in_default-index_key.is)) (sym (ap (has_key g.R.Indexed.index_keys key) here) ∙ has)
 

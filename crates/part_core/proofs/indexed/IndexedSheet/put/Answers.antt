@@ -18,7 +18,7 @@ invariant_of-self-2 g c =
     let n = c.in_ok-own_number.own_number in
     let fs = c.touch.new.self.filings.keys in
     let ts = c.touch.new.self.touched.items in
-    let own : key_of row ≡ n ∷ [] = sym c.in_ok-own_number.ensures ∙ g.met.R.Indexed.numbered n in
+    let own : key_of row ≡ n ∷ [] = sym c.in_ok-own_number.ensures in
     let filed = IsIndex-grown keys key_of s c.self.inside.index.filings.keys c.self.inside.index.touched.items c.self.invariant c.file.new.self.filings.keys c.file.new.self.touched.items c.file.ensures.grown in
     let noted = IsIndex-grown keys key_of s c.file.new.self.filings.keys c.file.new.self.touched.items filed fs ts c.touch.ensures.grown in
     elim c.put.result as (λ r. OnOk r (now_of t ≡ table.insert (now_of s) (key_of row) row) → OnErr r (t ≡ s) → IsIndex keys key_of t fs ts) [

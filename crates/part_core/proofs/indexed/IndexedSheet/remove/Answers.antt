@@ -1,10 +1,10 @@
-use Rattle.std.proofs.Common.{◌≡◌, cond, None, Ok, Err, sym, ap, ◌∙◌, subst}
+use Rattle.std.proofs.Common.{◌≡◌, ◌∷◌, [], None, Ok, Err, sym, ap, ◌∙◌, subst}
 use Rattle.std.specs.Prelude.{OnOk, OnErr}
 use Rattle.std.specs.FinMap as table
 use Rattle.part_core.specs.Index.{IsIndex}
 use Rattle.part_core.specs.Sheet.{now_of}
 use Rattle.part_core.proofs.Indexes.{IsIndex-given, IsIndex-grown}
-use Rattle.part_core.proofs.Keys.{key_eq, keys_total}
+use Rattle.part_core.proofs.Keys.{keys_total}
 use Rattle.part_core.proofs.indexed.IndexedSheet.remove.Goals as goal
 
 pub invariant_of-self-2 : goal.invariant_of-self-2
@@ -17,10 +17,10 @@ invariant_of-self-2 g c =
     let fs = c.touch.new.self.filings.keys in
     let ts = c.touch.new.self.touched.items in
     let noted = IsIndex-grown keys key_of s c.self.inside.index.filings.keys c.self.inside.index.touched.items c.self.invariant fs ts c.touch.ensures.grown in
-    elim c.remove.result as (λ r. OnOk r (now_of t ≡ table.remove (now_of s) (g.R.Row.digits n)) → OnErr r (t ≡ s) → IsIndex keys key_of t fs ts) [
+    elim c.remove.result as (λ r. OnOk r (now_of t ≡ table.remove (now_of s) (n ∷ [])) → OnErr r (t ≡ s) → IsIndex keys key_of t fs ts) [
       | Ok u ↦ λ gone err.
           IsIndex-given keys key_of s fs ts noted n None t c.remove.ensures.kept
-          (λ k. ap (λ m. table.get m k) gone ∙ table.get-remove keys_total (now_of s) (g.R.Row.digits n) k ∙ ap (λ q. cond (key_eq k q) None (table.get (now_of s) k)) (g.met.R.Indexed.numbered n))
+          (λ k. ap (λ m. table.get m k) gone ∙ table.get-remove keys_total (now_of s) (n ∷ []) k)
           (λ x same. cc)
           (λ key has. cc)
           c.in_ok-touch.ensures.logged

@@ -15,7 +15,7 @@ returns-in-Some g c =
     let s = c.self.inside.sheet in
     let t = now_of s in
     let n = c.args.number in
-    let row = ap (table.get t) (sym (g.met.R.Indexed.numbered n)) ∙ sym c.in-Some.ensures in
+    let row = sym c.in-Some.ensures in
     IfOk-weaker c.passing.result _ _ (λ rows found p is of_number.
     found p is
     ∙ sym (ap (λ o. filter p (of_rows (with_row (n ∷ []) o []))) row)
@@ -27,7 +27,7 @@ returns-in-None g c = λ p is of_number.
     let s = c.self.inside.sheet in
     let t = now_of s in
     let n = c.args.number in
-    let row = ap (table.get t) (sym (g.met.R.Indexed.numbered n)) ∙ sym c.in-None.ensures in
+    let row = sym c.in-None.ensures in
     ap (map (λ (r : Bor g.row.R.Denot). r.now)) c.new.ensures.items
     ∙ sym (ap (λ o. filter p (of_rows (with_row (n ∷ []) o []))) row)
     ∙ selected-filed p t (n ∷ []) (Rise-one n) (row-at g.R.Indexed.index_keys g.R.Row.key_of s c.self.inside.index.filings.keys c.self.inside.index.touched.items c.self.invariant n p of_number)

@@ -11,7 +11,7 @@ use Rattle.part_core.proofs.sheet.Sheet.get_mut.Goals as goal
 
 pub unreachable-requires : goal.unreachable-requires
 unreachable-requires g c =
-    let digits = g.R.Row.digits in
+    let digits = g.R.Key.RowKey.digits in
     let es = c.note.new.slots.entries in
     let k = digits c.args.key in
     let h = c.index_mut-held.result.now in
@@ -21,7 +21,7 @@ unreachable-requires g c =
 
 pub invariant_of-self-lent : goal.invariant_of-self-lent
 invariant_of-self-lent g c x =
-    let digits = g.R.Row.digits in
+    let digits = g.R.Key.RowKey.digits in
     let es = c.note.new.slots.entries in
     let i = c.in_ok-i.i in
     let k = digits c.args.key in
@@ -43,7 +43,7 @@ invariant_of-self-lent g c x =
 
 pub returns : goal.returns
 returns g c =
-    let digits = g.R.Row.digits in
+    let digits = g.R.Key.RowKey.digits in
     let es = c.note.new.slots.entries in
     let i = c.in_ok-i.i in
     let k = digits c.args.key in

@@ -7,13 +7,13 @@ use Rattle.part_core.proofs.sheet.Sheet.put.Goals as goal
 
 pub overflow_add-self : goal.overflow_add-self
 overflow_add-self g c =
-    let es = slots_of g.R.Row.digits c.self.inside.slots.entries in
-    omega (arith, c.self.invariant.len, len-table now_row es, length-slots g.R.Row.digits c.self.inside.slots.entries, c.rewrite.ensures.few)
+    let es = slots_of g.R.Key.RowKey.digits c.self.inside.slots.entries in
+    omega (arith, c.self.invariant.len, len-table now_row es, length-slots g.R.Key.RowKey.digits c.self.inside.slots.entries, c.rewrite.ensures.few)
 
 pub invariant_of-self-then-not-rewrite : goal.invariant_of-self-then-not-rewrite
 invariant_of-self-then-not-rewrite g c =
-    let k = g.R.Row.digits c.in_ok-key.key in
-    let m = table_by now_row (slots_of g.R.Row.digits c.self.inside.slots.entries) in
+    let k = g.R.Key.RowKey.digits c.in_ok-key.key in
+    let m = table_by now_row (slots_of g.R.Key.RowKey.digits c.self.inside.slots.entries) in
     record {
       distinct = c.rewrite.ensures.distinct;
       used = c.rewrite.ensures.used;
@@ -25,8 +25,8 @@ invariant_of-self-then-not-rewrite g c =
 
 pub invariant_of-self-else-not-rewrite : goal.invariant_of-self-else-not-rewrite
 invariant_of-self-else-not-rewrite g c =
-    let k = g.R.Row.digits c.in_ok-key.key in
-    let m = table_by now_row (slots_of g.R.Row.digits c.self.inside.slots.entries) in
+    let k = g.R.Key.RowKey.digits c.in_ok-key.key in
+    let m = table_by now_row (slots_of g.R.Key.RowKey.digits c.self.inside.slots.entries) in
     record {
       distinct = c.rewrite.ensures.distinct;
       used = c.rewrite.ensures.used;
@@ -38,13 +38,13 @@ invariant_of-self-else-not-rewrite g c =
 
 pub overflow_add-self-in-None : goal.overflow_add-self-in-None
 overflow_add-self-in-None g c =
-    let es = slots_of g.R.Row.digits c.self.inside.slots.entries in
-    omega (arith, c.self.invariant.len, len-table now_row es, length-slots g.R.Row.digits c.self.inside.slots.entries, c.add.ensures.few)
+    let es = slots_of g.R.Key.RowKey.digits c.self.inside.slots.entries in
+    omega (arith, c.self.invariant.len, len-table now_row es, length-slots g.R.Key.RowKey.digits c.self.inside.slots.entries, c.add.ensures.few)
 
 pub invariant_of-self-in-None : goal.invariant_of-self-in-None
 invariant_of-self-in-None g c =
-    let k = g.R.Row.digits c.in_ok-key.key in
-    let es = slots_of g.R.Row.digits c.self.inside.slots.entries in
+    let k = g.R.Key.RowKey.digits c.in_ok-key.key in
+    let es = slots_of g.R.Key.RowKey.digits c.self.inside.slots.entries in
     let m = table_by now_row es in
     let none = sym (ap is_some (get-no_slot now_row es k c.self.invariant.distinct c.in-None.ensures.absent)) in
     record {

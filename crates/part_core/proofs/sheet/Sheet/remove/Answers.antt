@@ -7,15 +7,15 @@ use Rattle.part_core.proofs.sheet.Sheet.remove.Goals as goal
 
 pub overflow_sub-self : goal.overflow_sub-self
 overflow_sub-self g c =
-    let k = g.R.Row.digits c.args.key.now in
-    let m = table_by now_row (slots_of g.R.Row.digits c.self.inside.slots.entries) in
+    let k = g.R.Key.RowKey.digits c.args.key.now in
+    let m = table_by now_row (slots_of g.R.Key.RowKey.digits c.self.inside.slots.entries) in
     let some = len-some m k c.rewrite.result (c.rewrite.ensures.had k c.in-Some.ensures.found) c.if-rewrite.true in
     omega (arith, c.self.invariant.len, some)
 
 pub invariant_of-self-then-rewrite : goal.invariant_of-self-then-rewrite
 invariant_of-self-then-rewrite g c =
-    let k = g.R.Row.digits c.args.key.now in
-    let m = table_by now_row (slots_of g.R.Row.digits c.self.inside.slots.entries) in
+    let k = g.R.Key.RowKey.digits c.args.key.now in
+    let m = table_by now_row (slots_of g.R.Key.RowKey.digits c.self.inside.slots.entries) in
     record {
       distinct = c.rewrite.ensures.distinct;
       used = c.rewrite.ensures.used;
@@ -27,8 +27,8 @@ invariant_of-self-then-rewrite g c =
 
 pub invariant_of-self-else-rewrite : goal.invariant_of-self-else-rewrite
 invariant_of-self-else-rewrite g c =
-    let k = g.R.Row.digits c.args.key.now in
-    let m = table_by now_row (slots_of g.R.Row.digits c.self.inside.slots.entries) in
+    let k = g.R.Key.RowKey.digits c.args.key.now in
+    let m = table_by now_row (slots_of g.R.Key.RowKey.digits c.self.inside.slots.entries) in
     record {
       distinct = c.rewrite.ensures.distinct;
       used = c.rewrite.ensures.used;
@@ -40,6 +40,6 @@ invariant_of-self-else-rewrite g c =
 
 pub returns-in_default-clause-ok : goal.returns-in_default-clause-ok
 returns-in_default-clause-ok g c =
-    let k = g.R.Row.digits c.args.key.now in
-    let es = slots_of g.R.Row.digits c.self.inside.slots.entries in
+    let k = g.R.Key.RowKey.digits c.args.key.now in
+    let es = slots_of g.R.Key.RowKey.digits c.self.inside.slots.entries in
     rw (← c.self.view_is) (sym (remove-absent (table_by now_row es) k (get-no_slot now_row es k c.self.invariant.distinct c.in_default.ensures.absent)))

@@ -2,7 +2,7 @@ use Rattle.std.proofs.Common.{◌≡◌, true, false, refl, sym, ◌∙◌, arit
 use Rattle.std.specs.Borrow.{Bor}
 use Rattle.yard_core.specs.SoundLocations.{IsSoundLocation}
 use Rattle.yard_core.specs.Yards.{stock_of}
-use Rattle.yard_core.specs.declared.location.Location.{Location}
+use Rattle.part_core.specs.declared.named_row.NamedRow.{NamedRow as Location}
 use Rattle.yard_core.proofs.ByIndex.{all-at, all-seen}
 use Rattle.yard_core.proofs.yard.Yard.is_each_location_sound.Goals as goal
 
