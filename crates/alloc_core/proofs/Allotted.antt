@@ -8,7 +8,7 @@ use Rattle.part_core.proofs.Conditions.{or_none}
 use Rattle.part_core.proofs.RowLemmas.{each-insert, right-new, right-none}
 use Rattle.part_core.proofs.Standing.{Stands}
 use Rattle.forest.specs.Forest.{is_at}
-use Rattle.yard_core.specs.Books.{Books}
+use Rattle.yard_core.specs.StockBooks.{StockBooks}
 use Rattle.yard_core.specs.Stock.{Stock, item_at}
 use Rattle.alloc_core.specs.Allocations.{allocated, allocated_where, free}
 use Rattle.alloc_core.specs.Automatic.{counted_down, shares}
@@ -74,7 +74,7 @@ module _ (purpose : Purpose) (s : Stock) where
 
   -- ---- what stays sound
 
-  abbrev pub beside : Allotments → Books
+  abbrev pub beside : Allotments → StockBooks
   beside b = record { stock = s; counter = b.counter }
 
   -- loose items within the largest quantity

@@ -6,7 +6,7 @@ use Rattle.forest.specs.Forest.{is_at}
 use Rattle.std.specs.FinMap as table
 use Rattle.part_core.specs.Sheet.{Table}
 use Rattle.part_core.proofs.Standing.{Stands, each-value}
-use Rattle.yard_core.specs.Books.{Books}
+use Rattle.yard_core.specs.StockBooks.{StockBooks}
 use Rattle.yard_core.specs.Stock.{Stock, item_at}
 use Rattle.alloc_core.specs.Allocations.{amount_where, is_of_item, sum_where}
 use Rattle.alloc_core.specs.Sound.{AreSoundAllocations, IsSoundAllocation}
@@ -23,7 +23,7 @@ stands-sound s [] all a h = absurd h
 stands-sound s (x ∷ xs) all a h = elim h [ inl same ↦ subst (IsSoundAllocation s) same all.0 | inr later ↦ stands-sound s xs all.1 a later ]
 
 -- those of the table are covered
-pub covered-of : (t : Table Allocation) (b : Books) → AreSoundAllocations t b → IsCovered b.stock (table.values t)
+pub covered-of : (t : Table Allocation) (b : StockBooks) → AreSoundAllocations t b → IsCovered b.stock (table.values t)
 covered-of t b sound = record {
   each = all-sound b.stock (table.values t) (λ a h. each-value (IsSoundAllocation b.stock) t sound.each a h);
   within = sound.within;

@@ -12,7 +12,7 @@ use Rattle.part_core.proofs.RowLemmas.{each-empty, each-insert, get-remove_cases
 use Rattle.part_core.proofs.Standing.{get-Stands}
 use Rattle.part_core.proofs.Totals.{entries-empty, sum-insert_new}
 use Rattle.forest.specs.Forest.{is_at}
-use Rattle.yard_core.specs.Books.{Books}
+use Rattle.yard_core.specs.StockBooks.{StockBooks}
 use Rattle.yard_core.specs.Stock.{Stock, item_at, no_item}
 use Rattle.alloc_core.specs.AllocMachine.{EffectsAreSound}
 use Rattle.part_core.specs.TableRows.{without_rows}
@@ -26,7 +26,7 @@ use Rattle.alloc_core.proofs.Covers.{AreSound, IsCovered, covered-moved, covered
 use Rattle.alloc_core.proofs.Sums.{amount-in, amount-out, sum-no_one, sum-split, sum-stands}
 use Rattle.part_core.proofs.TableRows.{get-kept, get-without, values-without}
 
-module _ (t : Table Allocation) (b : Books) (sound : AreSoundAllocations t b) where
+module _ (t : Table Allocation) (b : StockBooks) (sound : AreSoundAllocations t b) where
   -- ---- some go
 
   module _ (test : Allocation → Bool) where
@@ -47,7 +47,7 @@ module _ (t : Table Allocation) (b : Books) (sound : AreSoundAllocations t b) wh
   -- ---- one comes
 
   -- an allocation under the next number, of no more than what is free of a loose item
-  pub sound-allocated : (a : Allocation) (c : Books) → c.stock ≡ b.stock → c.counter.next ≡ b.counter.next + 1 → 1 ≤ b.counter.next → a.number ≡ b.counter.next → 1 ≤ a.quantity
+  pub sound-allocated : (a : Allocation) (c : StockBooks) → c.stock ≡ b.stock → c.counter.next ≡ b.counter.next + 1 → 1 ≤ b.counter.next → a.number ≡ b.counter.next → 1 ≤ a.quantity
       → a.quantity ≤ largest → is_at (item_at a.item b.stock).place ≡ true → a.quantity ≤ free a.item t b.stock → AreSoundAllocations (table.insert t (b.counter.next ∷ []) a) c
   sound-allocated a c same more one own some fits loose enough = record {
     rows = subst (λ m. StandRight (λ x. x.number) m (table.insert t (b.counter.next ∷ []) a)) (sym more) (right-new (λ (x : Allocation). x.number) b.counter.next a t own one sound.rows);
@@ -70,7 +70,7 @@ module _ (t : Table Allocation) (b : Books) (sound : AreSoundAllocations t b) wh
   -- ---- the stock changes
 
   -- each loose item of which some is allocated is loose, and has as much as is allocated of it
-  pub sound-changed : (c : Books) → b.counter.next ≤ c.counter.next
+  pub sound-changed : (c : StockBooks) → b.counter.next ≤ c.counter.next
       → ((n : ℕ) → is_at (item_at n b.stock).place ≡ true → 1 ≤ allocated n t → (is_at (item_at n c.stock).place ≡ true) × (allocated n t ≤ (item_at n c.stock).quantity)) → AreSoundAllocations t c
   sound-changed c le kept =
       let covered = covered-moved b.stock c.stock (table.values t) (covered-of t b sound).each kept in record {
@@ -85,11 +85,11 @@ module _ (t : Table Allocation) (b : Books) (sound : AreSoundAllocations t b) wh
           omega (arith, h.some, amount-in (is_of_item x.item) x (eq-eqb x.item x.item refl), sum-stands (is_of_item x.item) x (table.values t) (get-Stands t k x e))
 
 -- more numbers are drawn
-pub sound-later : (t : Table Allocation) (b : Books) (counter : Numbering) → b.counter.next ≤ counter.next → AreSoundAllocations t b → AreSoundAllocations t (record { stock = b.stock; counter = counter })
+pub sound-later : (t : Table Allocation) (b : StockBooks) (counter : Numbering) → b.counter.next ≤ counter.next → AreSoundAllocations t b → AreSoundAllocations t (record { stock = b.stock; counter = counter })
 sound-later t b counter le sound = sound-changed t b sound (record { stock = b.stock; counter = counter }) le (λ n loose some. (loose, sound.within n))
 
 -- the items stay as they are
-pub sound-items : (t : Table Allocation) (b c : Books) → c.stock.items ≡ b.stock.items → b.counter.next ≤ c.counter.next → AreSoundAllocations t b → AreSoundAllocations t c
+pub sound-items : (t : Table Allocation) (b c : StockBooks) → c.stock.items ≡ b.stock.items → b.counter.next ≤ c.counter.next → AreSoundAllocations t b → AreSoundAllocations t c
 sound-items t b c same le sound =
     let item : (n : ℕ) → item_at n c.stock ≡ item_at n b.stock = λ n. ap (λ items. unwrap_or (table.get items (n ∷ [])) no_item) same in
     sound-changed t b sound c le (λ n loose some. (
@@ -98,7 +98,7 @@ sound-items t b c same le sound =
     ))
 
 -- there are none
-pub sound-nothing : (b : Books) → AreSoundAllocations table.empty b
+pub sound-nothing : (b : StockBooks) → AreSoundAllocations table.empty b
 sound-nothing b = record {
   rows = right-empty (λ (a : Allocation). a.number) b.counter.next;
   each = each-empty (IsSoundAllocation b.stock);
@@ -106,7 +106,7 @@ sound-nothing b = record {
 }
 
 -- the owner's are gone, and the stock covers the others
-pub sound-served : (owner : Owner) (t : Table Allocation) (b c : Books) → AreSoundAllocations t b → b.counter.next ≤ c.counter.next
+pub sound-served : (owner : Owner) (t : Table Allocation) (b c : StockBooks) → AreSoundAllocations t b → b.counter.next ≤ c.counter.next
     → IsCovered c.stock (filter (λ a. not (is_owned owner a)) (table.values t)) → AreSoundAllocations (released_for owner t) c
 sound-served owner t b c sound le covered =
     let left = released_for owner t in

@@ -3,7 +3,7 @@ pub mod AllocMachine
 pub mod AllocationColumns
 pub mod Allocations
 pub mod AllocationKeys
-pub mod AllocationTables
+pub mod AllocationsView
 pub mod Allotments
 pub mod Allotting
 pub mod Automatic

@@ -6,12 +6,12 @@ ghost use Rattle.part_core.specs.FormTables.{command_by, forms_by};
 ghost use Rattle.alloc_core.specs.AllocForms.{alloc_back, alloc_distinct, alloc_fields, alloc_forms, alloc_told, alloc_verb};
 
 use crate::alloc_command::AllocCommand;
-use part_core::{Field, Fields, Form, Formed, Kind, form_in};
+use part_core::{Field, FieldKind, Fields, Form, Formed, form_in};
 use std::alloc::{AllocError, Global};
 
 const FORMS: &[Form] = &[Form {
     verb: "release",
-    fields: &[("allocation", Kind::Number)],
+    fields: &[("allocation", FieldKind::Number)],
 }];
 
 #[tactic(auto, unfolding(crate::specs::AllocForms::alloc_forms))]

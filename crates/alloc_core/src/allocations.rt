@@ -4,7 +4,7 @@ ghost use Rattle.std.specs.FinMap as table;
 ghost use Rattle.bom_core.specs.Lines.{removed_all};
 ghost use Rattle.part_core.specs.Filled.{StandUnderKeys};
 ghost use Rattle.part_core.specs.Sheet.{now_of};
-ghost use Rattle.yard_core.specs.Yards.{stock_of};
+ghost use Rattle.yard_core.specs.YardView.{stock_of};
 ghost use Rattle.alloc_core.specs.Allocations.{amount_where, is_for_build_line, is_for_line, is_for_sale_line, is_of_item};
 
 use crate::allocation::{Allocation, item_key};
@@ -92,7 +92,7 @@ impl Drop for Allocations {
 
 impl Allocations {
     ghost use Rattle.alloc_core.specs.Allocations.{allocated, allocated_for_build_line, allocated_for_line, allocated_for_sale_line, allocation_in, allocations_of, free, has_allocations, is_above_free, released_for};
-    ghost use Rattle.alloc_core.specs.AllocationTables.{allocations_from, allocations_now, kept_allocations};
+    ghost use Rattle.alloc_core.specs.AllocationsView.{allocations_from, allocations_now, kept_allocations};
     ghost use Rattle.alloc_core.specs.Release.{release};
 
     /// No allocation.

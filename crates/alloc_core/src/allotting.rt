@@ -1,8 +1,8 @@
 //! What is missing for a line of a build is taken from what is free of items, one after another.
 ghost use Rattle.std.specs.Prelude.{◌≡◌, ◌-◌, Err, IfOk, OnOk, min, true};
 ghost use Rattle.part_core.specs.Counter.{kept_numbering, passes_limit};
-ghost use Rattle.yard_core.specs.Yards.{stock_of};
-ghost use Rattle.alloc_core.specs.AllocationTables.{allocations_now, kept_allocations};
+ghost use Rattle.yard_core.specs.YardView.{stock_of};
+ghost use Rattle.alloc_core.specs.AllocationsView.{allocations_now, kept_allocations};
 ghost use Rattle.alloc_core.specs.Allocations.{free};
 ghost use Rattle.alloc_core.specs.Allotments.{allotments_of, for_line};
 ghost use Rattle.alloc_core.specs.Allotting.{allocate_some, allot_in_turn};

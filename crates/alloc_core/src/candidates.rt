@@ -1,12 +1,12 @@
 //! Which items may serve a line of a bill: found by look-ups, without a look at other items.
 ghost use Rattle.std.specs.Prelude.{◌≡◌, ◌∷◌, [], ℕ, filter, IfOk, map};
 ghost use Rattle.part_core.specs.Catalogue.{is_number};
-ghost use Rattle.part_core.specs.Catalogues.{parts_of};
+ghost use Rattle.part_core.specs.CatalogueView.{parts_of};
 ghost use Rattle.part_core.specs.Filled.{StandUnderKeys};
 ghost use Rattle.part_core.specs.Index.{Rise};
 ghost use Rattle.bom_core.specs.Bills.{part_rows};
-ghost use Rattle.bom_core.specs.Boms.{bills_of};
-ghost use Rattle.yard_core.specs.Yards.{stock_of};
+ghost use Rattle.bom_core.specs.BomsView.{bills_of};
+ghost use Rattle.yard_core.specs.YardView.{stock_of};
 ghost use Rattle.alloc_core.specs.Candidates.{candidate_numbers, is_variant_for, substitutes_on};
 ghost use Rattle.alloc_core.specs.Finding.{group_numbers, is_among, may_serve, numbers_by_part, part_numbers, substitute_numbers};
 

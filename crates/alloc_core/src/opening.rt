@@ -2,13 +2,13 @@
 //! with a look at its own allocations.
 ghost use Rattle.std.specs.Prelude.{◌≡◌, ◌≤◌, ◌↔◌, ◌∷◌, [], IsTrue};
 ghost use Rattle.alloc_core.specs.Allocations.{allocated};
-ghost use Rattle.alloc_core.specs.AllocationTables.{allocations_now};
+ghost use Rattle.alloc_core.specs.AllocationsView.{allocations_now};
 ghost use Rattle.alloc_core.specs.RowTests.{is_covered, is_sound_row};
 ghost use Rattle.alloc_core.specs.Sound.{AreSoundAllocations, IsSoundAllocation};
 ghost use Rattle.part_core.specs.Filled.{StandUnderKeys};
 ghost use Rattle.part_core.specs.Rows.{EachRow, StandRight};
-ghost use Rattle.yard_core.specs.Books.{books_of};
-ghost use Rattle.yard_core.specs.Yards.{stock_of};
+ghost use Rattle.yard_core.specs.StockBooks.{stock_books_of};
+ghost use Rattle.yard_core.specs.YardView.{stock_of};
 
 use crate::allocation::Allocation;
 use crate::allocations::Allocations;
@@ -60,7 +60,7 @@ impl Allocations {
     pub fn is_sound(&self, yard: &Yard, counter: &Counter) -> bool
         requires { StandUnderKeys (λ x. x.number ∷ []) (stock_of yard.now).items }
         ensures { IsTrue result ↔ AreSoundAllocations (allocations_now self.now)
-            (books_of yard.now counter.now) }
+            (stock_books_of yard.now counter.now) }
     {
         if !self.are_drawn(counter.next()) {
             return false;

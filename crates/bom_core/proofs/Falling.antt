@@ -11,7 +11,7 @@ use Rattle.part_core.proofs.Standing.{Stands, Stands-get, each-value}
 use Rattle.bom_core.specs.Bills.{Bills, contains, covers, fits_line, is_effective, is_substitute, is_variant, line_rows, part_rows, substitute_rows}
 use Rattle.bom_core.specs.Changes.{passes, row_is}
 use Rattle.bom_core.specs.Ranks.{ceiling, floor, is_below, is_bounded, is_falling}
-use Rattle.bom_core.specs.Sides.{AreNumbered}
+use Rattle.bom_core.specs.Roles.{AreNumbered}
 use Rattle.bom_core.specs.Walks.{IsAcyclic}
 use Rattle.bom_core.specs.declared.line.Line.{Line}
 use Rattle.bom_core.specs.declared.ranks.Ranks.{Ranks}

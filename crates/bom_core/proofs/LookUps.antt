@@ -14,10 +14,10 @@ use Rattle.part_core.proofs.RowLemmas.{get-insert_cases, get-remove_cases}
 use Rattle.part_core.proofs.Standing.{Stands}
 use Rattle.bom_core.specs.BillKeys.{line_key, line_keys, of_part_key, on_line_key, substitute_keys}
 use Rattle.bom_core.specs.Bills.{is_effective, is_variant}
-use Rattle.bom_core.specs.Sides.{AreNumbered, is_covering, is_for_variants, merged, named, takes_variants}
+use Rattle.bom_core.specs.Roles.{AreNumbered, is_covering, is_for_variants, merged, named, takes_variants}
 use Rattle.bom_core.specs.declared.line.Line.{Line}
-use Rattle.bom_core.specs.declared.line.Side.{Side}
-use Rattle.bom_core.specs.declared.line.Side.TheVariants.{Assembly, Component}
+use Rattle.bom_core.specs.declared.line.Role.{Role}
+use Rattle.bom_core.specs.declared.line.Role.TheVariants.{Assembly, Component}
 use Rattle.bom_core.specs.declared.substitute.Substitute.{Substitute}
 use Rattle.bom_core.proofs.Member.{or_left, or_right, same_test, any-found, any-from, any-same}
 use Rattle.bom_core.proofs.Merging.{lines-rise, merged-filters}
@@ -30,7 +30,7 @@ first_key a key keys e = or_left (a == key) _ (eq-eqb a key e)
 second_key : (a b key : ℕ) (keys : List ℕ) → b ≡ key → is_index_key key (a ∷ b ∷ keys) ≡ true
 second_key a b key keys e = or_right (a == key) _ (first_key b key keys e)
 
-pub filed-line : (side : Side) (n key : ℕ) → key ≡ line_key side n → (l : Line) → named side l ≡ n → is_index_key key (line_keys l) ≡ true
+pub filed-line : (role : Role) (n key : ℕ) → key ≡ line_key role n → (l : Line) → named role l ≡ n → is_index_key key (line_keys l) ≡ true
 filed-line Assembly n key e l h = first_key _ key (line_key Component l.component ∷ []) (ap (line_key Assembly) h ∙ sym e)
 filed-line Component n key e l h = second_key _ _ key [] (ap (line_key Component) h ∙ sym e)
 
@@ -64,35 +64,35 @@ module _ {X : Type 0} where
       ]
 
 -- no line is for the variants of no template
-pub for_no_variants : (side : Side) (template : Option ℕ) → template ≡ None → (l : Line) → is_for_variants side template l ≡ false
-for_no_variants side template e l = ap (λ o. is_for_variants side o l) e ∙ and_false (takes_variants side l)
+pub for_no_variants : (role : Role) (template : Option ℕ) → template ≡ None → (l : Line) → is_for_variants role template l ≡ false
+for_no_variants role template e l = ap (λ o. is_for_variants role o l) e ∙ and_false (takes_variants role l)
   where
     and_false : (b : Bool) → (b && false) ≡ false
     and_false true = refl
     and_false false = refl
 
 -- the template's lines are looked up under its key
-pub filed-for_variants : (side : Side) (t key : ℕ) → key ≡ line_key side t → (l : Line) → is_for_variants side (Some t) l ≡ true → is_index_key key (line_keys l) ≡ true
-filed-for_variants side t key e l h = filed-line side t key e l (sym (eqb-true _ _ (and_parts (takes_variants side l) _ h).1))
+pub filed-for_variants : (role : Role) (t key : ℕ) → key ≡ line_key role t → (l : Line) → is_for_variants role (Some t) l ≡ true → is_index_key key (line_keys l) ≡ true
+filed-for_variants role t key e l h = filed-line role t key e l (sym (eqb-true _ _ (and_parts (takes_variants role l) _ h).1))
 
 -- the lines that cover a part
 
 -- the line names the part, or one of these templates, and means its variants
-abbrev pub covers_by : Side → ℕ → List Part → Line → Bool
-covers_by side p rows l = (named side l == p) || (takes_variants side l && list_any (λ x. is_number (named side l) x.template) rows)
+abbrev pub covers_by : Role → ℕ → List Part → Line → Bool
+covers_by role p rows l = (named role l == p) || (takes_variants role l && list_any (λ x. is_number (named role l) x.template) rows)
 
-pub covers_by-none : (side : Side) (p : ℕ) (l : Line) → covers_by side p [] l ≡ (named side l == p)
-covers_by-none side p l = go (named side l == p) (takes_variants side l)
+pub covers_by-none : (role : Role) (p : ℕ) (l : Line) → covers_by role p [] l ≡ (named role l == p)
+covers_by-none role p l = go (named role l == p) (takes_variants role l)
   where
     go : (a b : Bool) → (a || (b && false)) ≡ a
     go true b = refl
     go false true = refl
     go false false = refl
 
-covers_by-more : (side : Side) (p : ℕ) (rows : List Part) (x : Part) (l : Line) → (covers_by side p rows l || is_for_variants side x.template l) ≡ covers_by side p (rows ++ x ∷ []) l
-covers_by-more side p rows x l =
-    go (named side l == p) (takes_variants side l) (list_any (λ y. is_number (named side l) y.template) rows) (is_number (named side l) x.template)
-    ∙ ap (λ b. (named side l == p) || (takes_variants side l && b)) (sym (list_any-append (λ y. is_number (named side l) y.template) rows (x ∷ [])))
+covers_by-more : (role : Role) (p : ℕ) (rows : List Part) (x : Part) (l : Line) → (covers_by role p rows l || is_for_variants role x.template l) ≡ covers_by role p (rows ++ x ∷ []) l
+covers_by-more role p rows x l =
+    go (named role l == p) (takes_variants role l) (list_any (λ y. is_number (named role l) y.template) rows) (is_number (named role l) x.template)
+    ∙ ap (λ b. (named role l == p) || (takes_variants role l && b)) (sym (list_any-append (λ y. is_number (named role l) y.template) rows (x ∷ [])))
   where
     go : (a b c d : Bool) → ((a || (b && c)) || (b && d)) ≡ (a || (b && (c || (d || false))))
     go true b c d = refl
@@ -101,24 +101,24 @@ covers_by-more side p rows x l =
     go false true false true = refl
     go false true false false = refl
 
-covers_by-all : (side : Side) (p : ℕ) (parts : List Part) (l : Line) → covers_by side p (filter (λ x. x.number == p) parts) l ≡ is_covering side parts p l
-covers_by-all side p parts l = ap (λ b. (named side l == p) || (takes_variants side l && b)) (any-filtered (λ (x : Part). x.number == p) (λ x. is_number (named side l) x.template) parts)
+covers_by-all : (role : Role) (p : ℕ) (parts : List Part) (l : Line) → covers_by role p (filter (λ x. x.number == p) parts) l ≡ is_covering role parts p l
+covers_by-all role p parts l = ap (λ b. (named role l == p) || (takes_variants role l && b)) (any-filtered (λ (x : Part). x.number == p) (λ x. is_number (named role l) x.template) parts)
 
 abbrev pub rows_now : List (Bor Part) → List Part
 rows_now rows = map (λ r. r.now) rows
 
-module _ (m : Table Line) (own : AreNumbered m) (side : Side) (p : ℕ) (rows : List (Bor Part)) where
+module _ (m : Table Line) (own : AreNumbered m) (role : Role) (p : ℕ) (rows : List (Bor Part)) where
   -- the lines of the next template
   pub covering-more : (i : ℕ) (d x : Bor Part) → i < length rows → x ≡ get_or rows i d → (ls others new : List Line)
-      → ls ≡ filter (covers_by side p (rows_now (take i rows))) (table.values m)
-      → others ≡ filter (is_for_variants side x.now.template) (table.values m)
-      → new ≡ merged ls others → new ≡ filter (covers_by side p (rows_now (take (i + 1) rows))) (table.values m)
+      → ls ≡ filter (covers_by role p (rows_now (take i rows))) (table.values m)
+      → others ≡ filter (is_for_variants role x.now.template) (table.values m)
+      → new ≡ merged ls others → new ≡ filter (covers_by role p (rows_now (take (i + 1) rows))) (table.values m)
   covering-more i d x here is ls others new e f g =
       g ∙ ap (λ ks. merged ks others) e
-      ∙ ap (λ ks. merged (filter (covers_by side p (rows_now (take i rows))) (table.values m)) ks) f
-      ∙ merged-filters (covers_by side p (rows_now (take i rows))) (is_for_variants side x.now.template) (table.values m) (lines-rise m own)
-      ∙ filter-same _ _ (covers_by-more side p (rows_now (take i rows)) x.now) (table.values m)
-      ∙ ap (λ xs. filter (covers_by side p xs) (table.values m)) (sym (map-push (take i rows) x) ∙ ap (λ y. rows_now (take i rows ++ y ∷ [])) is ∙ sym (ap rows_now (take_more rows i d here)))
+      ∙ ap (λ ks. merged (filter (covers_by role p (rows_now (take i rows))) (table.values m)) ks) f
+      ∙ merged-filters (covers_by role p (rows_now (take i rows))) (is_for_variants role x.now.template) (table.values m) (lines-rise m own)
+      ∙ filter-same _ _ (covers_by-more role p (rows_now (take i rows)) x.now) (table.values m)
+      ∙ ap (λ xs. filter (covers_by role p xs) (table.values m)) (sym (map-push (take i rows) x) ∙ ap (λ y. rows_now (take i rows ++ y ∷ [])) is ∙ sym (ap rows_now (take_more rows i d here)))
     where
       map-push : (xs : List (Bor Part)) (y : Bor Part) → rows_now (xs ++ y ∷ []) ≡ rows_now xs ++ y.now ∷ []
       map-push [] y = refl
@@ -126,11 +126,11 @@ module _ (m : Table Line) (own : AreNumbered m) (side : Side) (p : ℕ) (rows : 
 
   -- the lines of all templates
   pub covering-all : (i : ℕ) (parts : List Part) → length rows ≤ i → rows_now rows ≡ filter (λ x. x.number == p) parts → (ls : List Line)
-      → ls ≡ filter (covers_by side p (rows_now (take i rows))) (table.values m) → ls ≡ filter (is_covering side parts p) (table.values m)
+      → ls ≡ filter (covers_by role p (rows_now (take i rows))) (table.values m) → ls ≡ filter (is_covering role parts p) (table.values m)
   covering-all i parts end is ls e =
       e
-      ∙ ap (λ xs. filter (covers_by side p xs) (table.values m)) (ap rows_now (take_all i rows end) ∙ is)
-      ∙ filter-same _ _ (covers_by-all side p parts) (table.values m)
+      ∙ ap (λ xs. filter (covers_by role p xs) (table.values m)) (ap rows_now (take_all i rows end) ∙ is)
+      ∙ filter-same _ _ (covers_by-all role p parts) (table.values m)
 
 module _ (parts : List Part) (ls : List Line) (a : ℕ) (lasts fits : Line → Bool) where
   abbrev q : Line → Bool

@@ -11,7 +11,7 @@ use Rattle.part_core.specs.Sheet.{key_cmp, Table}
 use Rattle.part_core.proofs.Conditions.{and_parts}
 use Rattle.part_core.proofs.Keys.{key_eq, key_eq-self, key_eq-true}
 use Rattle.bom_core.specs.declared.line.Line.{Line}
-use Rattle.bom_core.specs.Sides.{AreNumbered, merged, placed}
+use Rattle.bom_core.specs.Roles.{AreNumbered, merged, placed}
 
 -- the lines that these borrow
 abbrev pub lent : List (Bor Line) → List Line

@@ -5,14 +5,14 @@ use Rattle.std.specs.List.{list_any}
 use Rattle.std.specs.FinMap as table
 use Rattle.part_core.specs.declared.part.Part.{Part}
 use Rattle.bom_core.specs.declared.line.Line.{Line}
-use Rattle.bom_core.specs.declared.line.Side.TheVariants.{Component}
+use Rattle.bom_core.specs.declared.line.Role.TheVariants.{Component}
 use Rattle.bom_core.specs.declared.substitute.Substitute.{Substitute}
 use Rattle.bom_core.specs.declared.search.Direction.{Direction}
 use Rattle.bom_core.specs.declared.search.Direction.TheVariants.{Down, Up}
 use Rattle.part_core.specs.Catalogue.{Parts, is_number}
 use Rattle.bom_core.specs.Bills.{Bills, contains, is_variant, covers, is_effective, is_substitute, fits_line, line_rows, part_rows, substitute_rows}
 use Rattle.bom_core.specs.Search.{is_among, push_new, push_all, variants_in, covered, substitutes_in, fitting, contained, assemblies, assemblies_of, by_component, by_substitute, next_parts, is_next}
-use Rattle.bom_core.specs.Sides.{AreNumbered, is_covering}
+use Rattle.bom_core.specs.Roles.{AreNumbered, is_covering}
 use Rattle.part_core.proofs.Conditions.{or_cases, and_parts, and_both}
 use Rattle.part_core.proofs.RowLemmas.{same_digit}
 use Rattle.part_core.proofs.Standing.{Stands, Stands-get, get-Stands}

@@ -16,7 +16,7 @@ use Rattle.part_core.proofs.Standing.{Contains-Stands, Stands, Stands-Contains, 
 use Rattle.bom_core.specs.Bills.{Bills, covers, part_rows}
 use Rattle.bom_core.specs.Changes.{has_row, passes, row_is}
 use Rattle.bom_core.specs.RowTests.{AreNumbersOf, Pair, has_quantity, is_needed, is_number_found, same_pair}
-use Rattle.bom_core.specs.Sides.{AreNumbered}
+use Rattle.bom_core.specs.Roles.{AreNumbered}
 use Rattle.bom_core.specs.Sound.{IsOnceEach}
 use Rattle.bom_core.specs.declared.line.Line.{Line}
 use Rattle.bom_core.specs.declared.substitute.Substitute.{Substitute}

@@ -3,12 +3,12 @@ use Rattle.std.specs.Prelude.{ℕ, List, [], ◌∷◌, ◌++◌, pos}
 use Rattle.std.specs.Hash as fed
 use Rattle.part_core.specs.Indexed.{index_key_of}
 use Rattle.bom_core.specs.declared.line.Line.{Line}
-use Rattle.bom_core.specs.declared.line.Side.{Side}
-use Rattle.bom_core.specs.declared.line.Side.TheVariants.{Assembly, Component}
+use Rattle.bom_core.specs.declared.line.Role.{Role}
+use Rattle.bom_core.specs.declared.line.Role.TheVariants.{Assembly, Component}
 use Rattle.bom_core.specs.declared.substitute.Substitute.{Substitute}
 
--- the index key of the lines that name the part on that side
-abbrev pub line_key : Side → ℕ → ℕ
+-- the index key of the lines that name the part in that role
+abbrev pub line_key : Role → ℕ → ℕ
 line_key Assembly n = index_key_of (fed.isize (pos 0) ++ fed.u64 n)
 line_key Component n = index_key_of (fed.isize (pos 1) ++ fed.u64 n)
 

@@ -3,13 +3,13 @@ pub mod BillKeys
 pub mod Bills
 pub mod BomForms
 pub mod BomMachine
-pub mod Boms
+pub mod BomsView
 pub mod Changes
 pub mod Lines
 pub mod Ranks
+pub mod Roles
 pub mod RowTests
 pub mod Search
-pub mod Sides
 pub mod Sound
 pub mod Substitutes
 pub mod Walks

@@ -5,9 +5,9 @@ use Rattle.std.specs.FinMap as table
 use Rattle.part_core.specs.declared.part.Part.{Part}
 use Rattle.part_core.specs.Catalogue.{Parts, is_number}
 use Rattle.bom_core.specs.Bills.{Bills, contains, is_effective, line_rows, part_rows, substitute_rows}
-use Rattle.bom_core.specs.Sides.{is_covering}
+use Rattle.bom_core.specs.Roles.{is_covering}
 use Rattle.bom_core.specs.declared.line.Line.{Line}
-use Rattle.bom_core.specs.declared.line.Side.TheVariants.{Component}
+use Rattle.bom_core.specs.declared.line.Role.TheVariants.{Component}
 use Rattle.bom_core.specs.declared.substitute.Substitute.{Substitute}
 use Rattle.bom_core.specs.declared.search.Direction.{Direction}
 use Rattle.bom_core.specs.declared.search.Direction.TheVariants.{Down, Up}

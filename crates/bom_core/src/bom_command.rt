@@ -1,9 +1,9 @@
 //! The commands on bills, as a machine: one call that does any of them, and its laws.
 ghost use Rattle.std.specs.Prelude.{◌≡◌};
 ghost use Rattle.part_core.specs.Acts.{Acts};
-ghost use Rattle.part_core.specs.Catalogues.{parts_of};
+ghost use Rattle.part_core.specs.CatalogueView.{parts_of};
 ghost use Rattle.bom_core.specs.BomMachine.{ChecksAreInOrder, EffectsAreSound, answer_of, checks, effect};
-ghost use Rattle.bom_core.specs.Boms.{bill_books, bills_of, kept_bill_books};
+ghost use Rattle.bom_core.specs.BomsView.{bill_books, bills_of, kept_bill_books};
 ghost use Rattle.bom_core.specs.Sound.{IsSoundBill};
 
 use crate::boms::Boms;

@@ -7,33 +7,33 @@ ghost use Rattle.bom_core.specs.BomForms.{bom_back, bom_distinct, bom_fields, bo
 
 use crate::bom_command::BomCommand;
 use crate::line::{LineFlags, NewLine};
-use part_core::{Field, Fields, Form, Formed, Kind, form_in};
+use part_core::{Field, FieldKind, Fields, Form, Formed, form_in};
 use std::alloc::{AllocError, Global};
 
 const FORMS: &[Form] = &[
     Form {
         verb: "add_line",
         fields: &[
-            ("assembly", Kind::Number),
-            ("component", Kind::Number),
-            ("quantity", Kind::Number),
-            ("optional", Kind::Yes),
-            ("consumable", Kind::Yes),
-            ("inherited", Kind::Yes),
-            ("variants", Kind::Yes),
+            ("assembly", FieldKind::Number),
+            ("component", FieldKind::Number),
+            ("quantity", FieldKind::Number),
+            ("optional", FieldKind::Yes),
+            ("consumable", FieldKind::Yes),
+            ("inherited", FieldKind::Yes),
+            ("variants", FieldKind::Yes),
         ],
     },
     Form {
         verb: "drop_line",
-        fields: &[("line", Kind::Number)],
+        fields: &[("line", FieldKind::Number)],
     },
     Form {
         verb: "add_substitute",
-        fields: &[("line", Kind::Number), ("part", Kind::Number)],
+        fields: &[("line", FieldKind::Number), ("part", FieldKind::Number)],
     },
     Form {
         verb: "drop_substitute",
-        fields: &[("substitute", Kind::Number)],
+        fields: &[("substitute", FieldKind::Number)],
     },
 ];
 

@@ -1,14 +1,14 @@
 //! The bills of all assemblies. The commands on lines and on substitutes have files of their own below this one.
 ghost use Rattle.std.specs.Prelude.{◌≡◌, ◌∷◌, [], ℕ, true, ◌↔◌, IsTrue, IfOk, map, option_copied};
 ghost use Rattle.std.specs.FinMap as table;
-ghost use Rattle.part_core.specs.Catalogues.{parts_of};
+ghost use Rattle.part_core.specs.CatalogueView.{parts_of};
 ghost use Rattle.bom_core.specs.Bills.{covers, effective, fits, fits_in, no_bills, part_rows};
 ghost use Rattle.bom_core.specs.Changes.{has_row, is_line_open};
-ghost use Rattle.bom_core.specs.Sides.{AreNumbered};
+ghost use Rattle.bom_core.specs.Roles.{AreNumbered};
 ghost use Rattle.bom_core.specs.Walks.{HasWalk, IsWhereUsed};
 
 use crate::checks::is_open;
-use crate::line::{Line, Side};
+use crate::line::{Line, Role};
 use crate::search::{Direction, is_seen, push_covered, search};
 use crate::substitute::Substitute;
 use indexmap::IndexSet;
@@ -41,7 +41,7 @@ impl Drop for Boms {
 }
 
 impl Boms {
-    ghost use Rattle.bom_core.specs.Boms.{bills_from, bills_of, kept_bills};
+    ghost use Rattle.bom_core.specs.BomsView.{bills_from, bills_of, kept_bills};
 
     /// Bills with no line.
     pub fn new(alloc: Global) -> Self
@@ -127,7 +127,7 @@ impl Boms {
         ensures { IfOk result (λ lines. map (λ l. l.now) lines.items
             ≡ effective (parts_of catalogue.now) (bills_of self.now) part) }
     {
-        self.covering(catalogue, Side::Assembly, part)
+        self.covering(catalogue, Role::Assembly, part)
     }
 
     /// Whether the part fits the line: it is its component, a variant of it where the line allows variants, or a

@@ -1,6 +1,6 @@
 //! Why a change of the bills is refused.
 ghost use Rattle.std.specs.Prelude.{◌≡◌, ◌↔◌, ℕ};
-ghost use Rattle.part_core.specs.Catalogues.{parts_of};
+ghost use Rattle.part_core.specs.CatalogueView.{parts_of};
 ghost use Rattle.part_core.specs.Checks.{first};
 ghost use Rattle.bom_core.specs.Lines.{line_row_checks};
 ghost use Rattle.bom_core.specs.Changes.{has_row, is_assembly, is_component, is_open};

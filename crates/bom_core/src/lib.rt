@@ -8,7 +8,7 @@ mod checks;
 mod laws;
 mod line;
 mod merge;
-mod order;
+mod ranking;
 mod ranks;
 mod search;
 mod substitute;

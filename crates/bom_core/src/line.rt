@@ -75,9 +75,9 @@ pub struct Line {
     pub flags: LineFlags,
 }
 
-/// A side of a line, which names a part.
+/// The role of a part that a line names.
 #[derive(Clone, Copy, Debug)]
-pub enum Side {
+pub enum Role {
     Assembly,
     Component,
 }
@@ -117,25 +117,25 @@ impl NewLine {
 }
 
 impl Line {
-    ghost use Rattle.bom_core.specs.Sides.{named, takes_variants};
+    ghost use Rattle.bom_core.specs.Roles.{named, takes_variants};
 
-    /// The part on that side.
-    pub fn named(&self, side: Side) -> Id
-        ensures { result ≡ named side self.now }
+    /// The part in that role.
+    pub fn named(&self, role: Role) -> Id
+        ensures { result ≡ named role self.now }
     {
-        match side {
-            Side::Assembly => self.assembly,
-            Side::Component => self.component,
+        match role {
+            Role::Assembly => self.assembly,
+            Role::Component => self.component,
         }
     }
 
     /// Whether the line means the variants of that part too.
-    pub fn takes_variants(&self, side: Side) -> bool
-        ensures { result ≡ takes_variants side self.now }
+    pub fn takes_variants(&self, role: Role) -> bool
+        ensures { result ≡ takes_variants role self.now }
     {
-        match side {
-            Side::Assembly => self.flags.inherited,
-            Side::Component => self.flags.variants,
+        match role {
+            Role::Assembly => self.flags.inherited,
+            Role::Component => self.flags.variants,
         }
     }
 }
@@ -184,13 +184,13 @@ impl Row for Line {
     }
 }
 
-/// The index key of the lines that name the part on that side.
-pub fn line_key(side: Side, number: Id) -> u64
-    ensures { result ≡ line_key side number }
+/// The index key of the lines that name the part in that role.
+pub fn line_key(role: Role, number: Id) -> u64
+    ensures { result ≡ line_key role number }
 {
-    match side {
-        Side::Assembly => index_key_of(LineLookup::Assembly(number)),
-        Side::Component => index_key_of(LineLookup::Component(number)),
+    match role {
+        Role::Assembly => index_key_of(LineLookup::Assembly(number)),
+        Role::Component => index_key_of(LineLookup::Component(number)),
     }
 }
 
@@ -199,8 +199,8 @@ impl Indexed for Line {
 
     fn index_key(&self, place: usize) -> Option<u64> {
         match place {
-            0 => Some(line_key(Side::Assembly, self.assembly)),
-            1 => Some(line_key(Side::Component, self.component)),
+            0 => Some(line_key(Role::Assembly, self.assembly)),
+            1 => Some(line_key(Role::Component, self.component)),
             _ => None,
         }
     }

@@ -1,6 +1,6 @@
 //! Lists of lines in order of number, as one.
 ghost use Rattle.std.specs.Prelude.{◌≡◌, IfOk, map};
-ghost use Rattle.bom_core.specs.Sides.{merged};
+ghost use Rattle.bom_core.specs.Roles.{merged};
 
 use crate::line::Line;
 use std::alloc::{AllocError, Global};

@@ -2,14 +2,14 @@
 //! to, and looks at no others.
 ghost use Rattle.std.specs.Prelude.{◌≡◌, ◌↔◌, ◌∷◌, [], ℕ, true, IfOk, OnOk};
 ghost use Rattle.std.specs.FinMap as table;
-ghost use Rattle.part_core.specs.Catalogues.{parts_of};
+ghost use Rattle.part_core.specs.CatalogueView.{parts_of};
 ghost use Rattle.bom_core.specs.Bills.{part_rows, substitute_rows};
-ghost use Rattle.bom_core.specs.Boms.{bills_of};
+ghost use Rattle.bom_core.specs.BomsView.{bills_of};
 ghost use Rattle.bom_core.specs.Search.{is_among, push_new, push_all, variants_in, covered, substitutes_in, fitting, contained, assemblies_of, by_component, by_substitute, next_parts, is_next};
 ghost use Rattle.bom_core.specs.Walks.{StepsFrom};
 
 use crate::boms::Boms;
-use crate::line::{Line, Side};
+use crate::line::{Line, Role};
 use indexmap::IndexSet;
 use part_core::{Catalogue, Id};
 use std::alloc::{AllocError, Global};
@@ -108,7 +108,7 @@ fn push_contained(
     ensures { OnOk result (seen.new.keys ≡ push_all
         seen.old.keys (contained (parts_of catalogue.now) (bills_of boms.now) part)) }
 {
-    for line in &boms.covering(catalogue, Side::Assembly, part)? {
+    for line in &boms.covering(catalogue, Role::Assembly, part)? {
         push_fitting(boms, catalogue, line, seen)?;
     }
     Ok(())
@@ -125,7 +125,7 @@ fn push_by_component(
     ensures { OnOk result (seen.new.keys ≡ push_all
         seen.old.keys (by_component (parts_of catalogue.now) (bills_of boms.now) part)) }
 {
-    for line in &boms.covering(catalogue, Side::Component, part)? {
+    for line in &boms.covering(catalogue, Role::Component, part)? {
         push_covered(catalogue, line.assembly, line.flags.inherited, seen)?;
     }
     Ok(())

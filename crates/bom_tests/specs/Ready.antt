@@ -1,9 +1,9 @@
 -- A catalogue and bills to which a part or a line can come.
 use Rattle.std.specs.Prelude.{◌≡◌}
-use Rattle.part_core.specs.Catalogues.{kept_register, parts_of, register_of}
+use Rattle.part_core.specs.CatalogueView.{kept_register, parts_of, register_of}
 use Rattle.part_core.specs.Counter.{Counting}
 use Rattle.part_core.specs.declared.catalogue.Catalogue.{Catalogue}
-use Rattle.bom_core.specs.Boms.{bill_books, bills_of, kept_bill_books}
+use Rattle.bom_core.specs.BomsView.{bill_books, bills_of, kept_bill_books}
 use Rattle.bom_core.specs.Sound.{IsSoundBill}
 use Rattle.bom_core.specs.declared.boms.Boms.{Boms}
 

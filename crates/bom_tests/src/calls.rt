@@ -1,6 +1,6 @@
 //! Each public call once, and a chain of assemblies that would close.
 ghost use Rattle.std.specs.Prelude.{◌≡◌, IfOk};
-ghost use Rattle.bom_core.specs.Boms.{bills_of, kept_bills};
+ghost use Rattle.bom_core.specs.BomsView.{bills_of, kept_bills};
 ghost use Rattle.bom_tests.specs.Ready.{IsReady};
 
 use bom_core::{Boms, LineFlags, NewLine, a_new_part_makes_no_cycle, no_bills_are_sound};

@@ -24,7 +24,7 @@ use Rattle.alloc_core.proofs.Amounts.{where-more}
 use Rattle.alloc_core.proofs.Sound.{free-enough, sound-allocated}
 use Rattle.yard_core.specs.Stock.{item_at}
 use Rattle.yard_core.proofs.Keeping.{bounds_at, good_at}
-use Rattle.stock_core.specs.Asked.{is_loose, part_at}
+use Rattle.stock_core.specs.ItemTests.{is_loose, part_at}
 use Rattle.stock_core.specs.StockMachine.{Grows}
 use Rattle.stock_core.proofs.Beside.{sound-later}
 use Rattle.stock_core.proofs.Checked.{good-quantity}

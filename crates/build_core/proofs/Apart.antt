@@ -9,7 +9,7 @@ use Rattle.part_core.specs.Sheet.{Table}
 use Rattle.part_core.proofs.RowLemmas.{right-none, right-number}
 use Rattle.forest.specs.declared.item.Item.{Item}
 use Rattle.forest.specs.Forest.{height, is_at}
-use Rattle.yard_core.specs.Books.{Books}
+use Rattle.yard_core.specs.StockBooks.{StockBooks}
 use Rattle.yard_core.specs.Outputs.{LeavesOutputs}
 use Rattle.yard_core.specs.Stock.{CanCutItem, IsSound, Stock, height_at, item_at}
 use Rattle.yard_core.proofs.Items.{outside}
@@ -17,7 +17,7 @@ use Rattle.yard_core.proofs.Keeping.{is_cut_off, leaf_at}
 use Rattle.yard_core.proofs.Quiet.{leaves-changed, leaves-more, leaves-new, leaves-none}
 use Rattle.yard_core.proofs.QuietMoves.{at-quiet, left-quiet}
 use Rattle.yard_core.proofs.Rows.{get-other, get-own}
-use Rattle.stock_core.specs.Asked.{has_more}
+use Rattle.stock_core.specs.ItemTests.{has_more}
 use Rattle.stock_core.specs.Sound.{Owners}
 use Rattle.stock_core.specs.Steps.{cut_off, take}
 use Rattle.stock_core.proofs.Plain.{IsPlain, item-at, item_of, refilled}
@@ -33,7 +33,7 @@ turned n m e = go (m == n) refl
     go true u = absurd (eqb-false n m e (sym (eqb-true m n u)))
     go false u = refl
 
-pub record IsApart (n q : ℕ) (b : Books) (t : Books × ℕ) : Type 0 where
+pub record IsApart (n q : ℕ) (b : StockBooks) (t : StockBooks × ℕ) : Type 0 where
   -- the rows of other items are as they were
   pub rows : (k : ℕ) → (k == n) ≡ false → (k == t.1) ≡ false → table.get t.0.stock.items (k ∷ []) ≡ table.get b.stock.items (k ∷ [])
   -- another loose item was loose, and is no higher
@@ -44,7 +44,7 @@ pub record IsApart (n q : ℕ) (b : Books) (t : Books × ℕ) : Type 0 where
   pub which : (t.1 ≡ n) ⊎ (table.get b.stock.items (t.1 ∷ []) ≡ None)
   pub quiet : LeavesOutputs b.stock.items t.0.stock.items
 
-module _ (owners : Owners) (parts : Parts) (n q : ℕ) (day : CivilDay) (b : Books) (up : Upright owners parts b) (loose : is_at (item_at n b.stock).place ≡ true) (some : 1 ≤ q) (enough : q ≤ (item_at n b.stock).quantity) where
+module _ (owners : Owners) (parts : Parts) (n q : ℕ) (day : CivilDay) (b : StockBooks) (up : Upright owners parts b) (loose : is_at (item_at n b.stock).place ≡ true) (some : 1 ≤ q) (enough : q ≤ (item_at n b.stock).quantity) where
   abbrev s : Stock
   s = b.stock
 
@@ -79,7 +79,7 @@ module _ (owners : Owners) (parts : Parts) (n q : ℕ) (day : CivilDay) (b : Boo
     absent : table.get s.items (m ∷ []) ≡ None
     absent = right-none (λ (i : Item). i.number) m m s.items up.rows (omega arith)
 
-    abbrev after : Books
+    abbrev after : StockBooks
     after = cut_off n q None day b
 
     abbrev smaller : Item

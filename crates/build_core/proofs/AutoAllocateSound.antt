@@ -26,7 +26,7 @@ use Rattle.alloc_core.proofs.Amounts.{where-some}
 use Rattle.alloc_core.proofs.InTurn.{line-in_turn}
 use Rattle.alloc_core.proofs.Once.{HasNo, StandOnce, Stands-append, Stands-number, Stands-passes, passing-once, rows-once}
 use Rattle.yard_core.specs.Stock.{IsSound, Stock, item_at}
-use Rattle.stock_core.specs.Asked.{part_at}
+use Rattle.stock_core.specs.ItemTests.{part_at}
 use Rattle.stock_core.specs.StockMachine.{Grows}
 use Rattle.stock_core.proofs.Plain.{item_of}
 use Rattle.build_core.specs.AllocateBuild.{allotments_in, with_allotments}

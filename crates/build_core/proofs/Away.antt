@@ -24,18 +24,18 @@ use Rattle.alloc_core.specs.declared.purpose.Purpose.TheVariants.{Build as For}
 use Rattle.alloc_core.specs.Covered.{IsCovered}
 use Rattle.alloc_core.proofs.Covers.{covered-moved, covered-of, covered-others}
 use Rattle.alloc_core.proofs.Sound.{sound-served}
-use Rattle.yard_core.specs.Books.{entries_in, is_full, with_stock}
+use Rattle.yard_core.specs.StockBooks.{entries_in, is_full, with_stock}
 use Rattle.yard_core.specs.Outputs.{amounts, is_output}
 use Rattle.yard_core.specs.Stock.{Stock, item_at, lift, lift_notes, tree_of}
 use Rattle.yard_core.proofs.Moved.{moved-len}
 use Rattle.yard_core.proofs.Quiet.{none-out, sum-changed}
 use Rattle.yard_core.proofs.Rows.{get-other, get-own}
-use Rattle.stock_core.specs.Asked.{is_no_item}
+use Rattle.stock_core.specs.ItemTests.{is_no_item}
 use Rattle.stock_core.specs.Sound.{IsSoundStock, Owners}
 use Rattle.stock_core.specs.StockMachine.{Grows}
 use Rattle.stock_core.proofs.Plain.{item_of, there-checked}
 use Rattle.stock_core.proofs.Upright.{Leads, Upright, sound-of, upright-of}
-use Rattle.build_core.specs.Builds.{BuildBooks, build_at, is_in_production, owners_beside, with_books, without_allocations}
+use Rattle.build_core.specs.Builds.{BuildBooks, build_at, is_in_production, owners_beside, with_stock_books, without_allocations}
 use Rattle.build_core.specs.CancelOutput.{cancel_output, cancel_output_checks}
 use Rattle.build_core.specs.CompleteOutput.{build_of_output, is_no_output}
 use Rattle.build_core.specs.ScrapOutput.{scrap_output, scrap_output_checks}
@@ -62,7 +62,7 @@ module _ (n : ℕ) (q : Place) (day : CivilDay) (is_order : ℕ → Bool) (parts
   own = owner.Output n
 
   abbrev after : BuildBooks
-  after = with_books (with_stock (lift n q day s) b.books) (without_allocations own b)
+  after = with_stock_books (with_stock (lift n q day s) b.books) (without_allocations own b)
 
   abbrev rest : List Allocation
   rest = filter (λ a. not (is_owned own a)) (table.values b.allocations)

@@ -5,7 +5,7 @@ use Rattle.forest.specs.declared.entry.Kind.TheVariants as kind
 use Rattle.forest.specs.declared.place.Place.TheVariants.{Output}
 use Rattle.forest.specs.Moves.{make_change}
 use Rattle.forest.specs.Tables.{node_of}
-use Rattle.yard_core.specs.Books.{Books}
+use Rattle.yard_core.specs.StockBooks.{StockBooks}
 use Rattle.yard_core.specs.Stock.{IsHistory}
 use Rattle.stock_core.specs.Arrives.{count_of}
 use Rattle.stock_core.specs.Steps.{make_each, make_new, make_one, new_item}
@@ -18,12 +18,12 @@ abbrev pub begun_at : ℕ → ℕ → Arrival
 begun_at build part = record { kind = kind.Found; place = Output build; part = part }
 
 module _ (build part : ℕ) where
-  uses-one : (quantity : ℕ) (batch serial : Option (List ℕ)) (day : CivilDay) (b : Books) → IsHistory b.stock.history → Uses 1 0 b (make_one (begun_at build part) quantity batch serial day b)
+  uses-one : (quantity : ℕ) (batch serial : Option (List ℕ)) (day : CivilDay) (b : StockBooks) → IsHistory b.stock.history → Uses 1 0 b (make_one (begun_at build part) quantity batch serial day b)
   uses-one quantity batch serial day b h =
       let item = new_item b.counter.next (begun_at build part) quantity batch serial in
       uses-change_drawn (make_change kind.Found (Output build) (node_of item)) day b h
 
-  uses-each : (batch : Option (List ℕ)) (serials : List (List ℕ)) (day : CivilDay) (b : Books) → IsHistory b.stock.history
+  uses-each : (batch : Option (List ℕ)) (serials : List (List ℕ)) (day : CivilDay) (b : StockBooks) → IsHistory b.stock.history
       → Uses (length serials) 0 b (make_each (begun_at build part) batch serials day b)
   uses-each batch [] day b h = uses-nothing b h
   uses-each batch (x ∷ xs) day b h =
@@ -33,7 +33,7 @@ module _ (build part : ℕ) where
       uses-as (1 + length xs) (length (x ∷ xs)) (0 + 0) 0 b (make_each (begun_at build part) batch xs day next) (omega arith) refl
       (uses-both 1 0 (length xs) 0 b next (make_each (begun_at build part) batch xs day next) one rest)
 
-  pub uses-begun : (new : NewStock) (day : CivilDay) (b : Books) → IsHistory b.stock.history → Uses (count_of new.serials) 0 b (make_new (begun_at build part) new day b)
+  pub uses-begun : (new : NewStock) (day : CivilDay) (b : StockBooks) → IsHistory b.stock.history → Uses (count_of new.serials) 0 b (make_new (begun_at build part) new day b)
   uses-begun new day b h = go new.serials
     where
       go : (o : Option (List (List ℕ))) → Uses (count_of o) 0 b (make_new (begun_at build part) (record { quantity = new.quantity; batch = new.batch; serials = o }) day b)

@@ -13,7 +13,7 @@ use Rattle.bom_core.specs.BomMachine.{effect}
 use Rattle.bom_core.specs.declared.line.Line.{Line}
 use Rattle.bom_core.proofs.SoundChanges.{sound-effect}
 use Rattle.alloc_core.proofs.Once.{Stands-passes}
-use Rattle.stock_core.specs.Asked.{part_at}
+use Rattle.stock_core.specs.ItemTests.{part_at}
 use Rattle.build_core.specs.Beside.{SoundBesideBills, bill_books_in}
 use Rattle.build_core.specs.BillsStay.{IsSameBill}
 use Rattle.build_core.specs.Builds.{BuildBooks, build_at, is_open, open_parts}

@@ -6,21 +6,21 @@ use Rattle.part_core.specs.Sheet.{Table}
 use Rattle.part_core.proofs.RowLemmas.{right-later}
 use Rattle.bom_core.specs.Bills.{Bills}
 use Rattle.forest.specs.declared.item.Item.{Item}
-use Rattle.yard_core.specs.Books.{Books}
+use Rattle.yard_core.specs.StockBooks.{StockBooks}
 use Rattle.yard_core.specs.Outputs.{amounts}
 use Rattle.yard_core.specs.YardMachine.{effect}
 use Rattle.yard_core.specs.declared.yard_command.YardCommand.TheVariants.{AddLocation}
 use Rattle.stock_core.proofs.Plain.{item_of}
 use Rattle.build_core.specs.Beside.{SoundBesideYard}
-use Rattle.build_core.specs.Builds.{BuildBooks, with_books}
+use Rattle.build_core.specs.Builds.{BuildBooks, with_stock_books}
 use Rattle.build_core.specs.Sound.{AreSoundBuilds}
 use Rattle.build_core.specs.declared.build.Build.{Build}
 use Rattle.build_core.proofs.Kept.{IsSameBuild, OutputStays, for-kept, output-kept}
 
-module _ (parts : Parts) (bills : Bills) (b : BuildBooks) (books : Books) (same : books.stock.items ≡ b.books.stock.items) (le : b.books.counter.next ≤ books.counter.next)
+module _ (parts : Parts) (bills : Bills) (b : BuildBooks) (books : StockBooks) (same : books.stock.items ≡ b.books.stock.items) (le : b.books.counter.next ≤ books.counter.next)
     (sound : AreSoundBuilds parts bills b) where
   abbrev after : BuildBooks
-  after = with_books books b
+  after = with_stock_books books b
 
   as-was : (m : ℕ) → IsSameBuild b after m
   as-was m = record { still_open = λ h. h; part = refl; quantity = refl }

@@ -23,7 +23,7 @@ use Rattle.bom_core.proofs.LookUps.{filter-same}
 use Rattle.bom_core.proofs.Member.{same_test}
 use Rattle.bom_core.proofs.Variants.{variant_from, variant_row}
 use Rattle.yard_core.specs.Stock.{item_at}
-use Rattle.stock_core.specs.Asked.{part_at}
+use Rattle.stock_core.specs.ItemTests.{part_at}
 use Rattle.stock_core.proofs.Taking.{there-loose}
 use Rattle.build_core.specs.Beside.{SoundBesideParts, register_in, with_counter}
 use Rattle.build_core.specs.Builds.{BuildBooks, build_at}

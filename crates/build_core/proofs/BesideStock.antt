@@ -14,7 +14,7 @@ use Rattle.alloc_core.specs.declared.allocation.Allocation.{Allocation}
 use Rattle.alloc_core.specs.declared.purpose.Purpose.{Purpose}
 use Rattle.alloc_core.specs.declared.purpose.Purpose.TheVariants.{Sale, Build as For}
 use Rattle.alloc_core.proofs.NoneComes.{none-released}
-use Rattle.yard_core.specs.Books.{Books}
+use Rattle.yard_core.specs.StockBooks.{StockBooks}
 use Rattle.yard_core.specs.Outputs.{LeavesOutputs}
 use Rattle.yard_core.specs.Stock.{item_at}
 use Rattle.yard_core.proofs.Quiet.{leaves-none}
@@ -33,7 +33,7 @@ for-work m line o (Sale order l) e = cc
 for-work m line o (For build l output) e = refl
 
 -- what commands on stock and on orders do: outputs are as they were, and no allocation for a build comes
-module _ (parts : Parts) (bills : Bills) (b : BuildBooks) (allocations : Table Allocation) (books : Books) (sound : AreSoundBuilds parts bills b) (held : AreSoundAllocations b.allocations b.books)
+module _ (parts : Parts) (bills : Bills) (b : BuildBooks) (allocations : Table Allocation) (books : StockBooks) (sound : AreSoundBuilds parts bills b) (held : AreSoundAllocations b.allocations b.books)
     (quiet : LeavesOutputs b.books.stock.items books.stock.items) (grows : Grows b.books books) (right : StandRight (λ i. i.number) books.counter.next books.stock.items)
     (none : NoneComes is_for_some_build b.allocations allocations) where
   abbrev after : BuildBooks

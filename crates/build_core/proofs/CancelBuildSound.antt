@@ -23,7 +23,7 @@ use Rattle.alloc_core.specs.Covered.{IsCovered}
 use Rattle.alloc_core.proofs.Covers.{covered-moved, covered-of, covered-others}
 use Rattle.alloc_core.proofs.Once.{HasNo, StandOnce, Stands-number, Stands-passes, number-Stands, passing-once, rows-once}
 use Rattle.alloc_core.proofs.Sound.{sound-served}
-use Rattle.yard_core.specs.Books.{Books, entries_in, with_stock}
+use Rattle.yard_core.specs.StockBooks.{StockBooks, entries_in, with_stock}
 use Rattle.yard_core.specs.Outputs.{amounts, is_output, outputs_of}
 use Rattle.yard_core.specs.Stock.{Stock, item_at, lift, lift_notes, tree_of}
 use Rattle.yard_core.proofs.Moved.{moved-len}
@@ -57,7 +57,7 @@ output-told n Gone e = cc
 -- ---- outputs are gone, one after another
 
 -- these items are gone, the others as they were, no entry was written, and no more is at an output
-record AreGone (owners : Owners) (parts : Parts) (ns : List ℕ) (b c : Books) : Type 0 where
+record AreGone (owners : Owners) (parts : Parts) (ns : List ℕ) (b c : StockBooks) : Type 0 where
   pub leads : Leads owners parts b c
   pub others : (k : ℕ) → (Stands k ns → ⊥) → table.get c.stock.items (k ∷ []) ≡ table.get b.stock.items (k ∷ [])
   pub gone : (k : ℕ) → Stands k ns → is_output (item_at k c.stock).place ≡ false
@@ -66,14 +66,14 @@ record AreGone (owners : Owners) (parts : Parts) (ns : List ℕ) (b c : Books) :
 
 module _ (owners : Owners) (parts : Parts) (build : ℕ) (day : CivilDay) where
   -- one of them
-  module _ (n : ℕ) (b : Books) (up : Upright owners parts b) (there : table.get b.stock.items (n ∷ []) ≡ Some (item_at n b.stock)) (place : (item_at n b.stock).place ≡ Output build) where
+  module _ (n : ℕ) (b : StockBooks) (up : Upright owners parts b) (there : table.get b.stock.items (n ∷ []) ≡ Some (item_at n b.stock)) (place : (item_at n b.stock).place ≡ Output build) where
     abbrev pub x : Item
     x = item_at n b.stock
 
     abbrev pub moved : Item
     moved = row_of (lifted_root Gone (tree_of n b.stock))
 
-    abbrev pub after : Books
+    abbrev pub after : StockBooks
     after = with_stock (lift n Gone day b.stock) b
 
     own : x.number ≡ n
@@ -97,7 +97,7 @@ module _ (owners : Owners) (parts : Parts) (build : ℕ) (day : CivilDay) where
         omega (arith, sum-changed m moved x b.stock.items up.stock.items under, none-out m moved refl)
 
   -- each of the list is an output of the build
-  abbrev pub AreOutputs : List ℕ → Books → Type 0
+  abbrev pub AreOutputs : List ℕ → StockBooks → Type 0
   AreOutputs ns b = (k : ℕ) → Stands k ns → (table.get b.stock.items (k ∷ []) ≡ Some (item_at k b.stock)) × ((item_at k b.stock).place ≡ Output build)
 
   pub unlike : (n k : ℕ) (ns : List ℕ) → HasNo n ns → Stands k ns → (k == n) ≡ false
@@ -106,7 +106,7 @@ module _ (owners : Owners) (parts : Parts) (build : ℕ) (day : CivilDay) where
       let both = or_none (m == n) _ none in
       elim h [ inl same ↦ ap (λ j. j == n) (sym same) ∙ both.0 | inr later ↦ unlike n k ms both.1 later ]
 
-  all-gone : (ns : List ℕ) (b : Books) → Upright owners parts b → StandOnce ns → AreOutputs ns b → AreGone owners parts ns b (with_stock (lift_each ns Gone day b.stock) b)
+  all-gone : (ns : List ℕ) (b : StockBooks) → Upright owners parts b → StandOnce ns → AreOutputs ns b → AreGone owners parts ns b (with_stock (lift_each ns Gone day b.stock) b)
   all-gone [] b up once outputs = record {
     leads = leads-none owners parts b up;
     others = λ k none. refl;

@@ -12,7 +12,7 @@ use Rattle.forest.specs.declared.place.Place.TheVariants.{Gone, Output}
 use Rattle.forest.specs.Moves.{CanLift, lift_entries}
 use Rattle.alloc_core.specs.declared.allocation.Allocation.{Allocation}
 use Rattle.alloc_core.proofs.Once.{StandOnce}
-use Rattle.yard_core.specs.Books.{Books, entries_in, with_stock}
+use Rattle.yard_core.specs.StockBooks.{StockBooks, entries_in, with_stock}
 use Rattle.yard_core.specs.Outputs.{outputs_of}
 use Rattle.yard_core.specs.Stock.{CanLiftItem, HasLiftRoom, item_at, lift, lift_notes, tree_of}
 use Rattle.stock_core.specs.Sound.{Owners}
@@ -25,7 +25,7 @@ use Rattle.build_core.specs.declared.build.Build.{Build}
 use Rattle.build_core.proofs.CancelBuildSound.{AreOutputs, none-written, outputs-are, outputs-once, row-other, unlike, upright}
 use Rattle.build_core.proofs.Lifts.{leads-gone}
 
-pub record IsClearing (build : ℕ) (day : CivilDay) (ns rest : List ℕ) (old new : Books) : Type 0 where
+pub record IsClearing (build : ℕ) (day : CivilDay) (ns rest : List ℕ) (old new : StockBooks) : Type 0 where
   pub owners : Owners
   pub parts : Parts
   pub upright : Upright owners parts new
@@ -47,7 +47,7 @@ clearing-all n day is_order parts bills b sound e = record {
   entries = sound.stock.items.within;
 }
 
-module _ (build : ℕ) (day : CivilDay) (ns : List ℕ) (n : ℕ) (rest : List ℕ) (old b : Books) (left : IsClearing build day ns (n ∷ rest) old b) where
+module _ (build : ℕ) (day : CivilDay) (ns : List ℕ) (n : ℕ) (rest : List ℕ) (old b : StockBooks) (left : IsClearing build day ns (n ∷ rest) old b) where
   here : (table.get b.stock.items (n ∷ []) ≡ Some (item_at n b.stock)) × ((item_at n b.stock).place ≡ Output build)
   here = left.outputs n (inl refl)
 
@@ -60,11 +60,11 @@ module _ (build : ℕ) (day : CivilDay) (ns : List ℕ) (n : ℕ) (rest : List �
       let none : length (lift_notes n Gone b.stock) ≡ 0 = ap (λ (p : Place). length (lift_entries p Gone (tree_of n b.stock))) here.1 in
       omega (arith, none, small, left.entries)
 
-  abbrev after : Books
+  abbrev after : StockBooks
   after = with_stock (lift n Gone day b.stock) b
 
   -- the first of them went
-  pub clearing-one : (new : Books) → new ≡ after → IsClearing build day ns rest old new
+  pub clearing-one : (new : StockBooks) → new ≡ after → IsClearing build day ns rest old new
   clearing-one new is =
       let both = or_none _ _ left.once in
       let gone : IsClearing build day ns rest old after = record {
@@ -84,6 +84,6 @@ module _ (build : ℕ) (day : CivilDay) (ns : List ℕ) (n : ℕ) (rest : List �
 
 -- ---- the books after that
 
-pub same-books : (builds new : Table Build) (t u : Table Allocation) (b c : Books) → builds ≡ new → t ≡ u → b ≡ c
+pub same-books : (builds new : Table Build) (t u : Table Allocation) (b c : StockBooks) → builds ≡ new → t ≡ u → b ≡ c
     → ◌≡◌ {A = BuildBooks} (record { builds = builds; allocations = t; books = b }) (record { builds = new; allocations = u; books = c })
 same-books builds new t u b c e f g = cc

@@ -23,7 +23,7 @@ use Rattle.alloc_core.specs.Covered.{IsCovered}
 use Rattle.alloc_core.proofs.Covers.{covered-of, covered-split}
 use Rattle.alloc_core.proofs.Sound.{sound-served}
 use Rattle.alloc_core.proofs.Sums.{amount-in, sum-cons}
-use Rattle.yard_core.specs.Books.{Books, is_full}
+use Rattle.yard_core.specs.StockBooks.{StockBooks, is_full}
 use Rattle.yard_core.specs.Outputs.{LeavesOutputs, has_output}
 use Rattle.yard_core.specs.Stock.{Stock, item_at, tree_of}
 use Rattle.yard_core.proofs.Quiet.{leaves-changed, leaves-more, leaves-none}
@@ -94,11 +94,11 @@ module _ (n : ℕ) (day : CivilDay) (is_order : ℕ → Bool) (parts : Parts) (b
 
   -- ---- one of its allocations is used up
 
-  abbrev pub Quiet : List Allocation → Books → Type 0
+  abbrev pub Quiet : List Allocation → StockBooks → Type 0
   Quiet xs c = LeavesOutputs s.items c.stock.items
 
-  module _ (a : Allocation) (xs : List Allocation) (c : Books) (upright : Upright owners parts c) (covered : IsCovered c.stock (a ∷ (xs ++ rest))) (quiet : Quiet (a ∷ xs) c) where
-    abbrev t : Books × ℕ
+  module _ (a : Allocation) (xs : List Allocation) (c : StockBooks) (upright : Upright owners parts c) (covered : IsCovered c.stock (a ∷ (xs ++ rest))) (quiet : Quiet (a ∷ xs) c) where
+    abbrev t : StockBooks × ℕ
     t = take a.item a.quantity day c
 
     abbrev u : Stock

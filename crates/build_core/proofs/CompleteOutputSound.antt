@@ -29,13 +29,13 @@ use Rattle.alloc_core.proofs.Once.{Stands-passes}
 use Rattle.alloc_core.proofs.Sound.{sound-served}
 use Rattle.alloc_core.proofs.Sums.{sum-split}
 use Rattle.part_core.proofs.TableRows.{get-without, values-without}
-use Rattle.yard_core.specs.Books.{Books, entries_in, is_full}
+use Rattle.yard_core.specs.StockBooks.{StockBooks, entries_in, is_full}
 use Rattle.yard_core.specs.Outputs.{amount_out, amounts}
 use Rattle.yard_core.specs.Stock.{CanLiftItem, Stock, height_at, item_at, tree_of}
 use Rattle.yard_core.proofs.Items.{outside}
 use Rattle.yard_core.proofs.Quiet.{leaves-none, none-out, sum-changed}
 use Rattle.yard_core.proofs.Rows.{get-other, get-own}
-use Rattle.stock_core.specs.Asked.{is_no_item, is_no_location}
+use Rattle.stock_core.specs.ItemTests.{is_no_item, is_no_location}
 use Rattle.stock_core.specs.Install.{put_in}
 use Rattle.stock_core.specs.Sound.{IsSoundStock, Owners}
 use Rattle.stock_core.specs.StockMachine.{Grows}
@@ -132,7 +132,7 @@ module _ (n l : ℕ) (day : CivilDay) (is_order : ℕ → Bool) (parts : Parts) 
 
   -- ---- it comes to the location
 
-  abbrev pub start : Books
+  abbrev pub start : StockBooks
   start = brought n l day b.books
 
   pub leads_start : Leads owners parts b.books start

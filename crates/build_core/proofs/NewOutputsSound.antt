@@ -17,7 +17,7 @@ use Rattle.forest.specs.declared.item.Item.{Item}
 use Rattle.forest.specs.declared.place.Place.TheVariants.{Output}
 use Rattle.forest.specs.Forest.{is_at}
 use Rattle.alloc_core.proofs.Sound.{sound-changed}
-use Rattle.yard_core.specs.Books.{Books, with_drawn}
+use Rattle.yard_core.specs.StockBooks.{StockBooks, with_drawn}
 use Rattle.yard_core.specs.Outputs.{amount_out, amounts}
 use Rattle.yard_core.specs.Stock.{CanMakeItem, Stock, item_at}
 use Rattle.yard_core.proofs.Keeping.{made}
@@ -54,19 +54,19 @@ record IsNewOutput (build part : ℕ) (with_serial : Bool) (y : Item) : Type 0 w
   pub serialised : with_serial ≡ true → IsSome y.lot.serial
 
 -- what was there is there, what is new is an output of the build, and they are so many
-record AreBegun (owners : Owners) (parts : Parts) (build part count : ℕ) (with_serial : Bool) (b c : Books) : Type 0 where
+record AreBegun (owners : Owners) (parts : Parts) (build part count : ℕ) (with_serial : Bool) (b c : StockBooks) : Type 0 where
   pub leads : Leads owners parts b c
   pub kept : (k : ℕ) (y : Item) → table.get b.stock.items (k ∷ []) ≡ Some y → table.get c.stock.items (k ∷ []) ≡ Some y
   pub each : (k : List ℕ) (y : Item) → table.get c.stock.items k ≡ Some y → (table.get b.stock.items k ≡ Some y) ⊎ IsNewOutput build part with_serial y
   pub amount : (m : ℕ) → amounts m c.stock.items ≡ (if build == m then count else 0) + amounts m b.stock.items
 
 module _ (owners : Owners) (parts : Parts) (build part : ℕ) (part_there : IsThere parts.parts part) (is_build : owners.is_build build ≡ true) (batch : Option (List ℕ)) (day : CivilDay) where
-  module _ (b : Books) (up : Upright owners parts b) (q : ℕ) (serial : Option (List ℕ)) (some : 1 ≤ q) (fits : q ≤ largest) (one : IfSome serial (λ _. q ≡ 1))
+  module _ (b : StockBooks) (up : Upright owners parts b) (q : ℕ) (serial : Option (List ℕ)) (some : 1 ≤ q) (fits : q ≤ largest) (one : IfSome serial (λ _. q ≡ 1))
       (free : (t : List ℕ) → serial ≡ Some t → IsFree parts (family part parts) t b.stock.items) where
     abbrev x : Item
     x = new_item b.counter.next (begun_as build part) q batch serial
 
-    abbrev after : Books
+    abbrev after : StockBooks
     after = make_one (begun_as build part) q batch serial day b
 
     absent : table.get b.stock.items (b.counter.next ∷ []) ≡ None
@@ -104,7 +104,7 @@ module _ (owners : Owners) (parts : Parts) (build part : ℕ) (part_there : IsTh
         kept k y e true f = let clash : ◌≡◌ {A = Option Item} None (Some y) = sym absent ∙ ap (λ j. table.get b.stock.items (j ∷ [])) (eqb-true b.counter.next k f) ∙ e in cc
 
   -- one for each serial
-  begun-each : (xs : List (List ℕ)) (b : Books) → Upright owners parts b → AreFree parts (family part parts) xs b.stock.items → AreBegun owners parts build part (length xs) true b (make_each (begun_as build part) batch xs day b)
+  begun-each : (xs : List (List ℕ)) (b : StockBooks) → Upright owners parts b → AreFree parts (family part parts) xs b.stock.items → AreBegun owners parts build part (length xs) true b (make_each (begun_as build part) batch xs day b)
   begun-each [] b up free = record {
     leads = leads-none owners parts b up;
     kept = λ k y e. e;

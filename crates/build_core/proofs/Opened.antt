@@ -17,7 +17,7 @@ use Rattle.alloc_core.specs.declared.purpose.Purpose.{Purpose}
 use Rattle.alloc_core.specs.declared.purpose.Purpose.TheVariants.{Sale, Build as For}
 use Rattle.alloc_core.proofs.Opened.{quantity-is}
 use Rattle.yard_core.specs.Stock.{Stock, item_at}
-use Rattle.stock_core.specs.Asked.{part_at}
+use Rattle.stock_core.specs.ItemTests.{part_at}
 use Rattle.build_core.specs.AllocateBuild.{is_other_output}
 use Rattle.build_core.specs.Builds.{BuildBooks, build_at, is_open}
 use Rattle.build_core.specs.Needs.{has_tracked, is_suited, line_in}

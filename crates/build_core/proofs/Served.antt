@@ -12,9 +12,9 @@ use Rattle.part_core.specs.declared.limits.Limits.{Limits}
 use Rattle.part_core.proofs.Conditions.{or_cases, or_none}
 use Rattle.alloc_core.specs.Covered.{IsCovered}
 use Rattle.alloc_core.specs.declared.allocation.Allocation.{Allocation}
-use Rattle.yard_core.specs.Books.{Books, entries_in, is_full}
+use Rattle.yard_core.specs.StockBooks.{StockBooks, entries_in, is_full}
 use Rattle.yard_core.specs.Stock.{IsHistory, item_at}
-use Rattle.stock_core.specs.Asked.{has_more}
+use Rattle.stock_core.specs.ItemTests.{has_more}
 use Rattle.stock_core.specs.Pieces.{CanCut}
 use Rattle.stock_core.specs.Serving.{serve, serve_each}
 use Rattle.stock_core.specs.Sound.{Owners}
@@ -47,22 +47,22 @@ or_true false = refl
 -- ---- what one of them uses
 
 -- what was taken goes on, with so many entries
-module _ (go : Books × ℕ → Books) (entries : Books × ℕ → ℕ) (uses : (t : Books × ℕ) → IsHistory t.0.stock.history → Uses 0 (entries t) t.0 (go t)) where
-  pub full-go : (t : Books × ℕ) → IsHistory t.0.stock.history → (lacks 0 t.0.counter || nat_lt t.0.counter.limits.entries (entries_in t.0 + entries t)) ≡ true → is_full (go t) ≡ true
+module _ (go : StockBooks × ℕ → StockBooks) (entries : StockBooks × ℕ → ℕ) (uses : (t : StockBooks × ℕ) → IsHistory t.0.stock.history → Uses 0 (entries t) t.0 (go t)) where
+  pub full-go : (t : StockBooks × ℕ) → IsHistory t.0.stock.history → (lacks 0 t.0.counter || nat_lt t.0.counter.limits.entries (entries_in t.0 + entries t)) ≡ true → is_full (go t) ≡ true
   full-go t h full = sym (full-used 0 (entries t) t.0 (go t) (uses t h)) ∙ full
 
-  pub within-go : (t : Books × ℕ) → IsHistory t.0.stock.history → (lacks 0 t.0.counter || nat_lt t.0.counter.limits.entries (entries_in t.0 + entries t)) ≡ false
+  pub within-go : (t : StockBooks × ℕ) → IsHistory t.0.stock.history → (lacks 0 t.0.counter || nat_lt t.0.counter.limits.entries (entries_in t.0 + entries t)) ≡ false
       → entries_in (go t) ≤ t.0.counter.limits.entries
   within-go t h room =
       let few = ltb-false t.0.counter.limits.entries (entries_in t.0 + entries t) (or_none (lacks 0 t.0.counter) (nat_lt t.0.counter.limits.entries (entries_in t.0 + entries t)) room).1 in
       omega (arith, few, (uses t h).len)
 
   -- there is no room for the cut
-  pub full-cut : (n q : ℕ) (day : CivilDay) (b : Books) → IsHistory b.stock.history → has_more n q b.stock ≡ true
+  pub full-cut : (n q : ℕ) (day : CivilDay) (b : StockBooks) → IsHistory b.stock.history → has_more n q b.stock ≡ true
       → (lacks 1 b.counter || nat_lt b.counter.limits.entries (entries_in b + 1)) ≡ true → is_full (go (take n q day b)) ≡ true
   full-cut n q day b h more full =
       let cut = cut_off n q None day b in
-      let t : Books × ℕ = (cut, b.counter.next) in
+      let t : StockBooks × ℕ = (cut, b.counter.next) in
       let first = uses-cut_off n q None day b h in
       let all = uses-both 1 1 0 (entries t) b cut (go t) first (uses t first.history) in
       ap (λ u. is_full (go u)) (take-part n q day b more)
@@ -77,11 +77,11 @@ module _ (go : Books × ℕ → Books) (entries : Books × ℕ → ℕ) (uses : 
 -- ---- what is left midway
 
 -- some are still to be served, which comes to what all came to at first
-pub record IsLeft (go : Books × ℕ → Books) (day : CivilDay) (Ready : List Allocation → Books → Type 0) (rows rest : List Allocation) (old new : Books) : Type 0 where
+pub record IsLeft (go : StockBooks × ℕ → StockBooks) (day : CivilDay) (Ready : List Allocation → StockBooks → Type 0) (rows rest : List Allocation) (old new : StockBooks) : Type 0 where
   pub owners : Owners
   pub parts : Parts
   pub others : List Allocation
-  pub one : (a : Allocation) (xs : List Allocation) (c : Books) → Upright owners parts c → IsCovered c.stock (a ∷ (xs ++ others)) → Ready (a ∷ xs) c
+  pub one : (a : Allocation) (xs : List Allocation) (c : StockBooks) → Upright owners parts c → IsCovered c.stock (a ∷ (xs ++ others)) → Ready (a ∷ xs) c
       → GoesOn owners parts (take a.item a.quantity day c) (serve go day a c) × Ready xs (serve go day a c)
   pub upright : Upright owners parts new
   pub covered : IsCovered new.stock (rest ++ others)
@@ -90,7 +90,7 @@ pub record IsLeft (go : Books × ℕ → Books) (day : CivilDay) (Ready : List A
   pub within : entries_in new ≤ new.counter.limits.entries
 
 -- what is full stays so
-pub full-grows : (b c : Books) → Grows b c → is_full b ≡ true → is_full c ≡ true
+pub full-grows : (b c : StockBooks) → Grows b c → is_full b ≡ true → is_full c ≡ true
 full-grows b c g full = elim (or_cases (passes_limit b.counter) (nat_lt b.counter.limits.entries (entries_in b)) full) [
   | inl l ↦
       let lt = ltb-true (b.counter.limits.numbers + 1) b.counter.next l in
@@ -102,7 +102,7 @@ full-grows b c g full = elim (or_cases (passes_limit b.counter) (nat_lt b.counte
       ap (λ d. passes_limit c.counter || d) more ∙ or_true (passes_limit c.counter)
 ]
 
-module _ (go : Books × ℕ → Books) (day : CivilDay) (Ready : List Allocation → Books → Type 0) (rows : List Allocation) (a : Allocation) (xs : List Allocation) (old b : Books)
+module _ (go : StockBooks × ℕ → StockBooks) (day : CivilDay) (Ready : List Allocation → StockBooks → Type 0) (rows : List Allocation) (a : Allocation) (xs : List Allocation) (old b : StockBooks)
     (left : IsLeft go day Ready rows (a ∷ xs) old b) where
   step : GoesOn left.owners left.parts (take a.item a.quantity day b) (serve go day a b) × Ready xs (serve go day a b)
   step = left.one a xs b left.upright left.covered left.ready
@@ -111,14 +111,14 @@ module _ (go : Books × ℕ → Books) (day : CivilDay) (Ready : List Allocation
   first-done = served-one left.owners left.parts day go a (xs ++ left.others) b left.upright left.covered step.0
 
   -- the first of them was served
-  pub left-one : (new : Books) → new ≡ serve go day a b → entries_in new ≤ new.counter.limits.entries → IsLeft go day Ready rows xs old new
+  pub left-one : (new : StockBooks) → new ≡ serve go day a b → entries_in new ≤ new.counter.limits.entries → IsLeft go day Ready rows xs old new
   left-one new is within = record {
     owners = left.owners;
     parts = left.parts;
     others = left.others;
     one = left.one;
     upright = subst (Upright left.owners left.parts) (sym is) first-done.leads.upright;
-    covered = subst (λ (c : Books). IsCovered c.stock (xs ++ left.others)) (sym is) first-done.covered;
+    covered = subst (λ (c : StockBooks). IsCovered c.stock (xs ++ left.others)) (sym is) first-done.covered;
     ready = subst (Ready xs) (sym is) step.1;
     served = ap (serve_each go day xs) is ∙ left.served;
     within = within;
@@ -156,12 +156,12 @@ pub seen-more : (rows : List (Bor Allocation)) (i : ℕ) (d : Bor Allocation) �
 seen-more rows i d lt is = ap seen (drop_more rows i d lt) ∙ ap (λ (q : Bor Allocation). q.now ∷ seen (drop (i + 1) rows)) (sym is)
 
 -- the row at that place is the first of what is left
-pub left-from : (go : Books × ℕ → Books) (day : CivilDay) (Ready : List Allocation → Books → Type 0) (rows : List (Bor Allocation)) (i : ℕ) (d : Bor Allocation) (old b : Books)
+pub left-from : (go : StockBooks × ℕ → StockBooks) (day : CivilDay) (Ready : List Allocation → StockBooks → Type 0) (rows : List (Bor Allocation)) (i : ℕ) (d : Bor Allocation) (old b : StockBooks)
     → i < length rows → d ≡ get_or rows i d → IsLeft go day Ready (seen rows) (seen (drop i rows)) old b → IsLeft go day Ready (seen rows) (d.now ∷ seen (drop (i + 1) rows)) old b
 left-from go day Ready rows i d old b lt is left = subst (λ xs. IsLeft go day Ready (seen rows) xs old b) (seen-more rows i d lt is) left
 
 -- no number and no entry is past the limits
-pub within-limits : (b : Books) → b.counter.next ≤ b.counter.limits.numbers + 1 → entries_in b ≤ b.counter.limits.entries → is_full b ≡ false
+pub within-limits : (b : StockBooks) → b.counter.next ≤ b.counter.limits.numbers + 1 → entries_in b ≤ b.counter.limits.entries → is_full b ≡ false
 within-limits b numbers entries =
     ap (λ c. c || nat_lt b.counter.limits.entries (entries_in b)) (not_less (b.counter.limits.numbers + 1) b.counter.next numbers)
     ∙ not_less b.counter.limits.entries (entries_in b) entries

@@ -13,11 +13,11 @@ use Rattle.forest.specs.Moves.{cut_change, lift_change, make_change}
 use Rattle.forest.specs.Rows.{entry_to}
 use Rattle.forest.specs.Tables.{node_of}
 use Rattle.alloc_core.specs.declared.allocation.Allocation.{Allocation}
-use Rattle.yard_core.specs.Books.{Books}
+use Rattle.yard_core.specs.StockBooks.{StockBooks}
 use Rattle.yard_core.specs.Outputs.{outputs_of}
 use Rattle.yard_core.specs.Stock.{AllStay, Stock, at_place, item_at, lift, tree_of}
 use Rattle.yard_core.proofs.Staying.{stay-change, stay-more, stay-moved, stay-none}
-use Rattle.stock_core.specs.Asked.{has_more}
+use Rattle.stock_core.specs.ItemTests.{has_more}
 use Rattle.stock_core.specs.Install.{put_in}
 use Rattle.stock_core.specs.Serving.{serve, serve_each}
 use Rattle.stock_core.specs.Steps.{cut_off, make_each, make_new, make_one, new_item, take}
@@ -29,7 +29,7 @@ use Rattle.build_core.specs.CancelBuild.{lift_each}
 use Rattle.build_core.specs.CompleteBuild.{build_rows, used_for}
 use Rattle.build_core.specs.CompleteOutput.{brought, build_of_output, output_rows}
 use Rattle.build_core.specs.NewBuild.{build_row}
-use Rattle.stock_core.specs.Asked.{quantity_at}
+use Rattle.stock_core.specs.ItemTests.{quantity_at}
 use Rattle.build_core.specs.declared.build.Build.{Build}
 use Rattle.build_core.specs.declared.state.BuildState.TheVariants.{Cancelled, Complete, OnHold, Production}
 use Rattle.build_core.specs.declared.build_command.BuildCommand.TheVariants.{NewBuild, IssueBuild, HoldBuild, CancelBuild, NewOutputs, CompleteOutput, CancelOutput, ScrapOutput, AllocateBuild, AutoAllocate, CompleteBuild}
@@ -41,39 +41,39 @@ stay-lift_each : (ns : List ℕ) (q : Place) (day : CivilDay) (s : Stock) → Al
 stay-lift_each [] q day s = stay-none s
 stay-lift_each (n ∷ ns) q day s = stay-more s (lift n q day s) (lift_each ns q day (lift n q day s)) (stay-lift n q day s) (stay-lift_each ns q day (lift n q day s))
 
-abbrev TakenStays : Books → Books × ℕ → Type 0
+abbrev TakenStays : StockBooks → StockBooks × ℕ → Type 0
 TakenStays b t = AllStay b.stock t.0.stock
 
-stay-take : (n q : ℕ) (day : CivilDay) (b : Books) → AllStay b.stock (take n q day b).0.stock
+stay-take : (n q : ℕ) (day : CivilDay) (b : StockBooks) → AllStay b.stock (take n q day b).0.stock
 stay-take n q day b = go (has_more n q b.stock)
   where
     go : (c : Bool) → TakenStays b (if c then (cut_off n q None day b, b.counter.next) else (b, n))
     go true = stay-change (cut_change q b.counter.next None (tree_of n b.stock)) day b.stock
     go false = stay-none b.stock
 
-stay-serve_each : (step : Books × ℕ → Books) → ((t : Books × ℕ) → AllStay t.0.stock (step t).stock) → (xs : List Allocation) (day : CivilDay) (b : Books) → AllStay b.stock (serve_each step day xs b).stock
+stay-serve_each : (step : StockBooks × ℕ → StockBooks) → ((t : StockBooks × ℕ) → AllStay t.0.stock (step t).stock) → (xs : List Allocation) (day : CivilDay) (b : StockBooks) → AllStay b.stock (serve_each step day xs b).stock
 stay-serve_each step stays [] day b = stay-none b.stock
 stay-serve_each step stays (a ∷ xs) day b =
     let t = take a.item a.quantity day b in
     let after = serve step day a b in
     stay-more b.stock after.stock (serve_each step day xs after).stock (stay-more b.stock t.0.stock after.stock (stay-take a.item a.quantity day b) (stays t)) (stay-serve_each step stays xs day after)
 
-stay-put_in : (m : ℕ) (day : CivilDay) (t : Books × ℕ) → AllStay t.0.stock (put_in m day t).stock
+stay-put_in : (m : ℕ) (day : CivilDay) (t : StockBooks × ℕ) → AllStay t.0.stock (put_in m day t).stock
 stay-put_in m day t = stay-moved (at_place (In m) (item_at t.1 t.0.stock) ∷ []) (entry_to kind.Installed (In m) (item_at t.1 t.0.stock) ∷ []) day t.0.stock
 
-stay-used : (build : ℕ) (day : CivilDay) (t : Books × ℕ) → AllStay t.0.stock (used_for build day t).stock
+stay-used : (build : ℕ) (day : CivilDay) (t : StockBooks × ℕ) → AllStay t.0.stock (used_for build day t).stock
 stay-used build day t = stay-lift t.1 (Used build) day t.0.stock
 
-stay-make_one : (a : Arrival) (q : ℕ) (batch serial : Option (List ℕ)) (day : CivilDay) (b : Books) → AllStay b.stock (make_one a q batch serial day b).stock
+stay-make_one : (a : Arrival) (q : ℕ) (batch serial : Option (List ℕ)) (day : CivilDay) (b : StockBooks) → AllStay b.stock (make_one a q batch serial day b).stock
 stay-make_one a q batch serial day b = stay-change (make_change a.kind a.place (node_of (new_item b.counter.next a q batch serial))) day b.stock
 
-stay-make_each : (a : Arrival) (batch : Option (List ℕ)) (xs : List (List ℕ)) (day : CivilDay) (b : Books) → AllStay b.stock (make_each a batch xs day b).stock
+stay-make_each : (a : Arrival) (batch : Option (List ℕ)) (xs : List (List ℕ)) (day : CivilDay) (b : StockBooks) → AllStay b.stock (make_each a batch xs day b).stock
 stay-make_each a batch [] day b = stay-none b.stock
 stay-make_each a batch (x ∷ xs) day b =
     let one = make_one a 1 batch (Some x) day b in
     stay-more b.stock one.stock (make_each a batch xs day one).stock (stay-make_one a 1 batch (Some x) day b) (stay-make_each a batch xs day one)
 
-stay-make_new : (a : Arrival) (new : NewStock) (day : CivilDay) (b : Books) → AllStay b.stock (make_new a new day b).stock
+stay-make_new : (a : Arrival) (new : NewStock) (day : CivilDay) (b : StockBooks) → AllStay b.stock (make_new a new day b).stock
 stay-make_new a new day b = by_serials new.serials
   where
     by_serials : (o : Option (List (List ℕ))) → AllStay b.stock (make_new a (record { quantity = new.quantity; batch = new.batch; serials = o }) day b).stock

@@ -13,7 +13,7 @@ use Rattle.alloc_core.specs.Allocations.{allocated_for_line, is_above_free}
 use Rattle.alloc_core.specs.Allotting.{Allotments, allocate}
 use Rattle.alloc_core.specs.declared.purpose.Purpose.TheVariants as purpose
 use Rattle.yard_core.specs.Stock.{Stock, item_at}
-use Rattle.stock_core.specs.Asked.{is_loose, is_no_item, part_at}
+use Rattle.stock_core.specs.ItemTests.{is_loose, is_no_item, part_at}
 use Rattle.build_core.specs.Builds.{BuildBooks, build_at, is_no_build, may_prepare}
 use Rattle.build_core.specs.Needs.{is_suited, line_in, required}
 use Rattle.forest.specs.Rows.{is_output_of}

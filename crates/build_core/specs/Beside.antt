@@ -18,7 +18,7 @@ use Rattle.alloc_core.specs.Allocations.{is_for_sale, is_for_some_build}
 use Rattle.alloc_core.specs.NoneComes.{NoneComes}
 use Rattle.alloc_core.specs.declared.alloc_command.AllocCommand.{AllocCommand}
 use Rattle.alloc_core.specs.declared.allocation.Allocation.{Allocation}
-use Rattle.yard_core.specs.Books.{Books}
+use Rattle.yard_core.specs.StockBooks.{StockBooks}
 use Rattle.yard_core.specs.Outputs.{LeavesOutputs}
 use Rattle.yard_core.specs.YardMachine as yard
 use Rattle.yard_core.specs.declared.yard_command.YardCommand.{YardCommand}
@@ -26,7 +26,7 @@ use Rattle.stock_core.specs.Sound.{AreSoundItems}
 use Rattle.stock_core.specs.StockMachine.{Grows}
 use Rattle.build_core.specs.BillsStay.{OpenBillsStay}
 use Rattle.build_core.specs.BuildMachine.{effect}
-use Rattle.build_core.specs.Builds.{BuildBooks, open_parts, with_books}
+use Rattle.build_core.specs.Builds.{BuildBooks, open_parts, with_stock_books}
 use Rattle.build_core.specs.Sound.{AreSoundBooks, AreSoundBuilds}
 use Rattle.build_core.specs.declared.build_command.BuildCommand.{BuildCommand}
 
@@ -75,7 +75,7 @@ SoundBesideBills =
 -- builds stay sound beside what the commands of the yard do
 abbrev pub SoundBesideYard : Type 0
 SoundBesideYard =
-    (c : YardCommand) (parts : Parts) (bills : Bills) (b : BuildBooks) → AreSoundBuilds parts bills b → AreSoundBuilds parts bills (with_books (yard.effect c b.books) b)
+    (c : YardCommand) (parts : Parts) (bills : Bills) (b : BuildBooks) → AreSoundBuilds parts bills b → AreSoundBuilds parts bills (with_stock_books (yard.effect c b.books) b)
 
 -- builds stay sound where the command on allocations takes one away
 abbrev pub SoundBesideReleases : Type 0
@@ -87,6 +87,6 @@ SoundBesideReleases =
 -- history, as the commands on stock, which leave allocations as they are, and those on orders
 abbrev pub SoundWhereOutputsStay : Type 0
 SoundWhereOutputsStay =
-    (is_order : ℕ → Bool) (parts : Parts) (bills : Bills) (b : BuildBooks) (allocations : Table Allocation) (books : Books) → AreSoundBooks is_order parts bills b
+    (is_order : ℕ → Bool) (parts : Parts) (bills : Bills) (b : BuildBooks) (allocations : Table Allocation) (books : StockBooks) → AreSoundBooks is_order parts bills b
     → Grows b.books books → LeavesOutputs b.books.stock.items books.stock.items → AreSoundItems books → NoneComes is_for_some_build b.allocations allocations
     → AreSoundBuilds parts bills (record { builds = b.builds; allocations = allocations; books = books })

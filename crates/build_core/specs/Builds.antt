@@ -7,7 +7,7 @@ use Rattle.forest.specs.declared.place.Place.TheVariants.{Output}
 use Rattle.alloc_core.specs.Allocations.{released_for}
 use Rattle.alloc_core.specs.declared.allocation.Allocation.{Allocation}
 use Rattle.alloc_core.specs.declared.purpose.Owner.{Owner}
-use Rattle.yard_core.specs.Books.{Books, with_drawn}
+use Rattle.yard_core.specs.StockBooks.{StockBooks, with_drawn}
 use Rattle.stock_core.specs.Sound.{Owners}
 use Rattle.build_core.specs.declared.build.Build.{Build}
 use Rattle.build_core.specs.declared.state.BuildState.{BuildState}
@@ -17,7 +17,7 @@ use Rattle.build_core.specs.declared.state.BuildState.TheVariants.{Pending, Prod
 pub record BuildBooks : Type 0 where
   pub builds : Table Build
   pub allocations : Table Allocation
-  pub books : Books
+  pub books : StockBooks
 
 -- ---- rows
 
@@ -97,10 +97,10 @@ set_state state n b = record { builds = put_build (in_state state (build_at n b)
 abbrev pub without_allocations : Owner → BuildBooks → BuildBooks
 without_allocations owner b = record { builds = b.builds; allocations = released_for owner b.allocations; books = b.books }
 
--- other books
-abbrev pub with_books : Books → BuildBooks → BuildBooks
-with_books books b = record { builds = b.builds; allocations = b.allocations; books = books }
+-- other stock books
+abbrev pub with_stock_books : StockBooks → BuildBooks → BuildBooks
+with_stock_books books b = record { builds = b.builds; allocations = b.allocations; books = books }
 
 -- a number is drawn
-abbrev pub one_drawn : Books → Books
+abbrev pub one_drawn : StockBooks → StockBooks
 one_drawn b = with_drawn b.stock b

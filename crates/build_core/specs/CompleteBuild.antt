@@ -9,11 +9,11 @@ use Rattle.forest.specs.declared.place.Place.TheVariants.{Used}
 use Rattle.alloc_core.specs.Allocations.{allocations_of}
 use Rattle.alloc_core.specs.declared.allocation.Allocation.{Allocation}
 use Rattle.alloc_core.specs.declared.purpose.Owner.TheVariants as owner
-use Rattle.yard_core.specs.Books.{Books, is_full, with_stock}
+use Rattle.yard_core.specs.StockBooks.{StockBooks, is_full, with_stock}
 use Rattle.yard_core.specs.Outputs.{has_output}
 use Rattle.yard_core.specs.Stock.{lift}
 use Rattle.stock_core.specs.Serving.{serve_each}
-use Rattle.build_core.specs.Builds.{BuildBooks, build_at, is_in_production, is_no_build, set_state, with_books, without_allocations}
+use Rattle.build_core.specs.Builds.{BuildBooks, build_at, is_in_production, is_no_build, set_state, with_stock_books, without_allocations}
 use Rattle.build_core.specs.Needs.{lacks_for_build}
 use Rattle.build_core.specs.declared.state.BuildState.TheVariants.{Complete}
 
@@ -22,13 +22,13 @@ abbrev pub build_rows : ℕ → BuildBooks → List Allocation
 build_rows n b = allocations_of (owner.Build n) b.allocations
 
 -- an item that was taken is used up, with all that lies in it
-abbrev pub used_for : ℕ → CivilDay → Books × ℕ → Books
+abbrev pub used_for : ℕ → CivilDay → StockBooks × ℕ → StockBooks
 used_for build day t = with_stock (lift t.1 (Used build) day t.0.stock) t.0
 
 -- what each of its allocations holds is used up, and those go
 abbrev pub complete_build : ℕ → CivilDay → BuildBooks → BuildBooks
 complete_build n day b =
-    with_books (serve_each (used_for n day) day (build_rows n b) b.books) (without_allocations (owner.Build n) (set_state Complete n b))
+    with_stock_books (serve_each (used_for n day) day (build_rows n b) b.books) (without_allocations (owner.Build n) (set_state Complete n b))
 
 -- why it is refused whatever the limits are, in the order of checks
 abbrev pub complete_build_asks : ℕ → Parts → Bills → BuildBooks → List Check

@@ -2,13 +2,13 @@ pub mod AllocateBuild
 pub mod AutoAllocate
 pub mod Beside
 pub mod BillsStay
+pub mod BuildBooks
 pub mod BuildColumns
 pub mod BuildForms
 pub mod BuildKeys
 pub mod BuildMachine
-pub mod BuildStores
-pub mod BuildTables
 pub mod Builds
+pub mod BuildsView
 pub mod CancelBuild
 pub mod CancelOutput
 pub mod CompleteBuild

@@ -10,7 +10,7 @@ use Rattle.alloc_core.specs.Allocations.{allocated_for_line}
 use Rattle.alloc_core.specs.Allotting.{Need}
 use Rattle.alloc_core.specs.declared.allocation.Allocation.{Allocation}
 use Rattle.yard_core.specs.Stock.{Stock}
-use Rattle.stock_core.specs.Asked.{quantity_at}
+use Rattle.stock_core.specs.ItemTests.{quantity_at}
 use Rattle.build_core.specs.Builds.{BuildBooks}
 use Rattle.build_core.specs.declared.build.Build.{Build}
 

@@ -15,7 +15,7 @@ use Rattle.alloc_core.specs.declared.purpose.Purpose.{Purpose}
 use Rattle.alloc_core.specs.declared.purpose.Purpose.TheVariants.{Sale, Build as For}
 use Rattle.yard_core.specs.Outputs.{quantity_out}
 use Rattle.yard_core.specs.Stock.{Stock}
-use Rattle.stock_core.specs.Asked.{part_at}
+use Rattle.stock_core.specs.ItemTests.{part_at}
 use Rattle.build_core.specs.AllocateBuild.{is_other_output}
 use Rattle.build_core.specs.Builds.{build_in, is_open}
 use Rattle.build_core.specs.Needs.{has_tracked, is_suited, line_in, required}

@@ -13,7 +13,7 @@ use Rattle.alloc_core.specs.declared.allocation.Allocation.{Allocation}
 use Rattle.alloc_core.specs.declared.purpose.Purpose.TheVariants.{Build as For}
 use Rattle.yard_core.specs.Outputs.{quantity_out}
 use Rattle.yard_core.specs.Stock.{Stock, item_at}
-use Rattle.stock_core.specs.Asked.{part_at}
+use Rattle.stock_core.specs.ItemTests.{part_at}
 use Rattle.stock_core.specs.Sound.{IsSoundStock}
 use Rattle.build_core.specs.Builds.{BuildBooks, build_at, is_open, owners_beside}
 use Rattle.build_core.specs.Needs.{has_tracked, is_suited, line_in, required}

@@ -1,10 +1,10 @@
 //! The commands on builds, as a machine: one call that does any of them.
 ghost use Rattle.std.specs.Prelude.{◌≡◌};
-ghost use Rattle.part_core.specs.Catalogues.{parts_of};
-ghost use Rattle.bom_core.specs.Boms.{bills_of};
+ghost use Rattle.part_core.specs.CatalogueView.{parts_of};
+ghost use Rattle.bom_core.specs.BomsView.{bills_of};
 ghost use Rattle.bom_core.specs.Sound.{IsSoundBill};
 ghost use Rattle.build_core.specs.BuildMachine.{checks, effect};
-ghost use Rattle.build_core.specs.BuildStores.{AreSoundSomehow, Does, build_books, kept_build_books};
+ghost use Rattle.build_core.specs.BuildBooks.{AreSoundSomehow, Does, build_books, kept_build_books};
 
 use crate::builds::Builds;
 use crate::{

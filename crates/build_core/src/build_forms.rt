@@ -6,7 +6,7 @@ ghost use Rattle.part_core.specs.FormTables.{command_by, forms_by};
 ghost use Rattle.build_core.specs.BuildForms.{build_back, build_distinct, build_fields, build_forms, build_told, build_verb};
 
 use crate::build_command::BuildCommand;
-use part_core::{Field, Fields, Form, Formed, Kind, form_in};
+use part_core::{Field, FieldKind, Fields, Form, Formed, form_in};
 use std::alloc::{AllocError, Global};
 use stock_core::{NewStock, copy_serials};
 use yard_core::copy_batch;
@@ -14,62 +14,65 @@ use yard_core::copy_batch;
 const FORMS: &[Form] = &[
     Form {
         verb: "build",
-        fields: &[("part", Kind::Number), ("quantity", Kind::Number)],
+        fields: &[("part", FieldKind::Number), ("quantity", FieldKind::Number)],
     },
     Form {
         verb: "issue_build",
-        fields: &[("build", Kind::Number)],
+        fields: &[("build", FieldKind::Number)],
     },
     Form {
         verb: "hold_build",
-        fields: &[("build", Kind::Number)],
+        fields: &[("build", FieldKind::Number)],
     },
     Form {
         verb: "cancel_build",
-        fields: &[("build", Kind::Number)],
+        fields: &[("build", FieldKind::Number)],
     },
     Form {
         verb: "outputs",
         fields: &[
-            ("build", Kind::Number),
-            ("quantity", Kind::Number),
-            ("batch", Kind::MaybeText),
-            ("serials", Kind::MaybeSerials),
+            ("build", FieldKind::Number),
+            ("quantity", FieldKind::Number),
+            ("batch", FieldKind::MaybeText),
+            ("serials", FieldKind::MaybeSerials),
         ],
     },
     Form {
         verb: "complete_output",
-        fields: &[("output", Kind::Number), ("location", Kind::Number)],
+        fields: &[
+            ("output", FieldKind::Number),
+            ("location", FieldKind::Number),
+        ],
     },
     Form {
         verb: "cancel_output",
-        fields: &[("output", Kind::Number)],
+        fields: &[("output", FieldKind::Number)],
     },
     Form {
         verb: "scrap_output",
-        fields: &[("output", Kind::Number)],
+        fields: &[("output", FieldKind::Number)],
     },
     Form {
         verb: "allocate_build",
         fields: &[
-            ("build", Kind::Number),
-            ("line", Kind::Number),
-            ("item", Kind::Number),
-            ("quantity", Kind::Number),
-            ("output", Kind::MaybeNumber),
+            ("build", FieldKind::Number),
+            ("line", FieldKind::Number),
+            ("item", FieldKind::Number),
+            ("quantity", FieldKind::Number),
+            ("output", FieldKind::MaybeNumber),
         ],
     },
     Form {
         verb: "auto_allocate",
         fields: &[
-            ("build", Kind::Number),
-            ("substitutes", Kind::Yes),
-            ("optional", Kind::Yes),
+            ("build", FieldKind::Number),
+            ("substitutes", FieldKind::Yes),
+            ("optional", FieldKind::Yes),
         ],
     },
     Form {
         verb: "complete_build",
-        fields: &[("build", Kind::Number)],
+        fields: &[("build", FieldKind::Number)],
     },
 ];
 

@@ -31,7 +31,7 @@ fn parts_of(alloc: Global, rows: &[&Build]) -> Result<Vec<Id>, AllocError>
 }
 
 impl Builds {
-    ghost use Rattle.build_core.specs.BuildTables.{builds_from, builds_now, has_open, kept_builds};
+    ghost use Rattle.build_core.specs.BuildsView.{builds_from, builds_now, has_open, kept_builds};
 
     /// No build.
     pub fn new(alloc: Global) -> Self

@@ -1,8 +1,8 @@
 //! Builds: assemblies that are made from what is allocated for them.
 #![tactic(auto)]
 
-mod books;
 mod build;
+mod build_books;
 pub mod build_command;
 mod build_forms;
 mod builds;

@@ -2,13 +2,13 @@
 ghost use Rattle.std.specs.Prelude.{◌≡◌, ◌*◌, ◌&&◌, ◌∷◌, [], not, IfOk, Some, None, map};
 ghost use Rattle.std.specs.FinMap as table;
 ghost use Rattle.std.specs.List.{list_any};
-ghost use Rattle.part_core.specs.Catalogues.{parts_of};
+ghost use Rattle.part_core.specs.CatalogueView.{parts_of};
 ghost use Rattle.bom_core.specs.Bills.{effective, is_effective, part_rows};
-ghost use Rattle.bom_core.specs.Boms.{bills_of};
-ghost use Rattle.alloc_core.specs.AllocationTables.{allocations_now};
-ghost use Rattle.yard_core.specs.Yards.{stock_of};
-ghost use Rattle.build_core.specs.BuildTables.{builds_now};
-ghost use Rattle.build_core.specs.BuildStores.{build_books};
+ghost use Rattle.bom_core.specs.BomsView.{bills_of};
+ghost use Rattle.alloc_core.specs.AllocationsView.{allocations_now};
+ghost use Rattle.yard_core.specs.YardView.{stock_of};
+ghost use Rattle.build_core.specs.BuildsView.{builds_now};
+ghost use Rattle.build_core.specs.BuildBooks.{build_books};
 ghost use Rattle.build_core.specs.Needs.{has_tracked, is_below_need, is_named_right, is_suited, is_tracked, is_untracked, lacks_for_build, lacks_for_output, line_in, required, required_of};
 
 use crate::build::Build;

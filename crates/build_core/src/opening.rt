@@ -3,14 +3,14 @@
 //! summed is found by an index.
 ghost use Rattle.std.specs.Prelude.{◌≡◌, ◌↔◌, IfOk, IsTrue, map, not, true};
 ghost use Rattle.std.specs.List.{All};
-ghost use Rattle.part_core.specs.Catalogues.{parts_of};
+ghost use Rattle.part_core.specs.CatalogueView.{parts_of};
 ghost use Rattle.part_core.specs.Rows.{EachRow, StandRight};
-ghost use Rattle.bom_core.specs.Boms.{bills_of};
-ghost use Rattle.alloc_core.specs.AllocationTables.{allocations_now};
-ghost use Rattle.yard_core.specs.Yards.{stock_of};
+ghost use Rattle.bom_core.specs.BomsView.{bills_of};
+ghost use Rattle.alloc_core.specs.AllocationsView.{allocations_now};
+ghost use Rattle.yard_core.specs.YardView.{stock_of};
 ghost use Rattle.build_core.specs.AllocateBuild.{is_other_output};
-ghost use Rattle.build_core.specs.BuildStores.{build_books};
-ghost use Rattle.build_core.specs.BuildTables.{builds_now};
+ghost use Rattle.build_core.specs.BuildBooks.{build_books};
+ghost use Rattle.build_core.specs.BuildsView.{builds_now};
 ghost use Rattle.build_core.specs.RowTests.{is_right_meant, is_right_placed, is_sound_build, is_sound_for};
 ghost use Rattle.build_core.specs.Sound.{AreSoundBuilds, IsSoundBuild};
 

@@ -2,9 +2,9 @@
 ghost use Rattle.std.specs.Prelude.{◌≡◌};
 ghost use Rattle.forest.specs.Rows.{is_output_of};
 ghost use Rattle.yard_core.specs.Stock.{item_at};
-ghost use Rattle.yard_core.specs.Yards.{stock_of};
+ghost use Rattle.yard_core.specs.YardView.{stock_of};
 ghost use Rattle.build_core.specs.Builds.{build_of};
-ghost use Rattle.build_core.specs.BuildStores.{build_books};
+ghost use Rattle.build_core.specs.BuildBooks.{build_books};
 ghost use Rattle.build_core.specs.CompleteOutput.{is_no_output};
 
 use crate::builds::Builds;

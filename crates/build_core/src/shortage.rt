@@ -1,9 +1,9 @@
 //! What an open build still wants of the lines of its bill.
 ghost use Rattle.std.specs.Prelude.{◌≡◌, filter, IfOk, map, not};
-ghost use Rattle.part_core.specs.Catalogues.{parts_of};
-ghost use Rattle.bom_core.specs.Boms.{bills_of};
-ghost use Rattle.alloc_core.specs.AllocationTables.{allocations_now};
-ghost use Rattle.build_core.specs.BuildTables.{builds_now};
+ghost use Rattle.part_core.specs.CatalogueView.{parts_of};
+ghost use Rattle.bom_core.specs.BomsView.{bills_of};
+ghost use Rattle.alloc_core.specs.AllocationsView.{allocations_now};
+ghost use Rattle.build_core.specs.BuildsView.{builds_now};
 ghost use Rattle.build_core.specs.Shortage.{required_still, shortage_of, shortages, shortages_of};
 
 use crate::build::Build;

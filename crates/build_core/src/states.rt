@@ -1,7 +1,7 @@
 //! Builds in another state.
 ghost use Rattle.std.specs.Prelude.{◌≡◌, OnOk, false};
 ghost use Rattle.build_core.specs.Builds.{is_no_build, set_state};
-ghost use Rattle.build_core.specs.BuildStores.{build_books, kept_build_books};
+ghost use Rattle.build_core.specs.BuildBooks.{build_books, kept_build_books};
 
 use crate::builds::Builds;
 use crate::state::BuildState;

@@ -1,6 +1,6 @@
 //! What no line asks: calls of the stock in which a robot was built.
 ghost use Rattle.desk_core.specs.Machine.{IsSoundState};
-ghost use Rattle.desk_core.specs.Shops.{state_of};
+ghost use Rattle.desk_core.specs.ShopView.{state_of};
 
 use crate::robot_build;
 use desk_core::Shop;

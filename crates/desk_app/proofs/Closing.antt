@@ -9,7 +9,7 @@ use Rattle.sqlite_disk.specs.declared.Disk.{Ghosts}
 use Rattle.sqlite_disk.specs.declared.Files.{Files}
 use Rattle.sqlite_store.specs.declared.store.FileStore.{FileStore}
 use Rattle.desk_core.specs.Machine.{State}
-use Rattle.desk_store.specs.Books.{HoldsBooks, TablesAre}
+use Rattle.desk_store.specs.StateTables.{HoldsBooks, TablesAre}
 use Rattle.desk_app.specs.Closed.{KeepAlone}
 
 -- the last commit that was copied is the books that the database held

@@ -8,7 +8,7 @@ use Rattle.clap.specs.declared.error.Error.{Error}
 use Rattle.clap.specs.declared.error.kind.ErrorKind.{ErrorKind}
 use Rattle.clap.specs.declared.error.kind.ErrorKind.TheVariants.{DisplayHelp, DisplayVersion, OutOfMemory}
 use Rattle.clap.proofs.OnLiterals.{clap_on_literals}
-use Rattle.desk_app.specs.Words.{asks_run, asks_help, asks_version, IsShown, faults, command_line, Places, run, wish}
+use Rattle.desk_app.specs.Words.{asks_run, asks_help, asks_version, IsShown, faults, command_line, Places, run, desk_task}
 
 nothing_more : (places : Places) (name : Text) → faults places (name ∷ []) ≡ []
 unfolding faults clap_on_literals
@@ -34,13 +34,13 @@ short_version : (places : Places) (name : Text) → faults places (name ∷ code
 unfolding faults clap_on_literals
 short_version places name = refl
 
-nothing_wished : (places : Places) (name : Text) → wish places (name ∷ []) ≡ Some (run None)
-unfolding wish clap_on_literals
-nothing_wished places name = refl
+nothing_task : (places : Places) (name : Text) → desk_task places (name ∷ []) ≡ Some (run None)
+unfolding desk_task clap_on_literals
+nothing_task places name = refl
 
-run_wished : (places : Places) (name : Text) → wish places (name ∷ codes "run" ∷ []) ≡ Some (run None)
-unfolding wish clap_on_literals
-run_wished places name = refl
+run_task : (places : Places) (name : Text) → desk_task places (name ∷ codes "run" ∷ []) ≡ Some (run None)
+unfolding desk_task clap_on_literals
+run_task places name = refl
 
 pub is_free : (places : Places) → is_simple_and_free (command_line places) ≡ true
 unfolding clap_on_literals
@@ -61,12 +61,12 @@ run_is_free places (name ∷ word ∷ []) h =
     subst (λ (w : List ℕ). faults places (name ∷ w ∷ []) ≡ []) (sym ((bytes_eq-Decides word (codes "run")).0 h)) (run_alone places name)
 run_is_free places (name ∷ word ∷ more ∷ words) h = absurd (cc)
 
-pub run_is_wished : (places : Places) (words : List Text) → asks_run words ≡ true → wish places words ≡ Some (run None)
-run_is_wished places [] h = absurd (cc)
-run_is_wished places (name ∷ []) h = nothing_wished places name
-run_is_wished places (name ∷ word ∷ []) h =
-    subst (λ (w : List ℕ). wish places (name ∷ w ∷ []) ≡ Some (run None)) (sym ((bytes_eq-Decides word (codes "run")).0 h)) (run_wished places name)
-run_is_wished places (name ∷ word ∷ more ∷ words) h = absurd (cc)
+pub run_is_task : (places : Places) (words : List Text) → asks_run words ≡ true → desk_task places words ≡ Some (run None)
+run_is_task places [] h = absurd (cc)
+run_is_task places (name ∷ []) h = nothing_task places name
+run_is_task places (name ∷ word ∷ []) h =
+    subst (λ (w : List ℕ). desk_task places (name ∷ w ∷ []) ≡ Some (run None)) (sym ((bytes_eq-Decides word (codes "run")).0 h)) (run_task places name)
+run_is_task places (name ∷ word ∷ more ∷ words) h = absurd (cc)
 
 help_word : (places : Places) (name word : Text) (long short : Bool) → bytes_eq word (codes "--help") ≡ long → bytes_eq word (codes "-h") ≡ short → (long || short) ≡ true
     → faults places (name ∷ word ∷ []) ≡ DisplayHelp ∷ []

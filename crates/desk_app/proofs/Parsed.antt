@@ -7,7 +7,7 @@ use Rattle.clap.specs.Words.{App, HasKind, HasMatchesOf, Text, fault_of, is_simp
 use Rattle.clap.specs.declared.error.Error.{Error}
 use Rattle.clap.specs.declared.error.kind.ErrorKind.TheVariants.{OutOfMemory}
 use Rattle.clap.specs.declared.parser.matches.ArgMatches.{ArgMatches}
-use Rattle.desk_app.specs.Words.{IsCommandLine, Parses, Places, command_line, faults, kind_names, report_names, table_names, wish, wish_met}
+use Rattle.desk_app.specs.Words.{IsCommandLine, Parses, Places, command_line, faults, kind_names, report_names, table_names, desk_task, desk_task_met}
 use Rattle.desk_app.proofs.Faulty.{is_faults, is_free, is_simple_line}
 
 abbrev lying : List Text → List (Bor Text)
@@ -21,13 +21,13 @@ anywhere = record {
   kinds = record { at = record { ref_ptr = (0, 0); now = lying kind_names }; are = refl };
 }
 
-is_wish : (places : Places) (words : List Text) → wish_met (subcommand_of (command_line places) words) ≡ wish places words
-unfolding wish
-is_wish places words = refl
+is_desk_task : (places : Places) (words : List Text) → desk_task_met (subcommand_of (command_line places) words) ≡ desk_task places words
+unfolding desk_task
+is_desk_task places words = refl
 
 pub refused : (words : List Text) (r : Result ArgMatches Error) → IsErrAnd r (λ d. kind_of d ≡ OutOfMemory) → Parses words r
 refused words (Ok m) h = absurd h
-refused words (Err e) h = record { places = anywhere; fails = inl h; wish = tt }
+refused words (Err e) h = record { places = anywhere; fails = inl h; desk_task = tt }
 
 same_kinds : (words : List Text) (app : App) (line : IsCommandLine app) → fault_of app words ≡ faults line.0 words
 same_kinds words app line = ap (λ (a : App). fault_of a words) line.1 ∙ is_faults line.0 words
@@ -41,7 +41,7 @@ failed words app line (Ok m) e h k = absurd h
 failed words app line (Err d) e h k = record {
   places = line.0;
   fails = subst (HasKind (faults line.0 words)) (sym h) (subst (λ kinds. HasKind kinds e) (same_kinds words app line) k);
-  wish = tt;
+  desk_task = tt;
 }
 
 pub parsed : (words : List Text) (app : App) → IsCommandLine app → (m : ArgMatches) → fault_of app words ≡ [] → HasMatchesOf app words m
@@ -49,5 +49,5 @@ pub parsed : (words : List Text) (app : App) → IsCommandLine app → (m : ArgM
 parsed words app line m free has = record {
   places = line.0;
   fails = sym (same_kinds words app line) ∙ free;
-  wish = ap wish_met ((has (ap is_simple line.1 ∙ is_simple_line line.0)).1 ∙ ap (λ (a : App). subcommand_of a words) line.1) ∙ is_wish line.0 words;
+  desk_task = ap desk_task_met ((has (ap is_simple line.1 ∙ is_simple_line line.0)).1 ∙ ap (λ (a : App). subcommand_of a words) line.1) ∙ is_desk_task line.0 words;
 }

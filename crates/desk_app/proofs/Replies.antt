@@ -4,7 +4,7 @@ use Rattle.std.specs.Prelude.{Ok, Err}
 use Rattle.sqlite.specs.Tree.{Trees}
 use Rattle.desk_core.specs.Machine.{State, Outcome, step}
 use Rattle.desk_core.specs.declared.command.Request.{Request}
-use Rattle.desk_store.specs.Books.{TablesAre}
+use Rattle.desk_store.specs.StateTables.{TablesAre}
 use Rattle.desk_wire.specs.Reading as reading
 use Rattle.desk_app.specs.Services.{by_outcome, by_request, run_line}
 

@@ -5,7 +5,7 @@ use Rattle.std.specs.Io.KnownBytes.{Appends}
 use Rattle.std.proofs.lemmas.List.{take_more, drop_more}
 use Rattle.sqlite.specs.Tree.{Trees}
 use Rattle.desk_core.specs.Machine.{State, Outcome, step}
-use Rattle.desk_store.specs.Books.{TablesAre}
+use Rattle.desk_store.specs.StateTables.{TablesAre}
 use Rattle.desk_wire.specs.ImportReports.{outcome_text, report_line}
 use Rattle.desk_wire.specs.declared.row.ImportRow.{ImportRow}
 use Rattle.desk_app.specs.declared.run.Told.{Told}

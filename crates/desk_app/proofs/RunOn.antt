@@ -4,19 +4,19 @@ use Rattle.std.specs.Prelude.{◌==◌, not, Some}
 use Rattle.clap.specs.Words.{IsAmong, Text}
 use Rattle.clap.specs.declared.error.kind.ErrorKind.{ErrorKind}
 use Rattle.clap.proofs.OnLiterals.{clap_on_literals}
-use Rattle.desk_app.specs.Words.{faults, Places, run, run_on, run_with, is_path, wish}
+use Rattle.desk_app.specs.Words.{faults, Places, run, run_on, run_with, is_path, desk_task}
 use Rattle.desk_app.proofs.Faulty.{nothing_among}
 
 named_free : (places : Places) (name file : Text) → faults places (run_on name file) ≡ []
 unfolding faults clap_on_literals
 named_free places name file = refl
 
-named_wished : (places : Places) (name file : Text) → wish places (run_on name file) ≡ Some (run (Some file))
-unfolding wish clap_on_literals
-named_wished places name file = refl
+named_task : (places : Places) (name file : Text) → desk_task places (run_on name file) ≡ Some (run (Some file))
+unfolding desk_task clap_on_literals
+named_task places name file = refl
 
-pub run_on_wished : (places : Places) (words : List Text) (name file : Text) → words ≡ run_on name file → wish places words ≡ Some (run (Some file))
-run_on_wished places words name file e = ap (wish places) e ∙ named_wished places name file
+pub run_on_task : (places : Places) (words : List Text) (name file : Text) → words ≡ run_on name file → desk_task places words ≡ Some (run (Some file))
+run_on_task places words name file e = ap (desk_task places) e ∙ named_task places name file
 
 pub no_run_on : (places : Places) (words : List Text) (k : ErrorKind) → IsAmong k (faults places words) → (name file : Text)
     → words ≡ run_on name file → ⊥
@@ -26,9 +26,9 @@ begun_free : (places : Places) (name : Text) (first : ℕ) (rest : Text) → (fi
 unfolding faults clap_on_literals
 begun_free places name first rest h = simp h
 
-begun_wished : (places : Places) (name : Text) (first : ℕ) (rest : Text) → (first == 45) ≡ false → wish places (run_with name (first ∷ rest)) ≡ Some (run (Some (first ∷ rest)))
-unfolding wish clap_on_literals
-begun_wished places name first rest h = simp h
+begun_task : (places : Places) (name : Text) (first : ℕ) (rest : Text) → (first == 45) ≡ false → desk_task places (run_with name (first ∷ rest)) ≡ Some (run (Some (first ∷ rest)))
+unfolding desk_task clap_on_literals
+begun_task places name first rest h = simp h
 
 no_hyphen : (b : Bool) → not b ≡ true → b ≡ false
 no_hyphen true h = absurd (cc)
@@ -38,12 +38,12 @@ path_free : (places : Places) (name file : Text) → is_path file ≡ true → f
 path_free places name [] h = absurd (cc)
 path_free places name (first ∷ rest) h = begun_free places name first rest (no_hyphen (first == 45) h)
 
-path_wished : (places : Places) (name file : Text) → is_path file ≡ true → wish places (run_with name file) ≡ Some (run (Some file))
-path_wished places name [] h = absurd (cc)
-path_wished places name (first ∷ rest) h = begun_wished places name first rest (no_hyphen (first == 45) h)
+path_task : (places : Places) (name file : Text) → is_path file ≡ true → desk_task places (run_with name file) ≡ Some (run (Some file))
+path_task places name [] h = absurd (cc)
+path_task places name (first ∷ rest) h = begun_task places name first rest (no_hyphen (first == 45) h)
 
-pub run_with_wished : (places : Places) (words : List Text) (name file : Text) → is_path file ≡ true → words ≡ run_with name file → wish places words ≡ Some (run (Some file))
-run_with_wished places words name file h e = ap (wish places) e ∙ path_wished places name file h
+pub run_with_task : (places : Places) (words : List Text) (name file : Text) → is_path file ≡ true → words ≡ run_with name file → desk_task places words ≡ Some (run (Some file))
+run_with_task places words name file h e = ap (desk_task places) e ∙ path_task places name file h
 
 pub no_run_with : (places : Places) (words : List Text) (k : ErrorKind) → IsAmong k (faults places words) → (name file : Text) → is_path file ≡ true
     → words ≡ run_with name file → ⊥

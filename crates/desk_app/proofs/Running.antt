@@ -7,7 +7,7 @@ use Rattle.std.proofs.KnownBytes.{Appends-nil, Appends-trans}
 use Rattle.desk_app.specs.Cuts.{held, first_of, rest_of, TakesLine}
 use Rattle.sqlite.specs.Tree.{Trees}
 use Rattle.desk_core.specs.Machine.{State}
-use Rattle.desk_store.specs.Books.{TablesAre}
+use Rattle.desk_store.specs.StateTables.{TablesAre}
 use Rattle.desk_app.specs.declared.end.Stop.{Stop}
 use Rattle.desk_app.specs.declared.end.Stop.TheVariants.{ReadFailed, WriteFailed, Memory, Store}
 use Rattle.desk_app.specs.Runs.{onto_first, lines_of, line_step, line_after, line_out, is_fine, run_after, run_out, all_fine, Stopped, StaysOpen, CutLine, CutShort, IsLeft, IsLeftAt, IsOfReading}

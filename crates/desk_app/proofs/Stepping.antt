@@ -4,8 +4,8 @@ use Rattle.std.specs.Prelude.{Ok, Err}
 use Rattle.sqlite.specs.Tree.{Trees}
 use Rattle.desk_core.specs.Machine.{State, Outcome, step}
 use Rattle.desk_core.specs.declared.command.Request.{Request as Req}
-use Rattle.desk_store.specs.Books.{TablesAre}
-use Rattle.desk_wire.specs.declared.read.Asked.TheVariants.{Request}
+use Rattle.desk_store.specs.StateTables.{TablesAre}
+use Rattle.desk_wire.specs.declared.read.Wish.TheVariants.{Request}
 use Rattle.desk_wire.specs.declared.fault.What.TheVariants.{TooLong}
 use Rattle.desk_app.specs.Cuts.{held}
 use Rattle.desk_wire.specs.Reading.{line}
@@ -54,12 +54,12 @@ outcome_state : (p : State × Outcome) → (by_outcome p).0 ≡ p.0
 outcome_state (s, Ok answer) = refl
 outcome_state (s, Err refusal) = refl
 
-asked_step : (s : State) (n : ℕ) (l : List ℕ) (r : Req) → is_blank l ≡ false → line l ≡ Ok (Request r) → line_step s n l ≡ by_outcome (step s r)
+request_step : (s : State) (n : ℕ) (l : List ℕ) (r : Req) → is_blank l ≡ false → line l ≡ Ok (Request r) → line_step s n l ≡ by_outcome (step s r)
 unfolding line_step
-asked_step s n l r filled is = rw (filled, is) refl
+request_step s n l r filled is = rw (filled, is) refl
 
-pub asked_after : (s : State) (n : ℕ) (l : List ℕ) (r : Req) → is_blank l ≡ false → line l ≡ Ok (Request r) → line_after s n l ≡ (step s r).0
-asked_after s n l r filled is = ap (λ t. t.0) (asked_step s n l r filled is) ∙ outcome_state (step s r)
+pub request_after : (s : State) (n : ℕ) (l : List ℕ) (r : Req) → is_blank l ≡ false → line l ≡ Ok (Request r) → line_after s n l ≡ (step s r).0
+request_after s n l r filled is = ap (λ t. t.0) (request_step s n l r filled is) ∙ outcome_state (step s r)
 
 pub cut_line : (stop : Stop) (s s' : State) (n : ℕ) (l : List ℕ) (r : Req) → line_after s n l ≡ (step s r).0 → CutRequest stop s s' r → CutLine stop s s' n l
 cut_line ReadFailed s s' n l r e h = absurd h

@@ -1,13 +1,13 @@
--- What is told of a wish.
+-- What is told of a task of a desk.
 use Rattle.std.proofs.Common.{◌≡◌, ◌∙◌, List, [], sym, refl, inr}
 use Rattle.std.specs.Prelude.{Option, Some, None, option_map}
 use Rattle.clap.specs.Words.{Text}
-use Rattle.desk_app.specs.declared.words.Asked.{Asked}
-use Rattle.desk_app.specs.declared.words.Asked.TheVariants.{Run, Report, Export, Import, Serve, Help, Wrong, Unreadable, Memory}
-use Rattle.desk_app.specs.Words.{Places, Wish, run, report, export, import, serve, wish, faults, Tells, AnswersAt, Runs, RunsOn}
+use Rattle.desk_app.specs.declared.words.Task.{Task}
+use Rattle.desk_app.specs.declared.words.Task.TheVariants.{Run, Report, Export, Import, Serve, Help, Wrong, Unreadable, Memory}
+use Rattle.desk_app.specs.Words.{Places, DeskTask, run, report, export, import, serve, desk_task, faults, Tells, AnswersAt, Runs, RunsOn}
 
-pub told_answers : (places : Places) (words : List Text) (w : Option Wish) (asked : Asked) → faults places words ≡ [] → w ≡ wish places words
-    → Tells w asked → AnswersAt places words asked
+pub told_answers : (places : Places) (words : List Text) (w : Option DeskTask) (task : Task) → faults places words ≡ [] → w ≡ desk_task places words
+    → Tells w task → AnswersAt places words task
 told_answers places words w (Run file) free same t = (free, sym same ∙ t)
 told_answers places words w (Report file name number) free same t = (free, sym same ∙ t)
 told_answers places words w (Export file table) free same t = (free, sym same ∙ t)
@@ -22,7 +22,7 @@ no_file : {X Y : Type 0} (f : X → Y) (file : Option X) → option_map f file �
 no_file f None e = refl
 no_file f (Some x) e = absurd (cc)
 
-pub told_runs : (w : Option Wish) (asked : Asked) → w ≡ Some (run None) → Tells w asked → Runs asked
+pub told_runs : (w : Option DeskTask) (task : Task) → w ≡ Some (run None) → Tells w task → Runs task
 told_runs w (Run file) e t = let f : Some (run None) ≡ Some (run (option_map (λ path. path.now) file)) = sym e ∙ t in no_file (λ path. path.now) file (cc)
 told_runs w (Report file name number) e t = let f : Some (run None) ≡ Some (report file.now name number) = sym e ∙ t in absurd (cc)
 told_runs w (Export file table) e t = let f : Some (run None) ≡ Some (export file.now table) = sym e ∙ t in absurd (cc)
@@ -33,7 +33,7 @@ told_runs w (Wrong error) e t = let f = t.0 in absurd (cc)
 told_runs w Unreadable e t = absurd t
 told_runs w Memory e t = tt
 
-pub told_runs_on : (path : Text) (w : Option Wish) (asked : Asked) → w ≡ Some (run (Some path)) → Tells w asked → RunsOn path asked
+pub told_runs_on : (path : Text) (w : Option DeskTask) (task : Task) → w ≡ Some (run (Some path)) → Tells w task → RunsOn path task
 told_runs_on path w (Run file) e t = let f : Some (run (Some path)) ≡ Some (run (option_map (λ given. given.now) file)) = sym e ∙ t in cc
 told_runs_on path w (Report file name number) e t = let f : Some (run (Some path)) ≡ Some (report file.now name number) = sym e ∙ t in absurd (cc)
 told_runs_on path w (Export file table) e t = let f : Some (run (Some path)) ≡ Some (export file.now table) = sym e ∙ t in absurd (cc)

@@ -6,22 +6,22 @@ use Rattle.sqlite.specs.declared.error.Error.TheVariants.{SqliteFailure}
 use Rattle.sqlite.specs.declared.error.ErrorCode.TheVariants as code
 use Rattle.sqlite.specs.Tree.{Trees}
 use Rattle.desk_core.specs.Machine as machine
-use Rattle.desk_store.specs.Books.{TablesAre}
+use Rattle.desk_store.specs.StateTables.{TablesAre}
 use Rattle.table_store.specs.Schema.{desk_schema, schema_up_to}
 use Rattle.desk_store.specs.Opening.{open_fault_text, WhyNot}
 use Rattle.desk_store.specs.declared.fault.OpenFault.{OpenFault}
 use Rattle.desk_store.specs.declared.fault.OpenFault.TheVariants as open_fault
 use Rattle.desk_app.specs.declared.database.FileFault.{FileFault}
 use Rattle.desk_app.specs.declared.database.FileFault.TheVariants.{Memory, NoFile, NoFolder, NotAllowed, Device, InUse, NoDatabase, Database, OtherTables, OtherVersion, Desk}
-use Rattle.desk_app.specs.declared.database.Refused.{Refused}
+use Rattle.desk_app.specs.declared.database.FaultyFile.{FaultyFile}
 use Rattle.desk_app.specs.Empty.{IsEmpty}
 
 -- the database has nothing in it: no table, no index and no view
 abbrev pub IsBare : State → Type 0
 IsBare d = d.now.schema ≡ schema_up_to 0
 
--- a fault of the desk, as one of the file: want of memory is told alike, and tables that are a desk's and Foreign are of
--- another version
+-- a fault of the desk, as one of the file: that memory ran out is told alike, and tables that are a desk's and Foreign
+-- are of another version
 abbrev pub file_fault_of : OpenFault → FileFault
 file_fault_of open_fault.Memory = Memory
 file_fault_of open_fault.Foreign = OtherVersion
@@ -69,5 +69,5 @@ file_fault_text OtherVersion = Some (codes "it is a workshop's of another versio
 file_fault_text (Desk fault) = open_fault_text fault
 
 -- the path, and then why
-abbrev pub refused_text : Refused → Option (List ℕ)
-refused_text refused = option_map (λ text. refused.path.now ++ (codes ": " ++ text)) (file_fault_text refused.fault)
+abbrev pub faulty_file_text : FaultyFile → Option (List ℕ)
+faulty_file_text faulty = option_map (λ text. faulty.path.now ++ (codes ": " ++ text)) (file_fault_text faulty.fault)

@@ -4,14 +4,14 @@ use Rattle.std.specs.Io.KnownBytes.{Appends, Keeps}
 use Rattle.sqlite.specs.Tree.{Trees}
 use Rattle.desk_core.specs.Machine.{State, Outcome, run}
 use Rattle.desk_core.specs.declared.command.Request.{Request}
-use Rattle.desk_store.specs.Books.{TablesAre}
+use Rattle.desk_store.specs.StateTables.{TablesAre}
 use Rattle.desk_wire.specs.declared.fault.WireFault.{WireFault}
 use Rattle.desk_wire.specs.declared.row.ImportRow.{ImportRow}
 use Rattle.desk_wire.specs.ImportReports.{import_text}
 use Rattle.desk_wire.specs.Writing.{fault_text}
 use Rattle.desk_app.specs.declared.end.Stop.{Stop}
 use Rattle.desk_app.specs.declared.end.Stop.TheVariants.{ReadFailed, WriteFailed, Memory, Store}
-use Rattle.desk_app.specs.Runs.{Told}
+use Rattle.desk_app.specs.Runs.{RunStep}
 
 -- ---- the run of rows
 
@@ -38,7 +38,7 @@ abbrev pub rows_out : State → List ImportRow → List ℕ
 rows_out s rows = import_text (numbers_of rows) (rows_outcomes s rows)
 
 -- the state after the rows, their report, and whether none was refused
-abbrev pub rows_told : State → List ImportRow → Told
+abbrev pub rows_told : State → List ImportRow → RunStep
 rows_told s rows = (rows_after s rows, rows_out s rows, are_answers (rows_outcomes s rows))
 
 -- ---- the run of a file
@@ -48,7 +48,7 @@ abbrev pub Reading : Type 0
 Reading = Result (List ImportRow) WireFault
 
 -- of a faulty file nothing is run, and the fault is told
-abbrev pub import_told : State → Reading → Told
+abbrev pub import_told : State → Reading → RunStep
 import_told s (Ok rows) = rows_told s rows
 import_told s (Err fault) = (s, fault_text fault, false)
 

@@ -7,34 +7,34 @@ use Rattle.desk_core.specs.declared.command.Request.{Request as Req}
 use Rattle.report_core.specs.Lines.{Lines}
 use Rattle.report_core.specs.Reports.{report_lines}
 use Rattle.desk_wire.specs.declared.fault.What.{What}
-use Rattle.desk_wire.specs.declared.read.Asked.{Asked}
-use Rattle.desk_wire.specs.declared.read.Asked.TheVariants.{Request, Report}
+use Rattle.desk_wire.specs.declared.read.Wish.{Wish}
+use Rattle.desk_wire.specs.declared.read.Wish.TheVariants.{Request, Report}
 use Rattle.desk_wire.specs.Reading as reading
 use Rattle.desk_wire.specs.Writing.{answer_text, refused_text, fault_text, report_text}
 use Rattle.sqlite.specs.Tree.{Trees}
-use Rattle.desk_store.specs.Books.{TablesAre}
+use Rattle.desk_store.specs.StateTables.{TablesAre}
 use Rattle.desk_app.specs.declared.end.Stop.{Stop}
 use Rattle.desk_app.specs.declared.end.Stop.TheVariants.{ReadFailed, WriteFailed, Memory, Store}
 
 -- ---- one line: the state after it, the text with LF that is answered, and whether nothing was
 -- refused or faulty
 
-abbrev pub Told : Type 0
-Told = State × List ℕ × Bool
+abbrev pub RunStep : Type 0
+RunStep = State × List ℕ × Bool
 
-abbrev pub by_outcome : State × Outcome → Told
+abbrev pub by_outcome : State × Outcome → RunStep
 by_outcome (s, Ok answer) = (s, answer_text answer, true)
 by_outcome (s, Err refusal) = (s, refused_text refusal, false)
 
 -- a report is of the state so far
-abbrev pub by_report : State → Option Lines → Told
+abbrev pub by_report : State → Option Lines → RunStep
 by_report s None = (s, refused_text NoSuch, false)
 by_report s (Some lines) = (s, report_text lines, true)
 
-abbrev pub by_asked : State → ℕ → Result Asked What → Told
-by_asked s number (Ok (Request request)) = by_outcome (step s request)
-by_asked s number (Ok (Report name of)) = by_report s (report_lines name of s)
-by_asked s number (Err what) = (s, fault_text (record { line = number; what = what }), false)
+abbrev pub by_wish : State → ℕ → Result Wish What → RunStep
+by_wish s number (Ok (Request request)) = by_outcome (step s request)
+by_wish s number (Ok (Report name of)) = by_report s (report_lines name of s)
+by_wish s number (Err what) = (s, fault_text (record { line = number; what = what }), false)
 
 -- nothing, or one CR
 abbrev pub is_blank : List ℕ → Bool
@@ -43,8 +43,8 @@ is_blank (b ∷ []) = b == 13
 is_blank (b ∷ c ∷ bs) = false
 
 -- a blank line gives nothing
-unfoldable pub line_step : State → ℕ → List ℕ → Told
-line_step s number line = if is_blank line then (s, [], true) else by_asked s number (reading.line line)
+unfoldable pub line_step : State → ℕ → List ℕ → RunStep
+line_step s number line = if is_blank line then (s, [], true) else by_wish s number (reading.line line)
 
 abbrev pub line_after : State → ℕ → List ℕ → State
 line_after s number line = (line_step s number line).0
@@ -150,8 +150,8 @@ pub record CutWriting (w w' : Option (List ℕ)) (s s' : State) (number : ℕ) (
   pub answer : line_out s number line ≡ front ++ more
   pub written : Appends w w' front
 
--- a request that the books did not answer, or whose answer was not told: it was run or not, for want of memory; where the
--- database failed it was not
+-- a request that the books did not answer, or whose answer was not told: where memory ran out it was run or not; where
+-- the database failed it was not
 abbrev pub CutRequest : Stop → State → State → Req → Type 0
 CutRequest Memory s s' r = (s' ≡ s) ⊎ (s' ≡ (step s r).0)
 CutRequest Store s s' r = s' ≡ s
@@ -169,7 +169,7 @@ IsOfBooks Memory = Unit {0}
 IsOfBooks Store = Unit {0}
 IsOfBooks _ = ⊥
 
--- it is the reader that stops it, or want of memory
+-- it is the reader that stops it, or memory that runs out
 abbrev pub IsOfReading : Stop → Type 0
 IsOfReading ReadFailed = Unit {0}
 IsOfReading Memory = Unit {0}
@@ -183,8 +183,8 @@ StaysOpen old new (Err WriteFailed) = old ≡ None → new ≡ None
 StaysOpen old new (Err Memory) = old ≡ None → new ≡ None
 StaysOpen old new (Err Store) = IsSome new
 
--- a line that was not answered whole; for want of memory it was run or not, and nothing is written; where the database
--- failed it was not run
+-- a line that was not answered whole; where memory ran out it was run or not, and nothing is written; where the
+-- database failed it was not run
 abbrev pub CutShort : Stop → Option (List ℕ) → Option (List ℕ) → State → State → ℕ → List ℕ → Type 0
 CutShort ReadFailed w w' s s' number line = ⊥
 CutShort WriteFailed w w' s s' number line = CutWriting w w' s s' number line

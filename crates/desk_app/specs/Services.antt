@@ -7,14 +7,14 @@ use Rattle.desk_core.specs.declared.command.Request.{Request}
 use Rattle.report_core.specs.Reports.{report_lines}
 use Rattle.report_core.specs.declared.name.ReportName as report
 use Rattle.report_core.specs.declared.name.ReportName.TheVariants as reports
-use Rattle.desk_store.specs.Books.{TablesAre}
+use Rattle.desk_store.specs.StateTables.{TablesAre}
 use Rattle.desk_wire.specs.declared.fault.What.{What}
 use Rattle.desk_wire.specs.declared.kind.ImportKind as wire_kind
 use Rattle.desk_wire.specs.declared.kind.ImportKind.TheVariants as wire_kinds
 use Rattle.desk_wire.specs.Imports.{import}
 use Rattle.desk_wire.specs.Reading as reading
 use Rattle.desk_wire.specs.Writing.{answer_text, refused_text, fault_text}
-use Rattle.desk_http.specs.Services.{Machine, Operation, RunLine, ImportFile, ShowReport, Said}
+use Rattle.desk_http.specs.Services.{Machine, Operation, RunLine, ImportFile, ShowReport, ReplyView}
 use Rattle.desk_http.specs.declared.target.ImportKind.{ImportKind}
 use Rattle.desk_http.specs.declared.target.ImportKind.TheVariants.{Receipts, Counts}
 use Rattle.desk_http.specs.declared.target.ReportName.{ReportName}
@@ -42,31 +42,31 @@ report_name History = reports.History
 
 -- ---- each operation: the state after it, and what is replied
 
-abbrev pub by_outcome : State × Outcome → State × Said
+abbrev pub by_outcome : State × Outcome → State × ReplyView
 by_outcome (s, Ok answer) = (s, (Answered, answer_text answer))
 by_outcome (s, Err refusal) = (s, (Refused, refused_text refusal))
 
 -- a body is one line, of number 1, that asks for no report
-abbrev pub by_request : State → Result Request What → State × Said
+abbrev pub by_request : State → Result Request What → State × ReplyView
 by_request s (Ok request) = by_outcome (step s request)
 by_request s (Err what) = (s, (Faulty, fault_text (record { line = 1; what = what })))
 
-unfoldable pub run_line : State → List ℕ → State × Said
+unfoldable pub run_line : State → List ℕ → State × ReplyView
 run_line s line = by_request s (reading.request line)
 
 -- a report is told though rows of it were refused
-abbrev pub by_reading : State → Reading → State × Said
+abbrev pub by_reading : State → Reading → State × ReplyView
 by_reading s (Ok rows) = (rows_after s rows, (Reported, rows_out s rows))
 by_reading s (Err fault) = (s, (Faulty, fault_text fault))
 
-unfoldable pub import_file : State → ImportKind → List ℕ → CivilDay → List ℕ → State × Said
+unfoldable pub import_file : State → ImportKind → List ℕ → CivilDay → List ℕ → State × ReplyView
 import_file s kind document day rows = by_reading s (import (import_kind kind) document day rows)
 
-abbrev pub by_printed : List ℕ × Bool → Said
+abbrev pub by_printed : List ℕ × Bool → ReplyView
 by_printed (text, true) = (Reported, text)
 by_printed (text, false) = (Refused, text)
 
-unfoldable pub show_report : State → ReportName → ℕ → Said
+unfoldable pub show_report : State → ReportName → ℕ → ReplyView
 show_report s name number = by_printed (printed (report_lines (report_name name) number s))
 
 abbrev pub desk_machine : Machine State

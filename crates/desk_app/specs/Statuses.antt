@@ -4,8 +4,8 @@ use Rattle.desk_app.specs.declared.end.RunEnd.{RunEnd}
 use Rattle.desk_app.specs.declared.end.RunEnd.TheVariants.{Done, ReadFailed, WriteFailed, Memory, Store}
 use Rattle.desk_app.specs.declared.database.FileFault.{FileFault}
 use Rattle.desk_app.specs.declared.database.FileFault.TheVariants as file
-use Rattle.desk_app.specs.declared.words.Asked.{Asked}
-use Rattle.desk_app.specs.declared.words.Asked.TheVariants as asked
+use Rattle.desk_app.specs.declared.words.Task.{Task}
+use Rattle.desk_app.specs.declared.words.Task.TheVariants as task
 
 -- after a run that ended so
 abbrev pub status_of : RunEnd → ℕ
@@ -22,13 +22,13 @@ status_of_fault file.Memory = 4
 status_of_fault _ = 3
 
 -- at once, unless the words ask for a desk
-abbrev pub early_status : Asked → Option ℕ
-early_status (asked.Run file) = None
-early_status (asked.Report file name number) = None
-early_status (asked.Export file table) = None
-early_status (asked.Import file kind document day path) = None
-early_status (asked.Serve file port count) = None
-early_status (asked.Help e) = Some 0
-early_status (asked.Wrong e) = Some 2
-early_status asked.Unreadable = Some 2
-early_status asked.Memory = Some 4
+abbrev pub early_status : Task → Option ℕ
+early_status (task.Run file) = None
+early_status (task.Report file name number) = None
+early_status (task.Export file table) = None
+early_status (task.Import file kind document day path) = None
+early_status (task.Serve file port count) = None
+early_status (task.Help e) = Some 0
+early_status (task.Wrong e) = Some 2
+early_status task.Unreadable = Some 2
+early_status task.Memory = Some 4

@@ -20,8 +20,8 @@ use Rattle.desk_wire.specs.Documents.{is_document}
 use Rattle.desk_wire.specs.Kinds.{import_kind_named}
 use Rattle.desk_wire.specs.Numbers.{number_in}
 use Rattle.desk_wire.specs.declared.kind.ImportKind.{ImportKind}
-use Rattle.desk_app.specs.declared.words.Asked.{Asked}
-use Rattle.desk_app.specs.declared.words.Asked.TheVariants.{Run, Report, Export, Import, Serve, Help, Wrong, Unreadable, Memory}
+use Rattle.desk_app.specs.declared.words.Task.{Task}
+use Rattle.desk_app.specs.declared.words.Task.TheVariants.{Run, Report, Export, Import, Serve, Help, Wrong, Unreadable, Memory}
 
 -- no more words, or `run`
 abbrev pub asks_run : List (List ℕ) → Bool
@@ -179,32 +179,32 @@ table_named name =
     else if bytes_eq name (codes "kept") then Some table.Kept
     else None
 
--- what is asked of a desk: a run, with the file if one is named; a report of a number; a table; the rows at a path;
+-- a task of a desk: a run, with the file if one is named; a report of a number; a table; the rows at a path;
 -- so many connections to a port
-pub data Wish : Type 0 where
-  run : Option Text → Wish
-  report : Text → ReportName → ℕ → Wish
-  export : Text → TableName → Wish
-  import : Text → ImportKind → Text → CivilDay → Text → Wish
-  serve : Option Text → ℕ → ℕ → Wish
+pub data DeskTask : Type 0 where
+  run : Option Text → DeskTask
+  report : Text → ReportName → ℕ → DeskTask
+  export : Text → TableName → DeskTask
+  import : Text → ImportKind → Text → CivilDay → Text → DeskTask
+  serve : Option Text → ℕ → ℕ → DeskTask
 
-abbrev pub report_with : Option Text → Option ReportName → Option ℕ → Option Wish
+abbrev pub report_with : Option Text → Option ReportName → Option ℕ → Option DeskTask
 report_with None name number = None
 report_with (Some file) None number = None
 report_with (Some file) (Some name) None = None
 report_with (Some file) (Some name) (Some number) = Some (report file name number)
 
-abbrev pub export_with : Option Text → Option TableName → Option Wish
+abbrev pub export_with : Option Text → Option TableName → Option DeskTask
 export_with None table = None
 export_with (Some file) None = None
 export_with (Some file) (Some table) = Some (export file table)
 
 -- by the matches of the subcommand
-unfoldable pub report_in : List Row → Option Wish
+unfoldable pub report_in : List Row → Option DeskTask
 report_in rows = report_with (first_of (codes "db") rows) (option_and_then report_named (first_of (codes "name") rows))
     (option_and_then number_in (first_of (codes "number") rows))
 
-unfoldable pub export_in : List Row → Option Wish
+unfoldable pub export_in : List Row → Option DeskTask
 export_in rows = export_with (first_of (codes "db") rows) (option_and_then table_named (first_of (codes "table") rows))
 
 infixl 10 ◌>>=◌
@@ -212,7 +212,7 @@ abbrev ◌>>=◌ : {A B : Type 0} → Option A → (A → Option B) → Option B
 None >>= f = None
 (Some x) >>= f = f x
 
-unfoldable pub import_in : List Row → Option Wish
+unfoldable pub import_in : List Row → Option DeskTask
 import_in rows = do
   file ← first_of (codes "db") rows
   kind ← option_and_then import_kind_named (first_of (codes "kind") rows)
@@ -221,7 +221,7 @@ import_in rows = do
   path ← first_of (codes "path") rows
   Some (import file kind document day path)
 
-unfoldable pub serve_in : List Row → Option Wish
+unfoldable pub serve_in : List Row → Option DeskTask
 serve_in rows = do
   port ← option_and_then (number_up_to 65535) (first_of (codes "port") rows)
   count ← option_and_then (number_up_to 1000000) (first_of (codes "count") rows)
@@ -235,9 +235,9 @@ abbrev pub given_in : Text → ArgMatches → Option Text
 given_in id m = first_of id (rows_in m)
 
 -- by the subcommand and its matches: no subcommand is a run in memory
-abbrev pub wish_met : Option (Text × List Row) → Option Wish
-wish_met None = Some (run None)
-wish_met (Some met) =
+abbrev pub desk_task_met : Option (Text × List Row) → Option DeskTask
+desk_task_met None = Some (run None)
+desk_task_met (Some met) =
     if bytes_eq met.0 (codes "report") then report_in met.1
     else if bytes_eq met.0 (codes "export") then export_in met.1
     else if bytes_eq met.0 (codes "import") then import_in met.1
@@ -245,26 +245,26 @@ wish_met (Some met) =
     else Some (run (first_of (codes "db") met.1))
 
 -- what the words ask of a desk, where nothing is found wrong
-unfoldable pub wish : Places → List Text → Option Wish
-wish places words = wish_met (subcommand_of (command_line places) words)
+unfoldable pub desk_task : Places → List Text → Option DeskTask
+desk_task places words = desk_task_met (subcommand_of (command_line places) words)
 
--- the desk that is asked for
-abbrev pub wish_of : Asked → Option Wish
-wish_of (Run file) = Some (run (option_map (λ path. path.now) file))
-wish_of (Report file name number) = Some (report file.now name number)
-wish_of (Export file table) = Some (export file.now table)
-wish_of (Import file kind document day path) = Some (import file.now kind document day path.now)
-wish_of (Serve file port count) = Some (serve (option_map (λ path. path.now) file) port count)
-wish_of (Help e) = None
-wish_of (Wrong e) = None
-wish_of Unreadable = None
-wish_of Memory = None
+-- the task of a desk, if it is one
+abbrev pub desk_task_of : Task → Option DeskTask
+desk_task_of (Run file) = Some (run (option_map (λ path. path.now) file))
+desk_task_of (Report file name number) = Some (report file.now name number)
+desk_task_of (Export file table) = Some (export file.now table)
+desk_task_of (Import file kind document day path) = Some (import file.now kind document day path.now)
+desk_task_of (Serve file port count) = Some (serve (option_map (λ path. path.now) file) port count)
+desk_task_of (Help e) = None
+desk_task_of (Wrong e) = None
+desk_task_of Unreadable = None
+desk_task_of Memory = None
 
-abbrev pub AsksFor : Option Wish → Option Asked → Type 0
-AsksFor wish asked = option_map wish_of asked ≡ option_map (λ w. Some w) wish
+abbrev pub AsksFor : Option DeskTask → Option Task → Type 0
+AsksFor desk_task task = option_map desk_task_of task ≡ option_map (λ w. Some w) desk_task
 
 -- the file of the desk that is asked for
-abbrev pub file_of : Asked → Option (Bor Text)
+abbrev pub file_of : Task → Option (Bor Text)
 file_of (Run file) = file
 file_of (Report file name number) = Some file
 file_of (Export file table) = Some file
@@ -275,50 +275,50 @@ file_of (Wrong e) = None
 file_of Unreadable = None
 file_of Memory = None
 
--- the wish is told as it is; where there is none, a value is wrong; unless memory ran out
-abbrev pub Tells : Option Wish → Asked → Type 0
-Tells wish (Run file) = wish ≡ wish_of (Run file)
-Tells wish (Report file name number) = wish ≡ wish_of (Report file name number)
-Tells wish (Export file table) = wish ≡ wish_of (Export file table)
-Tells wish (Import file kind document day path) = wish ≡ wish_of (Import file kind document day path)
-Tells wish (Serve file port count) = wish ≡ wish_of (Serve file port count)
-Tells wish (Help e) = ⊥
-Tells wish (Wrong e) = (wish ≡ None) × (kind_of e ≡ ValueValidation)
-Tells wish Unreadable = ⊥
-Tells wish Memory = Unit {0}
+-- the task of a desk is told as it is; where there is none, a value is wrong; unless memory ran out
+abbrev pub Tells : Option DeskTask → Task → Type 0
+Tells desk_task (Run file) = desk_task ≡ desk_task_of (Run file)
+Tells desk_task (Report file name number) = desk_task ≡ desk_task_of (Report file name number)
+Tells desk_task (Export file table) = desk_task ≡ desk_task_of (Export file table)
+Tells desk_task (Import file kind document day path) = desk_task ≡ desk_task_of (Import file kind document day path)
+Tells desk_task (Serve file port count) = desk_task ≡ desk_task_of (Serve file port count)
+Tells desk_task (Help e) = ⊥
+Tells desk_task (Wrong e) = (desk_task ≡ None) × (kind_of e ≡ ValueValidation)
+Tells desk_task Unreadable = ⊥
+Tells desk_task Memory = Unit {0}
 
 -- what `clap` makes of the words
 pub record Parses (words : List Text) (r : Result ArgMatches Error) : Type 0 where
   pub places : Places
   pub fails : FailsBy (faults places words) r
-  pub wish : IfOk r (λ m. wish_met (subcommand_rows_of m) ≡ wish places words)
+  pub desk_task : IfOk r (λ m. desk_task_met (subcommand_rows_of m) ≡ desk_task places words)
 
 -- help, or the version: what is printed because it is asked for
 abbrev pub IsShown : ErrorKind → Type 0
 IsShown kind = (kind ≡ DisplayHelp) ⊎ (kind ≡ DisplayVersion)
 
-abbrev pub AnswersAt : Places → List Text → Asked → Type 0
-AnswersAt places words (Run file) = (faults places words ≡ []) × (wish places words ≡ wish_of (Run file))
+abbrev pub AnswersAt : Places → List Text → Task → Type 0
+AnswersAt places words (Run file) = (faults places words ≡ []) × (desk_task places words ≡ desk_task_of (Run file))
 AnswersAt places words (Report file name number) =
-    (faults places words ≡ []) × (wish places words ≡ wish_of (Report file name number))
-AnswersAt places words (Export file table) = (faults places words ≡ []) × (wish places words ≡ wish_of (Export file table))
+    (faults places words ≡ []) × (desk_task places words ≡ desk_task_of (Report file name number))
+AnswersAt places words (Export file table) = (faults places words ≡ []) × (desk_task places words ≡ desk_task_of (Export file table))
 AnswersAt places words (Import file kind document day path) =
-    (faults places words ≡ []) × (wish places words ≡ wish_of (Import file kind document day path))
+    (faults places words ≡ []) × (desk_task places words ≡ desk_task_of (Import file kind document day path))
 AnswersAt places words (Serve file port count) =
-    (faults places words ≡ []) × (wish places words ≡ wish_of (Serve file port count))
+    (faults places words ≡ []) × (desk_task places words ≡ desk_task_of (Serve file port count))
 AnswersAt places words (Help e) = IsShown (kind_of e) × IsAmong (kind_of e) (faults places words)
 AnswersAt places words (Wrong e) =
     ((¬ IsShown (kind_of e)) × (kind_of e ≢ OutOfMemory) × IsAmong (kind_of e) (faults places words))
-    ⊎ ((faults places words ≡ []) × (wish places words ≡ None) × (kind_of e ≡ ValueValidation))
+    ⊎ ((faults places words ≡ []) × (desk_task places words ≡ None) × (kind_of e ≡ ValueValidation))
 AnswersAt places words Unreadable = ⊥
 AnswersAt places words Memory = Unit {0}
 
 -- where nothing is found wrong, what the words ask of a desk, or that a value is wrong; else what is found
-abbrev pub Answers : List Text → Asked → Type 0
-Answers words asked = (places : Places) × AnswersAt places words asked
+abbrev pub Answers : List Text → Task → Type 0
+Answers words task = (places : Places) × AnswersAt places words task
 
 -- a run in memory, unless memory ran out
-abbrev pub Runs : Asked → Type 0
+abbrev pub Runs : Task → Type 0
 Runs (Run file) = file ≡ None
 Runs (Report file name number) = ⊥
 Runs (Export file table) = ⊥
@@ -330,7 +330,7 @@ Runs Unreadable = ⊥
 Runs Memory = Unit {0}
 
 -- a run of the desk in this file, unless memory ran out
-abbrev pub RunsOn : Text → Asked → Type 0
+abbrev pub RunsOn : Text → Task → Type 0
 RunsOn path (Run file) = option_map (λ given. given.now) file ≡ Some path
 RunsOn path (Report file name number) = ⊥
 RunsOn path (Export file table) = ⊥
@@ -342,7 +342,7 @@ RunsOn path Unreadable = ⊥
 RunsOn path Memory = Unit {0}
 
 -- help or the version, by its kind, unless memory ran out
-abbrev pub HelpsBy : ErrorKind → Asked → Type 0
+abbrev pub HelpsBy : ErrorKind → Task → Type 0
 HelpsBy kind (Run file) = ⊥
 HelpsBy kind (Report file name number) = ⊥
 HelpsBy kind (Export file table) = ⊥

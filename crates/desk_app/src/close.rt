@@ -1,9 +1,9 @@
 //! The end of a run on a file: the books are copied into it.
 ghost use Rattle.std.specs.Prelude.{◌≡◌, ◌≢◌, ◌⊎◌, None, IfOk, IfErr, IsTrue, MatchResult};
 ghost use Rattle.sqlite.specs.Files.{IsClosed, over_files};
-ghost use Rattle.sqlite_store.specs.FileStore.{files as store_files};
+ghost use Rattle.sqlite_store.specs.FileStore.{files as database_files};
 ghost use Rattle.sqlite_wal.specs.Reads.{AreClean};
-ghost use Rattle.desk_core.specs.Shops.{state_of};
+ghost use Rattle.desk_core.specs.ShopView.{state_of};
 ghost use Rattle.desk_store.specs.Desks.{IsDesk};
 ghost use Rattle.desk_app.specs.Closed.{KeepAlone};
 
@@ -15,9 +15,9 @@ use sqlite_disk::Disk;
 /// Copies what was committed out of the log into the database file, and hands the files back. From then on the database
 /// file alone, with no log, holds the desk's state.
 ///
-/// Where that fails the store is handed back: what was answered stands in the file and its log, and the next start finds
-/// it. So it is, too, of a desk that a fault of the database has closed: the last commit is copied where the database
-/// still answers, be it that before the request at which it failed or that after it.
+/// Where that fails the database is handed back: what was answered stands in the file and its log, and the next start
+/// finds it. So it is, too, of a desk that a fault of the database has closed: the last commit is copied where the
+/// database still answers, be it that before the request at which it failed or that after it.
 pub fn close_desk<D: Disk + Drop>(desk: Desk<FileStore<D>>) -> Result<Files<D>, FileStore<D>>
     requires { IsDesk over_files desk }
     ensures alone { desk.failed ≡ None → IfOk result (λ files.
@@ -25,12 +25,12 @@ pub fn close_desk<D: Disk + Drop>(desk: Desk<FileStore<D>>) -> Result<Files<D>, 
     ensures usable { IfOk result (λ files.
         IsTrue (D.Disk.is_usable files.log) × IsTrue (D.Disk.is_usable files.db)) }
     ensures quiet { IfOk result (λ files. (last : _)
-        × (store_files last ≡ (files.log, files.db)) × IsClosed desk.conn last) }
+        × (database_files last ≡ (files.log, files.db)) × IsClosed desk.conn last) }
     ensures kept { IfErr result (IsClosed desk.conn) }
 {
     match desk.close().close_files() {
         Ok(files) => Ok(files),
-        Err((_, store)) => Err(store),
+        Err((_, database)) => Err(database),
     }
 }
 
@@ -47,12 +47,12 @@ pub fn end_of_work<D: Disk + Drop>(
     ensures usable { IfOk result.1 (λ files.
         IsTrue (D.Disk.is_usable files.log) × IsTrue (D.Disk.is_usable files.db)) }
     ensures quiet { IfOk result.1 (λ files. (last : _)
-        × (store_files last ≡ (files.log, files.db)) × IsClosed desk.conn last) }
+        × (database_files last ≡ (files.log, files.db)) × IsClosed desk.conn last) }
     ensures kept { IfErr result.1 (IsClosed desk.conn) }
 {
     match close_desk(desk) {
         Ok(files) => (end, Ok(files)),
-        Err(store) => (RunEnd::Store, Err(store)),
+        Err(database) => (RunEnd::Store, Err(database)),
     }
 }
 
@@ -60,6 +60,6 @@ pub fn end_of_work<D: Disk + Drop>(
 pub fn let_go<D: Disk + Drop>(left: Result<Files<D>, FileStore<D>>) {
     match left {
         Ok(files) => drop(files),
-        Err(store) => drop(store.close()),
+        Err(database) => drop(database.close()),
     }
 }

@@ -117,15 +117,15 @@ impl fmt::Display for FileFault {
 
 /// A file without a desk, and why. As text it is one line, for a person.
 #[derive(Debug, Drop)]
-pub struct Refused<'a> {
+pub struct FaultyFile<'a> {
     pub path: &'a str,
     pub fault: FileFault,
 }
 
-impl fmt::Display for Refused<'_> {
-    ghost use Rattle.desk_app.specs.FileFaults.{refused_text};
+impl fmt::Display for FaultyFile<'_> {
+    ghost use Rattle.desk_app.specs.FileFaults.{faulty_file_text};
 
-    ghost output = { refused_text };
+    ghost output = { faulty_file_text };
 
     fn fmt<W: fmt::Write>(&self, f: &mut fmt::Formatter<W>) -> fmt::Result {
         let (path, fault) = (self.path, &self.fault);

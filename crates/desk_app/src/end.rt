@@ -10,7 +10,7 @@ pub enum RunEnd {
     ReadFailed,
     /// The writer failed, or took no byte.
     WriteFailed,
-    /// A growth was refused for want of memory.
+    /// A growth was refused, as memory ran out.
     Memory,
     /// The database failed, or the desk was closed.
     Store,

@@ -7,8 +7,8 @@ ghost use Rattle.sqlite.specs.State.{HasCleanDisk};
 ghost use Rattle.sqlite.specs.Tree.{Trees};
 ghost use Rattle.sqlite_trees.specs.View.{IsClean};
 ghost use Rattle.desk_core.specs.Machine.{IsSoundState, State};
-ghost use Rattle.desk_core.specs.Shops.{state_of};
-ghost use Rattle.desk_store.specs.Books.{TablesAre};
+ghost use Rattle.desk_core.specs.ShopView.{state_of};
+ghost use Rattle.desk_store.specs.StateTables.{TablesAre};
 ghost use Rattle.desk_store.specs.Desks.{IsDesk};
 ghost use Rattle.desk_store.specs.Exports.{AppendsFront, table_text};
 ghost use Rattle.report_core.specs.Reports.{report_lines};
@@ -51,7 +51,7 @@ fn make_desk<S: Alter + Drop>(
 {
     match Desk::create(alloc, conn, limits) {
         Ok(desk) => Ok(desk),
-        Err((fault, store)) => Err((FileFault::from(fault), store)),
+        Err((fault, database)) => Err((FileFault::from(fault), database)),
     }
 }
 
@@ -75,11 +75,11 @@ fn open_desk<S: Alter + Drop>(alloc: Global, conn: Connection<S>) -> Result<Desk
 {
     match Desk::open(alloc, conn) {
         Ok(desk) => Ok(desk),
-        Err((fault, store)) => Err((FileFault::from(fault), store)),
+        Err((fault, database)) => Err((FileFault::from(fault), database)),
     }
 }
 
-/// The desk that the database has. Where it has nothing, a new one with the largest limits. The store is handed back
+/// The desk that the database has. Where it has nothing, a new one with the largest limits. The database is handed back
 /// beside a fault.
 pub fn take_desk<S: Alter + Drop>(
     alloc: Global,
@@ -115,8 +115,8 @@ pub fn take_desk<S: Alter + Drop>(
     open_desk(alloc, conn)
 }
 
-/// What is printed for a report of a shop.
-pub(crate) fn told_as_text(
+/// Tells the report of that name as text, as it is printed.
+pub(crate) fn tell_report_as_text(
     alloc: Global,
     shop: &Shop,
     name: ReportName,
@@ -163,7 +163,7 @@ pub fn print_report<S: Alter, W: Write>(
     let Ok(shop) = desk.shop() else {
         return RunEnd::Store;
     };
-    let told = match told_as_text(alloc, shop, name, of) {
+    let told = match tell_report_as_text(alloc, shop, name, of) {
         Ok(told) => told,
         Err(stop) => return stop.end(),
     };

@@ -8,8 +8,8 @@ ghost use Rattle.std.specs.String.{string_bytes};
 ghost use Rattle.std.specs.Io.KnownBytes.{Appends};
 ghost use Rattle.sqlite.specs.Tree.{Trees};
 ghost use Rattle.desk_core.specs.Machine.{IsSoundState, step};
-ghost use Rattle.desk_core.specs.Shops.{state_of};
-ghost use Rattle.desk_store.specs.Books.{TablesAre};
+ghost use Rattle.desk_core.specs.ShopView.{state_of};
+ghost use Rattle.desk_store.specs.StateTables.{TablesAre};
 ghost use Rattle.desk_app.specs.declared.end.Stop.{Stop};
 ghost use Rattle.desk_app.specs.Ends.{end_of};
 ghost use Rattle.report_core.specs.Reports.{report_lines};
@@ -21,7 +21,7 @@ use crate::lines::Lines;
 use crate::send::send;
 use desk_core::{Request, Shop};
 use desk_store::Fault;
-use desk_wire::{Asked, ReadError, answer_text, fault_text, read_line, refused_text, report_text};
+use desk_wire::{ReadError, Wish, answer_text, fault_text, read_line, refused_text, report_text};
 use part_core::CoreFault;
 use report_core::{ReportName, report};
 use std::alloc::Global;
@@ -76,8 +76,8 @@ pub(crate) fn tell_outcome<B: Books>(
     }
 }
 
-/// Tells the report of that name.
-fn tell_report(alloc: Global, shop: &Shop, name: ReportName, of: u64) -> Result<Told, Stop>
+/// Tells the report of that name as a line of JSON.
+fn tell_report_as_line(alloc: Global, shop: &Shop, name: ReportName, of: u64) -> Result<Told, Stop>
     requires { IsSoundState (state_of shop.now) }
     ensures ok { IfOk result (λ told.
         by_report (state_of shop.now) (report_lines name of (state_of shop.now))
@@ -112,7 +112,7 @@ fn tell_of_books<B: Books>(
     ensures closed { result ≡ Err Stop.Store → IsSome (B.failure_of books.now) }
 {
     match books.shop() {
-        Ok(shop) => tell_report(alloc, shop, name, of),
+        Ok(shop) => tell_report_as_line(alloc, shop, name, of),
         Err(_) => Err(Stop::Store),
     }
 }
@@ -133,8 +133,8 @@ fn tell<B: Books>(alloc: Global, books: &mut B, number: u64, line: &[u8]) -> Res
         → IsLeftAt (B.state_in books.new) number line.now trees }
 {
     match read_line(alloc, line, number) {
-        Ok(Asked::Request(request)) => tell_outcome(alloc, books, &request),
-        Ok(Asked::Report { name, of }) => tell_of_books(alloc, books, name, of),
+        Ok(Wish::Request(request)) => tell_outcome(alloc, books, &request),
+        Ok(Wish::Report { name, of }) => tell_of_books(alloc, books, name, of),
         Err(ReadError::Wrong(fault)) => Ok(Told {
             text: fault_text(alloc, fault)?,
             fine: false,

@@ -2,10 +2,10 @@
 ghost use Rattle.std.specs.Prelude.{◌≡◌, ◌⊎◌, None, IfOk, IfErr, IfSome, Ok};
 ghost use Rattle.sqlite.specs.Tree.{Trees};
 ghost use Rattle.desk_core.specs.Machine.{IsSoundState, step};
-ghost use Rattle.desk_core.specs.Shops.{state_of};
-ghost use Rattle.desk_store.specs.Books.{TablesAre};
+ghost use Rattle.desk_core.specs.ShopView.{state_of};
+ghost use Rattle.desk_store.specs.StateTables.{TablesAre};
 ghost use Rattle.desk_wire.specs.Imports.{import};
-ghost use Rattle.desk_http.specs.Services.{RunLine, ImportFile, ShowReport, Stops, said, why_none};
+ghost use Rattle.desk_http.specs.Services.{RunLine, ImportFile, ShowReport, Stops, reply_view, why_none};
 ghost use Rattle.desk_wire.specs.Writing.{answer_text as text_of_answer, refused_text as text_of_refusal, fault_text as text_of_fault};
 ghost use Rattle.desk_app.specs.ImportRuns.{AreLeftByRows, IsLeftByImport, RanFront};
 ghost use Rattle.desk_app.specs.Services.{by_outcome, by_reading, run_line, import_file, show_report, desk_machine, leaves, IsFailed, IsFailedRequest};
@@ -13,7 +13,7 @@ ghost use Rattle.desk_app.specs.Services.{import_kind, report_name, Relates, Sta
 
 use crate::books::Books;
 use crate::end::Stop;
-use crate::file::told_as_text;
+use crate::file::tell_report_as_text;
 use crate::import::tell_rows;
 use crate::run::Told;
 use desk_core::{Request, Shop};
@@ -56,7 +56,7 @@ fn report_name(name: desk_http::ReportName) -> report_core::ReportName
 
 /// What is replied to a request that was accepted.
 fn answered(alloc: Global, answer: &Answer) -> Result<Reply, NoReply>
-    ensures reply { IfOk result (λ reply. said reply ≡ (Outcome.Answered, text_of_answer answer.now)) }
+    ensures reply { IfOk result (λ reply. reply_view reply ≡ (Outcome.Answered, text_of_answer answer.now)) }
     ensures untold { IfErr result (λ why. why ≡ NoReply.Untold) }
 {
     match answer_text(alloc, answer) {
@@ -70,7 +70,7 @@ fn answered(alloc: Global, answer: &Answer) -> Result<Reply, NoReply>
 
 /// What is replied to a request that was refused.
 fn refused(alloc: Global, refusal: Refusal) -> Result<Reply, NoReply>
-    ensures reply { IfOk result (λ reply. said reply ≡ (Outcome.Refused, text_of_refusal refusal)) }
+    ensures reply { IfOk result (λ reply. reply_view reply ≡ (Outcome.Refused, text_of_refusal refusal)) }
     ensures untold { IfErr result (λ why. why ≡ NoReply.Untold) }
 {
     match refused_text(alloc, refusal) {
@@ -84,7 +84,7 @@ fn refused(alloc: Global, refusal: Refusal) -> Result<Reply, NoReply>
 
 /// What is replied to a body that is no request, or no file.
 fn faulty(alloc: Global, fault: WireFault) -> Result<Reply, NoReply>
-    ensures reply { IfOk result (λ reply. said reply ≡ (Outcome.Faulty, text_of_fault fault)) }
+    ensures reply { IfOk result (λ reply. reply_view reply ≡ (Outcome.Faulty, text_of_fault fault)) }
     ensures untold { IfErr result (λ why. why ≡ NoReply.Untold) }
 {
     match fault_text(alloc, fault) {
@@ -104,7 +104,7 @@ fn reply_to_request<B: Books>(
 ) -> Result<Reply, NoReply>
     requires { B.are_kept books.old }
     ensures kept { B.are_kept books.new }
-    ensures ok { IfOk result (λ reply. (B.state_in books.new, said reply)
+    ensures ok { IfOk result (λ reply. (B.state_in books.new, reply_view reply)
         ≡ by_outcome (step (B.state_in books.old) request.now)) }
     ensures failed { IfErr result (λ why. IsFailedRequest why
         (B.state_in books.old) (B.state_in books.new) request.now) }
@@ -128,7 +128,7 @@ fn reply_to_request<B: Books>(
 fn reply_to_line<B: Books>(alloc: Global, books: &mut B, line: &[u8]) -> Result<Reply, NoReply>
     requires { B.are_kept books.old }
     ensures kept { B.are_kept books.new }
-    ensures ok { IfOk result (λ reply. (B.state_in books.new, said reply)
+    ensures ok { IfOk result (λ reply. (B.state_in books.new, reply_view reply)
         ≡ run_line (B.state_in books.old) line.now) }
     ensures failed { IfErr result (λ why. Stops desk_machine leaves why
         (B.state_in books.old) (RunLine line.now) (B.state_in books.new)) }
@@ -153,7 +153,7 @@ fn reply_to_rows<B: Books>(
 ) -> Result<Reply, NoReply>
     requires { B.are_kept books.old }
     ensures kept { B.are_kept books.new }
-    ensures ok { IfOk result (λ reply. (B.state_in books.new, said reply)
+    ensures ok { IfOk result (λ reply. (B.state_in books.new, reply_view reply)
         ≡ by_reading (B.state_in books.old) (Ok rows.now)) }
     ensures failed { IfErr result (λ why. IsFailed why
         × RanFront rows.now (B.state_in books.old) (B.state_in books.new)) }
@@ -185,7 +185,7 @@ fn reply_to_file<B: Books>(
 ) -> Result<Reply, NoReply>
     requires { B.are_kept books.old }
     ensures kept { B.are_kept books.new }
-    ensures ok { IfOk result (λ reply. (B.state_in books.new, said reply)
+    ensures ok { IfOk result (λ reply. (B.state_in books.new, reply_view reply)
         ≡ import_file (B.state_in books.old) kind document.now day rows.now) }
     ensures failed { IfErr result (λ why. Stops desk_machine leaves why (B.state_in books.old)
         (ImportFile kind document.now day rows.now) (B.state_in books.new)) }
@@ -212,10 +212,10 @@ fn reply_by_shop(
     number: u64,
 ) -> Result<Reply, NoReply>
     requires { IsSoundState (state_of shop.now) }
-    ensures ok { IfOk result (λ reply. said reply ≡ show_report (state_of shop.now) name number) }
+    ensures ok { IfOk result (λ reply. reply_view reply ≡ show_report (state_of shop.now) name number) }
     ensures untold { IfErr result (λ why. why ≡ NoReply.Untold) }
 {
-    match told_as_text(alloc, shop, report_name(name), number) {
+    match tell_report_as_text(alloc, shop, report_name(name), number) {
         Ok(Told { text, fine: true }) => Ok(Reply {
             outcome: Outcome::Reported,
             text,

@@ -4,7 +4,7 @@ ghost use Rattle.desk_app.specs.Statuses.{status_of, status_of_fault, early_stat
 
 use crate::database::FileFault;
 use crate::end::RunEnd;
-use crate::words::Asked;
+use crate::words::Task;
 
 /// Something was refused or faulty.
 pub const NOT_ALL: u8 = 1;
@@ -38,14 +38,14 @@ pub fn status_of_fault(fault: &FileFault) -> u8
 }
 
 /// The status to end with at once, unless the words ask for a desk.
-pub fn early_status(asked: &Asked<'_>) -> Option<u8>
-    ensures { result ≡ early_status asked.now }
+pub fn early_status(task: &Task<'_>) -> Option<u8>
+    ensures { result ≡ early_status task.now }
 {
-    match asked {
-        Asked::Run(_) | Asked::Report(..) | Asked::Export(..) => None,
-        Asked::Import { .. } | Asked::Serve { .. } => None,
-        Asked::Help(_) => Some(0),
-        Asked::Wrong(_) | Asked::Unreadable => Some(WRONG_WORDS),
-        Asked::Memory => Some(MEMORY),
+    match task {
+        Task::Run(_) | Task::Report(..) | Task::Export(..) => None,
+        Task::Import { .. } | Task::Serve { .. } => None,
+        Task::Help(_) => Some(0),
+        Task::Wrong(_) | Task::Unreadable => Some(WRONG_WORDS),
+        Task::Memory => Some(MEMORY),
     }
 }

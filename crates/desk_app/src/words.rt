@@ -7,7 +7,7 @@ ghost use Rattle.desk_wire.specs.Numbers.{number_in};
 ghost use Rattle.desk_wire.specs.Kinds.{import_kind_named};
 ghost use Rattle.desk_app.specs.Words.{file_rule, option_rule, word_rule, run_line, serve_line, IsKindRule};
 ghost use Rattle.desk_app.specs.Words.{IsReportLine, IsExportLine, IsImportLine, IsCommandLine};
-ghost use Rattle.desk_app.specs.Words.{document_named, number_up_to, table_named, report_in, export_in, import_in, serve_in, wish_met};
+ghost use Rattle.desk_app.specs.Words.{document_named, number_up_to, table_named, report_in, export_in, import_in, serve_in, desk_task_met};
 ghost use Rattle.desk_app.specs.Words.{given_in, rows_in, AsksFor, Tells, Parses, file_of};
 ghost use Rattle.desk_app.specs.Words.{asks_run, asks_help, asks_version, run_on, run_with, is_path, Answers, Runs, RunsOn, HelpsBy};
 
@@ -20,9 +20,9 @@ use std::alloc::{AllocError, Global};
 use std::convert::AsStr;
 use table_store::TableName;
 
-/// What the words ask for. A file is named by its path.
+/// The task that the words ask for. A file is named by its path.
 #[derive(Drop)]
-pub enum Asked<'a> {
+pub enum Task<'a> {
     /// Each line of the standard input is answered, by the desk in the file, or by a new one in memory.
     Run(Option<&'a str>),
     /// A report of the desk in the file is printed.
@@ -49,18 +49,18 @@ pub enum Asked<'a> {
     Wrong(Error),
     /// A word isn't UTF-8.
     Unreadable,
-    /// A growth was refused for want of memory.
+    /// A growth was refused, as memory ran out.
     Memory,
 }
 
-impl<'a> Asked<'a> {
+impl<'a> Task<'a> {
     /// The file of the desk that is asked for: none is one in memory.
     pub fn file(&self) -> Option<&'a str>
         ensures { result ≡ file_of self.now }
     {
         match self {
-            Asked::Run(file) | Asked::Serve { file, .. } => *file,
-            Asked::Report(file, _, _) | Asked::Export(file, _) | Asked::Import { file, .. } => {
+            Task::Run(file) | Task::Serve { file, .. } => *file,
+            Task::Report(file, _, _) | Task::Export(file, _) | Task::Import { file, .. } => {
                 Some(*file)
             }
             _ => None,
@@ -332,28 +332,28 @@ fn serve_count(matches: &ArgMatches<'_>) -> Option<u64>
 
 /// The report that is asked for, if the words name one.
 #[tactic(auto, unfolding(crate::specs::Words::report_in))]
-fn report_asked<'a>(matches: &ArgMatches<'a>) -> Option<Asked<'a>>
+fn report_task<'a>(matches: &ArgMatches<'a>) -> Option<Task<'a>>
     ensures { AsksFor (report_in (rows_in matches.now)) result }
 {
     let file = given(matches, "db")?;
     let name = report_name(matches)?;
     let number = report_number(matches)?;
-    Some(Asked::Report(file, name, number))
+    Some(Task::Report(file, name, number))
 }
 
 /// The export that is asked for, if the words name one.
 #[tactic(auto, unfolding(crate::specs::Words::export_in))]
-fn export_asked<'a>(matches: &ArgMatches<'a>) -> Option<Asked<'a>>
+fn export_task<'a>(matches: &ArgMatches<'a>) -> Option<Task<'a>>
     ensures { AsksFor (export_in (rows_in matches.now)) result }
 {
     let file = given(matches, "db")?;
     let table = export_table(matches)?;
-    Some(Asked::Export(file, table))
+    Some(Task::Export(file, table))
 }
 
 /// The import of that document that is asked for, if the words name one.
 #[tactic(auto, unfolding(crate::specs::Words::import_in))]
-fn import_of<'a>(matches: &ArgMatches<'a>, document: Option<Document>) -> Option<Asked<'a>>
+fn import_of<'a>(matches: &ArgMatches<'a>, document: Option<Document>) -> Option<Task<'a>>
     requires { document ≡ option_and_then document_named (given_in (codes "document") matches.now) }
     ensures { AsksFor (import_in (rows_in matches.now)) result }
 {
@@ -362,7 +362,7 @@ fn import_of<'a>(matches: &ArgMatches<'a>, document: Option<Document>) -> Option
     let document = document?;
     let day = import_day(matches)?;
     let path = given(matches, "path")?;
-    Some(Asked::Import {
+    Some(Task::Import {
         file,
         kind,
         document,
@@ -371,10 +371,7 @@ fn import_of<'a>(matches: &ArgMatches<'a>, document: Option<Document>) -> Option
     })
 }
 
-fn import_asked<'a>(
-    alloc: Global,
-    matches: &ArgMatches<'a>,
-) -> Result<Option<Asked<'a>>, AllocError>
+fn import_task<'a>(alloc: Global, matches: &ArgMatches<'a>) -> Result<Option<Task<'a>>, AllocError>
     ensures { IfOk result (AsksFor (import_in (rows_in matches.now))) }
 {
     let document = import_document(alloc, matches)?;
@@ -383,26 +380,26 @@ fn import_asked<'a>(
 
 /// The serving that is asked for, if the words name a port and a count.
 #[tactic(auto, unfolding(crate::specs::Words::serve_in))]
-fn serve_asked<'a>(matches: &ArgMatches<'a>) -> Option<Asked<'a>>
+fn serve_task<'a>(matches: &ArgMatches<'a>) -> Option<Task<'a>>
     ensures { AsksFor (serve_in (rows_in matches.now)) result }
 {
     let file = given(matches, "db");
     let port = serve_port(matches)?;
     let count = serve_count(matches)?;
-    Some(Asked::Serve { file, port, count })
+    Some(Task::Serve { file, port, count })
 }
 
-/// What words ask for in which nothing is wrong but, it may be, the form of a value.
-fn asked_by<'a>(alloc: Global, matches: &ArgMatches<'a>) -> Result<Option<Asked<'a>>, AllocError>
-    ensures { IfOk result (AsksFor (wish_met (subcommand_rows_of matches.now))) }
+/// The task that words ask for in which nothing is wrong but, it may be, the form of a value.
+fn task_by<'a>(alloc: Global, matches: &ArgMatches<'a>) -> Result<Option<Task<'a>>, AllocError>
+    ensures { IfOk result (AsksFor (desk_task_met (subcommand_rows_of matches.now))) }
 {
     match matches.subcommand() {
-        Some(("report", matches)) => Ok(report_asked(matches)),
-        Some(("export", matches)) => Ok(export_asked(matches)),
-        Some(("import", matches)) => import_asked(alloc, matches),
-        Some(("serve", matches)) => Ok(serve_asked(matches)),
-        Some((_, matches)) => Ok(Some(Asked::Run(given(matches, "db")))),
-        None => Ok(Some(Asked::Run(None))),
+        Some(("report", matches)) => Ok(report_task(matches)),
+        Some(("export", matches)) => Ok(export_task(matches)),
+        Some(("import", matches)) => import_task(alloc, matches),
+        Some(("serve", matches)) => Ok(serve_task(matches)),
+        Some((_, matches)) => Ok(Some(Task::Run(given(matches, "db")))),
+        None => Ok(Some(Task::Run(None))),
     }
 }
 
@@ -446,23 +443,23 @@ fn wrong_value(alloc: Global, matches: &ArgMatches<'_>) -> Result<Error, AllocEr
     command(alloc)?.error(ErrorKind::ValueValidation, wants(alloc, matches)?)
 }
 
-/// What words ask for in which `clap` finds nothing wrong.
-fn told_by<'a>(alloc: Global, matches: &ArgMatches<'a>) -> Asked<'a>
-    ensures { Tells (wish_met (subcommand_rows_of matches.now)) result }
+/// The task that words ask for in which `clap` finds nothing wrong.
+fn told_by<'a>(alloc: Global, matches: &ArgMatches<'a>) -> Task<'a>
+    ensures { Tells (desk_task_met (subcommand_rows_of matches.now)) result }
 {
-    match asked_by(alloc, matches) {
-        Ok(Some(asked)) => asked,
+    match task_by(alloc, matches) {
+        Ok(Some(task)) => task,
         Ok(None) => match wrong_value(alloc, matches) {
-            Ok(error) => Asked::Wrong(error),
-            Err(_) => Asked::Memory,
+            Ok(error) => Task::Wrong(error),
+            Err(_) => Task::Memory,
         },
-        Err(_) => Asked::Memory,
+        Err(_) => Task::Memory,
     }
 }
 
 /// Reads the words, of which the first is the program's name: no more, or `run`, `report`, `export`,
 /// `import` or `serve` with theirs.
-pub fn read_words<'a, S: AsStr>(alloc: Global, words: &'a [S]) -> Asked<'a>
+pub fn read_words<'a, S: AsStr>(alloc: Global, words: &'a [S]) -> Task<'a>
     ensures answers { Answers (map S.text words.now) result }
     ensures runs { asks_run (map S.text words.now) ≡ true → Runs result }
     ensures runs_on { (name file : List ℕ) → map S.text words.now ≡ run_on name file
@@ -477,10 +474,10 @@ pub fn read_words<'a, S: AsStr>(alloc: Global, words: &'a [S]) -> Asked<'a>
     match parse(alloc, words) {
         Ok(matches) => told_by(alloc, &matches),
         Err(e) => match e.kind() {
-            ErrorKind::OutOfMemory => Asked::Memory,
-            ErrorKind::DisplayHelp => Asked::Help(e),
-            ErrorKind::DisplayVersion => Asked::Help(e),
-            _ => Asked::Wrong(e),
+            ErrorKind::OutOfMemory => Task::Memory,
+            ErrorKind::DisplayHelp => Task::Help(e),
+            ErrorKind::DisplayVersion => Task::Help(e),
+            _ => Task::Wrong(e),
         },
     }
 }

@@ -14,7 +14,7 @@ use Rattle.stock_core.proofs.Staying as stock
 use Rattle.order_core.proofs.Staying as orders
 use Rattle.build_core.proofs.Staying as builds
 use Rattle.desk_core.specs.CommandText.{command_text}
-use Rattle.desk_core.specs.Machine.{State, Accepts, answer_of, books_in, build_books_in, order_books_in, by_check, by_repeat, check, effect, register_in, repeated, step_anew, with_answer}
+use Rattle.desk_core.specs.Machine.{State, Accepts, answer_of, stock_books_in, build_books_in, order_books_in, by_check, by_repeat, check, effect, register_in, repeated, step_anew, with_answer}
 use Rattle.desk_core.specs.Staying.{AllStay, RowsStay}
 use Rattle.desk_core.specs.declared.accepted.Accepted.{Accepted}
 use Rattle.desk_core.specs.declared.command.Command.{Command}
@@ -54,8 +54,8 @@ beside_owners s day c orders lines builds parts stock = record {
 stay-effect : (s : State) (day : CivilDay) (c : Command) → OthersStay s (effect s day c)
 stay-effect s day (command.Part c) = beside_owners s day (command.Part c) refl refl refl (parts.rows-stay c (register_in s)) (stay-none s).stock
 stay-effect s day (command.Bom c) = beside_owners s day (command.Bom c) refl refl refl (stay-none s).parts (stay-none s).stock
-stay-effect s day (command.Yard c) = beside_owners s day (command.Yard c) refl refl refl (stay-none s).parts (yards.rows-stay c (books_in s))
-stay-effect s day (command.Stock c) = beside_owners s day (command.Stock c) refl refl refl (stay-none s).parts (stock.rows-stay c day (books_in s))
+stay-effect s day (command.Yard c) = beside_owners s day (command.Yard c) refl refl refl (stay-none s).parts (yards.rows-stay c (stock_books_in s))
+stay-effect s day (command.Stock c) = beside_owners s day (command.Stock c) refl refl refl (stay-none s).parts (stock.rows-stay c day (stock_books_in s))
 stay-effect s day (command.Alloc c) = beside_owners s day (command.Alloc c) refl refl refl (stay-none s).parts (stay-none s).stock
 stay-effect s day (command.Order c) =
     let stay = orders.rows-stay c day (order_books_in s) in

@@ -9,8 +9,8 @@ use Rattle.serde_json.specs.Find.{get_member, as_bool, as_number, as_str, as_arr
 use Rattle.serde_json.specs.View.{items_of}
 use Rattle.serde_json.specs.Written.{compact_text}
 use Rattle.serde_json.proofs.Views.{get_member-put, get_member-put_other}
-use Rattle.part_core.specs.declared.field.Kind.{Kind}
-use Rattle.part_core.specs.declared.field.Kind.TheVariants as kind
+use Rattle.part_core.specs.declared.field.FieldKind.{FieldKind}
+use Rattle.part_core.specs.declared.field.FieldKind.TheVariants as kind
 use Rattle.part_core.specs.declared.field.Field.{Field}
 use Rattle.part_core.specs.declared.field.Field.TheVariants as field
 use Rattle.part_core.specs.declared.status.Status.TheVariants.{Okay}
@@ -45,7 +45,7 @@ texts_in (item d ds) = text_in_data d ∷ texts_in ds
 abbrev maybe_texts_in : Data → Option (List (List ℕ))
 maybe_texts_in d = option_map texts_in (as_array d)
 
-abbrev field_in : Kind → Data → Field
+abbrev field_in : FieldKind → Data → Field
 field_in kind.Number d = field.Number (unwrap_or (number_in d) 0)
 field_in kind.MaybeNumber d = field.MaybeNumber (number_in d)
 field_in kind.Text d = field.Text (text_in_data d)
@@ -82,7 +82,7 @@ own_back (field.MaybeText None) = refl
 own_back (field.MaybeText (Some b)) = refl
 own_back (field.Numbers ns) = rw (numbers_back ns) refl
 
-field_back : (k : Kind) (x : Field) → kind_of x ≡ k → field_in k (data_of x) ≡ x
+field_back : (k : FieldKind) (x : Field) → kind_of x ≡ k → field_in k (data_of x) ≡ x
 field_back k x e = subst (λ k. field_in k (data_of x) ≡ x) e (own_back x)
 
 -- ---- all fields, back by their names

@@ -26,7 +26,7 @@ use Rattle.bom_core.proofs.SoundChanges as changes
 use Rattle.bom_core.proofs.Variants as variants
 use Rattle.yard_core.specs.YardMachine as yard
 use Rattle.yard_core.proofs.SoundRows as locations
-use Rattle.yard_core.specs.Books.{Books}
+use Rattle.yard_core.specs.StockBooks.{StockBooks}
 use Rattle.yard_core.specs.declared.yard_command.YardCommand.{YardCommand}
 use Rattle.yard_core.specs.declared.yard_command.YardCommand.TheVariants.{AddLocation}
 use Rattle.alloc_core.specs.Allocations.{is_for_some_build}
@@ -59,15 +59,15 @@ use Rattle.desk_core.specs.declared.command.Request.{Request}
 use Rattle.desk_core.specs.declared.kept.Kept.{Kept}
 use Rattle.desk_core.specs.CommandText.{command_text}
 use Rattle.desk_core.specs.Key.{is_key}
-use Rattle.desk_core.specs.Machine.{State, start, checks, check, effect, by_check, by_repeat, step_anew, step, run, Outcome, Accepts, Decides, IsAnew, answer_of, answer_of_same, answer_anew, is_other, answers_of, answered, told, onto, ids_of, entries_in, entries_of, AreDrawn, IsSoundState, StandsKept, books_in, bill_books_in, build_books_in, is_build, is_order, order_books_in, owners_in, register_in, open_parts, kept_for, repeated, is_key_taken, with_answer}
+use Rattle.desk_core.specs.Machine.{State, start, checks, check, effect, by_check, by_repeat, step_anew, step, run, Outcome, Accepts, Decides, IsAnew, answer_of, answer_of_same, answer_anew, is_other, answers_of, answered, told, onto, ids_of, entries_in, entries_of, AreDrawn, IsSoundState, StandsKept, stock_books_in, bill_books_in, build_books_in, is_build, is_order, order_books_in, owners_in, register_in, open_parts, kept_for, repeated, is_key_taken, with_answer}
 
 -- ---- effects keep what is sound, and only add to numbers and history
 
 -- what holds of the stores in a sound state
 pub record AreSoundStores (s : State) : Type 0 where
   pub bills : IsSoundBill s.parts s.bills s.counter.next
-  pub stock : IsSoundStock (owners_in s) s.parts (books_in s)
-  pub allocations : AreSoundAllocations s.allocations (books_in s)
+  pub stock : IsSoundStock (owners_in s) s.parts (stock_books_in s)
+  pub allocations : AreSoundAllocations s.allocations (stock_books_in s)
   pub orders : AreSoundOrders s.parts (order_books_in s)
   pub builds : AreSoundBuilds s.parts s.bills (build_books_in s)
 
@@ -84,7 +84,7 @@ build_books : (s : State) → AreSoundStores s → AreSoundBuildBooks (is_order 
 build_books s sound = record { stock = sound.stock; allocations = sound.allocations; builds = sound.builds }
 
 -- items stay where a location comes
-yard-items : (c : YardCommand) (b : Books) → (yard.effect c b).stock.items ≡ b.stock.items
+yard-items : (c : YardCommand) (b : StockBooks) → (yard.effect c b).stock.items ≡ b.stock.items
 yard-items (AddLocation name parent) b = refl
 
 effect-follows : (s : State) → AreSoundStores s → (day : CivilDay) (c : Command) → first (checks s day c) ≡ None → Follows s (effect s day c)
@@ -93,8 +93,8 @@ effect-follows s sound day (command.Part c) none =
     let after = part.effect c (register_in s) in record {
       stores = record {
         bills = bills.sound-part_effect c (register_in s) s.bills sound.bills none;
-        stock = beside.sound-part_effect (owners_in s) c (register_in s) (books_in s) refl sound.bills.catalogue sound.stock none;
-        allocations = allocations.sound-later s.allocations (books_in s) after.counter more sound.allocations;
+        stock = beside.sound-part_effect (owners_in s) c (register_in s) (stock_books_in s) refl sound.bills.catalogue sound.stock none;
+        allocations = allocations.sound-later s.allocations (stock_books_in s) after.counter more sound.allocations;
         orders = orders.orders-later s.parts after.parts (order_books_in s) after.counter (parts.rows-stay c (register_in s)).parts more sound.orders;
         builds = beside_parts.sound-beside_parts c (is_order s) s.parts s.bills (build_books_in s) sound.bills (build_books s sound) none;
       };
@@ -106,8 +106,8 @@ effect-follows s sound day (command.Bom c) none =
     let after = bom.effect c (bill_books_in s) in record {
       stores = record {
         bills = kept.0;
-        stock = beside.sound-later (owners_in s) s.parts (books_in s) after.counter kept.1 (changes.effect-limits c (bill_books_in s)) sound.stock;
-        allocations = allocations.sound-later s.allocations (books_in s) after.counter kept.1 sound.allocations;
+        stock = beside.sound-later (owners_in s) s.parts (stock_books_in s) after.counter kept.1 (changes.effect-limits c (bill_books_in s)) sound.stock;
+        allocations = allocations.sound-later s.allocations (stock_books_in s) after.counter kept.1 sound.allocations;
         orders = orders.orders-later s.parts s.parts (order_books_in s) after.counter (λ k there. there) kept.1 sound.orders;
         builds = beside_bills.sound-beside_bills c s.parts s.bills (build_books_in s) sound.bills sound.builds none;
       };
@@ -115,26 +115,26 @@ effect-follows s sound day (command.Bom c) none =
       entries = omega arith;
     }
 effect-follows s sound day (command.Yard c) none =
-    let kept = locations.sound-effect c (books_in s) sound.stock.items.locations none in
-    let same = yard-items c (books_in s) in record {
+    let kept = locations.sound-effect c (stock_books_in s) sound.stock.items.locations none in
+    let same = yard-items c (stock_books_in s) in record {
       stores = record {
-        bills = bills.sound-more s.parts s.bills s.counter.next (yard.effect c (books_in s)).counter.next kept.1 sound.bills;
-        stock = beside.sound-yard_effect (owners_in s) c s.parts (books_in s) sound.stock none;
-        allocations = allocations.sound-items s.allocations (books_in s) (yard.effect c (books_in s)) same kept.1 sound.allocations;
-        orders = orders.orders-items s.parts (order_books_in s) (yard.effect c (books_in s)) same kept.1 sound.orders;
+        bills = bills.sound-more s.parts s.bills s.counter.next (yard.effect c (stock_books_in s)).counter.next kept.1 sound.bills;
+        stock = beside.sound-yard_effect (owners_in s) c s.parts (stock_books_in s) sound.stock none;
+        allocations = allocations.sound-items s.allocations (stock_books_in s) (yard.effect c (stock_books_in s)) same kept.1 sound.allocations;
+        orders = orders.orders-items s.parts (order_books_in s) (yard.effect c (stock_books_in s)) same kept.1 sound.orders;
         builds = beside_yard.sound-beside_yard c s.parts s.bills (build_books_in s) sound.builds;
       };
       numbers = kept.1;
-      entries = (let same = ap (λ h. table.len h) (locations.effect-history c (books_in s)) in omega (arith, same));
+      entries = (let same = ap (λ h. table.len h) (locations.effect-history c (stock_books_in s)) in omega (arith, same));
     }
 effect-follows s sound day (command.Stock c) none =
-    let kept = effects.sound-effect (owners_in s) c day s.parts s.bills s.allocations (books_in s) sound.stock sound.allocations none in record {
+    let kept = effects.sound-effect (owners_in s) c day s.parts s.bills s.allocations (stock_books_in s) sound.stock sound.allocations none in record {
       stores = record {
-        bills = bills.sound-more s.parts s.bills s.counter.next (stock.effect c day (books_in s)).counter.next kept.2.numbers sound.bills;
+        bills = bills.sound-more s.parts s.bills s.counter.next (stock.effect c day (stock_books_in s)).counter.next kept.2.numbers sound.bills;
         stock = kept.0;
         allocations = kept.1;
-        orders = orders.orders-beside s.parts (order_books_in s) (stock.effect c day (books_in s)) kept.2 sound.allocations sound.orders;
-        builds = beside_stock.sound-where_outputs_stay (is_order s) s.parts s.bills (build_books_in s) s.allocations (stock.effect c day (books_in s)) (build_books s sound) kept.2 kept.3 kept.0.items
+        orders = orders.orders-beside s.parts (order_books_in s) (stock.effect c day (stock_books_in s)) kept.2 sound.allocations sound.orders;
+        builds = beside_stock.sound-where_outputs_stay (is_order s) s.parts s.bills (build_books_in s) s.allocations (stock.effect c day (stock_books_in s)) (build_books s sound) kept.2 kept.3 kept.0.items
             (none-same is_for_some_build s.allocations);
       };
       numbers = kept.2.numbers;
@@ -144,7 +144,7 @@ effect-follows s sound day (command.Alloc c) none = record {
   stores = record {
     bills = sound.bills;
     stock = sound.stock;
-    allocations = allocations.sound-effect c s.allocations (books_in s) sound.allocations none;
+    allocations = allocations.sound-effect c s.allocations (stock_books_in s) sound.allocations none;
     orders = orders.orders-released c s.parts (order_books_in s) sound.allocations sound.orders;
     builds = beside_stock.sound-beside_releases c (is_order s) s.parts s.bills (build_books_in s) (build_books s sound);
   };
@@ -474,8 +474,8 @@ pub start-sound : (limits : Limits) → IsSoundState (start limits)
 start-sound limits = record {
   bills = variants.sound-nothing;
   stock = beside.sound-nothing (owners_in (start limits)) limits;
-  allocations = allocations.sound-nothing (books_in (start limits));
-  orders = orders.orders-nothing (start limits).parts (books_in (start limits));
+  allocations = allocations.sound-nothing (stock_books_in (start limits));
+  orders = orders.orders-nothing (start limits).parts (stock_books_in (start limits));
   builds =
       let s = start limits in
       let b = build_books_in s in

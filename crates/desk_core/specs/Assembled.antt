@@ -1,34 +1,34 @@
 -- The state that a file's tables are, and whether they are those of a sound state.
 use Rattle.std.specs.Prelude.{◌≡◌, true, List, [], ◌∷◌, length}
-use Rattle.part_core.specs.Catalogues.{parts_from}
+use Rattle.part_core.specs.CatalogueView.{parts_from}
 use Rattle.part_core.specs.Counter.{IsNext, resumed}
 use Rattle.part_core.specs.Filled.{filled}
-use Rattle.bom_core.specs.Boms.{bills_from}
+use Rattle.bom_core.specs.BomsView.{bills_from}
 use Rattle.bom_core.specs.Sound.{IsSoundBill}
-use Rattle.yard_core.specs.Yards.{stock_from}
-use Rattle.alloc_core.specs.AllocationTables.{allocations_from}
+use Rattle.yard_core.specs.YardView.{stock_from}
+use Rattle.alloc_core.specs.AllocationsView.{allocations_from}
 use Rattle.alloc_core.specs.Sound.{AreSoundAllocations}
 use Rattle.stock_core.specs.Sound.{IsSoundStock}
 use Rattle.order_core.specs.Sound.{AreSoundOrders}
 use Rattle.order_core.specs.declared.line.OrderLine.{OrderLine}
 use Rattle.order_core.specs.declared.order.Order.{Order}
-use Rattle.build_core.specs.BuildTables.{builds_from}
+use Rattle.build_core.specs.BuildsView.{builds_from}
 use Rattle.build_core.specs.Sound.{AreSoundBuilds}
 use Rattle.desk_core.specs.Key.{is_key}
-use Rattle.desk_core.specs.Machine.{IsSoundState, State, books_in, build_books_in, order_books_in, owners_in}
+use Rattle.desk_core.specs.Machine.{IsSoundState, State, stock_books_in, build_books_in, order_books_in, owners_in}
 use Rattle.desk_core.specs.declared.shop.assemble.Tables.{Tables}
 use Rattle.desk_core.specs.declared.kept.Kept.{Kept}
 
 -- the allocations, and the orders and the builds that they are for, are sound
 pub record HasSoundOwners (s : State) : Type 0 where
-  pub allocations : AreSoundAllocations s.allocations (books_in s)
+  pub allocations : AreSoundAllocations s.allocations (stock_books_in s)
   pub orders : AreSoundOrders s.parts (order_books_in s)
   pub builds : AreSoundBuilds s.parts s.bills (build_books_in s)
 
 -- the bills, the stock, the allocations, the orders and the builds are sound
 pub record HasSoundBooks (s : State) : Type 0 where
   pub bills : IsSoundBill s.parts s.bills s.counter.next
-  pub stock : IsSoundStock (owners_in s) s.parts (books_in s)
+  pub stock : IsSoundStock (owners_in s) s.parts (stock_books_in s)
   pub owners : HasSoundOwners s
 
 -- the words of these rows are keys

@@ -167,34 +167,34 @@ command_back (Stock c) = stock_here c
 pub command_fills : (c : Command) → Fills (forms_by command_forms) (command_verb c) (command_fields c)
 command_fills c = rows_fill command_forms (command_verb c) (command_fields c) c (command_back c)
 
-abbrev Told : List (FormRow Command) → Type 0
-Told rows = AllTell command_verb command_fields rows
+abbrev AreTold : List (FormRow Command) → Type 0
+AreTold rows = AllTell command_verb command_fields rows
 
-told_from_alloc : Told from_alloc
+told_from_alloc : AreTold from_alloc
 unfolding from_alloc
 told_from_alloc = told_within Alloc alloc_verb alloc_fields command_verb command_fields (λ c. refl) (λ c. refl) alloc_forms [] alloc_told tt
 
-told_from_yard : Told from_yard
+told_from_yard : AreTold from_yard
 unfolding from_yard
 told_from_yard = told_within Yard yard_verb yard_fields command_verb command_fields (λ c. refl) (λ c. refl) yard_forms from_alloc yard_told told_from_alloc
 
-told_from_bom : Told from_bom
+told_from_bom : AreTold from_bom
 unfolding from_bom
 told_from_bom = told_within Bom bom_verb bom_fields command_verb command_fields (λ c. refl) (λ c. refl) bom_forms from_yard bom_told told_from_yard
 
-told_from_part : Told from_part
+told_from_part : AreTold from_part
 unfolding from_part
 told_from_part = told_within Part part_verb part_fields command_verb command_fields (λ c. refl) (λ c. refl) part_forms from_bom part_told told_from_bom
 
-told_from_build : Told from_build
+told_from_build : AreTold from_build
 unfolding from_build
 told_from_build = told_within Build build_verb build_fields command_verb command_fields (λ c. refl) (λ c. refl) build_forms from_part build_told told_from_part
 
-told_from_order : Told from_order
+told_from_order : AreTold from_order
 unfolding from_order
 told_from_order = told_within Order order_verb order_fields command_verb command_fields (λ c. refl) (λ c. refl) order_forms from_build order_told told_from_build
 
-command_told : Told command_forms
+command_told : AreTold command_forms
 unfolding command_forms
 command_told = told_within Stock stock_verb stock_fields command_verb command_fields (λ c. refl) (λ c. refl) stock_forms from_order stock_told told_from_order
 

@@ -22,7 +22,7 @@ use Rattle.bom_core.specs.Sound.{IsSoundBill}
 use Rattle.alloc_core.specs.AllocMachine as alloc
 use Rattle.alloc_core.specs.Sound.{AreSoundAllocations}
 use Rattle.alloc_core.specs.declared.allocation.Allocation.{Allocation}
-use Rattle.yard_core.specs.Books.{Books}
+use Rattle.yard_core.specs.StockBooks.{StockBooks}
 use Rattle.yard_core.specs.Stock.{Stock, empty_stock}
 use Rattle.yard_core.specs.YardMachine as yard
 use Rattle.stock_core.specs.Sound.{IsSoundStock, Owners}
@@ -81,14 +81,14 @@ register_in s = record { parts = s.parts; counter = s.counter }
 abbrev pub bill_books_in : State → BillBooks
 bill_books_in s = record { bills = s.bills; counter = s.counter }
 
-abbrev pub books_in : State → Books
-books_in s = record { stock = s.stock; counter = s.counter }
+abbrev pub stock_books_in : State → StockBooks
+stock_books_in s = record { stock = s.stock; counter = s.counter }
 
 abbrev pub order_books_in : State → OrderBooks
-order_books_in s = record { orders = s.orders; lines = s.order_lines; allocations = s.allocations; books = books_in s }
+order_books_in s = record { orders = s.orders; lines = s.order_lines; allocations = s.allocations; books = stock_books_in s }
 
 abbrev pub build_books_in : State → BuildBooks
-build_books_in s = record { builds = s.builds; allocations = s.allocations; books = books_in s }
+build_books_in s = record { builds = s.builds; allocations = s.allocations; books = stock_books_in s }
 
 abbrev pub with_register : State → Register → State
 with_register s r = record s { parts = r.parts; counter = r.counter }
@@ -96,8 +96,8 @@ with_register s r = record s { parts = r.parts; counter = r.counter }
 abbrev pub with_bill_books : State → BillBooks → State
 with_bill_books s b = record s { bills = b.bills; counter = b.counter }
 
-abbrev pub with_books : State → Books → State
-with_books s b = record s { stock = b.stock; counter = b.counter }
+abbrev pub with_stock_books : State → StockBooks → State
+with_stock_books s b = record s { stock = b.stock; counter = b.counter }
 
 abbrev pub with_allocations : State → Table Allocation → State
 with_allocations s t = record s { allocations = t }
@@ -132,8 +132,8 @@ open_parts s = builds.open_parts s.builds
 abbrev pub checks : State → CivilDay → Command → List Check
 checks s day (command.Part c) = part.checks c (register_in s)
 checks s day (command.Bom c) = bom.checks c (open_parts s) s.parts (bill_books_in s)
-checks s day (command.Yard c) = yard.checks c (books_in s)
-checks s day (command.Stock c) = stock.checks c day s.parts s.bills s.allocations (books_in s)
+checks s day (command.Yard c) = yard.checks c (stock_books_in s)
+checks s day (command.Stock c) = stock.checks c day s.parts s.bills s.allocations (stock_books_in s)
 checks s day (command.Alloc c) = alloc.checks c s.allocations
 checks s day (command.Order c) = order.checks c day s.parts (order_books_in s)
 checks s day (command.Build c) = build.checks c day s.parts s.bills (build_books_in s)
@@ -146,8 +146,8 @@ ChecksAreInOrder = (s : State) (day : CivilDay) (c : Command) → AreInOrder (ch
 abbrev pub effect : State → CivilDay → Command → State
 effect s day (command.Part c) = with_register s (part.effect c (register_in s))
 effect s day (command.Bom c) = with_bill_books s (bom.effect c (bill_books_in s))
-effect s day (command.Yard c) = with_books s (yard.effect c (books_in s))
-effect s day (command.Stock c) = with_books s (stock.effect c day (books_in s))
+effect s day (command.Yard c) = with_stock_books s (yard.effect c (stock_books_in s))
+effect s day (command.Stock c) = with_stock_books s (stock.effect c day (stock_books_in s))
 effect s day (command.Alloc c) = with_allocations s (alloc.effect c s.allocations)
 effect s day (command.Order c) = with_order_books s (order.effect c day (order_books_in s))
 effect s day (command.Build c) = with_build_books s (build.effect c day s.parts s.bills (build_books_in s))
@@ -264,20 +264,20 @@ answer_in (Anew answer) = answer
 answer_in (Again answer) = answer
 
 -- a request is accepted anew exactly where its step is, and again exactly where it is a repeat; or it is refused, as its
--- step is; or it ended by want of memory, which changes nothing
+-- step is; or it ran out of memory, which changes nothing
 abbrev pub Accepts : State → Request → Result Accepted CoreFault → State → Type 0
 Accepts old r (Ok (Anew answer)) new = IsAnew old r × (step old r ≡ (new, Ok answer))
 Accepts old r (Ok (Again answer)) new = (repeated r old ≡ Some answer) × (new ≡ old)
 Accepts old r (Err (Refused refusal)) new = step old r ≡ (new, Err refusal)
 Accepts old r (Err Memory) new = new ≡ old
 
--- what is told of a request is its step; or it ended by want of memory, which changes nothing
+-- what is told of a request is its step; or it ran out of memory, which changes nothing
 abbrev pub Decides : State → Request → Result Answer CoreFault → State → Type 0
 Decides old r (Ok answer) new = step old r ≡ (new, Ok answer)
 Decides old r (Err (Refused refusal)) new = step old r ≡ (new, Err refusal)
 Decides old r (Err Memory) new = new ≡ old
 
--- the requests that did not end by want of memory
+-- the requests that did not run out of memory
 abbrev pub answered : List Request → List (Result Answer CoreFault) → List Request
 answered [] os = []
 answered (r ∷ rs) [] = []
@@ -303,8 +303,8 @@ pub record StandsKept (k : List ℕ) (row : Kept) : Type 0 where
 -- lines, and the builds, beside the counter; and the answers that are kept
 pub record IsSoundState (s : State) : Type 0 where
   pub bills : IsSoundBill s.parts s.bills s.counter.next
-  pub stock : IsSoundStock (owners_in s) s.parts (books_in s)
-  pub allocations : AreSoundAllocations s.allocations (books_in s)
+  pub stock : IsSoundStock (owners_in s) s.parts (stock_books_in s)
+  pub allocations : AreSoundAllocations s.allocations (stock_books_in s)
   pub orders : AreSoundOrders s.parts (order_books_in s)
   pub builds : AreSoundBuilds s.parts s.bills (build_books_in s)
   pub answers : (k : List ℕ) (row : Kept) → table.get s.answers k ≡ Some row → StandsKept k row

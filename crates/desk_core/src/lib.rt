@@ -3,22 +3,22 @@
 
 mod accepted;
 mod answers;
+mod check_order;
 mod command;
 mod kept;
 mod key;
 mod laws;
-mod order;
 mod repeats;
 mod shop;
 mod texts;
 
 pub use accepted::Accepted;
 pub use answers::{answer_line, read_answer};
+pub use check_order::checks_are_in_order;
 pub use command::{Command, Request};
 pub use kept::{CommandText, Kept};
 pub use key::{Key, is_key};
 pub use laws::{rows_are_small, rows_stay};
-pub use order::checks_are_in_order;
 pub use repeats::{later_repeats_change_nothing, repeats_change_nothing, sending_again_ends_alike};
 pub use shop::{AssembleFault, Shop, Tables};
 pub use texts::{command_text, texts_tell_commands};

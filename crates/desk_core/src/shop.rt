@@ -2,7 +2,7 @@
 //!
 //! Between two requests the catalogue, the bills, the yard and the counter are a sound state of the machine. `accept`
 //! begins by keeping what is there. From then on each store knows what it held before the request: a call that
-//! stands for a command takes its own changes back where it is refused or memory ends, so that nothing is pending
+//! stands for a command takes its own changes back where it is refused or memory runs out, so that nothing is pending
 //! after that, and after an answer exactly this request's changes are.
 ghost use Rattle.std.specs.Prelude.{◌≡◌, ◌+◌, ℕ, Some, length, IfOk, OnErr, OnOk};
 ghost use Rattle.part_core.specs.Acts.{Acts};
@@ -11,7 +11,7 @@ ghost use Rattle.forest.specs.Forest.{Balanced};
 ghost use Rattle.yard_core.specs.Stock.{forest_and_history};
 ghost use Rattle.stock_core.specs.Sound.{SerialsStandOnce};
 ghost use Rattle.desk_core.specs.Machine.{Accepts, AreDrawn, Decides, IsSoundState, answer_of, answered, answers_of, checks, effect, entries_in, entries_of, ids_of, run, start, told, with_answer};
-ghost use Rattle.desk_core.specs.Shops.{kept_state, state_of};
+ghost use Rattle.desk_core.specs.ShopView.{kept_state, state_of};
 
 use crate::accepted::Accepted;
 use crate::command::{Command, Request};
@@ -285,8 +285,8 @@ impl Shop {
     }
 
     /// One step of the machine, of which it is told whether it accepts the request anew. What was pending before is
-    /// kept, and what is pending after are this request's changes: none after a repeat, nor after a refusal and after
-    /// want of memory, which leave the state as it was.
+    /// kept, and what is pending after are this request's changes: none after a repeat, nor after a refusal and where
+    /// memory runs out, which leave the state as it was.
     pub fn accept(&mut self, request: &Request) -> Result<Accepted, CoreFault>
         requires { IsSoundState (state_of self.old) }
         ensures accepts { Accepts (state_of self.old) request.now result (state_of self.new) }
@@ -312,7 +312,7 @@ impl Shop {
         Ok(self.accept(request)?.answer())
     }
 
-    /// A run of the machine over the requests that did not end by want of memory. The list of outcomes
+    /// A run of the machine over the requests that did not run out of memory. The list of outcomes
     /// is made first: where there is no memory for it, no request is run.
     pub fn run_list(
         &mut self,

@@ -11,7 +11,7 @@ ghost use Rattle.part_core.specs.Forms.{shown_fields};
 ghost use Rattle.desk_core.specs.CommandText.{TextsTell, TextsTellCommands, command_text, data_in, text_in, with_fields};
 
 use crate::command::Command;
-use part_core::{Field, Formed, Kind};
+use part_core::{Field, FieldKind, Formed};
 use serde_json::{Map, Value, put};
 use std::alloc::{AllocError, Global};
 use values::value_of;
@@ -22,7 +22,7 @@ mod values;
 fn members(
     alloc: Global,
     verb: &str,
-    blanks: &[(&str, Kind)],
+    blanks: &[(&str, FieldKind)],
     fields: Vec<Field>,
 ) -> Result<Map<String, Value>, AllocError>
     ensures { IfOk result (λ members. members_view members.entries

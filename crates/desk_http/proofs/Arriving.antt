@@ -5,7 +5,7 @@ use Rattle.std.specs.List.{starts_with}
 use Rattle.std.specs.Io.KnownBytes.{IsAtEnd}
 use Rattle.std.proofs.lemmas.List.{take_all}
 use Rattle.std.proofs.lemmas.Bool.{le-ltb, lt-ltb}
-use Rattle.desk_http.specs.declared.receive.Arrival.TheVariants.{Head, TooLong, Incomplete}
+use Rattle.desk_http.specs.declared.receive.HeadArrival.TheVariants.{Head, TooLong, Incomplete}
 use Rattle.desk_http.specs.HeadEnds.{empty_line_end, head_end, front, arrival, arrival_at, all_of}
 
 pub all_short : (n : ℕ) (bs : List ℕ) → length bs < n → bs ≡ take n bs

@@ -5,8 +5,8 @@ use Rattle.std.specs.Io.KnownBytes.{IsAtEnd, Keeps}
 use Rattle.std.proofs.KnownBytes.{Keeps-refl}
 use Rattle.std.proofs.lemmas.List.{take-append-le, drop-append-le}
 use Rattle.std.proofs.lemmas.Bool.{le-ltb, lt-ltb}
-use Rattle.desk_http.specs.declared.receive.Arrival.{Arrival}
-use Rattle.desk_http.specs.declared.receive.Arrival.TheVariants as arrival
+use Rattle.desk_http.specs.declared.receive.HeadArrival.{HeadArrival}
+use Rattle.desk_http.specs.declared.receive.HeadArrival.TheVariants as arrival
 use Rattle.desk_http.specs.declared.rejection.Rejection.{Rejection}
 use Rattle.desk_http.specs.declared.rejection.Rejection.TheVariants.{HeadTooLarge}
 use Rattle.desk_http.specs.declared.service.Failure.{Failure}
@@ -18,7 +18,7 @@ use Rattle.desk_http.specs.Heads.{Class, IsHead}
 use Rattle.desk_http.specs.Targets.{Resource}
 use Rattle.desk_http.specs.Plans.{plan_of}
 use Rattle.desk_http.specs.HeadEnds.{arrival, all_of}
-use Rattle.desk_http.specs.Services.{Operation, operation, Said}
+use Rattle.desk_http.specs.Services.{Operation, operation, ReplyView}
 use Rattle.desk_http.specs.Responses.{Response, rejection_response, reply_response, failure_response}
 use Rattle.desk_http.specs.Serving.{Received, Incomplete, Rejected, Complete, received_of, IsReceivedAt, IsReceivedFrom, IsReceived, Serves, Answers, Sends, PerformsAndSends}
 
@@ -70,13 +70,13 @@ is_too_long None = tt
 is_too_long (Some xs) = refl
 
 -- what was read and is still to come are the bytes at the start
-pub is_of_all : (o r : Option (List ℕ)) (bs : List ℕ) (a : Arrival) → Keeps (all_of o []) (all_of r bs) → IfSome (all_of r bs) (λ xs. a ≡ arrival xs)
+pub is_of_all : (o r : Option (List ℕ)) (bs : List ℕ) (a : HeadArrival) → Keeps (all_of o []) (all_of r bs) → IfSome (all_of r bs) (λ xs. a ≡ arrival xs)
     → (q : Received) → IsReceivedFrom a (all_of r bs) q → IsReceived o q
 is_of_all None r bs a k e q is = tt
 is_of_all (Some xs) None bs a k e q is = absurd k
 is_of_all (Some xs) (Some ys) bs a k e q is = subst (λ v. IsReceivedAt (arrival v) v q) k (subst (λ b. IsReceivedAt b (bs ++ ys) q) e is)
 
-module _ {D : Type 0} (performs : D → Operation → Result Said NoReply → D → Type 0) where
+module _ {D : Type 0} (performs : D → Operation → Result ReplyView NoReply → D → Type 0) where
   -- what may be said of the bytes where more is known of them
   pub moved : (are be : Received → Type 0) → ((q : Received) → are q → be q) → (d d' : D) (w w' : Option (List ℕ)) (res : Result ℕ Stop)
       → Serves performs are d d' w w' res → Serves performs be d d' w w' res
@@ -116,7 +116,7 @@ module _ {D : Type 0} (performs : D → Operation → Result Said NoReply → D 
   performed are o d d' w w' res is (inr (none, done, kept)) =
       subst (λ v. Serves performs are d d' w w' v) (sym none) (inr (o, is, done.0, done.1), kept)
 
-  pub told : (d : D) (o : Operation) (d' : D) (reply : Said) (w w' : Option (List ℕ)) (res : Result ℕ Stop) → performs d o (Ok reply) d' → Sends (reply_response reply) w w' res
+  pub told : (d : D) (o : Operation) (d' : D) (reply : ReplyView) (w w' : Option (List ℕ)) (res : Result ℕ Stop) → performs d o (Ok reply) d' → Sends (reply_response reply) w w' res
       → PerformsAndSends performs d o d' w w' res
   told d o d' reply w w' res h k = inl (reply_response reply, inl (reply, h, refl), k)
 

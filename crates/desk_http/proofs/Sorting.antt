@@ -6,19 +6,19 @@ use Rattle.httparse.specs.Spans.{header_bytes, name_and_value, IsRequestOf, IsRe
 use Rattle.httparse.proofs.GrammarLemmas.{request_unique, ReadsRequest-append}
 use Rattle.httparse.specs.declared.spans.HeaderSpan.{HeaderSpan}
 use Rattle.httparse.specs.declared.spans.RequestSpans.{RequestSpans}
-use Rattle.desk_http.specs.Heads.{Class, IsHead, WellFormed, TooManyFields, Malformed, Parts, parts_of}
-use Rattle.desk_http.specs.Spans.{parts_at}
+use Rattle.desk_http.specs.Heads.{Class, IsHead, WellFormed, TooManyFields, Malformed, HeadParts, head_parts_of}
+use Rattle.desk_http.specs.Spans.{head_parts_at}
 
 same_parts : (m m' t t' : List ℕ) (f f' : List (List ℕ × List ℕ)) → m ≡ m' → t ≡ t' → f ≡ f'
-    → let p : Parts = record { method = m; target = t; fields = f } in let q : Parts = record { method = m'; target = t'; fields = f' } in p ≡ q
+    → let p : HeadParts = record { method = m; target = t; fields = f } in let q : HeadParts = record { method = m'; target = t'; fields = f' } in p ≡ q
 same_parts m m' t t' f f' e e' e'' =
-    let a : List ℕ → Parts = λ x. record { method = x; target = t; fields = f } in
-    let b : List ℕ → Parts = λ x. record { method = m'; target = x; fields = f } in
-    let c : List (List ℕ × List ℕ) → Parts = λ x. record { method = m'; target = t'; fields = x } in
+    let a : List ℕ → HeadParts = λ x. record { method = x; target = t; fields = f } in
+    let b : List ℕ → HeadParts = λ x. record { method = m'; target = x; fields = f } in
+    let c : List (List ℕ × List ℕ) → HeadParts = λ x. record { method = m'; target = t'; fields = x } in
     ap a e ∙ ap b e' ∙ ap c e''
 
 pub whole : (bytes : List ℕ) (spans : List HeaderSpan) (r : RequestSpans) → IsRequestOf bytes spans r → IsRequestWithin bytes spans r
-    → length spans ≡ 64 → r.len ≡ length bytes → IsHead bytes (WellFormed (parts_at bytes spans r))
+    → length spans ≡ 64 → r.len ≡ length bytes → IsHead bytes (WellFormed (head_parts_at bytes spans r))
 whole bytes spans r (h, at) within room all =
     let none : drop r.len bytes ≡ [] = drop_all r.len bytes (omega arith) in
     let fields = ap length at.fields in (
@@ -46,9 +46,9 @@ pub many : (bytes : List ℕ) → RequestOverflows 64 bytes → RequestExceeds 6
 many bytes over exceeds = (exceeds, λ k reads. over [] k [] (ReadsRequest-append bytes k [] [] reads))
 
 -- a head of the grammar with at most 64 fields is that and nothing else
-pub whole_once : (bytes : List ℕ) (p : Parts) (c : Class) → IsHead bytes (WellFormed p) → IsHead bytes c → c ≡ WellFormed p
+pub whole_once : (bytes : List ℕ) (p : HeadParts) (c : Class) → IsHead bytes (WellFormed p) → IsHead bytes c → c ≡ WellFormed p
 whole_once bytes p (WellFormed q) (h, reads, few, is) (k, reads', few', is') =
-    ap WellFormed (is' ∙ ap parts_of (request_unique bytes k h [] [] reads' reads).0 ∙ sym is)
+    ap WellFormed (is' ∙ ap head_parts_of (request_unique bytes k h [] [] reads' reads).0 ∙ sym is)
 whole_once bytes p TooManyFields (h, reads, few, is) (exceeds, many) = let more = many h reads in absurd (omega arith)
 whole_once bytes p Malformed (h, reads, few, is) none = absurd (none h reads)
 

@@ -2,8 +2,8 @@
 use Rattle.std.specs.Prelude.{◌+◌, ◌==◌, ◌||◌, ◌≤◌, nat_lt, nat_eq, length, take, ℕ, List, [], ◌∷◌, Option, Some, None, option_map, if◌then◌else◌}
 use Rattle.std.specs.List.{starts_with}
 use Rattle.std.specs.Io.KnownBytes.{prepend_known}
-use Rattle.desk_http.specs.declared.receive.Arrival.{Arrival}
-use Rattle.desk_http.specs.declared.receive.Arrival.TheVariants.{Head, TooLong, Incomplete}
+use Rattle.desk_http.specs.declared.receive.HeadArrival.{HeadArrival}
+use Rattle.desk_http.specs.declared.receive.HeadArrival.TheVariants.{Head, TooLong, Incomplete}
 
 -- how far the first empty line goes: an LF, or a CR LF, straight after an LF
 unfoldable pub empty_line_end : List ℕ → Option ℕ
@@ -21,12 +21,12 @@ head_end (b ∷ bs) = if b == 13 || b == 10 then option_map (λ n. n + 1) (head_
 unfoldable pub front : List ℕ → List ℕ
 front bytes = take 8192 bytes
 
-abbrev pub arrival_at : List ℕ → Option ℕ → Arrival
+abbrev pub arrival_at : List ℕ → Option ℕ → HeadArrival
 arrival_at bytes (Some n) = Head n
 arrival_at bytes None = if nat_lt (length bytes) 8192 then Incomplete else TooLong
 
 -- whether the bytes begin with a head
-abbrev pub arrival : List ℕ → Arrival
+abbrev pub arrival : List ℕ → HeadArrival
 arrival bytes = arrival_at bytes (head_end (front bytes))
 
 -- what was read, and then what the reader still has
@@ -34,7 +34,7 @@ abbrev pub all_of : Option (List ℕ) → List ℕ → Option (List ℕ)
 all_of known read = prepend_known read known
 
 -- a head that has come lies in so many bytes
-abbrev pub IsInside : ℕ → Arrival → Type 0
+abbrev pub IsInside : ℕ → HeadArrival → Type 0
 IsInside len (Head n) = n ≤ len
 IsInside len TooLong = Unit {0}
 IsInside len Incomplete = Unit {0}

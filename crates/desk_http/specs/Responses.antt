@@ -1,7 +1,7 @@
 -- Responses, byte by byte.
 use Rattle.std.specs.Prelude.{◌≡◌, ◌++◌, ℕ, List, [], ◌∷◌, length, codes, decimal}
 use Rattle.http.specs.StatusCode.{status_text}
-use Rattle.desk_http.specs.Services.{Said}
+use Rattle.desk_http.specs.Services.{ReplyView}
 use Rattle.desk_http.specs.declared.rejection.Rejection.{Rejection}
 use Rattle.desk_http.specs.declared.rejection.Rejection.TheVariants.{HeadTooLarge, BadRequest, NotFound, OnlyPost, OnlyGet, LengthRequired, BodyTooLarge}
 use Rattle.desk_http.specs.declared.service.Outcome.{Outcome}
@@ -96,7 +96,7 @@ media_of Refused = json
 media_of Faulty = json
 media_of Reported = plain_text
 
-abbrev pub reply_response : Said → Response
+abbrev pub reply_response : ReplyView → Response
 reply_response reply = response (outcome_status reply.0) (response_bytes (outcome_status reply.0) (media_of reply.0) [] reply.1)
 
 -- ---- the service failed

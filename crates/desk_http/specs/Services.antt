@@ -23,15 +23,15 @@ operation Run body = RunLine body
 operation (Import kind document day) body = ImportFile kind document day body
 operation (Report name number) body = ShowReport name number
 
--- a reply: of what kind, and the bytes of its body
-abbrev pub Said : Type 0
-Said = Outcome × List ℕ
+-- what a contract sees of a reply: of what kind it is, and the bytes of its body
+abbrev pub ReplyView : Type 0
+ReplyView = Outcome × List ℕ
 
-abbrev pub said : Reply → Said
-said reply = (reply.outcome, string_bytes reply.text)
+abbrev pub reply_view : Reply → ReplyView
+reply_view reply = (reply.outcome, string_bytes reply.text)
 
-abbrev pub heard : Result Reply NoReply → Result Said NoReply
-heard (Ok reply) = Ok (said reply)
+abbrev pub heard : Result Reply NoReply → Result ReplyView NoReply
+heard (Ok reply) = Ok (reply_view reply)
 heard (Err e) = Err e
 
 -- why there is no reply, if there is none
@@ -41,12 +41,12 @@ why_none (Err e) = Some e
 
 -- what a line, the rows of a file, and a report's name and number do in each state
 pub record Machine (S : Type 0) : Type 0 where
-  pub run_line : S → List ℕ → S × Said
-  pub import_file : S → ImportKind → List ℕ → CivilDay → List ℕ → S × Said
-  pub show_report : S → ReportName → ℕ → Said
+  pub run_line : S → List ℕ → S × ReplyView
+  pub import_file : S → ImportKind → List ℕ → CivilDay → List ℕ → S × ReplyView
+  pub show_report : S → ReportName → ℕ → ReplyView
 
 module _ {S : Type 0} where
-  abbrev pub step : Machine S → S → Operation → S × Said
+  abbrev pub step : Machine S → S → Operation → S × ReplyView
   step m s (RunLine line) = m.run_line s line
   step m s (ImportFile kind document day rows) = m.import_file s kind document day rows
   step m s (ShowReport name number) = (s, m.show_report s name number)
@@ -66,6 +66,6 @@ module _ {S : Type 0} where
 -- A service did an operation, and replied so or not at all: its state and its reply are the machine's, or what is left
 -- where there is no reply; and what the service says besides of an operation holds.
 module _ {D S : Type 0} (state : D → S) (m : Machine S) (left : Failure → S → Operation → S → Type 0) (relates : D → Operation → Option NoReply → D → Type 0) where
-  abbrev pub Performs : D → Operation → Result Said NoReply → D → Type 0
+  abbrev pub Performs : D → Operation → Result ReplyView NoReply → D → Type 0
   Performs d o (Ok reply) d' = ((state d', reply) ≡ step m (state d) o) × relates d o None d'
   Performs d o (Err e) d' = Stops m left e (state d) o (state d') × relates d o (Some e) d'

@@ -4,11 +4,11 @@ use Rattle.std.specs.Io.KnownBytes.{Appends, Keeps}
 use Rattle.desk_http.specs.Heads.{Class, IsHead}
 use Rattle.desk_http.specs.Targets.{Resource}
 use Rattle.desk_http.specs.Plans.{plan_of}
-use Rattle.desk_http.specs.Services.{Operation, operation, Said}
+use Rattle.desk_http.specs.Services.{Operation, operation, ReplyView}
 use Rattle.desk_http.specs.HeadEnds.{arrival}
 use Rattle.desk_http.specs.Responses.{Response, rejection_response, reply_response, failure_response}
-use Rattle.desk_http.specs.declared.receive.Arrival.{Arrival}
-use Rattle.desk_http.specs.declared.receive.Arrival.TheVariants as arrival
+use Rattle.desk_http.specs.declared.receive.HeadArrival.{HeadArrival}
+use Rattle.desk_http.specs.declared.receive.HeadArrival.TheVariants as arrival
 use Rattle.desk_http.specs.declared.rejection.Rejection.{Rejection}
 use Rattle.desk_http.specs.declared.rejection.Rejection.TheVariants.{HeadTooLarge}
 use Rattle.desk_http.specs.declared.service.Failure.{Failure}
@@ -32,7 +32,7 @@ abbrev pub received_of : Result (Resource × ℕ) Rejection → List ℕ → Rec
 received_of (Err rejection) rest = Rejected rejection
 received_of (Ok p) rest = if nat_lt (length rest) p.1 then Incomplete else Complete (operation p.0 (take p.1 rest))
 
-abbrev pub IsReceivedAt : Arrival → List ℕ → Received → Type 0
+abbrev pub IsReceivedAt : HeadArrival → List ℕ → Received → Type 0
 IsReceivedAt arrival.Incomplete xs r = r ≡ Incomplete
 IsReceivedAt arrival.TooLong xs r = r ≡ Rejected HeadTooLarge
 IsReceivedAt (arrival.Head n) xs r = (class : Class) × IsHead (take n xs) class × (r ≡ received_of (plan_of class) (drop n xs))
@@ -43,7 +43,7 @@ IsReceived None r = Unit {0}
 IsReceived (Some xs) r = IsReceivedAt (arrival xs) xs r
 
 -- the same, where it is known how far the head goes
-abbrev pub IsReceivedFrom : Arrival → Option (List ℕ) → Received → Type 0
+abbrev pub IsReceivedFrom : HeadArrival → Option (List ℕ) → Received → Type 0
 IsReceivedFrom a None r = Unit {0}
 IsReceivedFrom a (Some xs) r = IsReceivedAt a xs r
 
@@ -69,11 +69,11 @@ Sends p w w' (Err Ended) = ⊥
 Sends p w w' (Err ReadFailed) = ⊥
 
 -- What becomes of a service that `performs` says what it may do, where `are` says what the bytes may be.
-module _ {D : Type 0} (performs : D → Operation → Result Said NoReply → D → Type 0) where
+module _ {D : Type 0} (performs : D → Operation → Result ReplyView NoReply → D → Type 0) where
   -- the service did the operation, and this is the response to it: its reply, or that it failed
   abbrev pub Replies : D → Operation → D → Response → Type 0
   Replies d o d' p =
-      ((reply : Said) × performs d o (Ok reply) d' × (p ≡ reply_response reply))
+      ((reply : ReplyView) × performs d o (Ok reply) d' × (p ≡ reply_response reply))
       ⊎ ((e : Failure) × performs d o (Err (Failed e)) d' × (p ≡ failure_response e))
 
   -- this is the response to what was received, and this becomes of the service
@@ -88,7 +88,7 @@ module _ {D : Type 0} (performs : D → Operation → Result Said NoReply → D 
 
   -- the operation of these bytes was done, whatever came of it
   abbrev pub Does : (Received → Type 0) → D → D → Type 0
-  Does are d d' = (o : Operation) × are (Complete o) × (outcome : Result Said NoReply) × performs d o outcome d'
+  Does are d d' = (o : Operation) × are (Complete o) × (outcome : Result ReplyView NoReply) × performs d o outcome d'
 
   -- What a call did. Answered: the response is written. Ended: the bytes aren't a whole request, and nothing was done or
   -- written. ReadFailed: nothing was done or written. WriteFailed: what the response tells was done, and a front of it is
@@ -104,4 +104,4 @@ module _ {D : Type 0} (performs : D → Operation → Result Said NoReply → D 
   abbrev pub PerformsAndSends : D → Operation → D → Option (List ℕ) → Option (List ℕ) → Result ℕ Stop → Type 0
   PerformsAndSends d o d' w w' r =
       ((p : Response) × Replies d o d' p × Sends p w w' r)
-      ⊎ ((r ≡ Err Memory) × ((outcome : Result Said NoReply) × performs d o outcome d') × Keeps w w')
+      ⊎ ((r ≡ Err Memory) × ((outcome : Result ReplyView NoReply) × performs d o outcome d') × Keeps w w')

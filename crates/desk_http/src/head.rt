@@ -1,7 +1,7 @@
 //! What the bytes of a head are.
 ghost use Rattle.std.specs.Prelude.{◌≡◌, ◌≤◌, ◌<◌, ℕ, List, [], length};
 ghost use Rattle.httparse.specs.Grammar.{RequestHead, ReadsRequest};
-ghost use Rattle.desk_http.specs.Heads.{IsHead, Parts, Class, WellFormed, TooManyFields};
+ghost use Rattle.desk_http.specs.Heads.{IsHead, HeadParts, Class, WellFormed, TooManyFields};
 ghost use Rattle.desk_http.specs.Spans.{class_of, LiesWithin};
 
 use httparse::spans::{HeaderSpan, RequestSpans, parse_request};
@@ -40,7 +40,7 @@ pub fn read_head(bytes: &[u8], spans: &mut [HeaderSpan]) -> Head
 /// A head of the grammar is of one class: with at most 64 fields it is read, with more it is too large. A head that is
 /// malformed and has more than 64 field lines may be called either.
 pub fn one_class()
-    ensures whole { (bytes : List ℕ) (p : Parts) (c : Class) → IsHead bytes (WellFormed p)
+    ensures whole { (bytes : List ℕ) (p : HeadParts) (c : Class) → IsHead bytes (WellFormed p)
         → IsHead bytes c → c ≡ WellFormed p }
     ensures many { (bytes : List ℕ) (h : RequestHead) (c : Class) → ReadsRequest bytes h []
         → 64 < length h.fields → IsHead bytes c → c ≡ TooManyFields }

@@ -38,7 +38,7 @@ fn read_more<R: Read>(reader: &mut R, reads: &mut u64, bytes: &mut Vec<u8>) -> R
 
 /// What has come of a head.
 #[derive(Clone, Copy)]
-pub enum Arrival {
+pub enum HeadArrival {
     /// All of it, so many bytes.
     Head(usize),
     /// 8,192 bytes, in which it doesn't end.
@@ -53,7 +53,7 @@ pub fn receive_head<R: Read>(
     reader: &mut R,
     reads: &mut u64,
     bytes: &mut Vec<u8>,
-) -> Result<Arrival, Stop>
+) -> Result<HeadArrival, Stop>
     ensures bytes { OnOk result (Keeps (all_of (R.remaining reader.old) bytes.old.items)
         (all_of (R.remaining reader.new) bytes.new.items)) }
     ensures head { IfOk result (λ a. IfSome (all_of (R.remaining reader.new) bytes.new.items)
@@ -63,13 +63,13 @@ pub fn receive_head<R: Read>(
 {
     loop {
         if let Some(n) = find_head_end(front_of(bytes)) {
-            return Ok(Arrival::Head(n));
+            return Ok(HeadArrival::Head(n));
         }
         if bytes.len() >= 8192 {
-            return Ok(Arrival::TooLong);
+            return Ok(HeadArrival::TooLong);
         }
         if !read_more(reader, reads, bytes)? {
-            return Ok(Arrival::Incomplete);
+            return Ok(HeadArrival::Incomplete);
         }
     }
 }

@@ -1,7 +1,7 @@
 //! A request is done by the service and answered, or rejected.
 ghost use Rattle.std.specs.Prelude.{IfOk, IfErr};
 ghost use Rattle.desk_http.specs.Responses.{rejection_response, reply_response, failure_response};
-ghost use Rattle.desk_http.specs.Services.{Performs, heard, operation, said};
+ghost use Rattle.desk_http.specs.Services.{Performs, heard, operation, reply_view};
 ghost use Rattle.desk_http.specs.Serving.{PerformsAndSends, Sends};
 ghost use Rattle.desk_http.specs.Targets.{resource, IsProper};
 
@@ -31,7 +31,7 @@ pub fn reject<W: Write>(alloc: Global, writer: &mut W, rejection: Rejection) -> 
 
 /// Writes what the service replied.
 fn tell<W: Write>(alloc: Global, writer: &mut W, reply: &Reply) -> Result<u16, Stop>
-    ensures { Sends (reply_response (said reply.now))
+    ensures { Sends (reply_response (reply_view reply.now))
         (W.contents writer.old) (W.contents writer.new) result }
 {
     let status = outcome_status(reply.outcome);

@@ -7,7 +7,7 @@ ghost use Rattle.desk_http.specs.Serving.{IsReceived, IsReceivedFrom, Serves, re
 
 use crate::head::read_head;
 use crate::plan::make_plan;
-use crate::receive::{Arrival, receive_body, receive_head};
+use crate::receive::{HeadArrival, receive_body, receive_head};
 use crate::rejection::Rejection;
 use crate::respond::{reject, respond};
 use crate::route::{Route, make_router};
@@ -42,7 +42,7 @@ fn serve_head<R: Read, W: Write, S: Service>(
     requires kept { S.is_kept service.old }
     ensures kept { S.is_kept service.new }
     ensures serves { Serves (Performs S.state S.machine S.left S.relates)
-        (IsReceivedFrom (Arrival.Head n) (all_of (R.remaining reader.old) bytes.old.items))
+        (IsReceivedFrom (HeadArrival.Head n) (all_of (R.remaining reader.old) bytes.old.items))
         service.old service.new (W.contents writer.old) (W.contents writer.new) result }
 {
     let head = copy(alloc, &bytes[..n])?;
@@ -78,9 +78,9 @@ fn answer_one<R: Read, W: Write, S: Service>(
     let mut reads = 2_000_000;
     let mut bytes = Vec::new(alloc);
     match receive_head(reader, &mut reads, &mut bytes)? {
-        Arrival::Incomplete => Err(Stop::Ended),
-        Arrival::TooLong => reject(alloc, writer, Rejection::HeadTooLarge),
-        Arrival::Head(n) => serve_head(
+        HeadArrival::Incomplete => Err(Stop::Ended),
+        HeadArrival::TooLong => reject(alloc, writer, Rejection::HeadTooLarge),
+        HeadArrival::Head(n) => serve_head(
             alloc, reader, writer, service, &mut reads, &mut bytes, &router, n,
         ),
     }

@@ -1,7 +1,7 @@
 //! The service that requests are handed to.
 ghost use Rattle.std.specs.Prelude.{◌≡◌, ℕ, List, Option, true, IfOk, IfErr};
 ghost use Rattle.desk_http.specs.Targets.{is_document};
-ghost use Rattle.desk_http.specs.Services.{Machine, Operation, RunLine, ImportFile, ShowReport, Stops, heard, said, step, why_none};
+ghost use Rattle.desk_http.specs.Services.{Machine, Operation, RunLine, ImportFile, ShowReport, Stops, heard, reply_view, step, why_none};
 
 use crate::target::{ImportKind, ReportName};
 use part_core::Day;
@@ -30,7 +30,7 @@ pub struct Reply {
 /// Why an operation failed.
 #[derive(Clone, Copy, Debug)]
 pub enum Failure {
-    /// The store failed, or has been closed: 500.
+    /// The database failed, or has been closed: 500.
     Store,
     /// There was no memory for the operation: 503.
     Memory,
@@ -71,7 +71,7 @@ pub trait Service {
     fn run(&mut self, alloc: Global, line: &[u8]) -> Result<Reply, NoReply>
         requires { is_kept self.old }
         ensures kept { is_kept self.new }
-        ensures ok { IfOk result (λ reply. (state self.new, said reply)
+        ensures ok { IfOk result (λ reply. (state self.new, reply_view reply)
             ≡ step machine (state self.old) (RunLine line.now)) }
         ensures err { IfErr result (λ e. Stops machine left e (state self.old)
             (RunLine line.now) (state self.new)) }
@@ -89,7 +89,7 @@ pub trait Service {
         requires kept { is_kept self.old }
         requires document { is_document document.now ≡ true }
         ensures kept { is_kept self.new }
-        ensures ok { IfOk result (λ reply. (state self.new, said reply)
+        ensures ok { IfOk result (λ reply. (state self.new, reply_view reply)
             ≡ step machine (state self.old) (ImportFile kind document.now day rows.now)) }
         ensures err { IfErr result (λ e. Stops machine left e (state self.old)
             (ImportFile kind document.now day rows.now) (state self.new)) }
@@ -99,7 +99,7 @@ pub trait Service {
     /// Shows a report of the number.
     fn report(&self, alloc: Global, name: ReportName, number: u64) -> Result<Reply, NoReply>
         requires { is_kept self.now }
-        ensures ok { IfOk result (λ reply. (state self.now, said reply)
+        ensures ok { IfOk result (λ reply. (state self.now, reply_view reply)
             ≡ step machine (state self.now) (ShowReport name number)) }
         ensures relates { relates self.now (ShowReport name number) (why_none result) self.now };
 }

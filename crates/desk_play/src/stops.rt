@@ -58,8 +58,8 @@ fn fresh(alloc: Global) -> Result<Files<Memory>, Fail> {
     };
     match Desk::create(alloc, conn, Limits::LARGEST) {
         Ok(desk) => Ok(desk.close().into_store().close()),
-        Err((_, store)) => {
-            drop(store.close());
+        Err((_, database)) => {
+            drop(database.close());
             Err(Fail::from("no desk is made"))
         }
     }
@@ -74,7 +74,7 @@ fn answered<S: Alter + Drop>(
     let mut sink = Sink::new(alloc, 4096);
     let mut desk = match Desk::open(alloc, conn) {
         Ok(desk) => desk,
-        Err((_, store)) => return Err(store),
+        Err((_, database)) => return Err(database),
     };
     let mut reader = lines.as_bytes();
     let end = run_lines(alloc, &mut reader, &mut sink, &mut desk);
@@ -107,7 +107,7 @@ fn stopped(
             )?;
             Ok((end == RunEnd::Done(true), conn.into_store().close()))
         }
-        Err(store) => Ok((false, store.close())),
+        Err(database) => Ok((false, database.close())),
     }
 }
 
@@ -130,8 +130,8 @@ fn sent_again(alloc: Global, mut files: Files<Fused>, keyed: &Keyed) -> Result<(
                 "other answers when sent again",
             )
         }
-        Err(store) => {
-            let _files = store.close();
+        Err(database) => {
+            let _files = database.close();
             Err(Fail::from("the desk isn't opened again"))
         }
     }

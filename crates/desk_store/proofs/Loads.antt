@@ -18,10 +18,10 @@ use Rattle.forest.specs.declared.entry.Entry.{Entry}
 use Rattle.yard_core.proofs.OwnKeys.{keyed-own}
 use Rattle.desk_core.specs.Assembled.{AreSoundTables, state_from}
 use Rattle.desk_core.specs.Machine.{IsSoundState, State}
-use Rattle.desk_core.specs.Shops.{state_of}
+use Rattle.desk_core.specs.ShopView.{state_of}
 use Rattle.desk_core.specs.declared.shop.Shop.{Shop}
 use Rattle.desk_core.specs.declared.shop.assemble.Tables.{Tables}
-use Rattle.desk_store.specs.Books.{TablesAre}
+use Rattle.desk_store.specs.StateTables.{TablesAre}
 use Rattle.desk_store.specs.Loading.{AreBooksOf, AreSheets, AreTables, AreTheRows, IsMetaRow, Reads, meta_in}
 use Rattle.desk_store.specs.MetaColumns.{meta_columns, meta_from, meta_of, only}
 use Rattle.desk_store.specs.Opening.{AreNoBooks, IsOfOtherVersion, WhyBut, WhyUnread}

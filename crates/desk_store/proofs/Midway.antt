@@ -10,7 +10,7 @@ use Rattle.sqlite.specs.Tree.{Trees}
 use Rattle.sqlite_trees.specs.View.{IsShaped}
 use Rattle.sqlite_trees.specs.declared.store.Shape.TheVariants.{Table}
 use Rattle.desk_core.specs.Machine.{State}
-use Rattle.desk_store.specs.Books.{HoldsBooks, IsTableIn, TablesAre}
+use Rattle.desk_store.specs.StateTables.{HoldsBooks, IsTableIn, TablesAre}
 use Rattle.desk_store.specs.Saving.{Goes, IsMidway, IsUnderWay}
 use Rattle.table_store.specs.Schema.{all_names, position}
 use Rattle.table_store.specs.Transactions.{IsBack, IsOfMemoryOrStore, MayUndo, Stops, StopsBy}

@@ -7,9 +7,9 @@ use Rattle.sqlite.specs.State.{HasCleanDisk, IsUnchanged}
 use Rattle.sqlite.specs.Tree.{Trees}
 use Rattle.sqlite_trees.specs.declared.store.Store.{Ghosts}
 use Rattle.desk_core.specs.Machine.{State}
-use Rattle.desk_core.specs.Shops.{state_of}
+use Rattle.desk_core.specs.ShopView.{state_of}
 use Rattle.desk_core.specs.declared.shop.Shop.{Shop}
-use Rattle.desk_store.specs.Books.{HoldsBooks, TablesAre}
+use Rattle.desk_store.specs.StateTables.{HoldsBooks, TablesAre}
 use Rattle.desk_store.specs.Loading.{AreBooksOf, Reads}
 use Rattle.desk_store.specs.Opening.{IsOfOtherVersion, WhyBut, WhyNot}
 use Rattle.desk_store.specs.declared.fault.OpenFault.{OpenFault}

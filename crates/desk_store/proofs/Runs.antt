@@ -7,9 +7,9 @@ use Rattle.sqlite.specs.State.{HasCleanDisk, Survives}
 use Rattle.sqlite.specs.Tree.{Trees}
 use Rattle.part_core.specs.declared.answer.Answer.{Answer}
 use Rattle.desk_core.specs.Machine.{IsAnew, Outcome, State, run, step}
-use Rattle.desk_core.specs.Shops.{state_of}
+use Rattle.desk_core.specs.ShopView.{state_of}
 use Rattle.desk_core.specs.declared.command.Request.{Request}
-use Rattle.desk_store.specs.Books.{TablesAre}
+use Rattle.desk_store.specs.StateTables.{TablesAre}
 use Rattle.desk_store.specs.Desks.{IsDesk}
 use Rattle.desk_store.specs.declared.desk.Desk.{Desk}
 use Rattle.desk_store.specs.Outcomes.{AreLeft, Closes, Tells, answered, stopped_at, told}

@@ -26,7 +26,7 @@ use Rattle.build_core.specs.BuildColumns.{build_columns, build_from}
 use Rattle.build_core.specs.declared.build.Build.{Build}
 use Rattle.yard_core.proofs.OwnKeys.{keyed-own}
 use Rattle.desk_core.specs.Machine.{State}
-use Rattle.desk_core.specs.Shops.{kept_state, state_of}
+use Rattle.desk_core.specs.ShopView.{kept_state, state_of}
 use Rattle.desk_core.specs.declared.shop.Shop.{Shop}
 use Rattle.desk_store.specs.Saving.{IsSheetIn, MayFollow}
 use Rattle.desk_store.proofs.Suiting.{allocation-suits, build-suits, category-suits, entry-suits, item-suits, line-suits, location-suits, order-line-suits, order-suits, part-suits, substitute-suits}

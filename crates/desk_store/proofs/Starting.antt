@@ -22,7 +22,7 @@ use Rattle.order_core.specs.OrderColumns as orders
 use Rattle.build_core.specs.BuildColumns.{build_columns, build_from}
 use Rattle.desk_core.specs.KeptColumns.{kept_columns, kept_from}
 use Rattle.desk_core.specs.Machine.{start}
-use Rattle.desk_store.specs.Books.{TablesAre}
+use Rattle.desk_store.specs.StateTables.{TablesAre}
 use Rattle.desk_store.specs.MetaColumns.{meta_columns, meta_from, meta_of, only}
 use Rattle.desk_store.specs.Opening.{IsOfCreating, MayBeMade, open_fault_of}
 use Rattle.desk_store.specs.Saving.{IsUnderWay}
@@ -113,10 +113,10 @@ may_be_made limits trees a b (BadRow failed) stops made = absurd stops
 pub told_made : (limits : Limits) (trees : Trees) (a b : sqlite.State) (fault : TableFault) (told : OpenFault) → told ≡ open_fault_of fault → Stops a b fault → TablesAre (start limits) trees → MayBeMade limits trees told
 told_made limits trees a b fault told e stops made = subst (MayBeMade limits trees) (sym e) (may_be_made limits trees a b fault stops made)
 
--- the store that a connection hands back has the tables of the last commit, which is the one that was before where nothing
--- was committed since
-pub handed : {S : Type 0} (g : Ghosts S) (h : Held S) (store : S) → IsUndone (g.view h.store) (g.view store) → IsClean (g.view store) → (before : sqlite.State) → sqlite.KeepsCommit before (state g h) → IsTrue (g.view store).is_open
-    → (g.view store).trees ≡ before.committed.trees
-handed g h store undone clean before keeps up =
+-- the database that a connection hands back has the tables of the last commit, which is the one that was before where
+-- nothing was committed since
+pub handed : {S : Type 0} (g : Ghosts S) (h : Held S) (database : S) → IsUndone (g.view h.store) (g.view database) → IsClean (g.view database) → (before : sqlite.State) → sqlite.KeepsCommit before (state g h) → IsTrue (g.view database).is_open
+    → (g.view database).trees ≡ before.committed.trees
+handed g h database undone clean before keeps up =
     let was = (undone.kept clean).was_open up in
     (undone.undone up).0 ∙ ap (λ (db : Database). db.trees) (keeps.committed was)

@@ -4,8 +4,8 @@ use Rattle.sqlite_trees.specs.declared.store.Store.{Ghosts}
 use Rattle.sqlite.specs.Held.{state}
 use Rattle.sqlite.specs.State.{HasCleanDisk}
 use Rattle.desk_core.specs.Machine.{IsSoundState}
-use Rattle.desk_core.specs.Shops.{state_of}
-use Rattle.desk_store.specs.Books.{HoldsBooks}
+use Rattle.desk_core.specs.ShopView.{state_of}
+use Rattle.desk_store.specs.StateTables.{HoldsBooks}
 use Rattle.desk_store.specs.declared.desk.Desk.{Desk}
 
 -- its shop is sound, and the database is in no transaction; where no fault of the database has closed the desk, the

@@ -1,5 +1,5 @@
 pub mod MetaColumns
-pub mod Books
+pub mod StateTables
 pub mod Saving
 pub mod Outcomes
 pub mod Desks

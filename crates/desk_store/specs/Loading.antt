@@ -25,11 +25,11 @@ use Rattle.build_core.specs.BuildColumns.{build_columns, build_from}
 use Rattle.build_core.specs.declared.build.Build.{Build}
 use Rattle.desk_core.specs.KeptColumns.{kept_columns, kept_from}
 use Rattle.desk_core.specs.Machine as machine
-use Rattle.desk_core.specs.Shops.{state_of}
+use Rattle.desk_core.specs.ShopView.{state_of}
 use Rattle.desk_core.specs.declared.kept.Kept.{Kept as KeptRow}
 use Rattle.desk_core.specs.declared.shop.Shop.{Shop}
 use Rattle.desk_core.specs.declared.shop.assemble.Tables.{Tables}
-use Rattle.desk_store.specs.Books.{TablesAre}
+use Rattle.desk_store.specs.StateTables.{TablesAre}
 use Rattle.desk_store.specs.MetaColumns.{meta_columns, meta_from, only}
 use Rattle.desk_store.specs.Opening.{IsOfOtherVersion}
 use Rattle.desk_store.specs.declared.fault.OpenFault.{OpenFault}

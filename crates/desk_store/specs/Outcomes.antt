@@ -6,7 +6,7 @@ use Rattle.part_core.specs.declared.refusal.CoreFault.{CoreFault}
 use Rattle.part_core.specs.declared.refusal.CoreFault.TheVariants as core
 use Rattle.desk_core.specs.Machine.{State, IsAnew, Outcome, step}
 use Rattle.desk_core.specs.declared.command.Request.{Request}
-use Rattle.desk_store.specs.Books.{TablesAre}
+use Rattle.desk_store.specs.StateTables.{TablesAre}
 use Rattle.desk_store.specs.declared.fault.Fault.{Fault}
 use Rattle.desk_store.specs.declared.fault.Fault.TheVariants.{Refused, Memory, Store, Closed}
 

@@ -12,7 +12,7 @@ use Rattle.part_core.specs.declared.column.Column.{Column}
 use Rattle.desk_core.specs.Machine.{IsSoundState, State}
 use Rattle.desk_core.specs.Small.{HasSmallRows}
 use Rattle.desk_core.specs.Staying.{AllStay}
-use Rattle.desk_store.specs.Books.{IsTableIn}
+use Rattle.desk_store.specs.StateTables.{IsTableIn}
 use Rattle.desk_store.specs.MetaColumns.{meta_columns, meta_of}
 use Rattle.table_store.specs.Schema.{position}
 use Rattle.table_store.specs.Transactions.{IsOfMemoryOrStore}

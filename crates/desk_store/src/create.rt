@@ -5,7 +5,7 @@ ghost use Rattle.sqlite.specs.State.{HasCleanDisk, KeepsCommit, Survives};
 ghost use Rattle.sqlite.specs.Tree.{Trees};
 ghost use Rattle.sqlite_trees.specs.View.{IsClean};
 ghost use Rattle.desk_core.specs.Machine.{IsSoundState, start};
-ghost use Rattle.desk_core.specs.Shops.{state_of};
+ghost use Rattle.desk_core.specs.ShopView.{state_of};
 ghost use Rattle.desk_store.specs.Desks.{IsDesk};
 ghost use Rattle.desk_store.specs.Opening.{IsOfCreating, MayBeMade};
 ghost use Rattle.desk_store.specs.Saving.{IsUnderWay};
@@ -76,8 +76,8 @@ fn make<S: Alter>(
 impl<S: Alter + Drop> Desk<S> {
     /// Makes the tables, and in them the books of a workshop that has nothing yet.
     ///
-    /// `Foreign` where the database has a table already. The store is handed back beside a fault, with the tables as they
-    /// were; after `Store` it is to be opened again, and a crash leaves the database as it was or the new desk's.
+    /// `Foreign` where the database has a table already. The database is handed back beside a fault, with the tables as
+    /// they were; after `Store` it is to be opened again, and a crash leaves the database as it was or the new desk's.
     pub fn create(
         alloc: Global,
         conn: Connection<S>,

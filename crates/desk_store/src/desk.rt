@@ -1,9 +1,9 @@
-//! A desk over a store.
+//! A desk over a database.
 //!
 //! It holds the shop whose state the tables have. A request is decided on the shop; what it changes is written in one
-//! transaction, and answered once that is committed. A refusal and a kept answer touch no table. Where memory ends, the
-//! shop and the tables are as they were. Where the database fails, the desk is closed: no later request is run, and what
-//! the file then holds, the tables before or after that request, is found by opening it again.
+//! transaction, and answered once that is committed. A refusal and a kept answer touch no table. Where memory runs out,
+//! the shop and the tables are as they were. Where the database fails, the desk is closed: no later request is run, and
+//! what the file then holds, the tables before or after that request, is found by opening it again.
 ghost use Rattle.std.specs.Prelude.{◌≡◌, ◌↔◌, ◌⊎◌, ◌+◌, ℕ, None, IfSome, IsSome, is_some, length, IfOk, IfErr, OnErr, OnOk, Err};
 ghost use Rattle.sqlite.specs.Held.{state};
 ghost use Rattle.sqlite.specs.State.{HasCleanDisk, Survives};
@@ -13,8 +13,8 @@ ghost use Rattle.forest.specs.Forest.{Balanced};
 ghost use Rattle.yard_core.specs.Stock.{forest_and_history};
 ghost use Rattle.stock_core.specs.Sound.{SerialsStandOnce};
 ghost use Rattle.desk_core.specs.Machine.{AreDrawn, IsAnew, answers_of, entries_in, entries_of, ids_of, run, step};
-ghost use Rattle.desk_core.specs.Shops.{state_of};
-ghost use Rattle.desk_store.specs.Books.{TablesAre};
+ghost use Rattle.desk_core.specs.ShopView.{state_of};
+ghost use Rattle.desk_store.specs.StateTables.{TablesAre};
 ghost use Rattle.desk_store.specs.Desks.{IsDesk};
 ghost use Rattle.desk_store.specs.Outcomes.{AreLeft, Closes, Tells, answered, stopped_at, told};
 

@@ -4,7 +4,7 @@ ghost use Rattle.std.specs.Io.KnownBytes.{Appends, Keeps};
 ghost use Rattle.csv.specs.Records.{fields_of, partial_of};
 ghost use Rattle.csv.specs.Writing.{default_writer, row_text};
 ghost use Rattle.part_core.specs.Sheet.{now_of};
-ghost use Rattle.desk_core.specs.Shops.{state_of};
+ghost use Rattle.desk_core.specs.ShopView.{state_of};
 ghost use Rattle.desk_store.specs.MetaColumns.{meta_columns};
 ghost use Rattle.desk_store.specs.Exports.{AppendsFront, HasLines, WritesLines, field_of, header_line, lines_of, row_line, rows_text, sheet_lines, table_text};
 
@@ -147,7 +147,7 @@ fn write_table(
         TableName::Lines => write_sheet(alloc, writer, shop.boms().lines()),
         TableName::Substitutes => write_sheet(alloc, writer, shop.boms().substitutes()),
         TableName::Items => write_sheet(alloc, writer, shop.yard().items()),
-        TableName::History => write_sheet(alloc, writer, shop.yard().journal()),
+        TableName::History => write_sheet(alloc, writer, shop.yard().whole_history()),
         TableName::Orders => write_sheet(alloc, writer, shop.orders().orders()),
         TableName::OrderLines => write_sheet(alloc, writer, shop.orders().lines()),
         TableName::Builds => write_sheet(alloc, writer, shop.builds().rows()),

@@ -2,7 +2,7 @@
 //!
 //! These functions do nothing when they are run, and are called for their contracts alone.
 ghost use Rattle.desk_core.specs.Machine.{IsSoundState};
-ghost use Rattle.desk_core.specs.Shops.{kept_state, state_of};
+ghost use Rattle.desk_core.specs.ShopView.{kept_state, state_of};
 ghost use Rattle.desk_core.specs.Staying.{AllStay};
 ghost use Rattle.desk_store.specs.Saving.{HaveSmallNumbers, MayFollow};
 

@@ -8,7 +8,7 @@ ghost use Rattle.sqlite.specs.State.{HasCleanDisk};
 ghost use Rattle.part_core.specs.RowKeys.{number_digits};
 ghost use Rattle.sqlite.specs.Tree.{Trees};
 ghost use Rattle.desk_core.specs.Machine.{IsSoundState};
-ghost use Rattle.desk_core.specs.Shops.{state_of};
+ghost use Rattle.desk_core.specs.ShopView.{state_of};
 ghost use Rattle.desk_store.specs.Loading.{AreAnswers, AreBillRows, AreBooksOf, AreBuildRows, AreOrderRows, ArePartRows, AreStockRows};
 ghost use Rattle.desk_store.specs.Loading.{AreSheets, AreTables, AreTheRows, IsMetaRow, IsNoMeta, Reads};
 ghost use Rattle.desk_store.specs.Opening.{IsBroken, IsOfOtherVersion, WhyBut, WhyUnread};

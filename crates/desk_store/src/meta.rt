@@ -1,6 +1,6 @@
 //! The row of the counter.
 ghost use Rattle.std.specs.Prelude.{◌≡◌, ◌∷◌, []};
-ghost use Rattle.desk_core.specs.Shops.{state_of};
+ghost use Rattle.desk_core.specs.ShopView.{state_of};
 ghost use Rattle.desk_store.specs.MetaColumns.{meta_columns, meta_from, meta_of};
 
 use desk_core::Shop;

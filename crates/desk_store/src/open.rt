@@ -9,8 +9,8 @@ ghost use Rattle.sqlite.specs.State.{HasCleanDisk};
 ghost use Rattle.sqlite.specs.Tree.{Trees};
 ghost use Rattle.sqlite_trees.specs.View.{IsClean};
 ghost use Rattle.desk_core.specs.Machine.{IsSoundState, State};
-ghost use Rattle.desk_core.specs.Shops.{state_of};
-ghost use Rattle.desk_store.specs.Books.{TablesAre};
+ghost use Rattle.desk_core.specs.ShopView.{state_of};
+ghost use Rattle.desk_store.specs.StateTables.{TablesAre};
 ghost use Rattle.desk_store.specs.Desks.{IsDesk};
 ghost use Rattle.desk_store.specs.Opening.{IsOfOtherVersion, WhyNot};
 
@@ -25,7 +25,7 @@ impl<S: Alter + Drop> Desk<S> {
     /// The desk whose books the database holds. What isn't committed there is rolled back.
     ///
     /// `Foreign` where the tables aren't a desk's, or are of another version; `Damaged` where they are the tables of no
-    /// sound state. The store is handed back beside a fault, with the tables as they were; after `Store` it is to be
+    /// sound state. The database is handed back beside a fault, with the tables as they were; after `Store` it is to be
     /// opened again.
     pub fn open(alloc: Global, conn: Connection<S>) -> Result<Desk<S>, (OpenFault, S)>
         ensures desk { IfOk result (λ desk. IsDesk S.Store desk) }
@@ -45,7 +45,7 @@ impl<S: Alter + Drop> Desk<S> {
     {
         let mut opened = match open_tables(alloc, conn) {
             Ok(opened) => opened,
-            Err((fault, store)) => return Err((OpenFault::from(fault), store)),
+            Err((fault, database)) => return Err((OpenFault::from(fault), database)),
         };
         match load(alloc, &mut opened) {
             Ok(shop) => Ok(Desk {

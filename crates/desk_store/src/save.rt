@@ -11,9 +11,9 @@ ghost use Rattle.sqlite.specs.Held.{state};
 ghost use Rattle.sqlite.specs.State.{HasCleanDisk, KeepsCommit, Survives};
 ghost use Rattle.part_core.specs.RowKeys.{number_digits};
 ghost use Rattle.desk_core.specs.Machine.{IsSoundState};
-ghost use Rattle.desk_core.specs.Shops.{kept_state, state_of};
+ghost use Rattle.desk_core.specs.ShopView.{kept_state, state_of};
 ghost use Rattle.desk_core.specs.Staying.{AllStay};
-ghost use Rattle.desk_store.specs.Books.{HoldsBooks, TablesAre};
+ghost use Rattle.desk_store.specs.StateTables.{HoldsBooks, TablesAre};
 ghost use Rattle.desk_store.specs.Saving.{Goes, IsSheetIn, IsUnderWay, MayFollow};
 ghost use Rattle.table_store.specs.Schema.{position};
 ghost use Rattle.table_store.specs.Transactions.{IsOfMemoryOrStore};
@@ -105,7 +105,7 @@ fn write_table<S: Alter>(
         TableName::Lines => write_sheet(alloc, conn, shop, table, shop.boms().lines()),
         TableName::Substitutes => write_sheet(alloc, conn, shop, table, shop.boms().substitutes()),
         TableName::Items => write_sheet(alloc, conn, shop, table, shop.yard().items()),
-        TableName::History => write_sheet(alloc, conn, shop, table, shop.yard().journal()),
+        TableName::History => write_sheet(alloc, conn, shop, table, shop.yard().whole_history()),
         TableName::Orders => write_sheet(alloc, conn, shop, table, shop.orders().orders()),
         TableName::OrderLines => write_sheet(alloc, conn, shop, table, shop.orders().lines()),
         TableName::Builds => write_sheet(alloc, conn, shop, table, shop.builds().rows()),

@@ -1,6 +1,6 @@
 //! A shop is taken from the rows of its tables, and goes on as the shop did; and from no rows that no run left.
 ghost use Rattle.desk_core.specs.Machine.{IsSoundState};
-ghost use Rattle.desk_core.specs.Shops.{state_of};
+ghost use Rattle.desk_core.specs.ShopView.{state_of};
 
 use bom_core::Substitute;
 use desk_core::{AssembleFault, Shop, Tables};
@@ -78,7 +78,7 @@ fn tables_of(alloc: Global, shop: &Shop) -> Result<Tables, Fail> {
         substitutes: rows_of(alloc, shop.boms().substitutes())?,
         locations: rows_of(alloc, shop.yard().locations())?,
         items: rows_of(alloc, shop.yard().items())?,
-        history: rows_of(alloc, shop.yard().journal())?,
+        history: rows_of(alloc, shop.yard().whole_history())?,
         allocations: rows_of(alloc, shop.allocations().rows())?,
         orders: rows_of(alloc, shop.orders().orders())?,
         order_lines: rows_of(alloc, shop.orders().lines())?,

@@ -1,5 +1,5 @@
 //! The words of imports and of serving.
-use desk_app::{Asked, early_status, read_words};
+use desk_app::{Task, early_status, read_words};
 use std::alloc::{AllocError, Global};
 use std::test::Fail;
 
@@ -16,9 +16,9 @@ const PORT: &str = concat!(
 );
 
 /// What is asked for, on one line.
-fn told(alloc: Global, asked: &Asked<'_>) -> Result<String, AllocError> {
-    match asked {
-        Asked::Import {
+fn told(alloc: Global, task: &Task<'_>) -> Result<String, AllocError> {
+    match task {
+        Task::Import {
             file,
             kind,
             document,
@@ -30,18 +30,18 @@ fn told(alloc: Global, asked: &Asked<'_>) -> Result<String, AllocError> {
                 document.as_str()
             )
         }
-        Asked::Serve {
+        Task::Serve {
             file: Some(file),
             port,
             count,
         } => format!(in alloc; "serve {file} {port} {count}"),
-        Asked::Serve {
+        Task::Serve {
             file: None,
             port,
             count,
         } => format!(in alloc; "serve {port} {count}"),
-        Asked::Help(_) => format!(in alloc; "help"),
-        Asked::Wrong(_) => format!(in alloc; "wrong"),
+        Task::Help(_) => format!(in alloc; "help"),
+        Task::Wrong(_) => format!(in alloc; "wrong"),
         _ => format!(in alloc; "else"),
     }
 }
@@ -72,11 +72,11 @@ fn serve<'a>(port: &'a str, count: &'a str) -> [&'a str; 6] {
 fn reads_an_import(rt: HostRuntime) -> Result<(), Fail> {
     let alloc = rt.alloc();
     let words = import("PO-7", "2030-01-02", "rows.csv");
-    let asked = read_words(alloc, words.as_slice());
+    let task = read_words(alloc, words.as_slice());
     let want = "import w.db Counts PO-7 2030-01-02 rows.csv";
-    assert_eq!(rt; told(alloc, &asked)?.as_str(), want);
-    assert_eq!(rt; early_status(&asked), None);
-    assert_eq!(rt; asked.file(), Some("w.db"));
+    assert_eq!(rt; told(alloc, &task)?.as_str(), want);
+    assert_eq!(rt; early_status(&task), None);
+    assert_eq!(rt; task.file(), Some("w.db"));
     let words = [
         "invdesk",
         "import",
@@ -86,9 +86,9 @@ fn reads_an_import(rt: HostRuntime) -> Result<(), Fail> {
         "--kind=receipts",
         "--db=w.db",
     ];
-    let asked = read_words(alloc, words.as_slice());
+    let task = read_words(alloc, words.as_slice());
     let want = "import w.db Receipts a.b_c- 2099-12-31 x";
-    assert_eq!(rt; told(alloc, &asked)?.as_str(), want);
+    assert_eq!(rt; told(alloc, &task)?.as_str(), want);
     Ok(())
 }
 
@@ -108,13 +108,13 @@ fn refuses_other_documents_and_days(rt: HostRuntime) -> Result<(), Fail> {
     ];
     for (document, day) in cases {
         let words = import(document, day, "x");
-        let asked = read_words(alloc, words.as_slice());
+        let task = read_words(alloc, words.as_slice());
         assert_eq!(rt;
-            told(alloc, &asked)?.as_str(),
+            told(alloc, &task)?.as_str(),
             "wrong",
             "at {document} {day}"
         );
-        assert_eq!(rt; early_status(&asked), Some(2), "at {document} {day}");
+        assert_eq!(rt; early_status(&task), Some(2), "at {document} {day}");
     }
     Ok(())
 }
@@ -175,8 +175,8 @@ fn refuses_imports_that_lack_a_word(rt: HostRuntime) -> Result<(), Fail> {
         ],
     ];
     for words in cases {
-        let asked = read_words(alloc, words);
-        assert_eq!(rt; told(alloc, &asked)?.as_str(), "wrong", "at {words:?}");
+        let task = read_words(alloc, words);
+        assert_eq!(rt; told(alloc, &task)?.as_str(), "wrong", "at {words:?}");
     }
     Ok(())
 }
@@ -185,10 +185,10 @@ fn refuses_imports_that_lack_a_word(rt: HostRuntime) -> Result<(), Fail> {
 fn reads_a_serving(rt: HostRuntime) -> Result<(), Fail> {
     let alloc = rt.alloc();
     let words = serve("8080", "100");
-    let asked = read_words(alloc, words.as_slice());
-    assert_eq!(rt; told(alloc, &asked)?.as_str(), "serve 8080 100");
-    assert_eq!(rt; early_status(&asked), None);
-    assert_eq!(rt; asked.file(), None);
+    let task = read_words(alloc, words.as_slice());
+    assert_eq!(rt; told(alloc, &task)?.as_str(), "serve 8080 100");
+    assert_eq!(rt; early_status(&task), None);
+    assert_eq!(rt; task.file(), None);
     let words = [
         "invdesk",
         "serve",
@@ -196,9 +196,9 @@ fn reads_a_serving(rt: HostRuntime) -> Result<(), Fail> {
         "--port=65535",
         "--db=w.db",
     ];
-    let asked = read_words(alloc, words.as_slice());
-    assert_eq!(rt; told(alloc, &asked)?.as_str(), "serve w.db 65535 1000000");
-    assert_eq!(rt; asked.file(), Some("w.db"));
+    let task = read_words(alloc, words.as_slice());
+    assert_eq!(rt; told(alloc, &task)?.as_str(), "serve w.db 65535 1000000");
+    assert_eq!(rt; task.file(), Some("w.db"));
     Ok(())
 }
 
@@ -218,16 +218,16 @@ fn refuses_other_servings(rt: HostRuntime) -> Result<(), Fail> {
     ];
     for (port, count) in cases {
         let words = serve(port, count);
-        let asked = read_words(alloc, words.as_slice());
-        assert_eq!(rt; told(alloc, &asked)?.as_str(), "wrong", "at {port} {count}");
-        assert_eq!(rt; early_status(&asked), Some(2), "at {port} {count}");
+        let task = read_words(alloc, words.as_slice());
+        assert_eq!(rt; told(alloc, &task)?.as_str(), "wrong", "at {port} {count}");
+        assert_eq!(rt; early_status(&task), Some(2), "at {port} {count}");
     }
     for words in [
         ["invdesk", "serve", "--port=80"],
         ["invdesk", "serve", "--count=8"],
     ] {
-        let asked = read_words(alloc, words.as_slice());
-        assert_eq!(rt; told(alloc, &asked)?.as_str(), "wrong", "at {words:?}");
+        let task = read_words(alloc, words.as_slice());
+        assert_eq!(rt; told(alloc, &task)?.as_str(), "wrong", "at {words:?}");
     }
     Ok(())
 }
@@ -236,12 +236,12 @@ fn refuses_other_servings(rt: HostRuntime) -> Result<(), Fail> {
 fn says_which_value_is_wrong(rt: HostRuntime) -> Result<(), Fail> {
     let alloc = rt.alloc();
     let words = import("a b", "2030-01-02", "x");
-    let Asked::Wrong(wrong) = read_words(alloc, words.as_slice()) else {
+    let Task::Wrong(wrong) = read_words(alloc, words.as_slice()) else {
         return Err("the document is wrong".into());
     };
     assert_eq!(rt; format!(in alloc; "{wrong}")?.as_str(), DOCUMENT);
     let words = serve("0", "1");
-    let Asked::Wrong(wrong) = read_words(alloc, words.as_slice()) else {
+    let Task::Wrong(wrong) = read_words(alloc, words.as_slice()) else {
         return Err("the port is wrong".into());
     };
     assert_eq!(rt; format!(in alloc; "{wrong}")?.as_str(), PORT);

@@ -1,5 +1,5 @@
 //! The words that the program is called with, the help and the faults that it prints, and its statuses.
-use desk_app::{Asked, RunEnd, early_status, read_words, status_of};
+use desk_app::{RunEnd, Task, early_status, read_words, status_of};
 use std::alloc::{AllocError, Global};
 use std::test::Fail;
 
@@ -43,18 +43,18 @@ const REPORT_HELP: &str = concat!(
 );
 
 /// What is asked for, on one line.
-fn told(alloc: Global, asked: &Asked<'_>) -> Result<String, AllocError> {
-    match asked {
-        Asked::Run(None) => format!(in alloc; "run"),
-        Asked::Run(Some(file)) => format!(in alloc; "run {file}"),
-        Asked::Report(file, name, number) => format!(in alloc; "report {file} {name:?} {number}"),
-        Asked::Export(file, table) => format!(in alloc; "export {file} {table:?}"),
-        Asked::Import { .. } => format!(in alloc; "import"),
-        Asked::Serve { .. } => format!(in alloc; "serve"),
-        Asked::Help(_) => format!(in alloc; "help"),
-        Asked::Wrong(_) => format!(in alloc; "wrong"),
-        Asked::Unreadable => format!(in alloc; "unreadable"),
-        Asked::Memory => format!(in alloc; "memory"),
+fn told(alloc: Global, task: &Task<'_>) -> Result<String, AllocError> {
+    match task {
+        Task::Run(None) => format!(in alloc; "run"),
+        Task::Run(Some(file)) => format!(in alloc; "run {file}"),
+        Task::Report(file, name, number) => format!(in alloc; "report {file} {name:?} {number}"),
+        Task::Export(file, table) => format!(in alloc; "export {file} {table:?}"),
+        Task::Import { .. } => format!(in alloc; "import"),
+        Task::Serve { .. } => format!(in alloc; "serve"),
+        Task::Help(_) => format!(in alloc; "help"),
+        Task::Wrong(_) => format!(in alloc; "wrong"),
+        Task::Unreadable => format!(in alloc; "unreadable"),
+        Task::Memory => format!(in alloc; "memory"),
     }
 }
 
@@ -68,9 +68,9 @@ fn reads_a_run(rt: HostRuntime) -> Result<(), Fail> {
         (&["invdesk", "run", "--db=w.db"], "run w.db"),
     ];
     for (words, want) in cases {
-        let asked = read_words(alloc, words);
-        assert_eq!(rt; told(alloc, &asked)?.as_str(), want, "at {words:?}");
-        assert_eq!(rt; early_status(&asked), None, "at {words:?}");
+        let task = read_words(alloc, words);
+        assert_eq!(rt; told(alloc, &task)?.as_str(), want, "at {words:?}");
+        assert_eq!(rt; early_status(&task), None, "at {words:?}");
     }
     Ok(())
 }
@@ -123,9 +123,9 @@ fn reads_a_report(rt: HostRuntime) -> Result<(), Fail> {
         ),
     ];
     for (words, want) in cases {
-        let asked = read_words(alloc, words);
-        assert_eq!(rt; told(alloc, &asked)?.as_str(), want, "at {words:?}");
-        assert_eq!(rt; early_status(&asked), None, "at {words:?}");
+        let task = read_words(alloc, words);
+        assert_eq!(rt; told(alloc, &task)?.as_str(), want, "at {words:?}");
+        assert_eq!(rt; early_status(&task), None, "at {words:?}");
     }
     Ok(())
 }
@@ -150,12 +150,12 @@ fn reads_an_export(rt: HostRuntime) -> Result<(), Fail> {
     ];
     for (name, want) in cases {
         let before = ["invdesk", "export", "--db", "w.db", name];
-        let asked = read_words(alloc, before.as_slice());
-        assert_eq!(rt; told(alloc, &asked)?.as_str(), want, "at {name}");
-        assert_eq!(rt; early_status(&asked), None, "at {name}");
+        let task = read_words(alloc, before.as_slice());
+        assert_eq!(rt; told(alloc, &task)?.as_str(), want, "at {name}");
+        assert_eq!(rt; early_status(&task), None, "at {name}");
         let after = ["invdesk", "export", name, "--db=w.db"];
-        let asked = read_words(alloc, after.as_slice());
-        assert_eq!(rt; told(alloc, &asked)?.as_str(), want, "at {name}");
+        let task = read_words(alloc, after.as_slice());
+        assert_eq!(rt; told(alloc, &task)?.as_str(), want, "at {name}");
     }
     Ok(())
 }
@@ -173,9 +173,9 @@ fn reads_help(rt: HostRuntime) -> Result<(), Fail> {
         &["invdesk", "export", "-h"],
     ];
     for words in cases {
-        let asked = read_words(alloc, words);
-        assert_eq!(rt; told(alloc, &asked)?.as_str(), "help", "at {words:?}");
-        assert_eq!(rt; early_status(&asked), Some(0), "at {words:?}");
+        let task = read_words(alloc, words);
+        assert_eq!(rt; told(alloc, &task)?.as_str(), "help", "at {words:?}");
+        assert_eq!(rt; early_status(&task), Some(0), "at {words:?}");
     }
     Ok(())
 }
@@ -201,12 +201,12 @@ fn refuses_other_words(rt: HostRuntime) -> Result<(), Fail> {
         &["invdesk", "export", "--db", "w.db", "parts", "lines"],
     ];
     for words in cases {
-        let asked = read_words(alloc, words);
-        assert_eq!(rt; told(alloc, &asked)?.as_str(), "wrong", "at {words:?}");
-        assert_eq!(rt; early_status(&asked), Some(2), "at {words:?}");
+        let task = read_words(alloc, words);
+        assert_eq!(rt; told(alloc, &task)?.as_str(), "wrong", "at {words:?}");
+        assert_eq!(rt; early_status(&task), Some(2), "at {words:?}");
     }
-    assert_eq!(rt; early_status(&Asked::Unreadable), Some(2));
-    assert_eq!(rt; early_status(&Asked::Memory), Some(4));
+    assert_eq!(rt; early_status(&Task::Unreadable), Some(2));
+    assert_eq!(rt; early_status(&Task::Memory), Some(4));
     Ok(())
 }
 
@@ -235,9 +235,9 @@ fn refuses_other_reports(rt: HostRuntime) -> Result<(), Fail> {
         &["invdesk", "report", "--db=w.db", "ledger", "-5"],
     ];
     for words in cases {
-        let asked = read_words(alloc, words);
-        assert_eq!(rt; told(alloc, &asked)?.as_str(), "wrong", "at {words:?}");
-        assert_eq!(rt; early_status(&asked), Some(2), "at {words:?}");
+        let task = read_words(alloc, words);
+        assert_eq!(rt; told(alloc, &task)?.as_str(), "wrong", "at {words:?}");
+        assert_eq!(rt; early_status(&task), Some(2), "at {words:?}");
     }
     Ok(())
 }
@@ -245,11 +245,11 @@ fn refuses_other_reports(rt: HostRuntime) -> Result<(), Fail> {
 #[test]
 fn says_what_is_wrong(rt: HostRuntime) -> Result<(), Fail> {
     let alloc = rt.alloc();
-    let Asked::Wrong(wrong) = read_words(alloc, &["invdesk", "fly"]) else {
+    let Task::Wrong(wrong) = read_words(alloc, &["invdesk", "fly"]) else {
         return Err("the word is wrong".into());
     };
     assert_eq!(rt; format!(in alloc; "{wrong}")?.as_str(), WRONG);
-    let Asked::Wrong(wrong) = read_words(alloc, &["invdesk", "report", "--db=a", "stock", "+5"])
+    let Task::Wrong(wrong) = read_words(alloc, &["invdesk", "report", "--db=a", "stock", "+5"])
     else {
         return Err("the number is wrong".into());
     };
@@ -260,15 +260,15 @@ fn says_what_is_wrong(rt: HostRuntime) -> Result<(), Fail> {
 #[test]
 fn prints_help(rt: HostRuntime) -> Result<(), Fail> {
     let alloc = rt.alloc();
-    let Asked::Help(help) = read_words(alloc, &["invdesk", "--help"]) else {
+    let Task::Help(help) = read_words(alloc, &["invdesk", "--help"]) else {
         return Err("help is asked for".into());
     };
     assert_eq!(rt; format!(in alloc; "{help}")?.as_str(), HELP);
-    let Asked::Help(help) = read_words(alloc, &["invdesk", "report", "--help"]) else {
+    let Task::Help(help) = read_words(alloc, &["invdesk", "report", "--help"]) else {
         return Err("help is asked for".into());
     };
     assert_eq!(rt; format!(in alloc; "{help}")?.as_str(), REPORT_HELP);
-    let Asked::Help(version) = read_words(alloc, &["invdesk", "--version"]) else {
+    let Task::Help(version) = read_words(alloc, &["invdesk", "--version"]) else {
         return Err("the version is asked for".into());
     };
     assert_eq!(rt; format!(in alloc; "{version}")?.as_str(), "invdesk 0.4\n");

@@ -5,8 +5,8 @@ use Rattle.std.specs.Str.{bytes_eq}
 use Rattle.std.proofs.lemmas.Slice.Eq.{bytes_eq-Decides}
 use Rattle.std.proofs.lemmas.List.{append-nil}
 use Rattle.serde_json.specs.Data.{Data}
-use Rattle.part_core.specs.declared.field.Kind.{Kind}
-use Rattle.part_core.specs.declared.field.Kind.TheVariants as kind
+use Rattle.part_core.specs.declared.field.FieldKind.{FieldKind}
+use Rattle.part_core.specs.declared.field.FieldKind.TheVariants as kind
 use Rattle.part_core.specs.declared.field.Field.{Field}
 use Rattle.part_core.specs.declared.field.Field.TheVariants as field
 use Rattle.part_core.specs.Named.{named}
@@ -28,13 +28,13 @@ or_fault_ok what (Some y) x e = let same : y ≡ x = cc in ap Some same
 
 -- ---- kinds
 
-as_kind : {A : Type 0} (make : A → Field) (k : Kind) → ((v : A) → kind_of (make v) ≡ k) → (r : Result A What) (x : Field) → as_field make r ≡ Ok x → kind_of x ≡ k
+as_kind : {A : Type 0} (make : A → Field) (k : FieldKind) → ((v : A) → kind_of (make v) ≡ k) → (r : Result A What) (x : Field) → as_field make r ≡ Ok x → kind_of x ≡ k
 as_kind make k of r x e =
     let b = bind_ok r (λ v. Ok (make v)) x e in
     let same : make b.0 ≡ x = let h = b.2 in cc in
     ap kind_of (sym same) ∙ of b.0
 
-field_kind : (name : List ℕ) (k : Kind) (d : Data) (x : Field) → field_in name k d ≡ Ok x → kind_of x ≡ k
+field_kind : (name : List ℕ) (k : FieldKind) (d : Data) (x : Field) → field_in name k d ≡ Ok x → kind_of x ≡ k
 field_kind name kind.Number d x e = as_kind field.Number kind.Number (λ _. refl) (number_in name d) x e
 field_kind name kind.MaybeNumber d x e = as_kind field.MaybeNumber kind.MaybeNumber (λ _. refl) (maybe_number_in name d) x e
 field_kind name kind.Text d x e = as_kind field.Text kind.Text (λ _. refl) (row_text_in name d) x e

@@ -15,8 +15,8 @@ use Rattle.std.proofs.lemmas.Slice.Eq.{bytes_eq-Decides}
 use Rattle.csv.specs.Records.{field_at}
 use Rattle.desk_wire.specs.Records.{BytesReader, Fields, ReadsRecord, are_texts, left}
 use Rattle.desk_wire.specs.Imports.{ReadsRow, field, import, names_of, row_of, rows_in}
-use Rattle.desk_wire.specs.declared.fault.Bad.{Bad}
-use Rattle.desk_wire.specs.declared.fault.Bad.TheVariants.{Memory, Wrong}
+use Rattle.desk_wire.specs.declared.fault.Unread.{Unread}
+use Rattle.desk_wire.specs.declared.fault.Unread.TheVariants.{Memory, Wrong}
 use Rattle.desk_wire.specs.declared.fault.What.{What}
 use Rattle.desk_wire.specs.declared.fault.What.TheVariants.{Csv, Header}
 use Rattle.part_core.specs.Day.{CivilDay}
@@ -124,12 +124,12 @@ untold kind document day fields h = elim (cases_Bool (length fields == length (n
   | inr f ↦ rw f refl
 ]
 
-wrong : (reading : Fields → Result ImportRow What) (a b : BytesReader) (fields : Fields) (bad : Bad) → ReadsRecord a b fields (Err bad)
+wrong : (reading : Fields → Result ImportRow What) (a b : BytesReader) (fields : Fields) (bad : Unread) → ReadsRecord a b fields (Err bad)
     → ((f : Fields) → are_texts f ≡ false → reading f ≡ Err Csv) → ReadsRow reading (left a) (left b) (Err bad)
 wrong reading a b fields Memory h u = tt
 wrong reading a b fields (Wrong what) (bad, rest, e, n, is) u = (bad, rest, e, u bad n ∙ ap Err (sym is))
 
-pub row-wrong : (kind : ImportKind) (document : List ℕ) (day : CivilDay) (a b : BytesReader) (fields : Fields) (bad : Bad) (r : Result (Option ImportRow) Bad) → IsErrAnd r (λ d. d ≡ bad)
+pub row-wrong : (kind : ImportKind) (document : List ℕ) (day : CivilDay) (a b : BytesReader) (fields : Fields) (bad : Unread) (r : Result (Option ImportRow) Unread) → IsErrAnd r (λ d. d ≡ bad)
     → ReadsRecord a b fields (Err bad) → ReadsRow (row_of kind document day) (left a) (left b) r
 row-wrong kind document day a b fields bad (Ok x) is h = absurd is
 row-wrong kind document day a b fields bad (Err d) is h = subst (λ v. ReadsRow (row_of kind document day) (left a) (left b) (Err v)) (sym is) (wrong (row_of kind document day) a b fields bad h (untold kind document day))

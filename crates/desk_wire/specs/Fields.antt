@@ -4,8 +4,8 @@ use Rattle.serde_json.specs.Data.{Data, Items, no_items, item}
 use Rattle.serde_json.specs.Find.{get, as_null, as_bool, as_number, as_str, as_array, as_u64}
 use Rattle.part_core.specs.Day.{CivilDay, day_of}
 use Rattle.part_core.specs.Serials as texts
-use Rattle.part_core.specs.declared.field.Kind.{Kind}
-use Rattle.part_core.specs.declared.field.Kind.TheVariants as kind
+use Rattle.part_core.specs.declared.field.FieldKind.{FieldKind}
+use Rattle.part_core.specs.declared.field.FieldKind.TheVariants as kind
 use Rattle.part_core.specs.declared.field.Field.{Field}
 use Rattle.part_core.specs.declared.field.Field.TheVariants as field
 use Rattle.part_core.specs.declared.flags.Flags.{Flags}
@@ -159,7 +159,7 @@ as_field make reading = do
   Ok (make value)
 
 -- the field of that kind
-abbrev pub field_in : List ℕ → Kind → Data → Result Field What
+abbrev pub field_in : List ℕ → FieldKind → Data → Result Field What
 field_in name kind.Number d = as_field field.Number (number_in name d)
 field_in name kind.MaybeNumber d = as_field field.MaybeNumber (maybe_number_in name d)
 field_in name kind.Text d = as_field field.Text (row_text_in name d)

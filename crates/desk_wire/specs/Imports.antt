@@ -13,8 +13,8 @@ use Rattle.desk_core.specs.declared.command.Command.TheVariants.{Order, Stock}
 use Rattle.desk_wire.specs.declared.fault.What.{What}
 use Rattle.desk_wire.specs.declared.fault.What.TheVariants.{TooLong, Csv, Header, WrongType}
 use Rattle.desk_wire.specs.declared.fault.WireFault.{WireFault}
-use Rattle.desk_wire.specs.declared.fault.Bad.{Bad}
-use Rattle.desk_wire.specs.declared.fault.Bad.TheVariants.{Memory, Wrong}
+use Rattle.desk_wire.specs.declared.fault.Unread.{Unread}
+use Rattle.desk_wire.specs.declared.fault.Unread.TheVariants.{Memory, Wrong}
 use Rattle.desk_wire.specs.declared.kind.ImportKind.{ImportKind}
 use Rattle.desk_wire.specs.declared.kind.ImportKind.TheVariants.{Receipts, Counts}
 use Rattle.desk_wire.specs.declared.row.ImportRow.{ImportRow}
@@ -100,7 +100,7 @@ import kind document day bytes = do
 -- ---- what the code reads at a time
 
 -- the next record was read: as a row, or as one that is wrong, or there was none
-abbrev pub ReadsRow : (Fields → Result ImportRow What) → List Fields → List Fields → Result (Option ImportRow) Bad → Type 0
+abbrev pub ReadsRow : (Fields → Result ImportRow What) → List Fields → List Fields → Result (Option ImportRow) Unread → Type 0
 ReadsRow reading old new (Ok None) = old ≡ []
 ReadsRow reading old new (Ok (Some row)) = (fields : Fields) × (old ≡ fields ∷ new) × (reading fields ≡ Ok row)
 ReadsRow reading old new (Err Memory) = Unit {0}

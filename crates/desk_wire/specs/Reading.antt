@@ -1,4 +1,4 @@
--- What a line asks, or its first fault.
+-- What a line asks for, its wish, or its first fault.
 use Rattle.std.specs.Prelude.{◌≡◌, ℕ, List, [], ◌∷◌, ◌&&◌, Bool, nat_le, length, codes, is_some, is_none, Option, None, Result, Ok, if◌then◌else◌}
 use Rattle.std.specs.Str.{is_utf8}
 use Rattle.serde_json.specs.Data.{Data}
@@ -12,8 +12,8 @@ use Rattle.desk_core.specs.declared.command.Request.{Request}
 use Rattle.report_core.specs.Names.{report_named}
 use Rattle.desk_wire.specs.declared.fault.What.{What}
 use Rattle.desk_wire.specs.declared.fault.What.TheVariants.{TooLong, NotJson, NotObject, UnknownCommand, UnknownField, BadWord}
-use Rattle.desk_wire.specs.declared.read.Asked.{Asked}
-use Rattle.desk_wire.specs.declared.read.Asked.TheVariants as asked
+use Rattle.desk_wire.specs.declared.read.Wish.{Wish}
+use Rattle.desk_wire.specs.declared.read.Wish.TheVariants as wish
 use Rattle.desk_wire.specs.Steps.{◌>>=◌, or_fault, must}
 use Rattle.desk_wire.specs.Fields.{member_in, text_of, number_in, text_in, key_in, day_in, fields_from}
 use Rattle.desk_wire.specs.Members.{knows_all}
@@ -67,26 +67,26 @@ LinesAreCommands {C} forms verb_of fields_of command_of =
 abbrev pub is_report : Data → Bool
 is_report d = is_none (get (codes "do") d) && is_some (get (codes "report") d)
 
-abbrev pub report_of : Data → Result Asked What
+abbrev pub report_of : Data → Result Wish What
 report_of d = do
   known ← must UnknownField (knows_all (codes "of" ∷ codes "report" ∷ []) d)
   number ← number_in (codes "of") d
   text ← text_in (codes "report") d
   name ← or_fault BadWord (report_named text)
-  Ok (asked.Report name number)
+  Ok (wish.Report name number)
 
 -- ---- lines
 
-abbrev pub asked_of : Data → Result Asked What
-asked_of d = if is_report d then report_of d else do
+abbrev pub wish_of : Data → Result Wish What
+wish_of d = if is_report d then report_of d else do
   request ← request_of d
-  Ok (asked.Request request)
+  Ok (wish.Request request)
 
--- what a line asks
-abbrev pub line : List ℕ → Result Asked What
+-- what a line asks for
+abbrev pub line : List ℕ → Result Wish What
 line bytes = do
   d ← object_of bytes
-  asked_of d
+  wish_of d
 
 -- the request of a line, where only requests may stand
 abbrev pub request : List ℕ → Result Request What

@@ -2,8 +2,8 @@
 use Rattle.std.specs.Prelude.{ℕ, ◌≡◌, Bool, true, false, Option, Some, None, Result, Ok, Err}
 use Rattle.desk_wire.specs.declared.fault.What.{What}
 use Rattle.desk_wire.specs.declared.fault.WireFault.{WireFault}
-use Rattle.desk_wire.specs.declared.fault.Bad as bads
-use Rattle.desk_wire.specs.declared.fault.Bad.TheVariants as bad
+use Rattle.desk_wire.specs.declared.fault.Unread as unreads
+use Rattle.desk_wire.specs.declared.fault.Unread.TheVariants as unread
 use Rattle.desk_wire.specs.declared.fault.ReadError.{ReadError}
 use Rattle.desk_wire.specs.declared.fault.ReadError.TheVariants.{Memory, Wrong}
 
@@ -34,11 +34,11 @@ at number (Ok x) = Ok x
 at number (Err what) = Err (record { line = number; what = what })
 
 -- what a function of the code answered is what reading gives, unless memory ran out
-abbrev pub Fails : {X : Type 0} → bads.Bad → Result X What → Type 0
-Fails bad.Memory reading = Unit {0}
-Fails (bad.Wrong what) reading = reading ≡ Err what
+abbrev pub Fails : {X : Type 0} → unreads.Unread → Result X What → Type 0
+Fails unread.Memory reading = Unit {0}
+Fails (unread.Wrong what) reading = reading ≡ Err what
 
-abbrev pub Gives : {X : Type 0} → Result X bads.Bad → Result X What → Type 0
+abbrev pub Gives : {X : Type 0} → Result X unreads.Unread → Result X What → Type 0
 Gives (Ok x) reading = reading ≡ Ok x
 Gives (Err e) reading = Fails e reading
 

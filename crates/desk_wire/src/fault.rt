@@ -74,7 +74,7 @@ pub struct WireFault {
 /// Why a line, or a file, wasn't read.
 #[derive(Clone, Copy, Debug, PartialEq, Eq)]
 pub enum ReadError {
-    /// A growth was refused for want of memory.
+    /// A growth was refused, as memory ran out.
     Memory,
     /// The line, or the file, asks for nothing.
     Wrong(WireFault),
@@ -82,31 +82,31 @@ pub enum ReadError {
 
 /// Why a part of a line, or a record, wasn't read.
 #[derive(Clone, Copy, Debug, PartialEq, Eq)]
-pub enum Bad {
-    /// A growth was refused for want of memory.
+pub enum Unread {
+    /// A growth was refused, as memory ran out.
     Memory,
     Wrong(What),
 }
 
-impl From<AllocError> for Bad {
+impl From<AllocError> for Unread {
     ghost use Rattle.std.specs.Prelude.{◌≡◌};
-    ghost use Rattle.desk_wire.specs.declared.fault.Bad.TheVariants.{Memory};
+    ghost use Rattle.desk_wire.specs.declared.fault.Unread.TheVariants.{Memory};
 
-    ghost from_gives = { λ _ bad. bad ≡ Memory };
+    ghost from_gives = { λ _ unread. unread ≡ Memory };
 
     fn from(_: AllocError) -> Self {
-        Bad::Memory
+        Unread::Memory
     }
 }
 
-impl From<What> for Bad {
+impl From<What> for Unread {
     ghost use Rattle.std.specs.Prelude.{◌≡◌};
-    ghost use Rattle.desk_wire.specs.declared.fault.Bad.TheVariants.{Wrong};
+    ghost use Rattle.desk_wire.specs.declared.fault.Unread.TheVariants.{Wrong};
 
-    ghost from_gives = { λ what bad. bad ≡ Wrong what };
+    ghost from_gives = { λ what unread. unread ≡ Wrong what };
 
     fn from(what: What) -> Self {
-        Bad::Wrong(what)
+        Unread::Wrong(what)
     }
 }
 

@@ -8,10 +8,12 @@ ghost use Rattle.part_core.specs.Forms.{shown_fields};
 ghost use Rattle.desk_wire.specs.Steps.{Gives, Fails};
 ghost use Rattle.desk_wire.specs.Fields.{number_of, text_of, row_text_of, serials_of, key_of, given, member_in, number_in, maybe_number_in, text_in, row_text_in, maybe_row_text_in, yes_in, key_in, day_in, serials_in, maybe_serials_in, status_in, side_in, with_numbers, numbers_in, are_texts, with_words, flags_in, field_in, fields_from};
 
-use crate::fault::{Bad, What};
+use crate::fault::{Unread, What};
 use crate::texts::{listed, row_text_from};
 use desk_core::Key;
-use part_core::{Day, Field, Flags, Id, Ids, Kind, NO_FLAGS, Serials, Side, Status, Text, named};
+use part_core::{
+    Day, Field, FieldKind, Flags, Id, Ids, NO_FLAGS, Serials, Side, Status, Text, named,
+};
 use serde_json::Value;
 use std::alloc::{AllocError, Global};
 
@@ -31,7 +33,7 @@ pub fn text_of(value: &Value) -> Result<&str, What>
 }
 
 /// A text that may stand in a row: else `BadText`.
-fn row_text_of(alloc: Global, value: &Value) -> Result<Text, Bad>
+fn row_text_of(alloc: Global, value: &Value) -> Result<Text, Unread>
     ensures { Gives result (row_text_of (view value.now)) }
 {
     let text = text_of(value)?;
@@ -39,7 +41,7 @@ fn row_text_of(alloc: Global, value: &Value) -> Result<Text, Bad>
 }
 
 /// A text that lists serials: else `BadSerials`.
-fn serials_of(alloc: Global, value: &Value) -> Result<Serials, Bad>
+fn serials_of(alloc: Global, value: &Value) -> Result<Serials, Unread>
     ensures { Gives result (serials_of (view value.now)) }
 {
     let text = text_of(value)?;
@@ -47,7 +49,7 @@ fn serials_of(alloc: Global, value: &Value) -> Result<Serials, Bad>
 }
 
 /// A text that is a key: else `BadKey`.
-fn key_of(alloc: Global, value: &Value) -> Result<Key, Bad>
+fn key_of(alloc: Global, value: &Value) -> Result<Key, Unread>
     ensures { Gives result (key_of (view value.now)) }
 {
     let text = text_of(value)?;
@@ -100,7 +102,7 @@ pub fn text<'a>(object: &'a Value, name: &str) -> Result<&'a str, What>
 }
 
 /// A text that may stand in a row.
-fn row_text(alloc: Global, object: &Value, name: &str) -> Result<Text, Bad>
+fn row_text(alloc: Global, object: &Value, name: &str) -> Result<Text, Unread>
     ensures { Gives result (row_text_in name.now (view object.now)) }
 {
     let value = member(object, name)?;
@@ -108,7 +110,7 @@ fn row_text(alloc: Global, object: &Value, name: &str) -> Result<Text, Bad>
 }
 
 /// Such a text, or none where it is missing or null.
-fn maybe_row_text(alloc: Global, object: &Value, name: &str) -> Result<Option<Text>, Bad>
+fn maybe_row_text(alloc: Global, object: &Value, name: &str) -> Result<Option<Text>, Unread>
     ensures { Gives result (maybe_row_text_in name.now (view object.now)) }
 {
     match given(object, name) {
@@ -128,7 +130,7 @@ fn yes(object: &Value, name: &str) -> Result<bool, What>
 }
 
 /// The key that the request is called by, or none where it is missing.
-pub fn key(alloc: Global, object: &Value) -> Result<Option<Key>, Bad>
+pub fn key(alloc: Global, object: &Value) -> Result<Option<Key>, Unread>
     ensures { Gives result (key_in (view object.now)) }
 {
     match object.get("key") {
@@ -146,7 +148,7 @@ pub fn day(object: &Value) -> Result<Day, What>
 }
 
 /// Serials as a text lists them.
-fn serials(alloc: Global, object: &Value, name: &str) -> Result<Serials, Bad>
+fn serials(alloc: Global, object: &Value, name: &str) -> Result<Serials, Unread>
     ensures { Gives result (serials_in name.now (view object.now)) }
 {
     let value = member(object, name)?;
@@ -154,7 +156,7 @@ fn serials(alloc: Global, object: &Value, name: &str) -> Result<Serials, Bad>
 }
 
 /// Such serials, or none where they are missing or null.
-fn maybe_serials(alloc: Global, object: &Value, name: &str) -> Result<Option<Serials>, Bad>
+fn maybe_serials(alloc: Global, object: &Value, name: &str) -> Result<Option<Serials>, Unread>
     ensures { Gives result (maybe_serials_in name.now (view object.now)) }
 {
     match given(object, name) {
@@ -179,10 +181,10 @@ fn side(object: &Value, name: &str) -> Result<Side, What>
     named::<Side>(text).ok_or(What::BadWord)
 }
 
-fn numbers(alloc: Global, values: &[Value]) -> Result<Vec<Id>, Bad>
+fn numbers(alloc: Global, values: &[Value]) -> Result<Vec<Id>, Unread>
     ensures { MatchResult result
         (λ numbers. with_numbers [] (items_view values.now) ≡ Ok numbers.items)
-        (λ bad. Fails bad (with_numbers [] (items_view values.now))) }
+        (λ unread. Fails unread (with_numbers [] (items_view values.now))) }
 {
     let mut numbers = Vec::new(alloc);
     for value in values {
@@ -193,7 +195,7 @@ fn numbers(alloc: Global, values: &[Value]) -> Result<Vec<Id>, Bad>
 }
 
 /// An array of numbers, in its order.
-fn ids(alloc: Global, object: &Value, name: &str) -> Result<Ids, Bad>
+fn ids(alloc: Global, object: &Value, name: &str) -> Result<Ids, Unread>
     ensures { Gives result (numbers_in name.now (view object.now)) }
 {
     let value = member(object, name)?;
@@ -237,29 +239,33 @@ fn flags(object: &Value, name: &str) -> Result<Flags, What>
 }
 
 /// The field of that kind.
-fn field(alloc: Global, object: &Value, name: &str, kind: Kind) -> Result<Field, Bad>
+fn field(alloc: Global, object: &Value, name: &str, kind: FieldKind) -> Result<Field, Unread>
     ensures { Gives result (field_in name.now kind (view object.now)) }
 {
     match kind {
-        Kind::Number => Ok(Field::Number(number(object, name)?)),
-        Kind::MaybeNumber => Ok(Field::MaybeNumber(maybe_number(object, name)?)),
-        Kind::Text => Ok(Field::Text(row_text(alloc, object, name)?)),
-        Kind::MaybeText => Ok(Field::MaybeText(maybe_row_text(alloc, object, name)?)),
-        Kind::Yes => Ok(Field::Yes(yes(object, name)?)),
-        Kind::Flags => Ok(Field::Flags(flags(object, name)?)),
-        Kind::Status => Ok(Field::Status(status(object, name)?)),
-        Kind::Side => Ok(Field::Side(side(object, name)?)),
-        Kind::Serials => Ok(Field::Serials(serials(alloc, object, name)?)),
-        Kind::MaybeSerials => Ok(Field::MaybeSerials(maybe_serials(alloc, object, name)?)),
-        Kind::Numbers => Ok(Field::Numbers(ids(alloc, object, name)?)),
+        FieldKind::Number => Ok(Field::Number(number(object, name)?)),
+        FieldKind::MaybeNumber => Ok(Field::MaybeNumber(maybe_number(object, name)?)),
+        FieldKind::Text => Ok(Field::Text(row_text(alloc, object, name)?)),
+        FieldKind::MaybeText => Ok(Field::MaybeText(maybe_row_text(alloc, object, name)?)),
+        FieldKind::Yes => Ok(Field::Yes(yes(object, name)?)),
+        FieldKind::Flags => Ok(Field::Flags(flags(object, name)?)),
+        FieldKind::Status => Ok(Field::Status(status(object, name)?)),
+        FieldKind::Side => Ok(Field::Side(side(object, name)?)),
+        FieldKind::Serials => Ok(Field::Serials(serials(alloc, object, name)?)),
+        FieldKind::MaybeSerials => Ok(Field::MaybeSerials(maybe_serials(alloc, object, name)?)),
+        FieldKind::Numbers => Ok(Field::Numbers(ids(alloc, object, name)?)),
     }
 }
 
 /// The fields of a form, in its order, or the first fault.
-pub fn fields(alloc: Global, object: &Value, blanks: &[(&str, Kind)]) -> Result<Vec<Field>, Bad>
+pub fn fields(
+    alloc: Global,
+    object: &Value,
+    blanks: &[(&str, FieldKind)],
+) -> Result<Vec<Field>, Unread>
     ensures { MatchResult result
         (λ fields. fields_from [] (shown_fields blanks.now) (view object.now) ≡ Ok fields.items)
-        (λ bad. Fails bad (fields_from [] (shown_fields blanks.now) (view object.now))) }
+        (λ unread. Fails unread (fields_from [] (shown_fields blanks.now) (view object.now))) }
 {
     let mut fields = Vec::new(alloc);
     for (name, kind) in blanks {

@@ -6,7 +6,7 @@ ghost use Rattle.desk_wire.specs.Steps.{FailsIn};
 ghost use Rattle.desk_wire.specs.Imports.{ReadsRow, import, row_of, with_rows};
 
 use crate::document::Document;
-use crate::fault::{Bad, ReadError, What, WireFault};
+use crate::fault::{ReadError, Unread, What, WireFault};
 use crate::kind::ImportKind;
 use crate::records::{next_record, records_of};
 use crate::row::{ImportRow, is_header, row};
@@ -30,7 +30,7 @@ fn next_row(
     kind: ImportKind,
     document: &Document,
     day: Day,
-) -> Result<Option<ImportRow>, Bad>
+) -> Result<Option<ImportRow>, Unread>
     requires { IsReading reader.old }
     ensures row { ReadsRow (row_of kind document.now day) (left reader.old) (left reader.new) result }
     ensures reading { IfOk result (λ row. IsSome row → IsReading reader.new) }
@@ -61,8 +61,8 @@ fn rows(
         match next_row(alloc, reader, fields, kind, document, day) {
             Ok(Some(row)) => rows.push(row)?,
             Ok(None) => return Ok(rows),
-            Err(Bad::Memory) => return Err(ReadError::Memory),
-            Err(Bad::Wrong(what)) => {
+            Err(Unread::Memory) => return Err(ReadError::Memory),
+            Err(Unread::Wrong(what)) => {
                 return Err(ReadError::Wrong(WireFault { line: number, what }));
             }
         }
@@ -96,8 +96,8 @@ pub fn import_rows(
     match next_record(&mut reader, &mut fields) {
         Ok(true) => {}
         Ok(false) => return Err(NO_HEADER),
-        Err(Bad::Wrong(_)) => return Err(NO_HEADER),
-        Err(Bad::Memory) => return Err(ReadError::Memory),
+        Err(Unread::Wrong(_)) => return Err(NO_HEADER),
+        Err(Unread::Memory) => return Err(ReadError::Memory),
     }
     if !is_header(kind, &fields) {
         return Err(NO_HEADER);

@@ -43,11 +43,11 @@ mod texts;
 mod write;
 
 pub use document::Document;
-pub use fault::{Bad, ReadError, What, WireFault};
+pub use fault::{ReadError, Unread, What, WireFault};
 pub use import::{import_counts, import_receipts, import_rows};
 pub use kind::{ImportKind, import_kind_named};
 pub use number::number_in;
-pub use read::{Asked, lines_are_commands, read_line, read_request};
+pub use read::{Wish, lines_are_commands, read_line, read_request};
 pub use report::{import_report, push_report_line};
 pub use row::ImportRow;
 pub use write::{answer_text, fault_text, refused_text, report_text};

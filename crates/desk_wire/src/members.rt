@@ -4,7 +4,7 @@ ghost use Rattle.serde_json.specs.View.{view};
 ghost use Rattle.part_core.specs.Forms.{is_among, names_of, shown_fields};
 ghost use Rattle.desk_wire.specs.Members.{knows_all};
 
-use part_core::Kind;
+use part_core::FieldKind;
 use serde_json::Value;
 
 fn is_among(name: &str, names: &[&str]) -> bool
@@ -18,7 +18,7 @@ fn is_among(name: &str, names: &[&str]) -> bool
     false
 }
 
-fn is_field(name: &str, blanks: &[(&str, Kind)]) -> bool
+fn is_field(name: &str, blanks: &[(&str, FieldKind)]) -> bool
     ensures { result ≡ is_among name.now (names_of (shown_fields blanks.now)) }
 {
     for (known, _) in blanks {
@@ -30,7 +30,7 @@ fn is_field(name: &str, blanks: &[(&str, Kind)]) -> bool
 }
 
 #[tactic(auto, using(crate::proofs::MemberNames::is_among_both))]
-fn is_known(name: &str, names: &[&str], blanks: &[(&str, Kind)]) -> bool
+fn is_known(name: &str, names: &[&str], blanks: &[(&str, FieldKind)]) -> bool
     ensures { result ≡ is_among name.now
         (map (λ name. name.now) names.now ++ names_of (shown_fields blanks.now)) }
 {
@@ -39,7 +39,7 @@ fn is_known(name: &str, names: &[&str], blanks: &[(&str, Kind)]) -> bool
 
 /// Each member of the object has one of these names, or is one of these fields.
 #[tactic(auto, using(crate::proofs::MemberNames::knows_all_members))]
-pub fn knows_all(names: &[&str], blanks: &[(&str, Kind)], object: &Value) -> bool
+pub fn knows_all(names: &[&str], blanks: &[(&str, FieldKind)], object: &Value) -> bool
     ensures { result ≡ knows_all
         (map (λ name. name.now) names.now ++ names_of (shown_fields blanks.now)) (view object.now) }
 {

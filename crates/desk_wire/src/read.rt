@@ -1,12 +1,12 @@
-//! A line, as what it asks.
+//! A line, as what it asks for: a wish.
 ghost use Rattle.std.specs.Prelude.{◌≡◌, Ok, Err, Some, MatchResult};
 ghost use Rattle.serde_json.specs.View.{view};
 ghost use Rattle.part_core.specs.Forms.{shown};
 ghost use Rattle.desk_wire.specs.Steps.{Gives, GivesAt, Fails, or_fault};
-ghost use Rattle.desk_wire.specs.Reading.{LinesAreCommands, parsed, object_of, form_in, command_in, request_of, is_report, report_of, asked_of};
+ghost use Rattle.desk_wire.specs.Reading.{LinesAreCommands, parsed, object_of, form_in, command_in, request_of, is_report, report_of, wish_of};
 ghost use Rattle.desk_wire.specs.Reading as reading;
 
-use crate::fault::{Bad, ReadError, What, WireFault};
+use crate::fault::{ReadError, Unread, What, WireFault};
 use crate::fields::{day, fields, key, member, number, text, text_of};
 use crate::members::knows_all;
 use desk_core::{Command, Request};
@@ -15,42 +15,42 @@ use report_core::{ReportName, report_named};
 use serde_json::Value;
 use std::alloc::Global;
 
-/// What a line asks.
+/// What a line asks for.
 #[derive(Drop)]
-pub enum Asked {
+pub enum Wish {
     Request(Request),
     /// The report of that name on the part, or the item, of this number.
     Report { name: ReportName, of: u64 },
 }
 
 #[tactic(auto, using(crate::proofs::Parsed::parsed_ok, crate::proofs::Parsed::parsed_none))]
-fn parsed(alloc: Global, bytes: &[u8]) -> Result<Value, Bad>
+fn parsed(alloc: Global, bytes: &[u8]) -> Result<Value, Unread>
     ensures { MatchResult result (λ value. parsed bytes.now ≡ Some (view value))
-        (λ bad. Fails bad (or_fault What.NotJson (parsed bytes.now))) }
+        (λ unread. Fails unread (or_fault What.NotJson (parsed bytes.now))) }
 {
     match Value::from_slice(alloc, bytes) {
         Ok(value) => Ok(value),
         Err(e) => {
             if e.is_memory() {
-                Err(Bad::Memory)
+                Err(Unread::Memory)
             } else {
-                Err(Bad::Wrong(What::NotJson))
+                Err(Unread::Wrong(What::NotJson))
             }
         }
     }
 }
 
 /// The object that a line is.
-fn object(alloc: Global, bytes: &[u8]) -> Result<Value, Bad>
+fn object(alloc: Global, bytes: &[u8]) -> Result<Value, Unread>
     ensures { MatchResult result (λ value. object_of bytes.now ≡ Ok (view value))
-        (λ bad. Fails bad (object_of bytes.now)) }
+        (λ unread. Fails unread (object_of bytes.now)) }
 {
     if bytes.len() > 65_536 {
-        return Err(Bad::Wrong(What::TooLong));
+        return Err(Unread::Wrong(What::TooLong));
     }
     let value = parsed(alloc, bytes)?;
     if !value.is_object() {
-        return Err(Bad::Wrong(What::NotObject));
+        return Err(Unread::Wrong(What::NotObject));
     }
     Ok(value)
 }
@@ -71,7 +71,7 @@ fn form<C: Formed>(object: &Value) -> Result<&'static Form, What>
 }
 
 /// The command of that form whose fields are the object's, or the first fault of a field.
-fn command<C: Formed>(alloc: Global, object: &Value, form: &Form) -> Result<C, Bad>
+fn command<C: Formed>(alloc: Global, object: &Value, form: &Form) -> Result<C, Unread>
     ensures { Gives result (command_in C.command_of (shown form.now) (view object.now)) }
 {
     let fields = fields(alloc, object, form.fields)?;
@@ -79,7 +79,7 @@ fn command<C: Formed>(alloc: Global, object: &Value, form: &Form) -> Result<C, B
     Ok(command)
 }
 
-fn request(alloc: Global, object: &Value) -> Result<Request, Bad>
+fn request(alloc: Global, object: &Value) -> Result<Request, Unread>
     ensures { Gives result (request_of (view object.now)) }
 {
     let form = form::<Command>(object)?;
@@ -96,7 +96,7 @@ fn is_report(object: &Value) -> bool
     object.get("do").is_none() && object.get("report").is_some()
 }
 
-fn report(object: &Value) -> Result<Asked, What>
+fn report(object: &Value) -> Result<Wish, What>
     ensures { result ≡ report_of (view object.now) }
 {
     if !knows_all(&["of", "report"], &[], object) {
@@ -105,42 +105,42 @@ fn report(object: &Value) -> Result<Asked, What>
     let of = number(object, "of")?;
     let text = text(object, "report")?;
     let name = report_named(text).ok_or(What::BadWord)?;
-    Ok(Asked::Report { name, of })
+    Ok(Wish::Report { name, of })
 }
 
-fn asked_of(alloc: Global, object: &Value) -> Result<Asked, Bad>
-    ensures { Gives result (asked_of (view object.now)) }
+fn wish_of(alloc: Global, object: &Value) -> Result<Wish, Unread>
+    ensures { Gives result (wish_of (view object.now)) }
 {
     if is_report(object) {
         return Ok(report(object)?);
     }
     let request = request(alloc, object)?;
-    Ok(Asked::Request(request))
+    Ok(Wish::Request(request))
 }
 
-fn line_asked(alloc: Global, bytes: &[u8]) -> Result<Asked, Bad>
+fn line_wish(alloc: Global, bytes: &[u8]) -> Result<Wish, Unread>
     ensures { Gives result (reading.line bytes.now) }
 {
     let object = object(alloc, bytes)?;
-    asked_of(alloc, &object)
+    wish_of(alloc, &object)
 }
 
-fn line_request(alloc: Global, bytes: &[u8]) -> Result<Request, Bad>
+fn line_request(alloc: Global, bytes: &[u8]) -> Result<Request, Unread>
     ensures { Gives result (reading.request bytes.now) }
 {
     let object = object(alloc, bytes)?;
     request(alloc, &object)
 }
 
-/// What the line of this number asks, or its first fault. Of a long line its first 65,537 bytes
+/// What the line of this number asks for, or its first fault. Of a long line its first 65,537 bytes
 /// are enough.
-pub fn read_line(alloc: Global, bytes: &[u8], line: u64) -> Result<Asked, ReadError>
+pub fn read_line(alloc: Global, bytes: &[u8], line: u64) -> Result<Wish, ReadError>
     ensures { GivesAt line result (reading.line bytes.now) }
 {
-    match line_asked(alloc, bytes) {
-        Ok(asked) => Ok(asked),
-        Err(Bad::Memory) => Err(ReadError::Memory),
-        Err(Bad::Wrong(what)) => Err(ReadError::Wrong(WireFault { line, what })),
+    match line_wish(alloc, bytes) {
+        Ok(wish) => Ok(wish),
+        Err(Unread::Memory) => Err(ReadError::Memory),
+        Err(Unread::Wrong(what)) => Err(ReadError::Wrong(WireFault { line, what })),
     }
 }
 
@@ -151,8 +151,8 @@ pub fn read_request(alloc: Global, bytes: &[u8], line: u64) -> Result<Request, R
 {
     match line_request(alloc, bytes) {
         Ok(request) => Ok(request),
-        Err(Bad::Memory) => Err(ReadError::Memory),
-        Err(Bad::Wrong(what)) => Err(ReadError::Wrong(WireFault { line, what })),
+        Err(Unread::Memory) => Err(ReadError::Memory),
+        Err(Unread::Wrong(what)) => Err(ReadError::Wrong(WireFault { line, what })),
     }
 }
 

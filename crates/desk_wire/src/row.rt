@@ -11,7 +11,7 @@ ghost use Rattle.desk_wire.specs.Steps.{Gives};
 ghost use Rattle.desk_wire.specs.Imports.{names_of, field, number_of, batch_of, serials_of, command_of, key_of, row_of};
 
 use crate::document::Document;
-use crate::fault::{Bad, What};
+use crate::fault::{Unread, What};
 use crate::kind::ImportKind;
 use crate::number::{number_in, row_number_in};
 use crate::texts::{listed, row_text_from};
@@ -76,7 +76,7 @@ fn number(fields: &StringRecord, index: usize) -> Result<u64, What>
 }
 
 /// A batch, or none where the field is empty.
-fn batch(alloc: Global, text: &str) -> Result<Option<Batch>, Bad>
+fn batch(alloc: Global, text: &str) -> Result<Option<Batch>, Unread>
     ensures { Gives result (batch_of text.now) }
 {
     if text.is_empty() {
@@ -87,7 +87,7 @@ fn batch(alloc: Global, text: &str) -> Result<Option<Batch>, Bad>
 }
 
 /// Serials, or none where the field is empty.
-fn serials(alloc: Global, text: &str) -> Result<Option<Serials>, Bad>
+fn serials(alloc: Global, text: &str) -> Result<Option<Serials>, Unread>
     ensures { Gives result (serials_of text.now) }
 {
     if text.is_empty() {
@@ -97,7 +97,7 @@ fn serials(alloc: Global, text: &str) -> Result<Option<Serials>, Bad>
     Ok(Some(serials))
 }
 
-fn receive(alloc: Global, fields: &StringRecord) -> Result<Command, Bad>
+fn receive(alloc: Global, fields: &StringRecord) -> Result<Command, Unread>
     ensures { Gives result (command_of kinds.Receipts (fields_of fields.now)) }
 {
     let line = number(fields, 1)?;
@@ -125,7 +125,7 @@ fn count(fields: &StringRecord) -> Result<Command, What>
 }
 
 /// The command of a row, or the first fault of its fields after the number.
-fn command(alloc: Global, kind: ImportKind, fields: &StringRecord) -> Result<Command, Bad>
+fn command(alloc: Global, kind: ImportKind, fields: &StringRecord) -> Result<Command, Unread>
     ensures { Gives result (command_of kind (fields_of fields.now)) }
 {
     match kind {
@@ -161,12 +161,12 @@ pub fn row(
     document: &Document,
     day: Day,
     fields: &StringRecord,
-) -> Result<ImportRow, Bad>
+) -> Result<ImportRow, Unread>
     requires { are_texts (fields_of fields.now) ≡ true }
     ensures { Gives result (row_of kind document.now day (fields_of fields.now)) }
 {
     if fields.len() != names(kind).len() {
-        return Err(Bad::Wrong(What::Csv));
+        return Err(Unread::Wrong(What::Csv));
     }
     let text = field(fields, 0);
     let number = row_number_in(text).ok_or(What::WrongType)?;

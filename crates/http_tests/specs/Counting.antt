@@ -1,7 +1,7 @@
 -- A service that counts the bytes that it is sent.
 use Rattle.std.specs.Prelude.{◌≡◌, ℕ, ◌+◌, ◌%◌, ◌==◌, ◌++◌, List, [], ◌∷◌, length, decimal, codes, if◌then◌else◌}
 use Rattle.std.specs.Str.{bytes_eq}
-use Rattle.desk_http.specs.Services.{Machine, Operation, Said}
+use Rattle.desk_http.specs.Services.{Machine, Operation, ReplyView}
 use Rattle.desk_http.specs.declared.service.Outcome.TheVariants.{Answered, Refused, Faulty, Reported}
 use Rattle.desk_http.specs.declared.service.Failure.{Failure}
 
@@ -12,7 +12,7 @@ abbrev pub more : ℕ → List ℕ → ℕ
 more total body = (total % 65536 + length body % 65536) % 65536
 
 -- the report of no number is refused, and that of 9 has no lines
-abbrev pub report_said : ℕ → Said
+abbrev pub report_said : ℕ → ReplyView
 report_said number = if number == 0 then (Refused, number_line 0) else (if number == 9 then (Reported, []) else (Reported, number_line number))
 
 abbrev pub counting : Machine ℕ

@@ -10,8 +10,8 @@ ghost use Rattle.desk_store.specs.Desks.{IsDesk};
 
 use crate::serve::serve;
 use desk_app::{
-    Asked, Books, BooksService, CountedBooks, DEVICE, FileFault, MEMORY, Refused, RunEnd, connect,
-    early_status, end_of_work, import_file, let_go, print_export, print_report, read_file,
+    Books, BooksService, CountedBooks, DEVICE, FaultyFile, FileFault, MEMORY, RunEnd, Task,
+    connect, early_status, end_of_work, import_file, let_go, print_export, print_report, read_file,
     read_words, run_in_memory, run_lines, status_of, status_of_fault, take_desk,
 };
 use desk_core::Shop;
@@ -25,32 +25,32 @@ use std::io::{self, Input, IsTerminal, Stderr};
 use std::process::ExitCode;
 
 /// The words that the program is called with, the first its name.
-fn given<R: Env + AllocGlobal>(rt: &R) -> Result<Vec<String>, Asked<'static>> {
+fn given<R: Env + AllocGlobal>(rt: &R) -> Result<Vec<String>, Task<'static>> {
     let words = match env::args(rt) {
         Ok(words) => words,
         Err(e) => {
             return Err(if e.kind() == io::ErrorKind::OutOfMemory {
-                Asked::Memory
+                Task::Memory
             } else {
-                Asked::Unreadable
+                Task::Unreadable
             });
         }
     };
     match words.collect(rt.alloc()) {
         Ok(words) => Ok(words),
-        Err(_) => Err(Asked::Memory),
+        Err(_) => Err(Task::Memory),
     }
 }
 
 /// Prints what the words ask for, and gives the status to end with at once, unless a desk is asked for.
-fn at_once<R: Print + Eprint>(rt: &R, asked: &Asked<'_>) -> Option<u8> {
-    let printed = match asked {
-        Asked::Help(text) | Asked::Wrong(text) => text.print(rt),
-        Asked::Unreadable => eprintln!(rt; "invdesk: a word isn't UTF-8"),
+fn at_once<R: Print + Eprint>(rt: &R, task: &Task<'_>) -> Option<u8> {
+    let printed = match task {
+        Task::Help(text) | Task::Wrong(text) => text.print(rt),
+        Task::Unreadable => eprintln!(rt; "invdesk: a word isn't UTF-8"),
         _ => Ok(()),
     };
     match printed {
-        Ok(()) => early_status(asked),
+        Ok(()) => early_status(task),
         Err(_) => Some(DEVICE),
     }
 }
@@ -107,15 +107,15 @@ fn terminal(rt: &HostRuntime) -> Option<Stderr> {
 }
 
 /// Does what the words ask for, on the desk.
-fn act(rt: &HostRuntime, asked: &Asked<'_>, desk: &mut Desk<FileStore<File>>) -> RunEnd
+fn act(rt: &HostRuntime, task: &Task<'_>, desk: &mut Desk<FileStore<File>>) -> RunEnd
     requires { IsDesk over_files desk.old }
     ensures { IsDesk over_files desk.new }
 {
     let alloc = rt.alloc();
     let mut writer = io::writer(rt);
-    match asked {
-        Asked::Report(_, name, number) => print_report(alloc, desk, *name, *number, &mut writer),
-        Asked::Export(_, table) => print_export(desk, *table, &mut writer),
+    match task {
+        Task::Report(_, name, number) => print_report(alloc, desk, *name, *number, &mut writer),
+        Task::Export(_, table) => print_export(desk, *table, &mut writer),
         _ => run_lines(alloc, &mut rt.reader(), &mut writer, desk),
     }
 }
@@ -130,16 +130,16 @@ fn closed(desk: Desk<FileStore<File>>, end: RunEnd) -> RunEnd
 }
 
 /// Does what the words ask for, and closes the desk.
-fn done(rt: &HostRuntime, asked: &Asked<'_>, mut desk: Desk<FileStore<File>>) -> RunEnd
+fn done(rt: &HostRuntime, task: &Task<'_>, mut desk: Desk<FileStore<File>>) -> RunEnd
     requires { IsDesk over_files desk }
 {
-    match asked {
-        Asked::Serve { port, count, .. } => {
+    match task {
+        Task::Serve { port, count, .. } => {
             let mut service = BooksService { books: desk };
             let end = serve(rt, *port, *count, &mut service);
             closed(service.books, end)
         }
-        Asked::Import {
+        Task::Import {
             kind,
             document,
             day,
@@ -151,39 +151,39 @@ fn done(rt: &HostRuntime, asked: &Asked<'_>, mut desk: Desk<FileStore<File>>) ->
             closed(books.into_books(), end)
         }
         _ => {
-            let end = act(rt, asked, &mut desk);
+            let end = act(rt, task, &mut desk);
             closed(desk, end)
         }
     }
 }
 
 /// Does what the words ask for, with the desk of the file.
-fn act_on_file(rt: &HostRuntime, path: &str, asked: &Asked<'_>) -> Result<RunEnd, FileFault> {
+fn act_on_file(rt: &HostRuntime, path: &str, task: &Task<'_>) -> Result<RunEnd, FileFault> {
     let conn = connect(rt, path)?;
     match take_desk(rt.alloc(), conn) {
-        Ok(desk) => Ok(done(rt, asked, desk)),
-        Err((fault, _store)) => Err(fault),
+        Ok(desk) => Ok(done(rt, task, desk)),
+        Err((fault, _database)) => Err(fault),
     }
 }
 
 /// Does what the words ask for with a file, and says why not, where the file is the reason.
-fn status_on_file(rt: &HostRuntime, path: &str, asked: &Asked<'_>) -> u8 {
-    match act_on_file(rt, path, asked) {
+fn status_on_file(rt: &HostRuntime, path: &str, task: &Task<'_>) -> u8 {
+    match act_on_file(rt, path, task) {
         Ok(end) => status_of(end),
         Err(fault) => {
             let status = status_of_fault(&fault);
-            let refused = Refused { path, fault };
+            let faulty = FaultyFile { path, fault };
             // Where the standard error fails too, the status alone tells.
-            let _ = eprintln!(rt; "invdesk: {refused}");
+            let _ = eprintln!(rt; "invdesk: {faulty}");
             status
         }
     }
 }
 
 /// Does what the words ask for, with new books in memory.
-fn act_in_memory(rt: &HostRuntime, asked: &Asked<'_>) -> RunEnd {
+fn act_in_memory(rt: &HostRuntime, task: &Task<'_>) -> RunEnd {
     let alloc = rt.alloc();
-    if let Asked::Serve { port, count, .. } = asked {
+    if let Task::Serve { port, count, .. } = task {
         let books = Shop::new(alloc, Limits::LARGEST);
         return serve(rt, *port, *count, &mut BooksService { books });
     }
@@ -191,10 +191,10 @@ fn act_in_memory(rt: &HostRuntime, asked: &Asked<'_>) -> RunEnd {
 }
 
 /// Does what the words ask for, with the desk of the file, or with new books in memory.
-fn status_after(rt: &HostRuntime, asked: &Asked<'_>) -> u8 {
-    match asked.file() {
-        Some(path) => status_on_file(rt, path, asked),
-        None => status_of(act_in_memory(rt, asked)),
+fn status_after(rt: &HostRuntime, task: &Task<'_>) -> u8 {
+    match task.file() {
+        Some(path) => status_on_file(rt, path, task),
+        None => status_of(act_in_memory(rt, task)),
     }
 }
 
@@ -212,12 +212,12 @@ fn tell<R: Eprint>(rt: &R, status: u8) {
 fn run(rt: &HostRuntime) -> u8 {
     let words = match given(rt) {
         Ok(words) => words,
-        Err(asked) => return at_once(rt, &asked).unwrap_or(DEVICE),
+        Err(task) => return at_once(rt, &task).unwrap_or(DEVICE),
     };
-    let asked = read_words(rt.alloc(), words.as_slice());
-    match at_once(rt, &asked) {
+    let task = read_words(rt.alloc(), words.as_slice());
+    match at_once(rt, &task) {
         Some(status) => status,
-        None => status_after(rt, &asked),
+        None => status_after(rt, &task),
     }
 }
 

@@ -15,9 +15,9 @@ use Rattle.alloc_core.specs.Allocations.{allocated_for_sale_line, amount_where, 
 use Rattle.alloc_core.specs.declared.allocation.Allocation.{Allocation}
 use Rattle.alloc_core.proofs.Sound.{free-enough, sound-allocated}
 use Rattle.alloc_core.proofs.Sums.{amount-in, amount-out}
-use Rattle.yard_core.specs.Books.{Books}
+use Rattle.yard_core.specs.StockBooks.{StockBooks}
 use Rattle.yard_core.specs.Stock.{item_at}
-use Rattle.stock_core.specs.Asked.{is_loose, is_no_item, part_at}
+use Rattle.stock_core.specs.ItemTests.{is_loose, is_no_item, part_at}
 use Rattle.stock_core.specs.StockMachine.{Grows}
 use Rattle.stock_core.proofs.Beside.{sound-later}
 use Rattle.stock_core.proofs.Checked.{good-quantity, there-row}
@@ -31,7 +31,7 @@ use Rattle.order_core.proofs.Kept.{line_of, lines-same, purpose-kept}
 use Rattle.order_core.proofs.NoneFor.{test_of}
 
 -- one number more is drawn, and nothing else of the stock changes
-pub grows-drawn : (b : Books) → Grows b (one_drawn b)
+pub grows-drawn : (b : StockBooks) → Grows b (one_drawn b)
 grows-drawn b = record { numbers = omega arith; limits = refl; entries = omega arith; items = λ n x e. (x, e, refl) }
 
 module _ (is_build : ℕ → Bool) (parts : Parts) (line item q : ℕ) (b : OrderBooks) (sound : AreSoundBooks is_build parts b) (e : first (allocate_sale_checks line item q b) ≡ None) where

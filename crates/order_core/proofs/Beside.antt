@@ -20,7 +20,7 @@ use Rattle.alloc_core.specs.declared.alloc_command.AllocCommand.TheVariants.{Rel
 use Rattle.alloc_core.proofs.Sound.{release-is}
 use Rattle.alloc_core.proofs.Sums.{sum-split}
 use Rattle.part_core.proofs.TableRows.{get-without, values-without}
-use Rattle.yard_core.specs.Books.{Books}
+use Rattle.yard_core.specs.StockBooks.{StockBooks}
 use Rattle.yard_core.specs.Stock.{no_item}
 use Rattle.stock_core.specs.StockMachine.{Grows}
 use Rattle.order_core.specs.Beside.{SoundBesideBuilds, beside}
@@ -31,7 +31,7 @@ use Rattle.order_core.specs.declared.order.Order.{Order}
 use Rattle.order_core.proofs.Kept.{lines-same, part-stays, purpose-kept}
 
 -- what a command on stock, or on builds, does to the stock
-pub orders-beside : (parts : Parts) (b : OrderBooks) (c : Books) → Grows b.books c → AreSoundAllocations b.allocations b.books → AreSoundOrders parts b → AreSoundOrders parts (record b { books = c })
+pub orders-beside : (parts : Parts) (b : OrderBooks) (c : StockBooks) → Grows b.books c → AreSoundAllocations b.allocations b.books → AreSoundOrders parts b → AreSoundOrders parts (record b { books = c })
 orders-beside parts b c grows held sound = record {
   orders = right-later (λ (o : Order). o.number) b.books.counter.next c.counter.next b.orders grows.numbers sound.orders;
   lines = right-later (λ (l : OrderLine). l.number) b.books.counter.next c.counter.next b.lines grows.numbers sound.lines;
@@ -41,7 +41,7 @@ orders-beside parts b c grows held sound = record {
 }
 
 -- what a command on builds does: allocations for builds come and go, and the stock grows
-module _ (parts : Parts) (b : OrderBooks) (allocations : Table Allocation) (c : Books) (grows : Grows b.books c) (held : AreSoundAllocations b.allocations b.books)
+module _ (parts : Parts) (b : OrderBooks) (allocations : Table Allocation) (c : StockBooks) (grows : Grows b.books c) (held : AreSoundAllocations b.allocations b.books)
     (none : NoneComes is_for_sale b.allocations allocations) (sound : AreSoundOrders parts b) where
   abbrev after : OrderBooks
   after = beside allocations c b
@@ -110,7 +110,7 @@ orders-later old new b counter stay le sound =
     }
 
 -- the items stay as they are
-pub orders-items : (parts : Parts) (b : OrderBooks) (c : Books) → c.stock.items ≡ b.books.stock.items → b.books.counter.next ≤ c.counter.next → AreSoundOrders parts b
+pub orders-items : (parts : Parts) (b : OrderBooks) (c : StockBooks) → c.stock.items ≡ b.books.stock.items → b.books.counter.next ≤ c.counter.next → AreSoundOrders parts b
     → AreSoundOrders parts (record b { books = c })
 orders-items parts b c same le sound =
     let after : OrderBooks = record b { books = c } in record {
@@ -122,7 +122,7 @@ orders-items parts b c same le sound =
     }
 
 -- there are none
-pub orders-nothing : (parts : Parts) (books : Books) → AreSoundOrders parts (record { orders = table.empty; lines = table.empty; allocations = table.empty; books = books })
+pub orders-nothing : (parts : Parts) (books : StockBooks) → AreSoundOrders parts (record { orders = table.empty; lines = table.empty; allocations = table.empty; books = books })
 orders-nothing parts books =
     let b : OrderBooks = record { orders = table.empty; lines = table.empty; allocations = table.empty; books = books } in record {
       orders = right-empty (λ (o : Order). o.number) books.counter.next;

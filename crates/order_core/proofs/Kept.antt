@@ -8,7 +8,7 @@ use Rattle.alloc_core.specs.declared.purpose.Purpose.{Purpose}
 use Rattle.alloc_core.specs.declared.purpose.Purpose.TheVariants.{Sale, Build}
 use Rattle.yard_core.specs.Stock.{Stock, item_at}
 use Rattle.forest.specs.Forest.{is_at}
-use Rattle.stock_core.specs.Asked.{part_at}
+use Rattle.stock_core.specs.ItemTests.{part_at}
 use Rattle.stock_core.specs.Sound.{PartsStay}
 use Rattle.stock_core.proofs.Plain.{item_of}
 use Rattle.stock_core.proofs.Taking.{there-loose}

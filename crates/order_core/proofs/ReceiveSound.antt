@@ -14,9 +14,9 @@ use Rattle.forest.specs.declared.entry.Kind.TheVariants as kind
 use Rattle.forest.specs.declared.place.Place.TheVariants.{At}
 use Rattle.alloc_core.specs.Allocations.{allocated_for_sale_line}
 use Rattle.alloc_core.specs.declared.allocation.Allocation.{Allocation}
-use Rattle.yard_core.specs.Books.{Books}
+use Rattle.yard_core.specs.StockBooks.{StockBooks}
 use Rattle.yard_core.specs.Outputs.{LeavesOutputs}
-use Rattle.stock_core.specs.Asked.{is_no_location}
+use Rattle.stock_core.specs.ItemTests.{is_no_location}
 use Rattle.stock_core.specs.Serials.{are_many, given}
 use Rattle.stock_core.specs.Sound.{IsSoundStock, Owners}
 use Rattle.stock_core.specs.StockMachine.{Grows}

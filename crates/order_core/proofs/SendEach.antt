@@ -14,9 +14,9 @@ use Rattle.alloc_core.specs.Covered.{IsCovered}
 use Rattle.alloc_core.specs.Allocations.{is_of_item}
 use Rattle.alloc_core.specs.declared.allocation.Allocation.{Allocation}
 use Rattle.alloc_core.proofs.Sums.{amount-in, sum-cons}
-use Rattle.yard_core.specs.Books.{Books, entries_in, is_full}
+use Rattle.yard_core.specs.StockBooks.{StockBooks, entries_in, is_full}
 use Rattle.yard_core.specs.Stock.{item_at}
-use Rattle.stock_core.specs.Asked.{has_more}
+use Rattle.stock_core.specs.ItemTests.{has_more}
 use Rattle.stock_core.specs.Pieces.{CanCut}
 use Rattle.stock_core.specs.Serving.{serve, serve_each}
 use Rattle.stock_core.specs.Sound.{IsSoundStock, Owners}
@@ -29,7 +29,7 @@ use Rattle.stock_core.proofs.Upright.{Upright, upright-of}
 use Rattle.order_core.specs.Ship.{sent_for}
 use Rattle.order_core.proofs.ShipSound.{sent-on}
 
-pub record IsLeft (order : ℕ) (day : CivilDay) (rows rest : List Allocation) (old new : Books) : Type 0 where
+pub record IsLeft (order : ℕ) (day : CivilDay) (rows rest : List Allocation) (old new : StockBooks) : Type 0 where
   pub owners : Owners
   pub parts : Parts
   pub is_order : owners.is_order order ≡ true
@@ -38,7 +38,7 @@ pub record IsLeft (order : ℕ) (day : CivilDay) (rows rest : List Allocation) (
   pub served : serve_each (sent_for order day) day rest new ≡ serve_each (sent_for order day) day rows old
   pub within : entries_in new ≤ new.counter.limits.entries
 
-pub left-all : (order : ℕ) (day : CivilDay) (rows : List Allocation) (b : Books) → ((owners : Owners) × (parts : Parts) × IsSoundStock owners parts b × (owners.is_order order ≡ true)) → IsCovered b.stock rows
+pub left-all : (order : ℕ) (day : CivilDay) (rows : List Allocation) (b : StockBooks) → ((owners : Owners) × (parts : Parts) × IsSoundStock owners parts b × (owners.is_order order ≡ true)) → IsCovered b.stock rows
     → IsLeft order day rows rows b b
 left-all order day rows b sound covered = record {
   owners = sound.0;
@@ -58,7 +58,7 @@ lt-ltb a b lt = go (nat_lt a b) refl
     go false e = absurd (omega (arith, ltb-false a b e, lt))
 
 -- what is full stays so
-full-grows : (b c : Books) → Grows b c → is_full b ≡ true → is_full c ≡ true
+full-grows : (b c : StockBooks) → Grows b c → is_full b ≡ true → is_full c ≡ true
 full-grows b c g full = elim (or_cases (passes_limit b.counter) (nat_lt b.counter.limits.entries (entries_in b)) full) [
   | inl l ↦
       let lt = ltb-true (b.counter.limits.numbers + 1) b.counter.next l in
@@ -74,8 +74,8 @@ full-grows b c g full = elim (or_cases (passes_limit b.counter) (nat_lt b.counte
     or_true true = refl
     or_true false = refl
 
-module _ (order : ℕ) (day : CivilDay) (rows : List Allocation) (a : Allocation) (xs : List Allocation) (old b : Books) (left : IsLeft order day rows (a ∷ xs) old b) where
-  abbrev go : Books × ℕ → Books
+module _ (order : ℕ) (day : CivilDay) (rows : List Allocation) (a : Allocation) (xs : List Allocation) (old b : StockBooks) (left : IsLeft order day rows (a ∷ xs) old b) where
+  abbrev go : StockBooks × ℕ → StockBooks
   go = sent_for order day
 
   goes : GoesOn left.owners left.parts (take a.item a.quantity day b) (serve go day a b)
@@ -85,18 +85,18 @@ module _ (order : ℕ) (day : CivilDay) (rows : List Allocation) (a : Allocation
   one = served-one left.owners left.parts day go a xs b left.upright left.covered goes
 
   -- the first of them went
-  pub left-one : (new : Books) → new ≡ serve go day a b → entries_in new ≤ new.counter.limits.entries → IsLeft order day rows xs old new
+  pub left-one : (new : StockBooks) → new ≡ serve go day a b → entries_in new ≤ new.counter.limits.entries → IsLeft order day rows xs old new
   left-one new is within = record {
     owners = left.owners;
     parts = left.parts;
     is_order = left.is_order;
     upright = subst (Upright left.owners left.parts) (sym is) one.leads.upright;
-    covered = subst (λ (c : Books). IsCovered c.stock xs) (sym is) one.covered;
+    covered = subst (λ (c : StockBooks). IsCovered c.stock xs) (sym is) one.covered;
     served = ap (serve_each go day xs) is ∙ left.served;
     within = within;
   }
 
-  abbrev Nothing : List Allocation → Books → Type 0
+  abbrev Nothing : List Allocation → StockBooks → Type 0
   Nothing ys c = Unit {0}
 
   -- there is no room for the first, so there is none for all
@@ -107,7 +107,7 @@ module _ (order : ℕ) (day : CivilDay) (rows : List Allocation) (a : Allocation
       let more = served-all left.owners left.parts day go [] Nothing step xs after one.leads.upright covered tt in
       subst (λ c. is_full c ≡ true) left.served (full-grows after (serve_each go day xs after) more.0.leads.grows full)
     where
-      step : (c : Allocation) (ys : List Allocation) (d : Books) → Upright left.owners left.parts d → IsCovered d.stock (c ∷ (ys ++ [])) → Nothing (c ∷ ys) d
+      step : (c : Allocation) (ys : List Allocation) (d : StockBooks) → Upright left.owners left.parts d → IsCovered d.stock (c ∷ (ys ++ [])) → Nothing (c ∷ ys) d
           → GoesOn left.owners left.parts (take c.item c.quantity day d) (serve go day c d) × Nothing ys (serve go day c d)
       step c ys d up covered ready =
           (sent-on left.owners left.parts c.item c.quantity order day d (take c.item c.quantity day d) left.is_order (taken-one left.owners left.parts day go c (ys ++ []) d up covered), tt)
@@ -135,7 +135,7 @@ seen-more rows i d lt is =
     ∙ ap (λ (q : Bor Allocation). q.now ∷ map (λ (r : Bor Allocation). r.now) (drop (i + 1) rows)) (sym is)
 
 -- the row at that place is the first of what is left
-pub left-from : (order : ℕ) (day : CivilDay) (rows : List (Bor Allocation)) (i : ℕ) (d : Bor Allocation) (old b : Books) → i < length rows → d ≡ get_or rows i d
+pub left-from : (order : ℕ) (day : CivilDay) (rows : List (Bor Allocation)) (i : ℕ) (d : Bor Allocation) (old b : StockBooks) → i < length rows → d ≡ get_or rows i d
     → IsLeft order day (map (λ r. r.now) rows) (map (λ r. r.now) (drop i rows)) old b
     → IsLeft order day (map (λ r. r.now) rows) (d.now ∷ map (λ r. r.now) (drop (i + 1) rows)) old b
 left-from order day rows i d old b lt is left = subst (λ xs. IsLeft order day (map (λ (r : Bor Allocation). r.now) rows) xs old b) (seen-more rows i d lt is) left
@@ -148,7 +148,7 @@ not_less a b le = go (nat_lt a b) refl
     go true e = absurd (omega (arith, ltb-true a b e, le))
 
 -- no number and no entry is past the limits
-pub within-limits : (b : Books) → b.counter.next ≤ b.counter.limits.numbers + 1 → entries_in b ≤ b.counter.limits.entries → is_full b ≡ false
+pub within-limits : (b : StockBooks) → b.counter.next ≤ b.counter.limits.numbers + 1 → entries_in b ≤ b.counter.limits.entries → is_full b ≡ false
 within-limits b numbers entries =
     ap (λ c. c || nat_lt b.counter.limits.entries (entries_in b)) (not_less (b.counter.limits.numbers + 1) b.counter.next numbers)
     ∙ not_less b.counter.limits.entries (entries_in b) entries

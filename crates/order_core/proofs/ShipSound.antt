@@ -22,7 +22,7 @@ use Rattle.alloc_core.proofs.Covers.{IsCovered, covered-of, covered-split}
 use Rattle.alloc_core.proofs.Sound.{sound-served}
 use Rattle.alloc_core.proofs.Sums.{sum-split}
 use Rattle.part_core.proofs.TableRows.{get-without, values-without}
-use Rattle.yard_core.specs.Books.{Books, is_full}
+use Rattle.yard_core.specs.StockBooks.{StockBooks, is_full}
 use Rattle.yard_core.specs.Stock.{item_at, tree_of}
 use Rattle.yard_core.specs.Outputs.{LeavesOutputs}
 use Rattle.yard_core.proofs.Quiet.{leaves-more, leaves-none}
@@ -54,7 +54,7 @@ turned n m e = go (m == n) refl
     go false u = refl
 
 -- an item that was taken goes to the customer
-pub sent-on : (owners : Owners) (parts : Parts) (n q order : ℕ) (day : CivilDay) (b : Books) (t : Books × ℕ) → owners.is_order order ≡ true → IsTaken owners parts n q b t
+pub sent-on : (owners : Owners) (parts : Parts) (n q order : ℕ) (day : CivilDay) (b : StockBooks) (t : StockBooks × ℕ) → owners.is_order order ≡ true → IsTaken owners parts n q b t
     → GoesOn owners parts t (sent_for order day t)
 sent-on owners parts n q order day b t is_order taken =
     let s = t.0.stock in
@@ -94,10 +94,10 @@ module _ (is_build : ℕ → Bool) (parts : Parts) (n : ℕ) (day : CivilDay) (b
   up = upright-of owners parts b.books sound.stock
 
   -- outputs are as they were at first
-  abbrev Quiet : List Allocation → Books → Type 0
+  abbrev Quiet : List Allocation → StockBooks → Type 0
   Quiet xs c = LeavesOutputs b.books.stock.items c.stock.items
 
-  one : (a : Allocation) (xs : List Allocation) (c : Books) → Upright owners parts c → IsCovered c.stock (a ∷ (xs ++ rest)) → Quiet (a ∷ xs) c
+  one : (a : Allocation) (xs : List Allocation) (c : StockBooks) → Upright owners parts c → IsCovered c.stock (a ∷ (xs ++ rest)) → Quiet (a ∷ xs) c
       → GoesOn owners parts (take a.item a.quantity day c) (serve (sent_for n day) day a c) × Quiet xs (serve (sent_for n day) day a c)
   one a xs c upright covered quiet =
       let t = take a.item a.quantity day c in

@@ -11,10 +11,10 @@ use Rattle.part_core.proofs.Mapped.{get-mapped}
 use Rattle.part_core.proofs.RowLemmas.{stay-insert}
 use Rattle.forest.specs.declared.place.Place.TheVariants.{At, Sent}
 use Rattle.alloc_core.specs.declared.allocation.Allocation.{Allocation}
-use Rattle.yard_core.specs.Books.{Books}
+use Rattle.yard_core.specs.StockBooks.{StockBooks}
 use Rattle.yard_core.specs.Stock.{AllStay, lift, mark}
 use Rattle.yard_core.proofs.Staying.{stay-more, stay-none}
-use Rattle.stock_core.specs.Asked.{has_more}
+use Rattle.stock_core.specs.ItemTests.{has_more}
 use Rattle.stock_core.specs.Serving.{serve, serve_each}
 use Rattle.stock_core.specs.Steps.{cut_off, take}
 use Rattle.stock_core.proofs.Staying.{stay-cut_off, stay-lift, stay-make_new, stay-mark}
@@ -39,22 +39,22 @@ module _ {X : Type 0} where
       go None e = e
       go (Some x) e = refl
 
-stay-take : (n q : ℕ) (day : CivilDay) (b : Books) → AllStay b.stock (take n q day b).0.stock
+stay-take : (n q : ℕ) (day : CivilDay) (b : StockBooks) → AllStay b.stock (take n q day b).0.stock
 stay-take n q day b = go (has_more n q b.stock)
   where
-    taken : Bool → Books × ℕ
+    taken : Bool → StockBooks × ℕ
     taken c = if c then (cut_off n q None day b, b.counter.next) else (b, n)
 
     go : (c : Bool) → AllStay b.stock (taken c).0.stock
     go true = stay-cut_off n q None day b
     go false = stay-none b.stock
 
-stay-sent : (order : ℕ) (day : CivilDay) (a : Allocation) (b : Books) → AllStay b.stock (serve (sent_for order day) day a b).stock
+stay-sent : (order : ℕ) (day : CivilDay) (a : Allocation) (b : StockBooks) → AllStay b.stock (serve (sent_for order day) day a b).stock
 stay-sent order day a b =
     let t = take a.item a.quantity day b in
     stay-more b.stock t.0.stock (lift t.1 (Sent order) day t.0.stock) (stay-take a.item a.quantity day b) (stay-lift t.1 (Sent order) day t.0.stock)
 
-stay-sent_each : (order : ℕ) (day : CivilDay) (xs : List Allocation) (b : Books) → AllStay b.stock (serve_each (sent_for order day) day xs b).stock
+stay-sent_each : (order : ℕ) (day : CivilDay) (xs : List Allocation) (b : StockBooks) → AllStay b.stock (serve_each (sent_for order day) day xs b).stock
 stay-sent_each order day [] b = stay-none b.stock
 stay-sent_each order day (a ∷ xs) b =
     let one = serve (sent_for order day) day a b in

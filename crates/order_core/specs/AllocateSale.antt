@@ -10,7 +10,7 @@ use Rattle.alloc_core.specs.Allocations.{allocated_for_sale_line, is_above_free}
 use Rattle.alloc_core.specs.declared.allocation.Allocation.{Allocation}
 use Rattle.alloc_core.specs.declared.purpose.Purpose.TheVariants as purpose
 use Rattle.yard_core.specs.Stock.{item_at}
-use Rattle.stock_core.specs.Asked.{is_loose, is_no_item, part_at}
+use Rattle.stock_core.specs.ItemTests.{is_loose, is_no_item, part_at}
 use Rattle.part_core.specs.Side.{is_sale}
 use Rattle.order_core.specs.Orders.{OrderBooks, is_in_progress, is_no_line, line_at, one_drawn, order_of_line}
 

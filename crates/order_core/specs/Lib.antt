@@ -5,11 +5,11 @@ pub mod CloseOrder
 pub mod IssueOrder
 pub mod NewLine
 pub mod NewOrder
+pub mod OrderBooks
 pub mod OrderColumns
 pub mod OrderForms
 pub mod OrderKeys
 pub mod OrderMachine
-pub mod OrderStores
 pub mod Orders
 pub mod Receive
 pub mod ReturnItem

@@ -3,7 +3,7 @@ use Rattle.std.specs.Prelude.{ℕ, ◌+◌, Bool, true, false, is_none, is_some,
 use Rattle.std.specs.FinMap as table
 use Rattle.part_core.specs.Sheet.{Table}
 use Rattle.alloc_core.specs.declared.allocation.Allocation.{Allocation}
-use Rattle.yard_core.specs.Books.{Books, with_drawn}
+use Rattle.yard_core.specs.StockBooks.{StockBooks, with_drawn}
 use Rattle.stock_core.specs.Sound.{Owners}
 use Rattle.order_core.specs.declared.line.OrderLine.{OrderLine}
 use Rattle.order_core.specs.declared.order.Order.{Order}
@@ -16,7 +16,7 @@ pub record OrderBooks : Type 0 where
   pub orders : Table Order
   pub lines : Table OrderLine
   pub allocations : Table Allocation
-  pub books : Books
+  pub books : StockBooks
 
 -- ---- rows
 
@@ -91,12 +91,12 @@ done_more n more t = let l = line_in n t in table.insert t (n ∷ []) (with_done
 abbrev pub with_done : ℕ → ℕ → OrderBooks → OrderBooks
 with_done n more b = record b { lines = done_more n more b.lines }
 
--- orders and allocations as they were, beside other books
-abbrev pub with_books : Books → OrderBooks → OrderBooks
-with_books books b = record { orders = b.orders; lines = b.lines; allocations = b.allocations; books = books }
+-- orders and allocations as they were, beside other stock books
+abbrev pub with_stock_books : StockBooks → OrderBooks → OrderBooks
+with_stock_books books b = record { orders = b.orders; lines = b.lines; allocations = b.allocations; books = books }
 
 -- the stock as it was, with one more number drawn
-abbrev pub one_drawn : Books → Books
+abbrev pub one_drawn : StockBooks → StockBooks
 one_drawn b = with_drawn b.stock b
 
 -- ---- beside builds

@@ -7,8 +7,8 @@ use Rattle.part_core.specs.Quantity.{is_bad_quantity}
 use Rattle.part_core.specs.declared.refusal.Refusal.TheVariants.{NoSuch, BadNumber, WrongFlag, WrongState, Mismatch, OverNeed, SerialCount, SerialTaken, Full}
 use Rattle.forest.specs.declared.entry.Kind.TheVariants as kind
 use Rattle.forest.specs.declared.place.Place.TheVariants.{At}
-use Rattle.yard_core.specs.Books.{is_full}
-use Rattle.stock_core.specs.Asked.{is_no_location}
+use Rattle.yard_core.specs.StockBooks.{is_full}
+use Rattle.stock_core.specs.ItemTests.{is_no_location}
 use Rattle.stock_core.specs.Serials.{are_many, are_taken, given, is_other_count}
 use Rattle.stock_core.specs.Steps.{make_new}
 use Rattle.stock_core.specs.declared.arrivals.Arrival.{Arrival}

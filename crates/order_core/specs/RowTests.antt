@@ -11,7 +11,7 @@ use Rattle.alloc_core.specs.declared.allocation.Allocation.{Allocation}
 use Rattle.alloc_core.specs.declared.purpose.Purpose.{Purpose}
 use Rattle.alloc_core.specs.declared.purpose.Purpose.TheVariants.{Sale, Build}
 use Rattle.yard_core.specs.Stock.{Stock}
-use Rattle.stock_core.specs.Asked.{part_at}
+use Rattle.stock_core.specs.ItemTests.{part_at}
 use Rattle.order_core.specs.Orders.{is_in_progress, line_in, order_in}
 use Rattle.order_core.specs.declared.line.OrderLine.{OrderLine}
 use Rattle.order_core.specs.declared.order.Order.{Order}

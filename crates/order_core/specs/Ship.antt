@@ -12,7 +12,7 @@ use Rattle.alloc_core.specs.declared.allocation.Allocation.{Allocation}
 use Rattle.alloc_core.specs.declared.purpose.Owner.TheVariants as owner
 use Rattle.alloc_core.specs.declared.purpose.Purpose.{Purpose}
 use Rattle.alloc_core.specs.declared.purpose.Purpose.TheVariants.{Sale, Build}
-use Rattle.yard_core.specs.Books.{Books, is_full, with_stock}
+use Rattle.yard_core.specs.StockBooks.{StockBooks, is_full, with_stock}
 use Rattle.yard_core.specs.Stock.{lift}
 use Rattle.stock_core.specs.Serving.{serve_each}
 use Rattle.part_core.specs.TableRows.{mapped}
@@ -25,7 +25,7 @@ abbrev pub sale_rows : ℕ → OrderBooks → List Allocation
 sale_rows n b = allocations_of (owner.Order n) b.allocations
 
 -- an item that was taken goes to the customer, with all that lies in it
-abbrev pub sent_for : ℕ → CivilDay → Books × ℕ → Books
+abbrev pub sent_for : ℕ → CivilDay → StockBooks × ℕ → StockBooks
 sent_for order day t = with_stock (lift t.1 (Sent order) day t.0.stock) t.0
 
 -- a line of which what these hold for it is done too

@@ -7,7 +7,7 @@ use Rattle.alloc_core.specs.Allocations.{allocated_for_sale_line}
 use Rattle.alloc_core.specs.Sound.{AreSoundAllocations}
 use Rattle.alloc_core.specs.declared.purpose.Purpose.{Purpose}
 use Rattle.alloc_core.specs.declared.purpose.Purpose.TheVariants.{Sale, Build}
-use Rattle.stock_core.specs.Asked.{part_at}
+use Rattle.stock_core.specs.ItemTests.{part_at}
 use Rattle.stock_core.specs.Sound.{IsSoundStock}
 use Rattle.part_core.specs.Side.{is_sale}
 use Rattle.order_core.specs.Orders.{OrderBooks, is_in_progress, line_at, order_at, owners_beside}

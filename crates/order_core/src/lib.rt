@@ -2,11 +2,11 @@
 //! orders, the allocations, the yard and the counter as the machine's row of it says.
 #![tactic(auto)]
 
-mod books;
 mod commands;
 mod line;
 mod opening;
 mod order;
+mod order_books;
 pub mod order_command;
 mod order_forms;
 mod orders;

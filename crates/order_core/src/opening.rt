@@ -1,15 +1,15 @@
 //! Whether orders that were read from a file are sound, beside the catalogue, the stock and the allocations. Each row is
 //! asked once, by look-ups of numbers, and each line with a look at its own allocations.
 ghost use Rattle.std.specs.Prelude.{◌≡◌, ◌≤◌, ◌+◌, ◌↔◌, ◌∷◌, [], IsTrue, true};
-ghost use Rattle.alloc_core.specs.AllocationTables.{allocations_now};
+ghost use Rattle.alloc_core.specs.AllocationsView.{allocations_now};
 ghost use Rattle.alloc_core.specs.Allocations.{allocated_for_sale_line};
-ghost use Rattle.part_core.specs.Catalogues.{parts_of};
+ghost use Rattle.part_core.specs.CatalogueView.{parts_of};
 ghost use Rattle.part_core.specs.Filled.{StandUnderKeys};
 ghost use Rattle.part_core.specs.Quantity.{largest};
 ghost use Rattle.part_core.specs.Rows.{EachRow, IsThere, StandRight};
 ghost use Rattle.part_core.specs.Sheet.{now_of};
-ghost use Rattle.yard_core.specs.Yards.{stock_of};
-ghost use Rattle.order_core.specs.OrderStores.{order_books};
+ghost use Rattle.yard_core.specs.YardView.{stock_of};
+ghost use Rattle.order_core.specs.OrderBooks.{order_books};
 ghost use Rattle.order_core.specs.RowTests.{HasRows, has_rows, is_sound_purpose, is_sound_sale, is_within};
 ghost use Rattle.order_core.specs.Sound.{AreSoundOrders, IsSoundPurpose};
 

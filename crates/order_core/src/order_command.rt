@@ -1,9 +1,9 @@
 //! The commands on orders, as a machine: one call that does any of them, and its laws.
 ghost use Rattle.std.specs.Prelude.{◌≡◌};
-ghost use Rattle.part_core.specs.Catalogues.{parts_of};
+ghost use Rattle.part_core.specs.CatalogueView.{parts_of};
 ghost use Rattle.order_core.specs.Beside.{SoundBesideBuilds};
 ghost use Rattle.order_core.specs.OrderMachine.{ChecksAreInOrder, EffectsAreSound, NoneComesForBuilds, RowsStay, checks, effect};
-ghost use Rattle.order_core.specs.OrderStores.{AreSoundSomehow, Does, kept_order_books, order_books};
+ghost use Rattle.order_core.specs.OrderBooks.{AreSoundSomehow, Does, kept_order_books, order_books};
 
 use crate::order::Partner;
 use crate::orders::Orders;

@@ -6,7 +6,7 @@ ghost use Rattle.part_core.specs.FormTables.{command_by, forms_by};
 ghost use Rattle.order_core.specs.OrderForms.{order_back, order_distinct, order_fields, order_forms, order_told, order_verb};
 
 use crate::order_command::OrderCommand;
-use part_core::{Field, Fields, Form, Formed, Kind, form_in};
+use part_core::{Field, FieldKind, Fields, Form, Formed, form_in};
 use std::alloc::{AllocError, Global};
 use stock_core::{NewStock, copy_serials};
 use yard_core::copy_batch;
@@ -14,53 +14,53 @@ use yard_core::copy_batch;
 const FORMS: &[Form] = &[
     Form {
         verb: "order",
-        fields: &[("side", Kind::Side), ("partner", Kind::Text)],
+        fields: &[("side", FieldKind::Side), ("partner", FieldKind::Text)],
     },
     Form {
         verb: "order_line",
         fields: &[
-            ("order", Kind::Number),
-            ("part", Kind::Number),
-            ("quantity", Kind::Number),
+            ("order", FieldKind::Number),
+            ("part", FieldKind::Number),
+            ("quantity", FieldKind::Number),
         ],
     },
     Form {
         verb: "issue_order",
-        fields: &[("order", Kind::Number)],
+        fields: &[("order", FieldKind::Number)],
     },
     Form {
         verb: "receive",
         fields: &[
-            ("line", Kind::Number),
-            ("location", Kind::Number),
-            ("quantity", Kind::Number),
-            ("batch", Kind::MaybeText),
-            ("serials", Kind::MaybeSerials),
+            ("line", FieldKind::Number),
+            ("location", FieldKind::Number),
+            ("quantity", FieldKind::Number),
+            ("batch", FieldKind::MaybeText),
+            ("serials", FieldKind::MaybeSerials),
         ],
     },
     Form {
         verb: "allocate_sale",
         fields: &[
-            ("line", Kind::Number),
-            ("item", Kind::Number),
-            ("quantity", Kind::Number),
+            ("line", FieldKind::Number),
+            ("item", FieldKind::Number),
+            ("quantity", FieldKind::Number),
         ],
     },
     Form {
         verb: "ship",
-        fields: &[("order", Kind::Number)],
+        fields: &[("order", FieldKind::Number)],
     },
     Form {
         verb: "return_item",
-        fields: &[("item", Kind::Number), ("location", Kind::Number)],
+        fields: &[("item", FieldKind::Number), ("location", FieldKind::Number)],
     },
     Form {
         verb: "close_order",
-        fields: &[("order", Kind::Number)],
+        fields: &[("order", FieldKind::Number)],
     },
     Form {
         verb: "cancel_order",
-        fields: &[("order", Kind::Number)],
+        fields: &[("order", FieldKind::Number)],
     },
 ];
 

@@ -1,7 +1,7 @@
 //! Orders in another state.
 ghost use Rattle.std.specs.Prelude.{◌≡◌, OnOk, false};
 ghost use Rattle.order_core.specs.Orders.{is_no_order, with_state};
-ghost use Rattle.order_core.specs.OrderStores.{AreSoundSomehow, kept_order_books, order_books};
+ghost use Rattle.order_core.specs.OrderBooks.{AreSoundSomehow, kept_order_books, order_books};
 
 use crate::orders::Orders;
 use crate::state::OrderState;

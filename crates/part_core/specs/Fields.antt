@@ -1,7 +1,7 @@
 -- Fields, taken one after another.
 use Rattle.std.specs.Prelude.{ℕ, List, [], ◌∷◌, Bool, Option, Some, None}
-use Rattle.part_core.specs.declared.field.Kind.{Kind}
-use Rattle.part_core.specs.declared.field.Kind.TheVariants as kind
+use Rattle.part_core.specs.declared.field.FieldKind.{FieldKind}
+use Rattle.part_core.specs.declared.field.FieldKind.TheVariants as kind
 use Rattle.part_core.specs.declared.field.Field.{Field}
 use Rattle.part_core.specs.declared.field.Field.TheVariants as field
 use Rattle.part_core.specs.declared.flags.Flags.{Flags}
@@ -9,7 +9,7 @@ use Rattle.part_core.specs.declared.side.Side.{Side}
 use Rattle.part_core.specs.declared.status.Status.{Status}
 
 -- what stands in a field of the kind
-abbrev pub Value : Kind → Type 0
+abbrev pub Value : FieldKind → Type 0
 Value kind.Number = ℕ
 Value kind.MaybeNumber = Option ℕ
 Value kind.Text = List ℕ
@@ -23,7 +23,7 @@ Value kind.MaybeSerials = Option (List (List ℕ))
 Value kind.Numbers = List ℕ
 
 -- the field of that kind with this value
-abbrev pub field_with : (k : Kind) → Value k → Field
+abbrev pub field_with : (k : FieldKind) → Value k → Field
 field_with kind.Number n = field.Number n
 field_with kind.MaybeNumber n = field.MaybeNumber n
 field_with kind.Text t = field.Text t
@@ -37,7 +37,7 @@ field_with kind.MaybeSerials s = field.MaybeSerials s
 field_with kind.Numbers n = field.Numbers n
 
 -- a field's value, where it is of that kind
-abbrev pub value_of : (k : Kind) → Field → Option (Value k)
+abbrev pub value_of : (k : FieldKind) → Field → Option (Value k)
 value_of kind.Number (field.Number n) = Some n
 value_of kind.MaybeNumber (field.MaybeNumber n) = Some n
 value_of kind.Text (field.Text t) = Some t
@@ -52,7 +52,7 @@ value_of kind.Numbers (field.Numbers n) = Some n
 value_of k _ = None
 
 -- the first field's value
-abbrev pub first : (k : Kind) → List Field → Option (Value k)
+abbrev pub first : (k : FieldKind) → List Field → Option (Value k)
 first k [] = None
 first k (x ∷ xs) = value_of k x
 

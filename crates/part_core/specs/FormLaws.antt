@@ -4,8 +4,8 @@ use Rattle.std.specs.Str.{bytes_eq}
 use Rattle.std.proofs.Common.{sym, ap, ◌∙◌, subst, append_assoc}
 use Rattle.std.proofs.lemmas.List.{append-nil}
 use Rattle.std.proofs.lemmas.Slice.Eq.{bytes_eq-Decides}
-use Rattle.part_core.specs.declared.field.Kind.{Kind}
-use Rattle.part_core.specs.declared.field.Kind.TheVariants as kind
+use Rattle.part_core.specs.declared.field.FieldKind.{FieldKind}
+use Rattle.part_core.specs.declared.field.FieldKind.TheVariants as kind
 use Rattle.part_core.specs.declared.field.Field.{Field}
 use Rattle.part_core.specs.declared.field.Field.TheVariants as field
 use Rattle.part_core.specs.Forms.{Blanks, Form, form_named, kind_of, AreOf, Fills, IsCommand}
@@ -21,7 +21,7 @@ none_apart {A} x e = subst (λ (o : Option A). IsNone o) e tt
 
 -- ---- one field
 
-kind_told : (k : Kind) (x : Field) (v : Value k) → value_of k x ≡ Some v → kind_of x ≡ k
+kind_told : (k : FieldKind) (x : Field) (v : Value k) → value_of k x ≡ Some v → kind_of x ≡ k
 kind_told kind.Number (field.Number n) v e = refl
 kind_told kind.MaybeNumber (field.MaybeNumber n) v e = refl
 kind_told kind.Text (field.Text t) v e = refl
@@ -35,7 +35,7 @@ kind_told kind.MaybeSerials (field.MaybeSerials s) v e = refl
 kind_told kind.Numbers (field.Numbers n) v e = refl
 kind_told k x v e = absurd (none_apart v e)
 
-abbrev Stands : (k : Kind) → Field → Type 0
+abbrev Stands : (k : FieldKind) → Field → Type 0
 Stands k x = (v : Value k) × (value_of k x ≡ Some v) × (field_with k v ≡ x)
 
 own_value : (x : Field) → Stands (kind_of x) x
@@ -51,7 +51,7 @@ own_value (field.Serials s) = (s, refl, refl)
 own_value (field.MaybeSerials s) = (s, refl, refl)
 own_value (field.Numbers n) = (n, refl, refl)
 
-value_told : (k : Kind) (x : Field) → kind_of x ≡ k → Stands k x
+value_told : (k : FieldKind) (x : Field) → kind_of x ≡ k → Stands k x
 value_told k x e = subst (λ k. Stands k x) e (own_value x)
 
 -- ---- a table

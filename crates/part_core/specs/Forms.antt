@@ -3,21 +3,21 @@ use Rattle.std.specs.Prelude.{◌≡◌, ℕ, List, [], ◌∷◌, map, Bool, tr
 use Rattle.std.specs.Str.{bytes_eq}
 use Rattle.std.specs.Borrow.{Bor}
 use Rattle.part_core.specs.Named.{named}
-use Rattle.part_core.specs.declared.field.Kind.{Kind}
-use Rattle.part_core.specs.declared.field.Kind.TheVariants as kind
+use Rattle.part_core.specs.declared.field.FieldKind.{FieldKind}
+use Rattle.part_core.specs.declared.field.FieldKind.TheVariants as kind
 use Rattle.part_core.specs.declared.field.Field.{Field}
 use Rattle.part_core.specs.declared.field.Field.TheVariants as field
 use Rattle.part_core.specs.declared.form.Form as code
 
 -- a name and a kind for each field
 abbrev pub Blanks : Type 0
-Blanks = List (List ℕ × Kind)
+Blanks = List (List ℕ × FieldKind)
 
 pub record Form : Type 0 where
   pub verb : List ℕ
   pub fields : Blanks
 
-abbrev pub shown_fields : List (Bor (List ℕ) × Kind) → Blanks
+abbrev pub shown_fields : List (Bor (List ℕ) × FieldKind) → Blanks
 shown_fields fields = map (λ f. (f.0.now, f.1)) fields
 
 -- a form of the code, without where it lies in memory
@@ -32,7 +32,7 @@ form_named verb forms = named (λ form. form.verb) forms verb
 
 -- ---- what fills a form
 
-abbrev pub kind_of : Field → Kind
+abbrev pub kind_of : Field → FieldKind
 kind_of (field.Number n) = kind.Number
 kind_of (field.MaybeNumber n) = kind.MaybeNumber
 kind_of (field.Text t) = kind.Text

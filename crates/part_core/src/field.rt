@@ -3,7 +3,7 @@ use crate::{Flags, Ids, Serials, Side, Status, Text};
 
 /// What a field of a command asks for.
 #[derive(Clone, Copy, Debug, PartialEq, Eq)]
-pub enum Kind {
+pub enum FieldKind {
     /// A row number or a quantity.
     Number,
     /// Such a number, or none.

@@ -1,7 +1,7 @@
 //! The fields of a command, taken one after another.
 ghost use Rattle.std.specs.Prelude.{◌≡◌};
 ghost use Rattle.part_core.specs.Fields.{end, first, rest};
-ghost use Rattle.part_core.specs.declared.field.Kind.{Kind};
+ghost use Rattle.part_core.specs.declared.field.FieldKind.{FieldKind};
 
 use crate::field::Field;
 use crate::{Flags, Ids, Serials, Side, Status, Text};
@@ -35,7 +35,7 @@ impl Fields {
     }
 
     pub fn number(&mut self) -> Option<u64>
-        ensures value { result ≡ first Kind.Number self.old }
+        ensures value { result ≡ first FieldKind.Number self.old }
         ensures rest { self.new ≡ rest self.old }
     {
         match self.rest.next() {
@@ -45,7 +45,7 @@ impl Fields {
     }
 
     pub fn maybe_number(&mut self) -> Option<Option<u64>>
-        ensures value { result ≡ first Kind.MaybeNumber self.old }
+        ensures value { result ≡ first FieldKind.MaybeNumber self.old }
         ensures rest { self.new ≡ rest self.old }
     {
         match self.rest.next() {
@@ -55,7 +55,7 @@ impl Fields {
     }
 
     pub fn text(&mut self) -> Option<Text>
-        ensures value { result ≡ first Kind.Text self.old }
+        ensures value { result ≡ first FieldKind.Text self.old }
         ensures rest { self.new ≡ rest self.old }
     {
         match self.rest.next() {
@@ -65,7 +65,7 @@ impl Fields {
     }
 
     pub fn maybe_text(&mut self) -> Option<Option<Text>>
-        ensures value { result ≡ first Kind.MaybeText self.old }
+        ensures value { result ≡ first FieldKind.MaybeText self.old }
         ensures rest { self.new ≡ rest self.old }
     {
         match self.rest.next() {
@@ -75,7 +75,7 @@ impl Fields {
     }
 
     pub fn yes(&mut self) -> Option<bool>
-        ensures value { result ≡ first Kind.Yes self.old }
+        ensures value { result ≡ first FieldKind.Yes self.old }
         ensures rest { self.new ≡ rest self.old }
     {
         match self.rest.next() {
@@ -85,7 +85,7 @@ impl Fields {
     }
 
     pub fn flags(&mut self) -> Option<Flags>
-        ensures value { result ≡ first Kind.Flags self.old }
+        ensures value { result ≡ first FieldKind.Flags self.old }
         ensures rest { self.new ≡ rest self.old }
     {
         match self.rest.next() {
@@ -95,7 +95,7 @@ impl Fields {
     }
 
     pub fn status(&mut self) -> Option<Status>
-        ensures value { result ≡ first Kind.Status self.old }
+        ensures value { result ≡ first FieldKind.Status self.old }
         ensures rest { self.new ≡ rest self.old }
     {
         match self.rest.next() {
@@ -105,7 +105,7 @@ impl Fields {
     }
 
     pub fn side(&mut self) -> Option<Side>
-        ensures value { result ≡ first Kind.Side self.old }
+        ensures value { result ≡ first FieldKind.Side self.old }
         ensures rest { self.new ≡ rest self.old }
     {
         match self.rest.next() {
@@ -115,7 +115,7 @@ impl Fields {
     }
 
     pub fn serials(&mut self) -> Option<Serials>
-        ensures value { result ≡ first Kind.Serials self.old }
+        ensures value { result ≡ first FieldKind.Serials self.old }
         ensures rest { self.new ≡ rest self.old }
     {
         match self.rest.next() {
@@ -125,7 +125,7 @@ impl Fields {
     }
 
     pub fn maybe_serials(&mut self) -> Option<Option<Serials>>
-        ensures value { result ≡ first Kind.MaybeSerials self.old }
+        ensures value { result ≡ first FieldKind.MaybeSerials self.old }
         ensures rest { self.new ≡ rest self.old }
     {
         match self.rest.next() {
@@ -135,7 +135,7 @@ impl Fields {
     }
 
     pub fn numbers(&mut self) -> Option<Ids>
-        ensures value { result ≡ first Kind.Numbers self.old }
+        ensures value { result ≡ first FieldKind.Numbers self.old }
         ensures rest { self.new ≡ rest self.old }
     {
         match self.rest.next() {

@@ -2,13 +2,13 @@
 ghost use Rattle.std.specs.Prelude.{◌≡◌, option_map};
 ghost use Rattle.part_core.specs.Forms.{form_named, shown, shown_forms};
 
-use crate::field::Kind;
+use crate::field::FieldKind;
 
 /// A verb, and the names and kinds of its fields in the order in which they are read.
 #[derive(Clone, Copy)]
 pub struct Form {
     pub verb: &'static str,
-    pub fields: &'static [(&'static str, Kind)],
+    pub fields: &'static [(&'static str, FieldKind)],
 }
 
 /// The form of that verb in a table.

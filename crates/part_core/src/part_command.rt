@@ -1,7 +1,7 @@
 //! The commands of the catalogue, as a machine: one call that does any of them, and its laws.
 ghost use Rattle.std.specs.Prelude.{◌≡◌};
 ghost use Rattle.part_core.specs.Acts.{Acts};
-ghost use Rattle.part_core.specs.Catalogues.{kept_register, register_of};
+ghost use Rattle.part_core.specs.CatalogueView.{kept_register, register_of};
 ghost use Rattle.part_core.specs.PartMachine.{ChecksAreInOrder, EffectsAreSound, RowsStay, answer_of, checks, effect};
 
 use crate::part::NewPart;

@@ -5,7 +5,7 @@ ghost use Rattle.part_core.specs.FormLaws.{rows_fill, rows_made};
 ghost use Rattle.part_core.specs.FormTables.{command_by, forms_by};
 ghost use Rattle.part_core.specs.PartForms.{part_back, part_distinct, part_fields, part_forms, part_told, part_verb};
 
-use crate::field::{Field, Kind};
+use crate::field::{Field, FieldKind};
 use crate::fields::Fields;
 use crate::form::{Form, form_in};
 use crate::formed::Formed;
@@ -15,20 +15,23 @@ use std::alloc::{AllocError, Global};
 const FORMS: &[Form] = &[
     Form {
         verb: "add_category",
-        fields: &[("name", Kind::Text), ("parent", Kind::MaybeNumber)],
+        fields: &[
+            ("name", FieldKind::Text),
+            ("parent", FieldKind::MaybeNumber),
+        ],
     },
     Form {
         verb: "add_part",
         fields: &[
-            ("name", Kind::Text),
-            ("category", Kind::MaybeNumber),
-            ("template", Kind::MaybeNumber),
-            ("flags", Kind::Flags),
+            ("name", FieldKind::Text),
+            ("category", FieldKind::MaybeNumber),
+            ("template", FieldKind::MaybeNumber),
+            ("flags", FieldKind::Flags),
         ],
     },
     Form {
         verb: "retire_part",
-        fields: &[("part", Kind::Number)],
+        fields: &[("part", FieldKind::Number)],
     },
 ];
 

@@ -46,7 +46,7 @@ report_data lines = array (items_of (map line_data lines))
 
 -- ---- what a call gives
 
--- these lines; or NoSuch where there are none; or it ended for want of memory
+-- these lines; or NoSuch where there are none; or it ran out of memory
 abbrev pub Gives : Option Lines → Result Lines CoreFault → Type 0
 Gives lines (Ok report) = lines ≡ Some report
 Gives lines (Err (Refused refusal)) = (refusal ≡ NoSuch) × (lines ≡ None)

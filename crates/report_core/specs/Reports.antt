@@ -21,6 +21,6 @@ report_lines History number s = history_lines number s
 report_lines Content number s = content_lines number s
 report_lines Shortage number s = shortage_lines number s
 
--- what is told is the report's lines; or NoSuch where there is no such row; or it ended for want of memory
+-- what is told is the report's lines; or NoSuch where there is no such row; or it ran out of memory
 abbrev pub Reports : State → ReportName → ℕ → Result Lines CoreFault → Type 0
 Reports s name number result = Gives (report_lines name number s) result

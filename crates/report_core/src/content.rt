@@ -1,8 +1,8 @@
 //! The content of an item: the item, and all that lies in it, each with its depth.
 ghost use Rattle.std.specs.Prelude.{◌≡◌, ◌∷◌, map, IfOk};
-ghost use Rattle.part_core.specs.Catalogues.{parts_of};
+ghost use Rattle.part_core.specs.CatalogueView.{parts_of};
 ghost use Rattle.yard_core.specs.Contents.{shown_content};
-ghost use Rattle.desk_core.specs.Shops.{state_of};
+ghost use Rattle.desk_core.specs.ShopView.{state_of};
 ghost use Rattle.report_core.specs.Content.{content_lines, node_line};
 ghost use Rattle.report_core.specs.Lines.{Gives, fields_of, lines_of};
 

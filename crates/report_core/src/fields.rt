@@ -2,7 +2,7 @@
 ghost use Rattle.std.specs.Prelude.{◌≡◌, decimal, IfOk};
 ghost use Rattle.std.specs.String.{string_bytes};
 ghost use Rattle.part_core.specs.Catalogue.{part_in};
-ghost use Rattle.part_core.specs.Catalogues.{parts_of};
+ghost use Rattle.part_core.specs.CatalogueView.{parts_of};
 ghost use Rattle.report_core.specs.Fields.{kind_name, name_of, place_text, reason_name, text_or_empty};
 
 use part_core::{Batch, Catalogue, Serial};

@@ -1,6 +1,6 @@
 //! The history of an item: what became of it.
 ghost use Rattle.std.specs.Prelude.{◌≡◌, map, IfOk};
-ghost use Rattle.desk_core.specs.Shops.{state_of};
+ghost use Rattle.desk_core.specs.ShopView.{state_of};
 ghost use Rattle.report_core.specs.History.{entry_line, history_lines};
 ghost use Rattle.report_core.specs.Lines.{Gives, fields_of, lines_of};
 

@@ -1,7 +1,7 @@
 //! The ledger of a part: what came, what went and what is there.
 ghost use Rattle.std.specs.Prelude.{◌≡◌, ◌∷◌, [], IfOk, codes, decimal};
 ghost use Rattle.desk_core.specs.Machine.{IsSoundState};
-ghost use Rattle.desk_core.specs.Shops.{state_of};
+ghost use Rattle.desk_core.specs.ShopView.{state_of};
 ghost use Rattle.report_core.specs.Ledger.{amount_line, ledger_lines, ledger_of};
 ghost use Rattle.report_core.specs.Lines.{Gives, fields_of, lines_of};
 

@@ -1,6 +1,6 @@
 //! Each report by its name.
 ghost use Rattle.desk_core.specs.Machine.{IsSoundState};
-ghost use Rattle.desk_core.specs.Shops.{state_of};
+ghost use Rattle.desk_core.specs.ShopView.{state_of};
 ghost use Rattle.report_core.specs.Reports.{Reports};
 
 use crate::content::content;

@@ -1,7 +1,7 @@
 //! The shortage of a build: what it still wants of each line of its bill that is counted.
 ghost use Rattle.std.specs.Prelude.{◌≡◌, map, IfOk};
-ghost use Rattle.part_core.specs.Catalogues.{parts_of};
-ghost use Rattle.desk_core.specs.Shops.{state_of};
+ghost use Rattle.part_core.specs.CatalogueView.{parts_of};
+ghost use Rattle.desk_core.specs.ShopView.{state_of};
 ghost use Rattle.report_core.specs.Lines.{Gives, fields_of, lines_of};
 ghost use Rattle.report_core.specs.Shortage.{shortage_line, shortage_lines};
 

@@ -2,8 +2,8 @@
 ghost use Rattle.std.specs.Prelude.{◌≡◌, filter, map, not, IfOk};
 ghost use Rattle.std.specs.FinMap as table;
 ghost use Rattle.yard_core.specs.Stock.{is_gone};
-ghost use Rattle.yard_core.specs.Yards.{stock_of};
-ghost use Rattle.desk_core.specs.Shops.{state_of};
+ghost use Rattle.yard_core.specs.YardView.{stock_of};
+ghost use Rattle.desk_core.specs.ShopView.{state_of};
 ghost use Rattle.report_core.specs.Lines.{Gives, fields_of, lines_of};
 ghost use Rattle.report_core.specs.Stock.{is_stock_of, item_line, stock_lines};
 

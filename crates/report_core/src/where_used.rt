@@ -4,7 +4,7 @@ ghost use Rattle.bom_core.specs.Bills.{part_rows};
 ghost use Rattle.bom_core.specs.Walks.{HasWalk};
 ghost use Rattle.part_core.specs.declared.part.Part.{Part};
 ghost use Rattle.desk_core.specs.Machine.{IsSoundState, State};
-ghost use Rattle.desk_core.specs.Shops.{state_of};
+ghost use Rattle.desk_core.specs.ShopView.{state_of};
 ghost use Rattle.report_core.specs.Lines.{Gives, fields_of, lines_of};
 ghost use Rattle.report_core.specs.WhereUsed.{part_line, uses, where_used_lines};
 

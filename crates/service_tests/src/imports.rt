@@ -2,7 +2,7 @@
 //! fail.
 ghost use Rattle.std.specs.Prelude.{IfOk};
 ghost use Rattle.desk_core.specs.Machine.{IsSoundState};
-ghost use Rattle.desk_core.specs.Shops.{state_of};
+ghost use Rattle.desk_core.specs.ShopView.{state_of};
 
 use crate::delivery::{
     DELIVERY, DELIVERY_OUT, ORDERED, ORDERED_OUT, OTHER, OTHER_OUT, STOCK, STOCK_OUT,

@@ -1,7 +1,7 @@
 //! Small limits of numbers and of entries, at each point of what a build draws and writes.
 ghost use Rattle.std.specs.Prelude.{IfOk};
 ghost use Rattle.desk_core.specs.Machine.{IsSoundState};
-ghost use Rattle.desk_core.specs.Shops.{state_of};
+ghost use Rattle.desk_core.specs.ShopView.{state_of};
 
 use crate::outcomes::{Wanted, holds, plays};
 use crate::requests::{

@@ -1,6 +1,6 @@
 //! What a build needs and lacks, as a number and as a report.
 ghost use Rattle.desk_core.specs.Machine.{IsSoundState};
-ghost use Rattle.desk_core.specs.Shops.{state_of};
+ghost use Rattle.desk_core.specs.ShopView.{state_of};
 
 use crate::outcomes::holds;
 use crate::requests::{

@@ -1,6 +1,6 @@
 //! No room for one number or one entry more: each command that takes some is `Full`, and what takes none is done.
 ghost use Rattle.desk_core.specs.Machine.{IsSoundState};
-ghost use Rattle.desk_core.specs.Shops.{state_of};
+ghost use Rattle.desk_core.specs.ShopView.{state_of};
 
 use crate::outcomes::{Wanted, plays};
 use crate::requests::{

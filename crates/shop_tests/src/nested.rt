@@ -1,6 +1,6 @@
 //! Items in items: many in one, high towers, and small limits.
 ghost use Rattle.desk_core.specs.Machine.{IsSoundState};
-ghost use Rattle.desk_core.specs.Shops.{state_of};
+ghost use Rattle.desk_core.specs.ShopView.{state_of};
 
 use crate::outcomes::{Wanted, holds, plays};
 use crate::requests::{

@@ -1,6 +1,6 @@
 //! What requests are to be answered.
 ghost use Rattle.desk_core.specs.Machine.{IsSoundState};
-ghost use Rattle.desk_core.specs.Shops.{state_of};
+ghost use Rattle.desk_core.specs.ShopView.{state_of};
 
 use desk_core::{Request, Shop};
 use part_core::{Answer, CoreFault, Refusal};

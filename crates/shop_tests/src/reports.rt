@@ -1,6 +1,6 @@
 //! Each report once, on a shop that requests have made.
 ghost use Rattle.desk_core.specs.Machine.{IsSoundState};
-ghost use Rattle.desk_core.specs.Shops.{state_of};
+ghost use Rattle.desk_core.specs.ShopView.{state_of};
 
 use crate::outcomes::holds;
 use crate::requests::{

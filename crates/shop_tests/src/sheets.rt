@@ -1,6 +1,6 @@
 //! Sheets of items and of a shop, and what is pending in them.
 ghost use Rattle.desk_core.specs.Machine.{IsSoundState};
-ghost use Rattle.desk_core.specs.Shops.{state_of};
+ghost use Rattle.desk_core.specs.ShopView.{state_of};
 
 use crate::outcomes::{Wanted, holds, plays};
 use crate::requests::{
@@ -61,7 +61,7 @@ fn pending(alloc: Global, shop: &Shop) -> Result<Vec<usize>, AllocError> {
     counts.push(shop.boms().substitutes().pending()?.len())?;
     counts.push(shop.yard().locations().pending()?.len())?;
     counts.push(shop.yard().items().pending()?.len())?;
-    counts.push(shop.yard().journal().pending()?.len())?;
+    counts.push(shop.yard().whole_history().pending()?.len())?;
     counts.push(shop.answers().pending()?.len())?;
     counts.push(shop.orders().orders().pending()?.len())?;
     counts.push(shop.orders().lines().pending()?.len())?;

@@ -20,7 +20,7 @@ use Rattle.forest.specs.declared.place.Reason.TheVariants.{Counted, Disassembled
 use Rattle.forest.specs.Forest.{is_at, is_off}
 use Rattle.forest.specs.Rows.{parent_in}
 use Rattle.alloc_core.specs.declared.allocation.Allocation.{Allocation}
-use Rattle.yard_core.specs.Books.{Books, with_stock}
+use Rattle.yard_core.specs.StockBooks.{StockBooks, with_stock}
 use Rattle.yard_core.specs.Outputs.{LeavesOutputs, is_output}
 use Rattle.yard_core.specs.Stock.{CanPourItem, IsSound, Stock, children_of, graft, grow, item_at, lift, mark, pour, prune, shrink}
 use Rattle.yard_core.proofs.Grafting.{pruned}
@@ -28,7 +28,7 @@ use Rattle.yard_core.proofs.Items.{own_number}
 use Rattle.yard_core.proofs.Quiet.{leaves-more, leaves-none}
 use Rattle.yard_core.proofs.QuietMoves.{HasOwn, at-quiet, leaves-cut, leaves-graft, leaves-grow, leaves-lift, leaves-make, leaves-mark, leaves-pour, leaves-prune, leaves-shrink, left-quiet, own-right}
 use Rattle.stock_core.specs.Add.{add_checks}
-use Rattle.stock_core.specs.Asked.{has_less, has_more, is_loose, is_no_item, is_no_location, is_serialised, quantity_at}
+use Rattle.stock_core.specs.ItemTests.{has_less, has_more, is_loose, is_no_item, is_no_location, is_serialised, quantity_at}
 use Rattle.stock_core.specs.Count.{count_checks, counted}
 use Rattle.stock_core.specs.Disassemble.{CanPruneEach, disassemble, disassemble_checks, prune_each, taken_apart}
 use Rattle.stock_core.specs.Install.{install, install_checks, put_in}
@@ -84,19 +84,19 @@ under-loose n s sound loose =
 -- ---- new items
 
 module _ (a : Arrival) (out : is_output a.place ≡ false) (batch : Option (List ℕ)) (day : CivilDay) where
-  leaves-make_one : (q : ℕ) (serial : Option (List ℕ)) (b : Books) → StandRight (λ i. i.number) b.counter.next b.stock.items → LeavesOutputs b.stock.items (make_one a q batch serial day b).stock.items
+  leaves-make_one : (q : ℕ) (serial : Option (List ℕ)) (b : StockBooks) → StandRight (λ i. i.number) b.counter.next b.stock.items → LeavesOutputs b.stock.items (make_one a q batch serial day b).stock.items
   leaves-make_one q serial b rows =
       leaves-make b.stock (own-right b.counter.next b.stock.items rows) day a.kind (new_item b.counter.next a q batch serial) out
       (right-none (λ (i : Item). i.number) b.counter.next b.counter.next b.stock.items rows (omega arith))
 
-  leaves-make_each : (xs : List (List ℕ)) (b : Books) → 1 ≤ b.counter.next → StandRight (λ i. i.number) b.counter.next b.stock.items → LeavesOutputs b.stock.items (make_each a batch xs day b).stock.items
+  leaves-make_each : (xs : List (List ℕ)) (b : StockBooks) → 1 ≤ b.counter.next → StandRight (λ i. i.number) b.counter.next b.stock.items → LeavesOutputs b.stock.items (make_each a batch xs day b).stock.items
   leaves-make_each [] b some rows = leaves-none b.stock.items
   leaves-make_each (x ∷ xs) b some rows =
       let after = make_one a 1 batch (Some x) day b in
       leaves-more b.stock.items after.stock.items (make_each a batch xs day after).stock.items (leaves-make_one 1 (Some x) b rows)
       (leaves-make_each xs after (omega arith) (right-new (λ (i : Item). i.number) b.counter.next (new_item b.counter.next a 1 batch (Some x)) b.stock.items refl some rows))
 
-pub leaves-make_new : (a : Arrival) (new : NewStock) (day : CivilDay) (b : Books) → is_output a.place ≡ false → 1 ≤ b.counter.next → StandRight (λ i. i.number) b.counter.next b.stock.items
+pub leaves-make_new : (a : Arrival) (new : NewStock) (day : CivilDay) (b : StockBooks) → is_output a.place ≡ false → 1 ≤ b.counter.next → StandRight (λ i. i.number) b.counter.next b.stock.items
     → LeavesOutputs b.stock.items (make_new a new day b).stock.items
 leaves-make_new a new day b out some rows = by_serials new.serials
   where
@@ -107,7 +107,7 @@ leaves-make_new a new day b out some rows = by_serials new.serials
 -- ---- pieces
 
 -- a piece is cut off an item that is no output
-leaves-cut_off : (n q : ℕ) (serial : Option (List ℕ)) (day : CivilDay) (b : Books) → StandRight (λ i. i.number) b.counter.next b.stock.items → table.get b.stock.items (n ∷ []) ≡ Some (item_at n b.stock)
+leaves-cut_off : (n q : ℕ) (serial : Option (List ℕ)) (day : CivilDay) (b : StockBooks) → StandRight (λ i. i.number) b.counter.next b.stock.items → table.get b.stock.items (n ∷ []) ≡ Some (item_at n b.stock)
     → is_output (item_at n b.stock).place ≡ false → LeavesOutputs b.stock.items (cut_off n q serial day b).stock.items
 leaves-cut_off n q serial day b rows there out =
     let own = right-number (λ (i : Item). i.number) b.counter.next n (item_at n b.stock) b.stock.items rows there in
@@ -115,7 +115,7 @@ leaves-cut_off n q serial day b rows there out =
     leaves-cut b.stock (own-right b.counter.next b.stock.items rows) day n under out q b.counter.next serial
     (right-none (λ (i : Item). i.number) b.counter.next b.counter.next b.stock.items rows (omega arith))
 
-leaves-cut_each : (n : ℕ) (xs : List (List ℕ)) (day : CivilDay) (b : Books) → StandRight (λ i. i.number) b.counter.next b.stock.items → 1 ≤ b.counter.next
+leaves-cut_each : (n : ℕ) (xs : List (List ℕ)) (day : CivilDay) (b : StockBooks) → StandRight (λ i. i.number) b.counter.next b.stock.items → 1 ≤ b.counter.next
     → table.get b.stock.items (n ∷ []) ≡ Some (item_at n b.stock) → is_output (item_at n b.stock).place ≡ false → LeavesOutputs b.stock.items (cut_each n xs day b).stock.items
 leaves-cut_each n [] day b rows some there out = leaves-none b.stock.items
 leaves-cut_each n (x ∷ xs) day b rows some there out =
@@ -126,11 +126,11 @@ leaves-cut_each n (x ∷ xs) day b rows some there out =
     (leaves-cut_each n xs day after (cut-right n 1 (Some x) day b rows some there) (omega arith) (item-at n _ after.stock row) still)
 
 -- an amount is taken of a loose item
-pub leaves-take : (n q : ℕ) (day : CivilDay) (b : Books) → StandRight (λ i. i.number) b.counter.next b.stock.items → is_at (item_at n b.stock).place ≡ true
+pub leaves-take : (n q : ℕ) (day : CivilDay) (b : StockBooks) → StandRight (λ i. i.number) b.counter.next b.stock.items → is_at (item_at n b.stock).place ≡ true
     → LeavesOutputs b.stock.items (take n q day b).0.stock.items
 leaves-take n q day b rows loose = go (has_more n q b.stock)
   where
-    go : (c : Bool) → LeavesOutputs b.stock.items (if◌then◌else◌ {A = Books × ℕ} c (cut_off n q None day b, b.counter.next) (b, n)).0.stock.items
+    go : (c : Bool) → LeavesOutputs b.stock.items (if◌then◌else◌ {A = StockBooks × ℕ} c (cut_off n q None day b, b.counter.next) (b, n)).0.stock.items
     go true = leaves-cut_off n q None day b rows (there-loose n b.stock loose) (at-quiet (item_at n b.stock).place loose)
     go false = leaves-none b.stock.items
 
@@ -177,7 +177,7 @@ module _ (n : ℕ) (s : Stock) (sound : IsSound s) (day : CivilDay) (loose : is_
 
 -- ---- items go into others, or come out, one after another
 
-leaves-pour_each : (owners : Owners) (parts : Parts) (into : ℕ) (ns : List ℕ) (day : CivilDay) (b : Books) → Upright owners parts b → ArePourable into ns b.stock
+leaves-pour_each : (owners : Owners) (parts : Parts) (into : ℕ) (ns : List ℕ) (day : CivilDay) (b : StockBooks) → Upright owners parts b → ArePourable into ns b.stock
     → LeavesOutputs b.stock.items (pour_each ns into day b.stock).items
 leaves-pour_each owners parts into [] day b up h = leaves-none b.stock.items
 leaves-pour_each owners parts into (n ∷ ns) day b up h =
@@ -203,7 +203,7 @@ leaves-prune_each (n ∷ ns) l day s sound can =
 
 -- ---- commands
 
-module _ (owners : Owners) (day : CivilDay) (parts : Parts) (bills : Bills) (t : Table Allocation) (b : Books) (sound : IsSoundStock owners parts b) where
+module _ (owners : Owners) (day : CivilDay) (parts : Parts) (bills : Bills) (t : Table Allocation) (b : StockBooks) (sound : IsSoundStock owners parts b) where
   abbrev s : Stock
   s = b.stock
 
@@ -212,7 +212,7 @@ module _ (owners : Owners) (day : CivilDay) (parts : Parts) (bills : Bills) (t :
 
   -- what is taken of a loose item
   module _ (n q : ℕ) (loose : is_at (item_at n s).place ≡ true) (some : 1 ≤ q) (enough : q ≤ (item_at n s).quantity) where
-    abbrev u : Books × ℕ
+    abbrev u : StockBooks × ℕ
     u = take n q day b
 
     took : IsTaken owners parts n q b u

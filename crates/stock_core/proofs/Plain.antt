@@ -10,7 +10,7 @@ use Rattle.forest.specs.Forest.{is_at}
 use Rattle.forest.specs.Moves.{largest, place_left}
 use Rattle.yard_core.specs.Stock.{IsSound, Stock, item_at, no_item}
 use Rattle.yard_core.proofs.Keeping.{bounds_at, good_at}
-use Rattle.stock_core.specs.Asked.{is_loose, is_no_item, is_serialised}
+use Rattle.stock_core.specs.ItemTests.{is_loose, is_no_item, is_serialised}
 use Rattle.stock_core.proofs.Kept.{changed_to}
 
 -- a loose item without serial

@@ -16,7 +16,7 @@ use Rattle.forest.specs.Forest.{Node, is_at, row_of}
 use Rattle.forest.specs.Moves.{cut_change, cut_node, leaf, make_change, place_left, with_quantity}
 use Rattle.forest.specs.Moves as moves
 use Rattle.forest.specs.Tables.{node_of}
-use Rattle.yard_core.specs.Books.{Books, entries_in, is_full}
+use Rattle.yard_core.specs.StockBooks.{StockBooks, entries_in, is_full}
 use Rattle.yard_core.specs.Stock.{Stock, item_at, no_item, tree_of, IsSound, IsThere}
 use Rattle.yard_core.proofs.Moved.{moved-first}
 use Rattle.stock_core.specs.declared.arrivals.Arrival.{Arrival}
@@ -47,18 +47,18 @@ few-made k q n = go (is_at q)
     go false = omega arith
 
 -- a new item was made
-pub room-made : (a : Arrival) (quantity : ℕ) (batch serial : Option (List ℕ)) (day : CivilDay) (k : ℕ) (b new : Books) → HasRoom (1 + k) b → IsSound new.stock
+pub room-made : (a : Arrival) (quantity : ℕ) (batch serial : Option (List ℕ)) (day : CivilDay) (k : ℕ) (b new : StockBooks) → HasRoom (1 + k) b → IsSound new.stock
     → new ≡ make_one a quantity batch serial day b → HasRoom k new
 room-made a quantity batch serial day k b new room sound is = record {
   stock = sound;
-  some = (let more : new.counter.next ≡ b.counter.next + 1 = ap (λ (s : Books). s.counter.next) is in omega (arith, more));
-  rows = subst (λ (s : Books). StandRight (λ i. i.number) s.counter.next s.stock.items) (sym is)
+  some = (let more : new.counter.next ≡ b.counter.next + 1 = ap (λ (s : StockBooks). s.counter.next) is in omega (arith, more));
+  rows = subst (λ (s : StockBooks). StandRight (λ i. i.number) s.counter.next s.stock.items) (sym is)
       (right-new (λ (i : Item). i.number) b.counter.next (new_item b.counter.next a quantity batch serial) b.stock.items refl room.some room.rows);
-  numbers = ap (λ (s : Books). lacks k s.counter) is ∙ numbers-rest k b.counter room.numbers;
+  numbers = ap (λ (s : StockBooks). lacks k s.counter) is ∙ numbers-rest k b.counter room.numbers;
   entries = (
       let node = node_of (new_item b.counter.next a quantity batch serial) in
       let len = (uses-change_drawn (make_change a.kind a.place node) day b room.stock.history).len in
-      let same = ap (λ (s : Books). entries_in s) is in
+      let same = ap (λ (s : StockBooks). entries_in s) is in
       omega (arith, len, few-made a.kind a.place node, same, room.entries));
 }
 
@@ -72,16 +72,16 @@ abbrev piece : ℕ → ℕ → ℕ → Option (List ℕ) → Stock → Item
 piece n quantity m serial s = row_of (leaf (item_at n s).place (cut_node quantity m serial (node_of (item_at n s))))
 
 -- a piece was cut off
-pub room-cut : (n quantity : ℕ) (serial : Option (List ℕ)) (day : CivilDay) (k : ℕ) (b new : Books) → IsThere n b.stock → HasRoom (1 + k) b → IsSound new.stock → new ≡ cut_off n quantity serial day b → HasRoom k new
+pub room-cut : (n quantity : ℕ) (serial : Option (List ℕ)) (day : CivilDay) (k : ℕ) (b new : StockBooks) → IsThere n b.stock → HasRoom (1 + k) b → IsSound new.stock → new ≡ cut_off n quantity serial day b → HasRoom k new
 room-cut n quantity serial day k b new there room sound is =
     let old = room.rows (n ∷ []) (item_at n b.stock) there in
     let rest = right-insert (λ (i : Item). i.number) b.counter.next (item_at n b.stock).number (smaller n quantity b.stock) b.stock.items refl old.some old.drawn room.rows in record {
       stock = sound;
-      some = (let more : new.counter.next ≡ b.counter.next + 1 = ap (λ (s : Books). s.counter.next) is in omega (arith, more));
-      rows = subst (λ (s : Books). StandRight (λ i. i.number) s.counter.next s.stock.items) (sym is)
+      some = (let more : new.counter.next ≡ b.counter.next + 1 = ap (λ (s : StockBooks). s.counter.next) is in omega (arith, more));
+      rows = subst (λ (s : StockBooks). StandRight (λ i. i.number) s.counter.next s.stock.items) (sym is)
           (right-new (λ (i : Item). i.number) b.counter.next (piece n quantity b.counter.next serial b.stock) (table.insert b.stock.items ((item_at n b.stock).number ∷ []) (smaller n quantity b.stock)) refl room.some rest);
-      numbers = ap (λ (s : Books). lacks k s.counter) is ∙ numbers-rest k b.counter room.numbers;
-      entries = (let len = (uses-cut_off n quantity serial day b room.stock.history).len in let same = ap (λ (s : Books). entries_in s) is in omega (arith, len, same, room.entries));
+      numbers = ap (λ (s : StockBooks). lacks k s.counter) is ∙ numbers-rest k b.counter room.numbers;
+      entries = (let len = (uses-cut_off n quantity serial day b room.stock.history).len in let same = ap (λ (s : StockBooks). entries_in s) is in omega (arith, len, same, room.entries));
     }
 
 left-loose : (q : ℕ) (l : Place) → 1 ≤ q → is_at l ≡ true → is_at (place_left q l) ≡ true
@@ -92,8 +92,8 @@ left-loose q l some loose = go (q == 0) refl
     go false e = loose
 
 -- what is left has a piece for each of the others
-pub whole-cut : (n : ℕ) (serial : Option (List ℕ)) (day : CivilDay) (k : ℕ) (b new : Books) → HasRoom (1 + k) b → 1 ≤ k → IsWhole n (1 + k) b → new ≡ cut_off n 1 serial day b → IsWhole n k new
-whole-cut n serial day k b new room more whole is = subst (λ (s : Books). IsWhole n k s) (sym is) whole-after
+pub whole-cut : (n : ℕ) (serial : Option (List ℕ)) (day : CivilDay) (k : ℕ) (b new : StockBooks) → HasRoom (1 + k) b → 1 ≤ k → IsWhole n (1 + k) b → new ≡ cut_off n 1 serial day b → IsWhole n k new
+whole-cut n serial day k b new room more whole is = subst (λ (s : StockBooks). IsWhole n k s) (sym is) whole-after
   where
     own : (item_at n b.stock).number ≡ n
     own = right-number (λ (i : Item). i.number) b.counter.next n (item_at n b.stock) b.stock.items room.rows whole.there
@@ -121,7 +121,7 @@ whole-cut n serial day k b new room more whole is = subst (λ (s : Books). IsWho
     }
 
 -- one more piece can be cut off
-pub can-cut : (n : ℕ) (serial : Option (List ℕ)) (k : ℕ) (b : Books) → HasRoom (1 + k) b → IsWhole n (1 + k) b → IfSome serial (λ _. ◌≡◌ {A = ℕ} 1 1) → CanCut n 1 serial b
+pub can-cut : (n : ℕ) (serial : Option (List ℕ)) (k : ℕ) (b : StockBooks) → HasRoom (1 + k) b → IsWhole n (1 + k) b → IfSome serial (λ _. ◌≡◌ {A = ℕ} 1 1) → CanCut n 1 serial b
 can-cut n serial k b room whole one = record {
   stock = room.stock;
   item = record {
@@ -144,27 +144,27 @@ pub next-serial : (xs : List (List ℕ)) (i : ℕ) (x copy : List ℕ) → i < l
 next-serial xs i x copy in_list is copied = at_drop_more (λ l. l) xs i x in_list ∙ ap (λ y. y ∷ drop (i + 1) xs) (sym (copied ∙ is))
 
 -- the item has a piece for each serial, if there is one
-abbrev pub HasPieces : ℕ → List (List ℕ) → Books → Type 0
+abbrev pub HasPieces : ℕ → List (List ℕ) → StockBooks → Type 0
 HasPieces n [] b = Unit {0}
 HasPieces n (x ∷ xs) b = IsWhole n (length (x ∷ xs)) b
 
-pub pieces-whole : (n : ℕ) (xs : List (List ℕ)) (b : Books) → IsWhole n (length xs) b → HasPieces n xs b
+pub pieces-whole : (n : ℕ) (xs : List (List ℕ)) (b : StockBooks) → IsWhole n (length xs) b → HasPieces n xs b
 pieces-whole n [] b whole = tt
 pieces-whole n (x ∷ xs) b whole = whole
 
-pub whole-pieces : (n : ℕ) (x : List ℕ) (xs ys : List (List ℕ)) (b : Books) → ys ≡ x ∷ xs → HasPieces n ys b → IsWhole n (1 + length xs) b
+pub whole-pieces : (n : ℕ) (x : List ℕ) (xs ys : List (List ℕ)) (b : StockBooks) → ys ≡ x ∷ xs → HasPieces n ys b → IsWhole n (1 + length xs) b
 whole-pieces n x xs ys b is h = subst (λ k. IsWhole n k b) (let e : length (x ∷ xs) ≡ 1 + length xs = omega arith in e) (subst (λ (l : List (List ℕ)). HasPieces n l b) is h)
 
-pub pieces-cut : (n : ℕ) (serial : Option (List ℕ)) (day : CivilDay) (xs : List (List ℕ)) (b new : Books) → HasRoom (1 + length xs) b → IsWhole n (1 + length xs) b → new ≡ cut_off n 1 serial day b → HasPieces n xs new
+pub pieces-cut : (n : ℕ) (serial : Option (List ℕ)) (day : CivilDay) (xs : List (List ℕ)) (b new : StockBooks) → HasRoom (1 + length xs) b → IsWhole n (1 + length xs) b → new ≡ cut_off n 1 serial day b → HasPieces n xs new
 pieces-cut n serial day [] b new room whole is = tt
 pieces-cut n serial day (x ∷ xs) b new room whole is = whole-cut n serial day (length (x ∷ xs)) b new room (omega arith) whole is
 
-pub room-rest : (x : List ℕ) (xs ys : List (List ℕ)) (b : Books) → ys ≡ x ∷ xs → HasRoom (length ys) b → HasRoom (1 + length xs) b
+pub room-rest : (x : List ℕ) (xs ys : List (List ℕ)) (b : StockBooks) → ys ≡ x ∷ xs → HasRoom (length ys) b → HasRoom (1 + length xs) b
 room-rest x xs ys b is room = subst (λ k. HasRoom k b) (ap length is ∙ (let e : length (x ∷ xs) ≡ 1 + length xs = omega arith in e)) room
 
 -- ---- where a command passes its checks, there is room for what it makes
 
-pub room-checked : (k : ℕ) (b new : Books) → AreSoundItems b → b.counter.limits.entries ≤ 10000000000 → Uses k k b new → is_full new ≡ false → HasRoom k b
+pub room-checked : (k : ℕ) (b new : StockBooks) → AreSoundItems b → b.counter.limits.entries ≤ 10000000000 → Uses k k b new → is_full new ≡ false → HasRoom k b
 room-checked k b new sound small u left = record {
   stock = sound.stock;
   some = sound.locations.some;
@@ -174,7 +174,7 @@ room-checked k b new sound small u left = record {
 }
 
 -- and where that has fewer entries, or none
-pub room-few : (k entries : ℕ) (b new : Books) → AreSoundItems b → b.counter.limits.entries ≤ 10000000000 → k ≤ 10000000000 → Uses k entries b new → is_full new ≡ false → HasRoom k b
+pub room-few : (k entries : ℕ) (b new : StockBooks) → AreSoundItems b → b.counter.limits.entries ≤ 10000000000 → k ≤ 10000000000 → Uses k entries b new → is_full new ≡ false → HasRoom k b
 room-few k entries b new sound small few u left = record {
   stock = sound.stock;
   some = sound.locations.some;

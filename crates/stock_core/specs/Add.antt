@@ -5,15 +5,15 @@ use Rattle.part_core.specs.Day.{CivilDay}
 use Rattle.part_core.specs.Quantity.{is_bad_quantity, largest}
 use Rattle.part_core.specs.declared.refusal.Refusal.TheVariants.{NoSuch, BadNumber, NotLoose, Serialised, TooLarge, Full}
 use Rattle.yard_core.specs.Stock.{grow}
-use Rattle.stock_core.specs.Asked.{is_loose, is_no_item, is_serialised, quantity_at}
-use Rattle.yard_core.specs.Books.{Books, is_full, with_stock}
+use Rattle.stock_core.specs.ItemTests.{is_loose, is_no_item, is_serialised, quantity_at}
+use Rattle.yard_core.specs.StockBooks.{StockBooks, is_full, with_stock}
 
 -- the item gains it
-abbrev pub add : ℕ → ℕ → CivilDay → Books → Books
+abbrev pub add : ℕ → ℕ → CivilDay → StockBooks → StockBooks
 add n quantity day b = with_stock (grow n quantity day b.stock) b
 
 -- why it is refused, in the order of checks
-abbrev pub add_checks : ℕ → ℕ → CivilDay → Books → List Check
+abbrev pub add_checks : ℕ → ℕ → CivilDay → StockBooks → List Check
 add_checks n quantity day b =
     (is_no_item n b.stock, NoSuch)
     ∷ (is_bad_quantity quantity, BadNumber)

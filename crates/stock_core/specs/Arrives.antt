@@ -3,7 +3,7 @@ use Rattle.std.specs.Prelude.{◌≡◌, ℕ, ◌+◌, ◌<◌, ◌≤◌, ◌^�
 use Rattle.part_core.specs.Counter.{lacks}
 use Rattle.part_core.specs.Rows.{StandRight}
 use Rattle.forest.specs.Moves as moves
-use Rattle.yard_core.specs.Books.{Books}
+use Rattle.yard_core.specs.StockBooks.{StockBooks}
 use Rattle.yard_core.specs.Stock.{IsSound, next_entry}
 use Rattle.stock_core.specs.declared.arrivals.Arrival.{Arrival}
 
@@ -17,7 +17,7 @@ abbrev pub IsArrival : Arrival → Type 0
 IsArrival a = moves.CanMake a.kind a.place
 
 -- the stock is sound, and there is room for so many items
-pub record HasRoom (count : ℕ) (b : Books) : Type 0 where
+pub record HasRoom (count : ℕ) (b : StockBooks) : Type 0 where
   pub stock : IsSound b.stock
   pub some : 1 ≤ b.counter.next
   pub rows : StandRight (λ i. i.number) b.counter.next b.stock.items

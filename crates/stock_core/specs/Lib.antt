@@ -1,10 +1,10 @@
 pub mod Add
 pub mod Arrives
-pub mod Asked
 pub mod Count
 pub mod Disassemble
 pub mod Found
 pub mod Install
+pub mod ItemTests
 pub mod Merge
 pub mod Opening
 pub mod Pieces

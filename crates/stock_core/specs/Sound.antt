@@ -8,7 +8,7 @@ use Rattle.forest.specs.declared.entry.Entry.{Entry}
 use Rattle.forest.specs.declared.item.Item.{Item}
 use Rattle.forest.specs.declared.place.Place.{Place}
 use Rattle.forest.specs.declared.place.Place.TheVariants.{At, In, Output, Sent, Used, Off, Gone}
-use Rattle.yard_core.specs.Books.{Books, entries_in}
+use Rattle.yard_core.specs.StockBooks.{StockBooks, entries_in}
 use Rattle.yard_core.specs.SoundLocations.{AreSoundLocations}
 use Rattle.yard_core.specs.Stock.{Stock, IsSound, holds_serial}
 
@@ -51,7 +51,7 @@ pub record IsSoundEntry (owners : Owners) (parts : Parts) (s : Stock) (e : Entry
   pub quantity : (1 ≤ e.note.quantity) × (e.note.quantity ≤ largest)
 
 -- what holds without a look at the catalogue
-pub record AreSoundItems (b : Books) : Type 0 where
+pub record AreSoundItems (b : StockBooks) : Type 0 where
   -- a sound forest, with a history that agrees with it
   pub stock : IsSound b.stock
   -- each item under its own number, which was drawn
@@ -60,14 +60,14 @@ pub record AreSoundItems (b : Books) : Type 0 where
   -- the history is no longer than its limit
   pub within : entries_in b ≤ b.counter.limits.entries
 
-pub record IsSoundStock (owners : Owners) (parts : Parts) (b : Books) : Type 0 where
+pub record IsSoundStock (owners : Owners) (parts : Parts) (b : StockBooks) : Type 0 where
   pub items : AreSoundItems b
   pub once : SerialsStandOnce parts b.stock
   pub each_item : EachRow (IsSoundItem owners parts b.stock) b.stock.items
   pub each_entry : EachRow (IsSoundEntry owners parts b.stock) b.stock.history
 
 -- sound stock beside some orders and builds, whichever they are: what the calls ask for
-abbrev pub IsSoundStockSomehow : Parts → Books → Type 0
+abbrev pub IsSoundStockSomehow : Parts → StockBooks → Type 0
 IsSoundStockSomehow parts b = (owners : Owners) × IsSoundStock owners parts b
 
 -- each item that was there is there, and is of the part that it was of

@@ -2,7 +2,7 @@
 use Rattle.std.specs.Prelude.{◌≡◌, ℕ, List, [], ◌∷◌, Some, true, codes, refl}
 use Rattle.part_core.specs.declared.field.Field.{Field}
 use Rattle.part_core.specs.declared.field.Field.TheVariants as field
-use Rattle.part_core.specs.declared.field.Kind.TheVariants.{Number, MaybeText, Status, Serials, MaybeSerials, Numbers}
+use Rattle.part_core.specs.declared.field.FieldKind.TheVariants.{Number, MaybeText, Status, Serials, MaybeSerials, Numbers}
 use Rattle.part_core.specs.Forms.{have_distinct}
 use Rattle.part_core.specs.FormTables.{AllTell, FormRow, command_by, forms_by}
 use Rattle.stock_core.specs.declared.stock_command.StockCommand.{StockCommand}

@@ -1,11 +1,11 @@
 //! Stock that comes, and the new items that it is.
 ghost use Rattle.std.specs.Prelude.{◌≡◌, ◌≤◌, IfOk, IfSome, OnOk, length, not};
 ghost use Rattle.part_core.specs.Catalogue.{is_trackable, part_in};
-ghost use Rattle.part_core.specs.Catalogues.{parts_of};
+ghost use Rattle.part_core.specs.CatalogueView.{parts_of};
 ghost use Rattle.forest.specs.Moves.{largest};
-ghost use Rattle.yard_core.specs.Books.{books_of, kept_books};
+ghost use Rattle.yard_core.specs.StockBooks.{stock_books_of, kept_stock_books};
 ghost use Rattle.yard_core.specs.Stock.{IsSound};
-ghost use Rattle.yard_core.specs.Yards.{stock_of};
+ghost use Rattle.yard_core.specs.YardView.{stock_of};
 ghost use Rattle.stock_core.specs.Arrives.{HasRoom, IsArrival, count_of};
 ghost use Rattle.stock_core.specs.Serials.{are_many, are_taken, given, is_other_count};
 ghost use Rattle.stock_core.specs.Steps.{make_each, make_new, make_one, new_item};
@@ -130,13 +130,13 @@ fn make_one(
     serial: Option<Serial>,
     day: Day,
 ) -> Result<(), AllocError>
-    requires room { HasRoom 1 (books_of yard.old counter.old) }
+    requires room { HasRoom 1 (stock_books_of yard.old counter.old) }
     requires arrival { IsArrival arrival }
     requires quantity { (1 ≤ quantity) × (quantity ≤ largest) × IfSome serial (λ _. quantity ≡ 1) }
-    ensures ok { OnOk result (books_of yard.new counter.new
-        ≡ make_one arrival quantity batch.now serial day (books_of yard.old counter.old)) }
+    ensures ok { OnOk result (stock_books_of yard.new counter.new
+        ≡ make_one arrival quantity batch.now serial day (stock_books_of yard.old counter.old)) }
     ensures sound { OnOk result (IsSound (stock_of yard.new)) }
-    ensures kept { kept_books yard.new counter.new ≡ kept_books yard.old counter.old }
+    ensures kept { kept_stock_books yard.new counter.new ≡ kept_stock_books yard.old counter.old }
 {
     let item = new_item(alloc, counter.next(), arrival, quantity, batch, serial)?;
     yard.make(arrival.kind, item, day)?;
@@ -154,11 +154,11 @@ fn make_each(
     serials: &[Serial],
     day: Day,
 ) -> Result<(), AllocError>
-    requires room { HasRoom (length serials.now) (books_of yard.old counter.old) }
+    requires room { HasRoom (length serials.now) (stock_books_of yard.old counter.old) }
     requires arrival { IsArrival arrival }
-    ensures ok { OnOk result (books_of yard.new counter.new
-        ≡ make_each arrival batch.now serials.now day (books_of yard.old counter.old)) }
-    ensures kept { kept_books yard.new counter.new ≡ kept_books yard.old counter.old }
+    ensures ok { OnOk result (stock_books_of yard.new counter.new
+        ≡ make_each arrival batch.now serials.now day (stock_books_of yard.old counter.old)) }
+    ensures kept { kept_stock_books yard.new counter.new ≡ kept_stock_books yard.old counter.old }
 {
     for serial in serials {
         let own = serial.copy(alloc)?;
@@ -176,12 +176,12 @@ pub fn make_new(
     new: &NewStock,
     day: Day,
 ) -> Result<(), AllocError>
-    requires room { HasRoom (count_of new.now.serials) (books_of yard.old counter.old) }
+    requires room { HasRoom (count_of new.now.serials) (stock_books_of yard.old counter.old) }
     requires arrival { IsArrival arrival }
     requires quantity { (1 ≤ new.now.quantity) × (new.now.quantity ≤ largest) }
-    ensures ok { OnOk result (books_of yard.new counter.new
-        ≡ make_new arrival new.now day (books_of yard.old counter.old)) }
-    ensures kept { kept_books yard.new counter.new ≡ kept_books yard.old counter.old }
+    ensures ok { OnOk result (stock_books_of yard.new counter.new
+        ≡ make_new arrival new.now day (stock_books_of yard.old counter.old)) }
+    ensures kept { kept_stock_books yard.new counter.new ≡ kept_stock_books yard.old counter.old }
 {
     match &new.serials {
         None => make_one(

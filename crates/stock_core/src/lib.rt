@@ -3,17 +3,17 @@
 //!
 //! A command has a room of its own: `specs/Transfer.antt` says what it does and why it is refused,
 //! `src/commands/transfer.rt` does it, and `proofs/TransferSound.antt` shows that what is sound stays so. Its moves are made in
-//! place and taken back where memory ends, by `books::conclude`; `stock_command` puts all commands together.
+//! place and taken back where memory runs out, by `stock_books::conclude`; `stock_command` puts all commands together.
 #![tactic(auto)]
 
 mod arrivals;
-mod asked;
-mod books;
 mod commands;
+mod item_tests;
 mod opening;
 mod owners;
 mod pieces;
 mod serials;
+mod stock_books;
 pub mod stock_command;
 mod stock_forms;
 
@@ -21,10 +21,6 @@ pub use arrivals::{
     Arrival, NewStock, copy_serials, count_of, make_new, names_many, names_needless,
     names_other_count, names_taken,
 };
-pub use asked::{
-    has_more, is_available, is_loose, is_no_item, is_no_location, part_at, quantity_at,
-};
-pub use books::lacks_room;
 pub use commands::add::add;
 pub use commands::count::count;
 pub use commands::disassemble::disassemble;
@@ -38,7 +34,11 @@ pub use commands::set_status::set_status;
 pub use commands::split::split;
 pub use commands::transfer::transfer;
 pub use commands::uninstall::uninstall;
+pub use item_tests::{
+    has_more, is_available, is_loose, is_no_item, is_no_location, part_at, quantity_at,
+};
 pub use opening::is_sound_stock;
 pub use owners::KnowsOwners;
 pub use pieces::take;
+pub use stock_books::lacks_room;
 pub use stock_command::StockCommand;

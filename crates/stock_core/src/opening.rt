@@ -3,15 +3,15 @@
 //! Each check answers exactly, and none compares each row with each: what a row names is looked up, and a serial is
 //! looked for in a set of those before it.
 ghost use Rattle.std.specs.Prelude.{◌≡◌, ◌↔◌, ◌∷◌, [], IsTrue, IfOk, map};
-ghost use Rattle.part_core.specs.Catalogues.{parts_of};
+ghost use Rattle.part_core.specs.CatalogueView.{parts_of};
 ghost use Rattle.part_core.specs.Filled.{StandUnderKeys};
 ghost use Rattle.part_core.specs.Rows.{StandRight};
 ghost use Rattle.stock_core.specs.Opening.{AreSoundRows};
 ghost use Rattle.stock_core.specs.Sound.{AreSoundItems, IsSoundStock};
-ghost use Rattle.yard_core.specs.Books.{books_of};
+ghost use Rattle.yard_core.specs.StockBooks.{stock_books_of};
 ghost use Rattle.yard_core.specs.Climbs.{IsByNumber};
 ghost use Rattle.yard_core.specs.Stock.{IsSound};
-ghost use Rattle.yard_core.specs.Yards.{stock_of};
+ghost use Rattle.yard_core.specs.YardView.{stock_of};
 
 use crate::owners::KnowsOwners;
 use part_core::{Catalogue, Counter, Id};
@@ -38,7 +38,7 @@ fn are_items_drawn(yard: &Yard, next: Id) -> Result<bool, AllocError>
 fn is_sound_alone(yard: &Yard, counter: &Counter) -> Result<bool, AllocError>
     requires { StandUnderKeys (λ e. e.number ∷ []) (stock_of yard.now).history }
     ensures { IfOk result (λ sound. IsTrue sound
-        ↔ AreSoundItems (books_of yard.now counter.now)) }
+        ↔ AreSoundItems (stock_books_of yard.now counter.now)) }
 {
     if yard.entries() > counter.limits().entries {
         return Ok(false);
@@ -87,13 +87,13 @@ fn is_sound_beside<W: KnowsOwners>(
     yard: &Yard,
     counter: &Counter,
 ) -> Result<bool, AllocError>
-    requires { AreSoundItems (books_of yard.now counter.now) }
+    requires { AreSoundItems (stock_books_of yard.now counter.now) }
     ensures { IfOk result (λ sound. IsTrue sound ↔ IsSoundStock (W.owners_of owners.now)
-        (parts_of catalogue.now) (books_of yard.now counter.now)) }
+        (parts_of catalogue.now) (stock_books_of yard.now counter.now)) }
 {
     let _ = counter;
     let items = rows_in_order(yard.items())?;
-    let entries = rows_in_order(yard.journal())?;
+    let entries = rows_in_order(yard.whole_history())?;
     let sound = are_sound_rows::<W>(
         alloc,
         owners,
@@ -117,7 +117,7 @@ pub fn is_sound_stock<W: KnowsOwners>(
 ) -> Result<bool, AllocError>
     requires { StandUnderKeys (λ e. e.number ∷ []) (stock_of yard.now).history }
     ensures { IfOk result (λ sound. IsTrue sound ↔ IsSoundStock (W.owners_of owners.now)
-        (parts_of catalogue.now) (books_of yard.now counter.now)) }
+        (parts_of catalogue.now) (stock_books_of yard.now counter.now)) }
 {
     let alone = is_sound_alone(yard, counter)?;
     if !alone {

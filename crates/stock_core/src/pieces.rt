@@ -1,14 +1,14 @@
 //! Pieces that are cut off items.
 ghost use Rattle.std.specs.Prelude.{◌≡◌, ◌+◌, ◌≤◌, true, IfOk, OnOk, None, length};
-ghost use Rattle.yard_core.specs.Books.{books_of, kept_books};
+ghost use Rattle.yard_core.specs.StockBooks.{stock_books_of, kept_stock_books};
 ghost use Rattle.yard_core.specs.Stock.{IsSound, next_entry};
-ghost use Rattle.yard_core.specs.Yards.{stock_of};
+ghost use Rattle.yard_core.specs.YardView.{stock_of};
 ghost use Rattle.stock_core.specs.Arrives.{HasRoom};
-ghost use Rattle.stock_core.specs.Asked.{has_more, is_loose};
+ghost use Rattle.stock_core.specs.ItemTests.{has_more, is_loose};
 ghost use Rattle.stock_core.specs.Pieces.{CanCut, IsWhole};
 ghost use Rattle.stock_core.specs.Steps.{cut_each, cut_off, take};
 
-use crate::asked::has_more;
+use crate::item_tests::has_more;
 use part_core::{Counter, Day, Id, Quantity, Serial};
 use std::alloc::{AllocError, Global};
 use yard_core::Yard;
@@ -22,12 +22,12 @@ pub fn cut_off(
     serial: Option<Serial>,
     day: Day,
 ) -> Result<Id, AllocError>
-    requires can { CanCut item quantity serial (books_of yard.old counter.old) }
-    ensures ok { IfOk result (λ _. books_of yard.new counter.new
-        ≡ cut_off item quantity serial day (books_of yard.old counter.old)) }
+    requires can { CanCut item quantity serial (stock_books_of yard.old counter.old) }
+    ensures ok { IfOk result (λ _. stock_books_of yard.new counter.new
+        ≡ cut_off item quantity serial day (stock_books_of yard.old counter.old)) }
     ensures number { IfOk result (λ number. number ≡ counter.old.next) }
     ensures sound { OnOk result (IsSound (stock_of yard.new)) }
-    ensures kept { kept_books yard.new counter.new ≡ kept_books yard.old counter.old }
+    ensures kept { kept_stock_books yard.new counter.new ≡ kept_stock_books yard.old counter.old }
 {
     yard.cut(item, quantity, counter.next(), serial, day)?;
     Ok(counter.draw())
@@ -42,11 +42,11 @@ pub fn cut_each(
     serials: &[Serial],
     day: Day,
 ) -> Result<(), AllocError>
-    requires room { HasRoom (length serials.now) (books_of yard.old counter.old) }
-    requires whole { IsWhole item (length serials.now) (books_of yard.old counter.old) }
-    ensures ok { OnOk result (books_of yard.new counter.new
-        ≡ cut_each item serials.now day (books_of yard.old counter.old)) }
-    ensures kept { kept_books yard.new counter.new ≡ kept_books yard.old counter.old }
+    requires room { HasRoom (length serials.now) (stock_books_of yard.old counter.old) }
+    requires whole { IsWhole item (length serials.now) (stock_books_of yard.old counter.old) }
+    ensures ok { OnOk result (stock_books_of yard.new counter.new
+        ≡ cut_each item serials.now day (stock_books_of yard.old counter.old)) }
+    ensures kept { kept_stock_books yard.new counter.new ≡ kept_stock_books yard.old counter.old }
 {
     for serial in serials {
         let own = serial.copy(alloc)?;
@@ -67,14 +67,14 @@ pub fn take(
     requires sound { IsSound (stock_of yard.old) }
     requires loose { is_loose item (stock_of yard.old) ≡ true }
     requires can { has_more item quantity (stock_of yard.old) ≡ true
-        → CanCut item quantity None (books_of yard.old counter.old) }
-    ensures ok { IfOk result (λ number. take item quantity day (books_of yard.old counter.old)
-        ≡ (books_of yard.new counter.new, number)) }
+        → CanCut item quantity None (stock_books_of yard.old counter.old) }
+    ensures ok { IfOk result (λ number. take item quantity day (stock_books_of yard.old counter.old)
+        ≡ (stock_books_of yard.new counter.new, number)) }
     ensures sound { OnOk result (IsSound (stock_of yard.new)) }
     ensures loose { IfOk result (λ number. is_loose number (stock_of yard.new) ≡ true) }
     ensures entries { OnOk result (next_entry (stock_of yard.new)
         ≤ next_entry (stock_of yard.old) + 1) }
-    ensures kept { kept_books yard.new counter.new ≡ kept_books yard.old counter.old }
+    ensures kept { kept_stock_books yard.new counter.new ≡ kept_stock_books yard.old counter.old }
 {
     if !has_more(yard, item, quantity) {
         return Ok(item);

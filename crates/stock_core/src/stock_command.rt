@@ -1,13 +1,13 @@
 //! The commands on stock, as a machine: one call that does any of them, and its laws.
 ghost use Rattle.std.specs.Prelude.{◌≡◌};
 ghost use Rattle.part_core.specs.Catalogue.{no_parts};
-ghost use Rattle.part_core.specs.Catalogues.{parts_of};
+ghost use Rattle.part_core.specs.CatalogueView.{parts_of};
 ghost use Rattle.part_core.specs.Counter.{start};
 ghost use Rattle.part_core.specs.declared.limits.Limits.{Limits};
-ghost use Rattle.bom_core.specs.Boms.{bills_of};
-ghost use Rattle.yard_core.specs.Books.{Does, books_of, kept_books};
+ghost use Rattle.bom_core.specs.BomsView.{bills_of};
+ghost use Rattle.yard_core.specs.StockBooks.{Does, stock_books_of, kept_stock_books};
 ghost use Rattle.yard_core.specs.Stock.{empty_stock};
-ghost use Rattle.alloc_core.specs.AllocationTables.{allocations_now};
+ghost use Rattle.alloc_core.specs.AllocationsView.{allocations_now};
 ghost use Rattle.stock_core.specs.Sound.{IsSoundStock, IsSoundStockSomehow, Owners};
 ghost use Rattle.stock_core.specs.StockMachine.{ChecksAreInOrder, EffectsAreSound, RowsStay, checks, effect};
 
@@ -109,14 +109,14 @@ pub fn act(
     day: Day,
     command: &StockCommand,
 ) -> Result<Answer, CoreFault>
-    requires nothing_pending { kept_books yard.old counter.old ≡ books_of yard.old counter.old }
-    requires sound { IsSoundStockSomehow (parts_of catalogue.now) (books_of yard.old counter.old) }
-    ensures does { let b = books_of yard.old counter.old in
+    requires nothing_pending { kept_stock_books yard.old counter.old ≡ stock_books_of yard.old counter.old }
+    requires sound { IsSoundStockSomehow (parts_of catalogue.now) (stock_books_of yard.old counter.old) }
+    ensures does { let b = stock_books_of yard.old counter.old in
         Does (checks command.now day (parts_of catalogue.now) (bills_of boms.now)
         (allocations_now allocations.now) b)
         (effect command.now day b) b result
-        (books_of yard.new counter.new) }
-    ensures kept { kept_books yard.new counter.new ≡ kept_books yard.old counter.old }
+        (stock_books_of yard.new counter.new) }
+    ensures kept { kept_stock_books yard.new counter.new ≡ kept_stock_books yard.old counter.old }
 {
     match command {
         StockCommand::Found {

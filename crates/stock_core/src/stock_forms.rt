@@ -7,7 +7,7 @@ ghost use Rattle.stock_core.specs.StockForms.{stock_back, stock_distinct, stock_
 
 use crate::arrivals::{NewStock, copy_serials};
 use crate::stock_command::StockCommand;
-use part_core::{Field, Fields, Form, Formed, Kind, form_in};
+use part_core::{Field, FieldKind, Fields, Form, Formed, form_in};
 use std::alloc::{AllocError, Global};
 use yard_core::copy_batch;
 
@@ -15,72 +15,72 @@ const FORMS: &[Form] = &[
     Form {
         verb: "found",
         fields: &[
-            ("part", Kind::Number),
-            ("location", Kind::Number),
-            ("quantity", Kind::Number),
-            ("batch", Kind::MaybeText),
-            ("serials", Kind::MaybeSerials),
+            ("part", FieldKind::Number),
+            ("location", FieldKind::Number),
+            ("quantity", FieldKind::Number),
+            ("batch", FieldKind::MaybeText),
+            ("serials", FieldKind::MaybeSerials),
         ],
     },
     Form {
         verb: "add",
-        fields: &[("item", Kind::Number), ("quantity", Kind::Number)],
+        fields: &[("item", FieldKind::Number), ("quantity", FieldKind::Number)],
     },
     Form {
         verb: "remove",
-        fields: &[("item", Kind::Number), ("quantity", Kind::Number)],
+        fields: &[("item", FieldKind::Number), ("quantity", FieldKind::Number)],
     },
     Form {
         verb: "count",
-        fields: &[("item", Kind::Number), ("quantity", Kind::Number)],
+        fields: &[("item", FieldKind::Number), ("quantity", FieldKind::Number)],
     },
     Form {
         verb: "transfer",
         fields: &[
-            ("item", Kind::Number),
-            ("location", Kind::Number),
-            ("quantity", Kind::Number),
+            ("item", FieldKind::Number),
+            ("location", FieldKind::Number),
+            ("quantity", FieldKind::Number),
         ],
     },
     Form {
         verb: "split",
-        fields: &[("item", Kind::Number), ("quantity", Kind::Number)],
+        fields: &[("item", FieldKind::Number), ("quantity", FieldKind::Number)],
     },
     Form {
         verb: "merge",
-        fields: &[("into", Kind::Number), ("items", Kind::Numbers)],
+        fields: &[("into", FieldKind::Number), ("items", FieldKind::Numbers)],
     },
     Form {
         verb: "serialise",
         fields: &[
-            ("item", Kind::Number),
-            ("quantity", Kind::Number),
-            ("serials", Kind::Serials),
+            ("item", FieldKind::Number),
+            ("quantity", FieldKind::Number),
+            ("serials", FieldKind::Serials),
         ],
     },
     Form {
         verb: "set_status",
-        fields: &[("item", Kind::Number), ("status", Kind::Status)],
+        fields: &[("item", FieldKind::Number), ("status", FieldKind::Status)],
     },
     Form {
         verb: "install",
         fields: &[
-            ("item", Kind::Number),
-            ("parent", Kind::Number),
-            ("quantity", Kind::Number),
+            ("item", FieldKind::Number),
+            ("parent", FieldKind::Number),
+            ("quantity", FieldKind::Number),
         ],
     },
     Form {
         verb: "uninstall",
-        fields: &[("item", Kind::Number), ("location", Kind::Number)],
+        fields: &[("item", FieldKind::Number), ("location", FieldKind::Number)],
     },
     Form {
         verb: "disassemble",
-        fields: &[("item", Kind::Number), ("location", Kind::Number)],
+        fields: &[("item", FieldKind::Number), ("location", FieldKind::Number)],
     },
     Form {
         verb: "reinstate",
-        fields: &[("item", Kind::Number), ("location", Kind::Number)],
+        fields: &[("item", FieldKind::Number), ("location", FieldKind::Number)],
     },
 ];
 

@@ -1,6 +1,6 @@
 //! What no line asks: calls of the stores of bills, parts and stock.
 ghost use Rattle.desk_core.specs.Machine.{IsSoundState};
-ghost use Rattle.desk_core.specs.Shops.{state_of};
+ghost use Rattle.desk_core.specs.ShopView.{state_of};
 
 use crate::{bill_cycles, nesting_deep, refused_rows};
 use desk_core::Shop;

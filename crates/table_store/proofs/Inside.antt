@@ -88,7 +88,7 @@ abbrev pub IsWhole : List ℕ → ℕ → Result Compiled CompileError → Type 
 IsWhole sql given (Ok c) = (length sql ≤ c.tail) × (given ≡ length c.names) × (shows_rows false c ≡ false)
 IsWhole sql given (Err e) = ⊥
 
--- the command is misplaced or refused, and nothing changes, or the store failed
+-- the command is misplaced or refused, and nothing changes, or the database failed
 abbrev pub RefusesAs : State → State → Command → List ℕ → Row → Error → Type 0
 RefusesAs old new k t params e =
     ((IsMisplaced old k e ⊎ (IsWrite k × Does old.step_limit (mode_of old) params old.now t None k (Err (Some e)))) × IsUnchanged old new)
@@ -113,7 +113,7 @@ module _ (sql : List ℕ) (params : Row) (old new : State) (command : Command) (
       writes (inr some) = absurd (true≢false (sym (subst IsSome bare some)))
   own_of c bare e (inr h) = inr (subst (λ r. Fails old new (Does old.step_limit (mode_of old) params old.now (text_of sql c) r c.command (Err None)) e) bare h)
 
-  -- an error is the command's own, or the store failed before it
+  -- an error is the command's own, or the database failed before it
   pub refuses_as : IsWhole sql (length params) (understood old.now.schema sql) → (e : Error) → Executes sql params old new (Err e) → RefusesAs old new command text params e
   unfolding ExecutesIn IsNotRun
   refuses_as whole e (inl (inl h)) = absurd (never h.0)

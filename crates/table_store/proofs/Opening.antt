@@ -1,4 +1,4 @@
--- What the laws of a store tell of the tables that a connection over it finds.
+-- What the laws of a database tell of the tables that a connection over it finds.
 use Rattle.std.proofs.Common.{◌≡◌, ◌≤◌, ℕ, Bool, true, false, IsTrue, inl, inr, Result, Ok, Err, IfOk, IfErr, refl, sym, subst, ◌∙◌, arith}
 use Rattle.sqlite.specs.State.{State, HasCleanDisk}
 use Rattle.sqlite.specs.Table.{Table}
@@ -17,14 +17,14 @@ use Rattle.table_store.specs.Values.{HasTables}
 use Rattle.table_store.specs.declared.name.TableName.{TableName}
 use Rattle.table_store.specs.declared.name.TableName.TheVariants.{Meta, Categories, Locations, Parts, Lines, Substitutes, Items, History, Orders, OrderLines, Builds, Allocations, Kept}
 
--- a store whose list of objects is that of a schema has the schema's tables in order
+-- a database whose list of objects is that of a schema has the schema's tables in order
 pub tables_ordered : (v : View) (schema : Schema) → IsOrdered v.shape v.trees → IsListed (v.trees catalog_tree) v.shape v.reals → IsSound schema v.trees
     → (table : Table) → Has schema.tables table → IsShaped shape.Table (v.trees table.tree)
 tables_ordered v schema ordered listed sound table there =
     let catalog : IsTable (v.trees catalog_tree) = (subst (λ s. IsShaped s (v.trees catalog_tree)) listed.itself.0 (ordered catalog_tree)).0 in
     subst (λ s. IsShaped s (v.trees table.tree)) (table_shape listed catalog sound.lists.listed table there).0 (ordered table.tree)
 
--- a store that isn't broken is open
+-- a database that isn't broken is open
 pub open_if_sound : (is_open is_broken : Bool) → (is_open ≡ false → IsTrue is_broken) → is_broken ≡ false → IsTrue is_open
 open_if_sound true is_broken shut sound = refl
 open_if_sound false is_broken shut sound = let clash : true ≡ false = sym (shut refl) ∙ sound in cc
@@ -82,7 +82,7 @@ module _ {C E : Type 0} (shows : C → State) where
   tables_told (Err e) conn same desk shaped = tt
 
 module _ {C F S : Type 0} (view : S → View) (recovers : S → Trees → Type 0) where
-  -- what a crash leaves of a store that was handed back is what it left before
+  -- what a crash leaves of a database that was handed back is what it left before
   pub harmless_by : (r : Result C (F × S)) (dirt : ℕ) (Leaves Before : Trees → Type 0) → IfErr r (λ e. dirt ≤ doubt (view e.1).is_clean) → IfErr r (λ e. (trees : Trees) → recovers e.1 trees → Leaves trees)
       → (dirt ≡ 0 → (trees : Trees) → Leaves trees → Before trees) → IfErr r (λ e. IsClean (view e.1) → (trees : Trees) → recovers e.1 trees → Before trees)
   harmless_by (Ok c) dirt Leaves Before less leaves before = tt

@@ -37,7 +37,7 @@ abbrev pub IsOfStore : TableFault → Type 0
 IsOfStore (Store failed) = Unit {0}
 IsOfStore _ = ⊥
 
--- want of memory, or a fault of the database
+-- out of memory, or a fault of the database
 abbrev pub IsOfMemoryOrStore : TableFault → Type 0
 IsOfMemoryOrStore Memory = Unit {0}
 IsOfMemoryOrStore (Store failed) = Unit {0}
@@ -48,7 +48,7 @@ abbrev pub IsBadRow : TableFault → Type 0
 IsBadRow (BadRow failed) = Unit {0}
 IsBadRow _ = ⊥
 
--- want of memory, a fault of the database, or a row that is none of the machine's
+-- out of memory, a fault of the database, or a row that is none of the machine's
 abbrev pub IsOfReading : TableFault → Type 0
 IsOfReading (NoTable failed) = ⊥
 IsOfReading _ = Unit {0}

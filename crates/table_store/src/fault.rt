@@ -72,7 +72,7 @@ impl fmt::Display for Failed {
 pub enum TableFault {
     /// A growth of our own was refused.
     Memory,
-    /// The database failed: want of memory inside it too, since it ends the transaction.
+    /// The database failed, or ran out of memory itself, which ends the transaction too.
     Store(Failed),
     /// The file's tables aren't the desk's.
     NoTable(Failed),

@@ -1,8 +1,8 @@
 //! Whether a file's tables are the desk's.
 //!
 //! A database may be anyone's until its schema has been compared, table by table and column by column, with that which
-//! `create_tables` makes. A connection says nothing of the order of its rows: so a store is taken from it, and opened
-//! once more, by which what holds of the store's trees is known of the tables too.
+//! `create_tables` makes. A connection says nothing of the order of its rows: so a database is taken from it, and
+//! opened once more, by which what holds of the database's trees is known of the tables too.
 ghost use Rattle.std.specs.Prelude.{◌≡◌, ◌↔◌, ◌≤◌, false, IsTrue, IfOk, IfErr};
 ghost use Rattle.sqlite.specs.Held.{state};
 ghost use Rattle.sqlite.specs.State.{HasCleanDisk};
@@ -38,7 +38,7 @@ pub fn has_tables<S: Alter>(conn: &Connection<S>) -> bool
     odd_table(conn.schema()).is_none()
 }
 
-/// The store of a connection, with the tables of the last commit.
+/// The database of a connection, with the tables of the last commit.
 fn given_back<S: Alter + Drop>(conn: Connection<S>) -> S
     ensures fresh { IsClean (S.Store.view result) → (S.Store.view result).is_broken ≡ false
         → IsFresh (S.Store.view result) }
@@ -51,10 +51,10 @@ fn given_back<S: Alter + Drop>(conn: Connection<S>) -> S
     conn.into_store()
 }
 
-/// A connection over the store, which tells that the trees of its tables are in order.
-fn opened<S: Alter + Drop>(alloc: Global, store: S) -> Result<Connection<S>, (TableFault, S)>
-    requires { IsClean (S.Store.view store) → (S.Store.view store).is_broken ≡ false
-        → IsFresh (S.Store.view store) }
+/// A connection over the database, which tells that the trees of its tables are in order.
+fn opened<S: Alter + Drop>(alloc: Global, database: S) -> Result<Connection<S>, (TableFault, S)>
+    requires { IsClean (S.Store.view database) → (S.Store.view database).is_broken ≡ false
+        → IsFresh (S.Store.view database) }
     ensures rest { IfOk result (λ c. HasCleanDisk (state S.Store c)
         → IsAtRest (state S.Store c)) }
     ensures sound { IfOk result (λ c. HasCleanDisk (state S.Store c)
@@ -63,28 +63,28 @@ fn opened<S: Alter + Drop>(alloc: Global, store: S) -> Result<Connection<S>, (Ta
         → (table : Table) → Has (state S.Store c).now.schema.tables table
         → IsShaped shape.Table ((state S.Store c).now.trees table.tree)) }
     ensures live { IfOk result (λ c. HasCleanDisk (state S.Store c)
-        → IsTrue (S.Store.view store).is_open) }
+        → IsTrue (S.Store.view database).is_open) }
     ensures same { IfOk result (λ c. HasCleanDisk (state S.Store c)
-        → (state S.Store c).now.trees ≡ (S.Store.view store).trees) }
+        → (state S.Store c).now.trees ≡ (S.Store.view database).trees) }
     ensures clean { IfOk result (λ c.
-        doubt (S.Store.view store).is_clean ≤ doubt (state S.Store c).is_clean) }
+        doubt (S.Store.view database).is_clean ≤ doubt (state S.Store c).is_clean) }
     ensures left { IfOk result (λ c. HasCleanDisk (state S.Store c) → (trees : Trees)
-        → (state S.Store c).may_leave trees → S.Store.recovers store trees) }
+        → (state S.Store c).may_leave trees → S.Store.recovers database trees) }
     ensures fault { IfErr result (λ e. IsOfStore e.0) }
     ensures kept { IfErr result (λ e. IsClean (S.Store.view e.1)
         → IsTrue (S.Store.view e.1).is_open
-        → IsTrue (S.Store.view store).is_open
-        × ((S.Store.view e.1).trees ≡ (S.Store.view store).trees)) }
+        → IsTrue (S.Store.view database).is_open
+        × ((S.Store.view e.1).trees ≡ (S.Store.view database).trees)) }
     ensures harmless { IfErr result (λ e. (trees : Trees)
-        → S.Store.recovers e.1 trees → S.Store.recovers store trees) }
+        → S.Store.recovers e.1 trees → S.Store.recovers database trees) }
 {
-    if store.is_broken() {
+    if database.is_broken() {
         let error = Error::SqliteFailure(ErrorCode::Closed);
-        return Err((TableFault::Store(Failed::new(error)), store));
+        return Err((TableFault::Store(Failed::new(error)), database));
     }
-    match Connection::over(alloc, store) {
+    match Connection::over(alloc, database) {
         Ok(conn) => Ok(conn),
-        Err((error, store)) => Err((TableFault::Store(Failed::new(error)), store)),
+        Err((error, database)) => Err((TableFault::Store(Failed::new(error)), database)),
     }
 }
 
@@ -115,7 +115,7 @@ fn compared<S: Alter + Drop>(conn: Connection<S>) -> Result<Connection<S>, (Tabl
 }
 
 /// The connection opened once more, where its tables are the desk's: `NoTable` where they aren't. What isn't committed
-/// is rolled back. The store that is handed back after a fault has the tables of the last commit.
+/// is rolled back. The database that is handed back after a fault has the tables of the last commit.
 pub fn open_tables<S: Alter + Drop>(
     alloc: Global,
     conn: Connection<S>,

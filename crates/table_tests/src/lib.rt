@@ -1,4 +1,4 @@
-//! Tests of the tables of a file, over a store in memory.
+//! Tests of the tables of a file, over a database in memory.
 #![tactic(auto)]
 
 #[cfg(test)]

@@ -1,4 +1,4 @@
-//! The calls in turn, over a store in memory.
+//! The calls in turn, over a database in memory.
 ghost use Rattle.std.specs.Prelude.{◌≡◌, false, IfOk, IsTrue};
 ghost use Rattle.sqlite.specs.Held.{state};
 ghost use Rattle.sqlite.specs.State.{HasCleanDisk};

@@ -4,7 +4,7 @@ use bom_core::BomCommand;
 use build_core::BuildCommand;
 use desk_core::{Command, Request};
 use desk_wire::{
-    Asked, ReadError, What, WireFault, answer_text, fault_text, read_line, read_request,
+    ReadError, What, WireFault, Wish, answer_text, fault_text, read_line, read_request,
     refused_text,
 };
 use order_core::OrderCommand;
@@ -214,10 +214,10 @@ fn show_request(alloc: Global, request: &Request) -> Result<String, AllocError> 
     }
 }
 
-fn show(alloc: Global, asked: &Asked) -> Result<String, AllocError> {
-    match asked {
-        Asked::Request(request) => show_request(alloc, request),
-        Asked::Report { name, of } => format!(in alloc; "{name:?} of {of}"),
+fn show(alloc: Global, wish: &Wish) -> Result<String, AllocError> {
+    match wish {
+        Wish::Request(request) => show_request(alloc, request),
+        Wish::Report { name, of } => format!(in alloc; "{name:?} of {of}"),
     }
 }
 
@@ -335,8 +335,8 @@ fn reads_each_command(rt: HostRuntime) -> Result<(), Fail> {
         ),
     ] {
         let want = format!(in alloc; "Day {{ year: 2030, month: 1, day: 2 }} {want}")?;
-        let asked = read_line(alloc, line.as_bytes(), 1).map_err(|_| "it is a line")?;
-        assert_eq!(rt; show(alloc, &asked)?, want, "at {line}");
+        let wish = read_line(alloc, line.as_bytes(), 1).map_err(|_| "it is a line")?;
+        assert_eq!(rt; show(alloc, &wish)?, want, "at {line}");
         let request = read_request(alloc, line.as_bytes(), 1).map_err(|_| "it is a request")?;
         assert_eq!(rt; show_request(alloc, &request)?, want, "at {line}");
     }
@@ -509,8 +509,8 @@ fn reads_keys_and_reports(rt: HostRuntime) -> Result<(), Fail> {
         (r#"{"report":"content","of":5}"#, "Content of 5"),
         (r#"{"of":6,"report":"shortage"}"#, "Shortage of 6"),
     ] {
-        let asked = read_line(alloc, line.as_bytes(), 1).map_err(|_| "it is a line")?;
-        assert_eq!(rt; show(alloc, &asked)?.as_str(), want, "at {line}");
+        let wish = read_line(alloc, line.as_bytes(), 1).map_err(|_| "it is a line")?;
+        assert_eq!(rt; show(alloc, &wish)?.as_str(), want, "at {line}");
     }
     let report = read_request(alloc, br#"{"of":2,"report":"ledger"}"#, 5).err();
     let fault = WireFault {

@@ -9,7 +9,7 @@ use Rattle.part_core.proofs.NamedRows.{parents-new}
 use Rattle.part_core.proofs.RowLemmas.{each-insert, each-so, right-empty, right-later, right-new, row_there, same_digit, there, there-insert, each-empty}
 use Rattle.part_core.proofs.SoundRows.{named_there}
 use Rattle.yard_core.specs.AddLocation.{add_location, add_location_checks}
-use Rattle.yard_core.specs.Books.{Books}
+use Rattle.yard_core.specs.StockBooks.{StockBooks}
 use Rattle.yard_core.specs.SoundLocations.{AreSoundLocations}
 use Rattle.yard_core.specs.Stock.{Stock, empty_stock, has_location}
 use Rattle.yard_core.specs.YardMachine.{checks, effect}
@@ -28,7 +28,7 @@ locations-later next more s t same le sound = rw same (record {
 pub locations-nothing : (next : ℕ) → 1 ≤ next → AreSoundLocations next empty_stock
 locations-nothing next some = record { some = some; rows = right-empty (λ (l : Location). l.number) next; parents = each-empty (HasParent table.empty) }
 
-module _ (name : List ℕ) (parent : Option ℕ) (b : Books) (sound : AreSoundLocations b.counter.next b.stock) where
+module _ (name : List ℕ) (parent : Option ℕ) (b : StockBooks) (sound : AreSoundLocations b.counter.next b.stock) where
   abbrev row : Location
   row = record { number = b.counter.next; name = name; parent = parent }
 
@@ -41,10 +41,10 @@ module _ (name : List ℕ) (parent : Option ℕ) (b : Books) (sound : AreSoundLo
         sound.parents;
   }
 
-pub sound-effect : (c : YardCommand) (b : Books) → AreSoundLocations b.counter.next b.stock → first (checks c b) ≡ None
+pub sound-effect : (c : YardCommand) (b : StockBooks) → AreSoundLocations b.counter.next b.stock → first (checks c b) ≡ None
     → AreSoundLocations (effect c b).counter.next (effect c b).stock × (b.counter.next ≤ (effect c b).counter.next)
 sound-effect (AddLocation name parent) b sound e = (sound-add_location name parent b sound e, omega arith)
 
 -- no command of the yard itself writes an entry
-pub effect-history : (c : YardCommand) (b : Books) → (effect c b).stock.history ≡ b.stock.history
+pub effect-history : (c : YardCommand) (b : StockBooks) → (effect c b).stock.history ≡ b.stock.history
 effect-history (AddLocation name parent) b = refl

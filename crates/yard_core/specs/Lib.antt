@@ -1,5 +1,4 @@
 pub mod AddLocation
-pub mod Books
 pub mod Climbs
 pub mod Contents
 pub mod Equations
@@ -8,7 +7,8 @@ pub mod Outputs
 pub mod Shares
 pub mod SoundLocations
 pub mod Stock
+pub mod StockBooks
 pub mod Sums
 pub mod YardForms
 pub mod YardMachine
-pub mod Yards
+pub mod YardView

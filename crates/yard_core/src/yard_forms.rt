@@ -6,12 +6,15 @@ ghost use Rattle.part_core.specs.FormTables.{command_by, forms_by};
 ghost use Rattle.yard_core.specs.YardForms.{yard_back, yard_distinct, yard_fields, yard_forms, yard_told, yard_verb};
 
 use crate::yard_command::YardCommand;
-use part_core::{Field, Fields, Form, Formed, Kind, form_in};
+use part_core::{Field, FieldKind, Fields, Form, Formed, form_in};
 use std::alloc::{AllocError, Global};
 
 const FORMS: &[Form] = &[Form {
     verb: "add_location",
-    fields: &[("name", Kind::Text), ("parent", Kind::MaybeNumber)],
+    fields: &[
+        ("name", FieldKind::Text),
+        ("parent", FieldKind::MaybeNumber),
+    ],
 }];
 
 #[tactic(auto, unfolding(crate::specs::YardForms::yard_forms))]

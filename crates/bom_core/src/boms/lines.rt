@@ -1,11 +1,11 @@
 //! Lines come into bills and go: `add_line` and `drop_line`.
 ghost use Rattle.std.specs.Prelude.{◌≡◌, ◌≢◌, ◌∷◌, [], true, false, IfOk, OnOk, Err, map};
 ghost use Rattle.part_core.specs.Acts.{Acts};
-ghost use Rattle.part_core.specs.Catalogues.{parts_of};
+ghost use Rattle.part_core.specs.CatalogueView.{parts_of};
 ghost use Rattle.part_core.specs.Rows.{IsThere};
 ghost use Rattle.part_core.specs.Sheet.{now_of};
 ghost use Rattle.part_core.specs.declared.refusal.Refusal.{Refusal};
-ghost use Rattle.bom_core.specs.Boms.{bill_books, bills_of, kept_bill_books, kept_bills};
+ghost use Rattle.bom_core.specs.BomsView.{bill_books, bills_of, kept_bill_books, kept_bills};
 ghost use Rattle.bom_core.specs.Lines.{add_line, add_line_checks, drop_line_checks, removed_all, substitutes_of, with_line, without_line};
 ghost use Rattle.bom_core.specs.Sound.{IsSoundBill};
 ghost use Rattle.bom_core.specs.Walks.{contains_itself};

@@ -1,50 +1,50 @@
 //! Look-ups in the bills: the lines and the substitutes that name a part, without a look at the others.
 ghost use Rattle.std.specs.Prelude.{◌≡◌, ◌==◌, ◌&&◌, IfOk, filter, map};
 ghost use Rattle.std.specs.List.{list_any};
-ghost use Rattle.part_core.specs.Catalogues.{parts_of};
+ghost use Rattle.part_core.specs.CatalogueView.{parts_of};
 ghost use Rattle.bom_core.specs.Bills.{is_substitute, line_rows, part_rows, substitute_rows};
-ghost use Rattle.bom_core.specs.Boms.{bills_of};
-ghost use Rattle.bom_core.specs.declared.line.Side.TheVariants.{Assembly};
-ghost use Rattle.bom_core.specs.Sides.{installs, is_covering, is_for_variants};
+ghost use Rattle.bom_core.specs.BomsView.{bills_of};
+ghost use Rattle.bom_core.specs.declared.line.Role.TheVariants.{Assembly};
+ghost use Rattle.bom_core.specs.Roles.{installs, is_covering, is_for_variants};
 
 use crate::boms::Boms;
-use crate::line::{Line, Side, line_key};
+use crate::line::{Line, Role, line_key};
 use crate::merge::merge;
 use crate::substitute::{Substitute, of_part_key, on_line_key};
 use part_core::{Catalogue, Id};
 use std::alloc::AllocError;
 
 impl Boms {
-    // The lines that name the template on that side, and mean its variants too: in order of number.
-    fn for_variants(&self, side: Side, template: Option<Id>) -> Result<Vec<&Line>, AllocError>
+    // The lines that name the template in that role, and mean its variants too: in order of number.
+    fn for_variants(&self, role: Role, template: Option<Id>) -> Result<Vec<&Line>, AllocError>
         ensures { IfOk result (λ lines. map (λ l. l.now) lines.items
-            ≡ filter (is_for_variants side template) (line_rows (bills_of self.now))) }
+            ≡ filter (is_for_variants role template) (line_rows (bills_of self.now))) }
     {
         match template {
-            Some(template) => self.lines.select_under(line_key(side, template), |line| {
-                line.takes_variants(side) && template == line.named(side)
+            Some(template) => self.lines.select_under(line_key(role, template), |line| {
+                line.takes_variants(role) && template == line.named(role)
             }),
             None => Ok(Vec::new(self.alloc)),
         }
     }
 
-    // The lines that name the part on that side, and those that name its template there and mean its variants too: in
+    // The lines that name the part in that role, and those that name its template there and mean its variants too: in
     // order of number.
     pub(crate) fn covering(
         &self,
         catalogue: &Catalogue,
-        side: Side,
+        role: Role,
         part: Id,
     ) -> Result<Vec<&Line>, AllocError>
         ensures { IfOk result (λ lines. map (λ l. l.now) lines.items
-            ≡ filter (is_covering side (part_rows (parts_of catalogue.now)) part)
+            ≡ filter (is_covering role (part_rows (parts_of catalogue.now)) part)
             (line_rows (bills_of self.now))) }
     {
         let mut lines = self
             .lines
-            .select_under(line_key(side, part), |line| line.named(side) == part)?;
+            .select_under(line_key(role, part), |line| line.named(role) == part)?;
         for row in &catalogue.numbered(part)? {
-            let inherited = self.for_variants(side, row.template)?;
+            let inherited = self.for_variants(role, row.template)?;
             lines = merge(self.alloc, &lines, &inherited)?;
         }
         Ok(lines)
@@ -93,7 +93,7 @@ impl Boms {
             (substitute_rows (bills_of self.now)) part l) (line_rows (bills_of self.now)) }
     {
         self.lines
-            .any_under(line_key(Side::Assembly, assembly), |line| {
+            .any_under(line_key(Role::Assembly, assembly), |line| {
                 line.assembly == assembly && self.installs(catalogue, line, part)
             })
     }
@@ -112,7 +112,7 @@ impl Boms {
         match template {
             Some(template) => self
                 .lines
-                .any_under(line_key(Side::Assembly, template), |line| {
+                .any_under(line_key(Role::Assembly, template), |line| {
                     line.flags.inherited
                         && template == line.assembly
                         && self.installs(catalogue, line, part)

@@ -1,11 +1,11 @@
 //! Whether bills are sound beside a catalogue: each row is asked once, by look-ups of numbers.
 ghost use Rattle.std.specs.Prelude.{◌≡◌, ◌↔◌, ◌≤◌, ℕ, false, IsTrue, IfOk, map, not};
 ghost use Rattle.std.specs.HashMap.{get};
-ghost use Rattle.part_core.specs.Catalogues.{parts_of};
+ghost use Rattle.part_core.specs.CatalogueView.{parts_of};
 ghost use Rattle.part_core.specs.Quantity.{largest};
 ghost use Rattle.part_core.specs.Rows.{EachRow, IsThere, StandRight};
 ghost use Rattle.bom_core.specs.Bills.{covers, part_rows};
-ghost use Rattle.bom_core.specs.Boms.{bills_of};
+ghost use Rattle.bom_core.specs.BomsView.{bills_of};
 ghost use Rattle.bom_core.specs.Ranks.{is_below, ranks_at};
 ghost use Rattle.bom_core.specs.RowTests.{AreNumbersOf, has_quantity, is_needed, is_number_found, same_pair};
 ghost use Rattle.bom_core.specs.Sound.{IsOnceEach, IsSoundBill};
@@ -14,7 +14,7 @@ ghost use Rattle.bom_core.specs.Walks.{HasWalk, IsAcyclic};
 use crate::boms::Boms;
 use crate::checks::has_part;
 use crate::line::Line;
-use crate::order::rank_parts;
+use crate::ranking::rank_parts;
 use crate::ranks::{Ranks, floor, is_bounded, is_falling, ranks_of};
 use crate::substitute::Substitute;
 use part_core::{Catalogue, Id, is_bad_quantity, is_drawn};

@@ -1,11 +1,11 @@
 //! Substitutes come onto lines and go: `add_substitute` and `drop_substitute`.
 ghost use Rattle.std.specs.Prelude.{◌≡◌, true, false, OnOk, Err};
 ghost use Rattle.part_core.specs.Acts.{Acts};
-ghost use Rattle.part_core.specs.Catalogues.{parts_of};
+ghost use Rattle.part_core.specs.CatalogueView.{parts_of};
 ghost use Rattle.part_core.specs.Checks.{first};
 ghost use Rattle.part_core.specs.Rows.{IsThere};
 ghost use Rattle.part_core.specs.declared.refusal.Refusal.{Refusal};
-ghost use Rattle.bom_core.specs.Boms.{bill_books, bills_of, kept_bill_books, kept_bills};
+ghost use Rattle.bom_core.specs.BomsView.{bill_books, bills_of, kept_bill_books, kept_bills};
 ghost use Rattle.bom_core.specs.Changes.{has_row, is_line_open, row_is};
 ghost use Rattle.bom_core.specs.Sound.{IsSoundBill};
 ghost use Rattle.bom_core.specs.Substitutes.{add_substitute, add_substitute_checks, drop_substitute_checks, is_fitting, substitute_row_checks, with_substitute, without_substitute};

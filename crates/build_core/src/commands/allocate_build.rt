@@ -1,18 +1,18 @@
 //! An amount of an item is meant for a line of a build.
 ghost use Rattle.std.specs.Prelude.{◌≡◌, ◌+◌, ◌≤◌, ◌∷◌, [], IfSome, OnOk, None, false, nat_lt};
 ghost use Rattle.std.specs.FinMap as table;
-ghost use Rattle.part_core.specs.Catalogues.{parts_of};
+ghost use Rattle.part_core.specs.CatalogueView.{parts_of};
 ghost use Rattle.part_core.specs.Checks.{first};
 ghost use Rattle.part_core.specs.Counter.{drawn, kept_numbering, lacks, numbering_of};
-ghost use Rattle.bom_core.specs.Boms.{bills_of};
-ghost use Rattle.alloc_core.specs.AllocationTables.{allocations_now, kept_allocations};
+ghost use Rattle.bom_core.specs.BomsView.{bills_of};
+ghost use Rattle.alloc_core.specs.AllocationsView.{allocations_now, kept_allocations};
 ghost use Rattle.alloc_core.specs.Allotting.{new_allocation};
 ghost use Rattle.alloc_core.specs.declared.purpose.Purpose.TheVariants as purpose;
-ghost use Rattle.yard_core.specs.Yards.{stock_of};
+ghost use Rattle.yard_core.specs.YardView.{stock_of};
 ghost use Rattle.build_core.specs.AllocateBuild.{allocate_build, allocate_build_checks, is_no_named, is_other_output, wanted};
-ghost use Rattle.build_core.specs.BuildStores.{AreSoundSomehow, Does, build_books, kept_build_books};
+ghost use Rattle.build_core.specs.BuildBooks.{AreSoundSomehow, Does, build_books, kept_build_books};
 
-use crate::books::finish;
+use crate::build_books::finish;
 use crate::builds::Builds;
 use crate::needs::{is_suited, needed};
 use crate::outputs::is_output_of;

@@ -1,25 +1,25 @@
 //! What untracked lines of a build lack is taken from what is free, in order.
 ghost use Rattle.std.specs.Prelude.{◌≡◌, ◌∷◌, [], Err, filter, IfOk, map, OnOk, None, false, true};
-ghost use Rattle.part_core.specs.Catalogues.{parts_of};
+ghost use Rattle.part_core.specs.CatalogueView.{parts_of};
 ghost use Rattle.part_core.specs.Checks.{first};
 ghost use Rattle.part_core.specs.Counter.{kept_numbering, numbering_of, passes_limit};
 ghost use Rattle.part_core.specs.Filled.{StandUnderKeys};
-ghost use Rattle.bom_core.specs.Boms.{bills_of};
+ghost use Rattle.bom_core.specs.BomsView.{bills_of};
 ghost use Rattle.bom_core.specs.Sound.{IsSoundBill};
-ghost use Rattle.alloc_core.specs.AllocationTables.{allocations_now, kept_allocations};
+ghost use Rattle.alloc_core.specs.AllocationsView.{allocations_now, kept_allocations};
 ghost use Rattle.alloc_core.specs.Allotments.{allotments_of, for_line};
 ghost use Rattle.alloc_core.specs.Allotting.{allot_in_turn, allot_lines};
 ghost use Rattle.alloc_core.specs.Candidates.{candidate_numbers};
-ghost use Rattle.yard_core.specs.Yards.{stock_of};
+ghost use Rattle.yard_core.specs.YardView.{stock_of};
 ghost use Rattle.build_core.specs.AutoAllocate.{auto_allocate, auto_allocate_asks, auto_allocate_checks};
 ghost use Rattle.build_core.specs.Builds.{is_no_build};
-ghost use Rattle.build_core.specs.BuildStores.{AreSoundSomehow, Does, build_books, kept_build_books};
+ghost use Rattle.build_core.specs.BuildBooks.{AreSoundSomehow, Does, build_books, kept_build_books};
 ghost use Rattle.build_core.specs.Lacks.{AreLines, is_served, missing_for, need_for, needs_of};
 ghost use Rattle.build_core.specs.Needs.{needs};
-ghost use Rattle.build_core.specs.declared.books.Halt.TheVariants as halts;
+ghost use Rattle.build_core.specs.declared.build_books.Halt.TheVariants as halts;
 
-use crate::books::{Halt, conclude};
 use crate::build::Build;
+use crate::build_books::{Halt, conclude};
 use crate::builds::Builds;
 use crate::needs::needed;
 use alloc_core::{Allocations, AllotFault, candidate_numbers};

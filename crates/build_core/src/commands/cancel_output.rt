@@ -1,10 +1,10 @@
 //! An output is given up.
 ghost use Rattle.std.specs.Prelude.{◌≡◌, OnOk, None};
 ghost use Rattle.part_core.specs.Checks.{first};
-ghost use Rattle.build_core.specs.BuildStores.{AreSoundSomehow, Does, build_books, kept_build_books};
+ghost use Rattle.build_core.specs.BuildBooks.{AreSoundSomehow, Does, build_books, kept_build_books};
 ghost use Rattle.build_core.specs.CancelOutput.{cancel_output, cancel_output_checks};
 
-use crate::books::finish;
+use crate::build_books::finish;
 use crate::builds::Builds;
 use crate::outputs::is_no_output;
 use alloc_core::{Allocations, Owner};

@@ -1,10 +1,10 @@
 //! Work on a build stops for a while.
 ghost use Rattle.std.specs.Prelude.{◌≡◌};
 ghost use Rattle.part_core.specs.Checks.{first};
-ghost use Rattle.build_core.specs.BuildStores.{AreSoundSomehow, Does, build_books, kept_build_books};
+ghost use Rattle.build_core.specs.BuildBooks.{AreSoundSomehow, Does, build_books, kept_build_books};
 ghost use Rattle.build_core.specs.HoldBuild.{hold_build, hold_build_checks};
 
-use crate::books::finish;
+use crate::build_books::finish;
 use crate::builds::Builds;
 use crate::state::BuildState;
 use crate::states::change_state;

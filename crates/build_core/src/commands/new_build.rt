@@ -1,16 +1,16 @@
 //! So many of an assembly are to be built.
 ghost use Rattle.std.specs.Prelude.{◌≡◌, OnOk, false};
 ghost use Rattle.part_core.specs.Catalogue.{is_flagged, part_in};
-ghost use Rattle.part_core.specs.Catalogues.{parts_of};
+ghost use Rattle.part_core.specs.CatalogueView.{parts_of};
 ghost use Rattle.part_core.specs.Checks.{first};
 ghost use Rattle.part_core.specs.Counter.{drawn, kept_numbering, lacks, numbering_of};
 ghost use Rattle.build_core.specs.Builds.{put_build};
-ghost use Rattle.build_core.specs.BuildTables.{builds_now, kept_builds};
-ghost use Rattle.build_core.specs.BuildStores.{AreSoundSomehow, Does, build_books, kept_build_books};
+ghost use Rattle.build_core.specs.BuildsView.{builds_now, kept_builds};
+ghost use Rattle.build_core.specs.BuildBooks.{AreSoundSomehow, Does, build_books, kept_build_books};
 ghost use Rattle.build_core.specs.NewBuild.{build_row, new_build, new_build_checks};
 
-use crate::books::finish;
 use crate::build::Build;
+use crate::build_books::finish;
 use crate::builds::Builds;
 use crate::state::BuildState;
 use alloc_core::Allocations;

@@ -1,15 +1,15 @@
 //! Items that a build makes are begun.
 ghost use Rattle.std.specs.Prelude.{◌≡◌, ◌+◌, IfOk, OnOk, None, nat_lt};
-ghost use Rattle.part_core.specs.Catalogues.{parts_of};
+ghost use Rattle.part_core.specs.CatalogueView.{parts_of};
 ghost use Rattle.part_core.specs.Checks.{first};
 ghost use Rattle.part_core.specs.Day.{CivilDay};
-ghost use Rattle.bom_core.specs.Boms.{bills_of};
-ghost use Rattle.yard_core.specs.Books.{books_of, is_full, kept_books};
+ghost use Rattle.bom_core.specs.BomsView.{bills_of};
+ghost use Rattle.yard_core.specs.StockBooks.{stock_books_of, is_full, kept_stock_books};
 ghost use Rattle.stock_core.specs.Sound.{AreSoundItems};
-ghost use Rattle.build_core.specs.BuildStores.{AreSoundSomehow, Does, build_books, kept_build_books};
+ghost use Rattle.build_core.specs.BuildBooks.{AreSoundSomehow, Does, build_books, kept_build_books};
 ghost use Rattle.build_core.specs.NewOutputs.{new_outputs, new_outputs_checks};
 
-use crate::books::finish;
+use crate::build_books::finish;
 use crate::builds::Builds;
 use crate::needs::has_tracked;
 use alloc_core::Allocations;
@@ -41,7 +41,7 @@ fn is_full(
     build: Id,
     new: &NewStock,
 ) -> bool
-    requires { AreSoundItems (books_of yard.now counter.now) }
+    requires { AreSoundItems (stock_books_of yard.now counter.now) }
     ensures { (day : CivilDay) → result ≡ is_full (new_outputs build new.now day
         (build_books builds.now allocations.now yard.now counter.now)).books }
 {
@@ -59,7 +59,7 @@ fn new_outputs_refusal(
     build: Id,
     new: &NewStock,
 ) -> Result<Option<Refusal>, AllocError>
-    requires { AreSoundItems (books_of yard.now counter.now) }
+    requires { AreSoundItems (stock_books_of yard.now counter.now) }
     ensures { IfOk result (λ refusal. (day : CivilDay)
         → refusal ≡ first (new_outputs_checks build new.now day
         (parts_of catalogue.now) (bills_of boms.now)
@@ -117,7 +117,7 @@ fn begin(
     ensures ok { OnOk result (build_books builds.now allocations.now yard.new counter.new
         ≡ new_outputs build new.now day
         (build_books builds.now allocations.now yard.old counter.old)) }
-    ensures kept { kept_books yard.new counter.new ≡ kept_books yard.old counter.old }
+    ensures kept { kept_stock_books yard.new counter.new ≡ kept_stock_books yard.old counter.old }
 {
     let part = match builds.build(build) {
         Some(row) => row.part,

@@ -2,13 +2,13 @@
 ghost use Rattle.std.specs.Prelude.{◌≡◌, IfOk, OnOk, None};
 ghost use Rattle.part_core.specs.Checks.{first};
 ghost use Rattle.part_core.specs.Day.{CivilDay};
-ghost use Rattle.yard_core.specs.Books.{is_full};
+ghost use Rattle.yard_core.specs.StockBooks.{is_full};
 ghost use Rattle.yard_core.specs.Stock.{IsThere};
-ghost use Rattle.yard_core.specs.Yards.{stock_of};
-ghost use Rattle.build_core.specs.BuildStores.{AreSoundSomehow, Does, build_books, kept_build_books};
+ghost use Rattle.yard_core.specs.YardView.{stock_of};
+ghost use Rattle.build_core.specs.BuildBooks.{AreSoundSomehow, Does, build_books, kept_build_books};
 ghost use Rattle.build_core.specs.ScrapOutput.{scrap_output, scrap_output_checks};
 
-use crate::books::finish;
+use crate::build_books::finish;
 use crate::builds::Builds;
 use crate::outputs::is_no_output;
 use alloc_core::{Allocations, Owner};

@@ -9,7 +9,7 @@ ghost use Rattle.part_core.specs.Filled.{StandUnderKeys, filled};
 ghost use Rattle.part_core.specs.Sheet.{now_of};
 ghost use Rattle.desk_core.specs.Assembled.{AreKeys, AreSoundTables, HasSoundBooks, HasSoundOwners, state_from};
 ghost use Rattle.desk_core.specs.Machine.{owners_in};
-ghost use Rattle.desk_core.specs.Shops.{kept_state, state_of};
+ghost use Rattle.desk_core.specs.ShopView.{kept_state, state_of};
 
 use crate::kept::Kept;
 use crate::laws::are_keys;

@@ -4,12 +4,12 @@ ghost use Rattle.std.specs.FinMap as table;
 ghost use Rattle.part_core.specs.Checks.{first};
 ghost use Rattle.part_core.specs.Counter.{drawn, kept_numbering, lacks, numbering_of};
 ghost use Rattle.part_core.specs.Sheet.{now_of};
-ghost use Rattle.alloc_core.specs.AllocationTables.{allocations_now, kept_allocations};
+ghost use Rattle.alloc_core.specs.AllocationsView.{allocations_now, kept_allocations};
 ghost use Rattle.order_core.specs.AllocateSale.{allocate_sale, allocate_sale_checks, sale_row};
 ghost use Rattle.order_core.specs.Orders.{line_in};
-ghost use Rattle.order_core.specs.OrderStores.{AreSoundSomehow, Does, kept_order_books, order_books};
+ghost use Rattle.order_core.specs.OrderBooks.{AreSoundSomehow, Does, kept_order_books, order_books};
 
-use crate::books::finish;
+use crate::order_books::finish;
 use crate::orders::Orders;
 use alloc_core::{Allocation, Allocations, Purpose};
 use part_core::{Answer, CoreFault, Counter, Id, Quantity, Refusal, is_bad_quantity};

@@ -3,9 +3,9 @@ ghost use Rattle.std.specs.Prelude.{◌≡◌, OnOk, false};
 ghost use Rattle.part_core.specs.Checks.{first};
 ghost use Rattle.order_core.specs.CancelOrder.{cancel_order, cancel_order_checks};
 ghost use Rattle.order_core.specs.Orders.{is_no_order};
-ghost use Rattle.order_core.specs.OrderStores.{AreSoundSomehow, Does, kept_order_books, order_books};
+ghost use Rattle.order_core.specs.OrderBooks.{AreSoundSomehow, Does, kept_order_books, order_books};
 
-use crate::books::finish;
+use crate::order_books::finish;
 use crate::orders::Orders;
 use crate::state::OrderState;
 use crate::states::change_state;

@@ -1,15 +1,15 @@
 //! A new line of an order: so many of a part.
 ghost use Rattle.std.specs.Prelude.{◌≡◌, ◌∷◌, [], OnOk, false};
 ghost use Rattle.std.specs.FinMap as table;
-ghost use Rattle.part_core.specs.Catalogues.{parts_of};
+ghost use Rattle.part_core.specs.CatalogueView.{parts_of};
 ghost use Rattle.part_core.specs.Checks.{first};
 ghost use Rattle.part_core.specs.Counter.{drawn, kept_numbering, lacks, numbering_of};
 ghost use Rattle.part_core.specs.Sheet.{now_of};
 ghost use Rattle.order_core.specs.NewLine.{is_suited, line_row, new_line, new_line_checks};
-ghost use Rattle.order_core.specs.OrderStores.{AreSoundSomehow, Does, kept_order_books, order_books};
+ghost use Rattle.order_core.specs.OrderBooks.{AreSoundSomehow, Does, kept_order_books, order_books};
 
-use crate::books::finish;
 use crate::line::OrderLine;
+use crate::order_books::finish;
 use crate::orders::Orders;
 use alloc_core::Allocations;
 use part_core::{

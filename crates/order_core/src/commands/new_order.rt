@@ -4,10 +4,10 @@ ghost use Rattle.std.specs.FinMap as table;
 ghost use Rattle.part_core.specs.Counter.{drawn, kept_numbering, lacks, numbering_of};
 ghost use Rattle.part_core.specs.Sheet.{now_of};
 ghost use Rattle.order_core.specs.NewOrder.{new_order, new_order_checks, order_row};
-ghost use Rattle.order_core.specs.OrderStores.{AreSoundSomehow, Does, kept_order_books, order_books};
+ghost use Rattle.order_core.specs.OrderBooks.{AreSoundSomehow, Does, kept_order_books, order_books};
 
-use crate::books::finish;
 use crate::order::{Order, Partner};
+use crate::order_books::finish;
 use crate::orders::Orders;
 use crate::state::OrderState;
 use alloc_core::Allocations;

@@ -1,15 +1,15 @@
 //! Stock comes by a line of a purchase.
 ghost use Rattle.std.specs.Prelude.{◌≡◌, ◌+◌, OnOk, None, nat_lt};
-ghost use Rattle.part_core.specs.Catalogues.{parts_of};
+ghost use Rattle.part_core.specs.CatalogueView.{parts_of};
 ghost use Rattle.part_core.specs.Checks.{first};
 ghost use Rattle.part_core.specs.Day.{CivilDay};
 ghost use Rattle.stock_core.specs.Sound.{AreSoundItems};
 ghost use Rattle.stock_core.specs.Steps.{make_new};
-ghost use Rattle.yard_core.specs.Books.{books_of, is_full};
+ghost use Rattle.yard_core.specs.StockBooks.{stock_books_of, is_full};
 ghost use Rattle.order_core.specs.Receive.{arrival_at, receive, receive_checks};
-ghost use Rattle.order_core.specs.OrderStores.{AreSoundSomehow, Does, kept_order_books, order_books};
+ghost use Rattle.order_core.specs.OrderBooks.{AreSoundSomehow, Does, kept_order_books, order_books};
 
-use crate::books::finish;
+use crate::order_books::finish;
 use crate::orders::Orders;
 use alloc_core::Allocations;
 use part_core::{
@@ -31,9 +31,9 @@ fn is_over(most: Quantity, done: Quantity, more: Quantity) -> bool
 
 /// Whether the limits leave no room for it: each new item needs a number and an entry.
 fn is_full(yard: &Yard, counter: &Counter, part: Id, location: Id, new: &NewStock) -> bool
-    requires { AreSoundItems (books_of yard.now counter.now) }
+    requires { AreSoundItems (stock_books_of yard.now counter.now) }
     ensures { (day : CivilDay) → result ≡ is_full
-        (make_new (arrival_at part location) new.now day (books_of yard.now counter.now)) }
+        (make_new (arrival_at part location) new.now day (stock_books_of yard.now counter.now)) }
 {
     let count = count_of(new);
     lacks_room(yard, counter, count, count)
@@ -50,7 +50,7 @@ fn receive_refusal(
     location: Id,
     new: &NewStock,
 ) -> Option<Refusal>
-    requires { AreSoundItems (books_of yard.now counter.now) }
+    requires { AreSoundItems (stock_books_of yard.now counter.now) }
     ensures { (day : CivilDay) → result ≡ first (receive_checks line location new.now day
         (parts_of catalogue.now) (order_books orders.now allocations.now yard.now counter.now)) }
 {

@@ -2,7 +2,7 @@
 ghost use Rattle.std.specs.Prelude.{◌≡◌};
 ghost use Rattle.part_core.specs.Acts.{Acts};
 ghost use Rattle.part_core.specs.AddCategory.{add_category, add_category_checks};
-ghost use Rattle.part_core.specs.Catalogues.{kept_register, parts_of, register_of};
+ghost use Rattle.part_core.specs.CatalogueView.{kept_register, parts_of, register_of};
 
 use crate::catalogue::Catalogue;
 use crate::{Category, CoreFault, Counter, Id, Name, Refusal, is_named};

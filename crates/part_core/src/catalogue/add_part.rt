@@ -3,7 +3,7 @@ ghost use Rattle.std.specs.Prelude.{◌≡◌};
 ghost use Rattle.part_core.specs.Acts.{Acts};
 ghost use Rattle.part_core.specs.AddPart.{add_part, add_part_checks, is_no_template, is_part_named, is_template_retired, is_template_variant};
 ghost use Rattle.part_core.specs.Catalogue.{is_missing, part_in};
-ghost use Rattle.part_core.specs.Catalogues.{kept_register, parts_of, register_of};
+ghost use Rattle.part_core.specs.CatalogueView.{kept_register, parts_of, register_of};
 
 use crate::catalogue::Catalogue;
 use crate::part::{NewPart, Part, name_key};

@@ -2,7 +2,7 @@
 ghost use Rattle.std.specs.Prelude.{◌≡◌, ◌∷◌, [], IfSome, IsSome, OnOk, OnErr};
 ghost use Rattle.std.specs.FinMap as table;
 ghost use Rattle.part_core.specs.Acts.{Acts};
-ghost use Rattle.part_core.specs.Catalogues.{kept_parts, parts_of};
+ghost use Rattle.part_core.specs.CatalogueView.{kept_parts, parts_of};
 ghost use Rattle.part_core.specs.RetirePart.{retire_part, retire_part_checks, retired_part};
 ghost use Rattle.part_core.specs.Sheet.{now_of};
 

@@ -1,6 +1,6 @@
 //! Whether a catalogue is sound: each of its rows is asked once, and looks up at most one other.
 ghost use Rattle.std.specs.Prelude.{◌≡◌, ◌↔◌, IsTrue};
-ghost use Rattle.part_core.specs.Catalogues.{parts_of};
+ghost use Rattle.part_core.specs.CatalogueView.{parts_of};
 ghost use Rattle.part_core.specs.NamedRows.{HasParent};
 ghost use Rattle.part_core.specs.RowTests.{has_category, has_template, is_plain};
 ghost use Rattle.part_core.specs.Rows.{EachRow, StandRight};

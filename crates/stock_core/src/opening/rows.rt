@@ -1,10 +1,10 @@
 //! Whether what rows name is there, and their numbers were drawn.
 ghost use Rattle.std.specs.Prelude.{◌≡◌, ◌↔◌, IsTrue, map};
 ghost use Rattle.std.specs.List.{All};
-ghost use Rattle.part_core.specs.Catalogues.{parts_of};
+ghost use Rattle.part_core.specs.CatalogueView.{parts_of};
 ghost use Rattle.stock_core.specs.Opening.{IsDrawn};
 ghost use Rattle.stock_core.specs.Sound.{IsPlace, IsSoundEntry, IsSoundItem};
-ghost use Rattle.yard_core.specs.Yards.{stock_of};
+ghost use Rattle.yard_core.specs.YardView.{stock_of};
 
 use crate::owners::KnowsOwners;
 use part_core::{Catalogue, Id, LARGEST};

@@ -1,6 +1,6 @@
 //! Whether no serial stands twice in a family.
 ghost use Rattle.std.specs.Prelude.{◌≡◌, ◌↔◌, IsTrue, IfOk, map, option_map};
-ghost use Rattle.part_core.specs.Catalogues.{parts_of};
+ghost use Rattle.part_core.specs.CatalogueView.{parts_of};
 ghost use Rattle.stock_core.specs.Opening.{SerialsOnce, held_key, seen_key};
 ghost use Rattle.yard_core.specs.Climbs.{IsByNumber};
 

@@ -4,7 +4,7 @@ ghost use Rattle.std.specs.List.{All};
 ghost use Rattle.part_core.specs.Filled.{StandUnderKeys};
 ghost use Rattle.yard_core.specs.SoundLocations.{AreSoundLocations, IsSoundLocation};
 ghost use Rattle.yard_core.specs.Stock.{IsSound};
-ghost use Rattle.yard_core.specs.Yards.{kept_of, stock_from, stock_of};
+ghost use Rattle.yard_core.specs.YardView.{kept_of, stock_from, stock_of};
 
 use crate::Location;
 use crate::opening::{are_sound_rows, rows_in_order};

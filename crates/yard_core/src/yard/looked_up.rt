@@ -4,7 +4,7 @@ ghost use Rattle.std.specs.FinMap as table;
 ghost use Rattle.part_core.specs.Sheet.{now_of};
 ghost use Rattle.forest.specs.Rows.{is_output_of};
 ghost use Rattle.yard_core.specs.Outputs.{amount_out, has_output, outputs_of, quantity_out};
-ghost use Rattle.yard_core.specs.Yards.{stock_of};
+ghost use Rattle.yard_core.specs.YardView.{stock_of};
 
 use super::Yard;
 use crate::walks::numbers_of;

@@ -1,5 +1,5 @@
 use Rattle.std.proofs.Common.{ℕ, ap, ◌∙◌, ◌++◌, refl}
-use Rattle.yard_core.specs.Yards.{stock_of}
+use Rattle.yard_core.specs.YardView.{stock_of}
 use Rattle.alloc_core.proofs.Finding.{part-added, parts-added}
 use Rattle.alloc_core.proofs.candidates.by_part.Goals as goal
 

@@ -1,5 +1,5 @@
 use Rattle.std.proofs.Common.{◌≡◌, ◌++◌, drop}
-use Rattle.yard_core.specs.Yards.{stock_of}
+use Rattle.yard_core.specs.YardView.{stock_of}
 use Rattle.alloc_core.specs.Finding.{numbers_by_part}
 use Rattle.alloc_core.proofs.candidates.by_part.Given as goal
 

@@ -1,7 +1,7 @@
 use Rattle.std.proofs.Common.{◌++◌, ℕ, ap, ◌∙◌}
-use Rattle.part_core.specs.Catalogues.{parts_of}
-use Rattle.bom_core.specs.Boms.{bills_of}
-use Rattle.yard_core.specs.Yards.{stock_of}
+use Rattle.part_core.specs.CatalogueView.{parts_of}
+use Rattle.bom_core.specs.BomsView.{bills_of}
+use Rattle.yard_core.specs.YardView.{stock_of}
 use Rattle.alloc_core.proofs.Finding.{candidates-found}
 use Rattle.alloc_core.proofs.candidates.candidate_numbers.Goals as goal
 

@@ -1,7 +1,7 @@
 use Rattle.std.proofs.Common.{map, ap, ◌∙◌, Bor}
 use Rattle.std.proofs.lemmas.Result.{IfOk-weaker}
 use Rattle.forest.specs.declared.item.Item.{Item}
-use Rattle.yard_core.specs.Yards.{stock_of}
+use Rattle.yard_core.specs.YardView.{stock_of}
 use Rattle.alloc_core.proofs.Finding.{part-found}
 use Rattle.alloc_core.proofs.candidates.of_part.Goals as goal
 

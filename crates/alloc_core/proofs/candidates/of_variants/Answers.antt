@@ -1,7 +1,7 @@
 use Rattle.std.proofs.Common.{◌≡◌, ℕ, ap, ◌∙◌}
 use Rattle.std.proofs.lemmas.Result.{IfOk-weaker}
-use Rattle.part_core.specs.Catalogues.{parts_of}
-use Rattle.yard_core.specs.Yards.{stock_of}
+use Rattle.part_core.specs.CatalogueView.{parts_of}
+use Rattle.yard_core.specs.YardView.{stock_of}
 use Rattle.alloc_core.specs.Finding.{is_among, numbers_by_part}
 use Rattle.alloc_core.proofs.Finding.{both-of, variants, variants-allowed, variants-found, variants-kept_out}
 use Rattle.alloc_core.proofs.candidates.of_variants.Goals as goal

@@ -1,7 +1,7 @@
 use Rattle.std.proofs.Common.{Bool, List, ℕ, map, ap, ◌∙◌, refl, Bor, rules}
 use Rattle.std.specs.Prelude.{◌≡◌, ◌==◌}
 use Rattle.std.proofs.lemmas.Result.{IfOk-weaker}
-use Rattle.bom_core.specs.Boms.{bills_of}
+use Rattle.bom_core.specs.BomsView.{bills_of}
 use Rattle.bom_core.specs.declared.substitute.Substitute.{Substitute}
 use Rattle.alloc_core.specs.Candidates.{substitutes_on}
 use Rattle.alloc_core.proofs.Finding.{named-lent}

@@ -1,7 +1,7 @@
 use Rattle.std.proofs.Common.{List, ◌+◌, ◌++◌, drop, refl, sym, ap, ◌∙◌, Bor, Vec, Global}
 use Rattle.std.proofs.lemmas.List.{at_drop_all, at_drop_more}
 use Rattle.bom_core.specs.declared.line.Line.{Line}
-use Rattle.bom_core.specs.Sides.{merged}
+use Rattle.bom_core.specs.Roles.{merged}
 use Rattle.bom_core.proofs.Merging.{lent, lower-pushed, same-passed, before-higher, at-end, other-pushed, all-pushed}
 use Rattle.bom_core.proofs.merge.merge.Goals.{then-others-at-2+in_ok-push, else-others-at-2, then-loop-at-test+else-others-at, else-loop-at-test}
 use Rattle.bom_core.proofs.merge.merge.Goals as goal

@@ -1,5 +1,5 @@
 use Rattle.std.proofs.Common.{length, ◌-◌, ◌≡◌, ◌+◌, ◌++◌, drop}
-use Rattle.bom_core.specs.Sides.{merged, placed}
+use Rattle.bom_core.specs.Roles.{merged, placed}
 use Rattle.bom_core.proofs.Merging.{lent}
 use Rattle.bom_core.proofs.merge.merge.Given as goal
 

@@ -1,6 +1,6 @@
 use Rattle.std.proofs.Common.{◌≡◌, drop, map}
 use Rattle.std.specs.Prelude.{flat_map}
-use Rattle.part_core.specs.Catalogues.{parts_of}
+use Rattle.part_core.specs.CatalogueView.{parts_of}
 use Rattle.bom_core.specs.Bills.{part_rows}
 use Rattle.bom_core.specs.Search.{push_all, assemblies}
 use Rattle.bom_core.proofs.search.push_by_component.Given as goal

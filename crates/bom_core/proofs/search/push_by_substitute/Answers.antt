@@ -1,9 +1,9 @@
 use Rattle.std.proofs.Common.{ℕ, List, [], ◌∷◌, map, ap, ◌∙◌, Bor}
 use Rattle.std.specs.Prelude.{flat_map}
 use Rattle.std.specs.FinMap as table
-use Rattle.part_core.specs.Catalogues.{parts_of}
+use Rattle.part_core.specs.CatalogueView.{parts_of}
 use Rattle.bom_core.specs.Bills.{part_rows}
-use Rattle.bom_core.specs.Boms.{bills_of}
+use Rattle.bom_core.specs.BomsView.{bills_of}
 use Rattle.bom_core.specs.declared.substitute.Substitute.{Substitute}
 use Rattle.bom_core.specs.Search.{push_all, assemblies_of}
 use Rattle.bom_core.proofs.Pushes.{row_added, rows_added}

@@ -1,8 +1,8 @@
 use Rattle.std.proofs.Common.{ℕ, List, map, ap, ◌∙◌, Bor}
 use Rattle.std.specs.Prelude.{flat_map}
-use Rattle.part_core.specs.Catalogues.{parts_of}
+use Rattle.part_core.specs.CatalogueView.{parts_of}
 use Rattle.bom_core.specs.Bills.{part_rows, substitute_rows}
-use Rattle.bom_core.specs.Boms.{bills_of}
+use Rattle.bom_core.specs.BomsView.{bills_of}
 use Rattle.bom_core.specs.declared.line.Line.{Line}
 use Rattle.bom_core.specs.Search.{push_all, fitting}
 use Rattle.bom_core.proofs.Pushes.{row_added, rows_added}

@@ -1,6 +1,6 @@
 use Rattle.std.proofs.Common.{◌≤◌, ℕ, ◌<◌, List, length, get_or, ap, ◌∙◌, rules, arith}
-use Rattle.part_core.specs.Catalogues.{parts_of}
-use Rattle.bom_core.specs.Boms.{bills_of}
+use Rattle.part_core.specs.CatalogueView.{parts_of}
+use Rattle.bom_core.specs.BomsView.{bills_of}
 use Rattle.bom_core.specs.Search.{is_next, next_parts, push_all}
 use Rattle.bom_core.proofs.Closed.{search-start, search-more, search-done}
 use Rattle.bom_core.proofs.Reached.{among-next_parts}

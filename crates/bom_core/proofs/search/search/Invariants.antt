@@ -1,6 +1,6 @@
 use Rattle.std.proofs.Common.{◌≤◌, ◌^◌}
-use Rattle.part_core.specs.Catalogues.{parts_of}
-use Rattle.bom_core.specs.Boms.{bills_of}
+use Rattle.part_core.specs.CatalogueView.{parts_of}
+use Rattle.bom_core.specs.BomsView.{bills_of}
 use Rattle.bom_core.specs.Search.{is_next}
 use Rattle.bom_core.proofs.Closed.{IsSearch}
 use Rattle.bom_core.proofs.search.search.Given as goal

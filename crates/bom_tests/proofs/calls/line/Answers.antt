@@ -1,8 +1,8 @@
 use Rattle.std.proofs.Common.{ℕ, true, false, [], sym, ap, ◌∙◌, subst}
 use Rattle.part_core.specs.Catalogue.{Register}
-use Rattle.part_core.specs.Catalogues.{parts_of}
+use Rattle.part_core.specs.CatalogueView.{parts_of}
 use Rattle.part_core.specs.Counter.{Numbering}
-use Rattle.bom_core.specs.Boms.{bill_books}
+use Rattle.bom_core.specs.BomsView.{bill_books}
 use Rattle.bom_core.specs.declared.line.NewLine.{NewLine}
 use Rattle.bom_core.specs.Sound.{IsSoundBill}
 use Rattle.bom_tests.proofs.Grown.{sound-line, same_books, same_register}

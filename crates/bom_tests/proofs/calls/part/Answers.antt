@@ -1,7 +1,7 @@
 use Rattle.std.proofs.Common.{sym, ap, ◌∙◌, subst}
-use Rattle.part_core.specs.Catalogues.{register_of}
+use Rattle.part_core.specs.CatalogueView.{register_of}
 use Rattle.part_core.specs.Counter.{Numbering}
-use Rattle.bom_core.specs.Boms.{bills_of}
+use Rattle.bom_core.specs.BomsView.{bills_of}
 use Rattle.bom_core.specs.Changes.{BillBooks}
 use Rattle.bom_core.specs.Sound.{IsSoundBill}
 use Rattle.bom_tests.proofs.Grown.{sound-part, same_books, same_register}

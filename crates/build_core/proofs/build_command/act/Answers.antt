@@ -1,8 +1,8 @@
 use Rattle.std.proofs.Common.{sym, subst}
-use Rattle.part_core.specs.Catalogues.{parts_of}
-use Rattle.bom_core.specs.Boms.{bills_of}
+use Rattle.part_core.specs.CatalogueView.{parts_of}
+use Rattle.bom_core.specs.BomsView.{bills_of}
 use Rattle.build_core.specs.BuildMachine.{checks, effect}
-use Rattle.build_core.specs.BuildStores.{Does, build_books}
+use Rattle.build_core.specs.BuildBooks.{Does, build_books}
 use Rattle.build_core.proofs.build_command.act.Goals as goal
 
 pub returns-in-AllocateBuild-clause-does : goal.returns-in-AllocateBuild-clause-does

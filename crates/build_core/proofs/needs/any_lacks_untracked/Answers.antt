@@ -3,10 +3,10 @@ use Rattle.std.specs.Prelude.{◌&&◌}
 use Rattle.std.specs.Borrow.{Bor}
 use Rattle.std.proofs.lemmas.Iterator.{YieldsList-from_slice}
 use Rattle.std.proofs.lemmas.Iterator.Search.{any_from_yields_List}
-use Rattle.part_core.specs.Catalogues.{parts_of}
+use Rattle.part_core.specs.CatalogueView.{parts_of}
 use Rattle.bom_core.specs.declared.line.Line.{Line}
-use Rattle.alloc_core.specs.AllocationTables.{allocations_now}
-use Rattle.yard_core.specs.Yards.{stock_of}
+use Rattle.alloc_core.specs.AllocationsView.{allocations_now}
+use Rattle.yard_core.specs.YardView.{stock_of}
 use Rattle.build_core.specs.Needs.{is_below_need, is_untracked}
 use Rattle.build_core.proofs.Lines.{any-seen}
 use Rattle.build_core.proofs.needs.any_lacks_untracked.Goals as goal

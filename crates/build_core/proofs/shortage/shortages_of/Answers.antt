@@ -1,9 +1,9 @@
 use Rattle.std.proofs.Common.{Bool, List, map, not, ap, ◌∙◌, Bor}
 use Rattle.std.specs.Prelude.{filter}
 use Rattle.std.proofs.lemmas.Result.{IfOk-weaker}
-use Rattle.part_core.specs.Catalogues.{parts_of}
+use Rattle.part_core.specs.CatalogueView.{parts_of}
 use Rattle.bom_core.specs.declared.line.Line.{Line}
-use Rattle.alloc_core.specs.AllocationTables.{allocations_now}
+use Rattle.alloc_core.specs.AllocationsView.{allocations_now}
 use Rattle.build_core.specs.Shortage.{shortage_of}
 use Rattle.build_core.specs.declared.shortage.Shortage.{Shortage}
 use Rattle.build_core.proofs.Wants.{told-lent}

@@ -1,7 +1,7 @@
 use Rattle.std.proofs.Common.{subst}
 use Rattle.sqlite.specs.Closing.{IsCopied}
 use Rattle.sqlite.specs.Files.{IsClosed}
-use Rattle.desk_core.specs.Shops.{state_of}
+use Rattle.desk_core.specs.ShopView.{state_of}
 use Rattle.desk_app.proofs.Closing.{kept_alone}
 use Rattle.desk_app.proofs.close.close_desk.Goals as goal
 

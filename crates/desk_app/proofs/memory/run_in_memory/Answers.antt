@@ -1,5 +1,5 @@
 use Rattle.std.proofs.Common.{refl}
-use Rattle.desk_core.specs.Shops.{state_of}
+use Rattle.desk_core.specs.ShopView.{state_of}
 use Rattle.desk_app.proofs.Taking.{empty_with}
 use Rattle.desk_app.proofs.memory.run_in_memory.Goals as goal
 

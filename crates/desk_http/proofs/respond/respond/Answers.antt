@@ -1,13 +1,13 @@
 use Rattle.std.proofs.Common.{subst}
 use Rattle.std.specs.Prelude.{Err}
-use Rattle.desk_http.specs.Services.{Performs, operation, said}
+use Rattle.desk_http.specs.Services.{Performs, operation, reply_view}
 use Rattle.desk_http.specs.Targets.{resource}
 use Rattle.desk_http.proofs.Serving.{told, failed}
 use Rattle.desk_http.proofs.respond.respond.Goals as goal
 
 pub returns-in-Ok-clause-sends : goal.returns-in-Ok-clause-sends
 returns-in-Ok-clause-sends g c =
-    told (Performs g.S.Service.state g.S.Service.machine g.S.Service.left g.S.Service.relates) c.args.service.now (operation (resource c.args.target.now) c.args.body.now) c.perform.new.service (said c.in-Ok.reply)
+    told (Performs g.S.Service.state g.S.Service.machine g.S.Service.left g.S.Service.relates) c.args.service.now (operation (resource c.args.target.now) c.args.body.now) c.perform.new.service (reply_view c.in-Ok.reply)
     (g.W.Write.contents c.args.writer.now) (g.W.Write.contents c.tell.new.writer) c.tell.result c.in-Ok.ensures.performs c.tell.ensures
 
 pub returns-in-Err-Failed-clause-sends : goal.returns-in-Err-Failed-clause-sends

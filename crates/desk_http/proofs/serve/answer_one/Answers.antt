@@ -1,7 +1,7 @@
 use Rattle.desk_http.specs.HeadEnds.{all_of}
 use Rattle.desk_http.specs.Services.{Performs}
 use Rattle.desk_http.specs.Serving.{IsReceived, IsReceivedFrom}
-use Rattle.desk_http.specs.declared.receive.Arrival.TheVariants.{Head, TooLong}
+use Rattle.desk_http.specs.declared.receive.HeadArrival.TheVariants.{Head, TooLong}
 use Rattle.desk_http.specs.declared.rejection.Rejection.TheVariants.{HeadTooLarge}
 use Rattle.desk_http.proofs.Serving.{is_of_all, is_too_long, moved, rejected}
 use Rattle.desk_http.proofs.serve.answer_one.Goals as goal

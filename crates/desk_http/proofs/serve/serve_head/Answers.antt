@@ -5,7 +5,7 @@ use Rattle.desk_http.specs.Services.{Performs, operation}
 use Rattle.desk_http.specs.Serving.{IsReceivedFrom}
 use Rattle.desk_http.specs.Spans.{class_of}
 use Rattle.desk_http.specs.Targets.{resource}
-use Rattle.desk_http.specs.declared.receive.Arrival.TheVariants.{Head}
+use Rattle.desk_http.specs.declared.receive.HeadArrival.TheVariants.{Head}
 use Rattle.desk_http.proofs.Serving.{is_rejected, is_incomplete, is_complete, rejected, ended, performed}
 use Rattle.desk_http.proofs.serve.serve_head.Goals as goal
 

@@ -9,7 +9,7 @@ use Rattle.alloc_core.specs.AllocationColumns.{allocation_columns}
 use Rattle.order_core.specs.OrderColumns as orders
 use Rattle.build_core.specs.BuildColumns.{build_columns}
 use Rattle.desk_core.specs.KeptColumns.{kept_columns}
-use Rattle.desk_core.specs.Shops.{state_of}
+use Rattle.desk_core.specs.ShopView.{state_of}
 use Rattle.desk_store.specs.Exports.{row_line, rows_text, sheet_lines}
 use Rattle.desk_store.specs.MetaColumns.{meta_columns}
 use Rattle.desk_store.proofs.Exporting.{same_lines}
@@ -37,7 +37,7 @@ pub returns-in-Items : goal.returns-in-Items
 returns-in-Items c = same_lines c.write_sheet-in-Items.result c.args.writer.now c.write_sheet-in-Items.new.writer (sheet_lines item_columns (now_of c.items.result.now)) (rows_text c.args.table (state_of c.args.shop.now)) (rw c.in-Items.is cc) c.write_sheet-in-Items.ensures
 
 pub returns-in-History : goal.returns-in-History
-returns-in-History c = same_lines c.write_sheet-in-History.result c.args.writer.now c.write_sheet-in-History.new.writer (sheet_lines entry_columns (now_of c.journal.result.now)) (rows_text c.args.table (state_of c.args.shop.now)) (rw c.in-History.is cc) c.write_sheet-in-History.ensures
+returns-in-History c = same_lines c.write_sheet-in-History.result c.args.writer.now c.write_sheet-in-History.new.writer (sheet_lines entry_columns (now_of c.whole_history.result.now)) (rows_text c.args.table (state_of c.args.shop.now)) (rw c.in-History.is cc) c.write_sheet-in-History.ensures
 
 pub returns-in-Orders : goal.returns-in-Orders
 returns-in-Orders c = same_lines c.write_sheet-in-Orders.result c.args.writer.now c.write_sheet-in-Orders.new.writer (sheet_lines orders.order_columns (now_of c.orders-in-Orders.result.now)) (rows_text c.args.table (state_of c.args.shop.now)) (rw c.in-Orders.is cc) c.write_sheet-in-Orders.ensures

@@ -1,4 +1,4 @@
-use Rattle.desk_core.specs.Shops.{kept_state, state_of}
+use Rattle.desk_core.specs.ShopView.{kept_state, state_of}
 use Rattle.desk_store.proofs.Kept.{small_meta}
 use Rattle.desk_store.proofs.laws.may_follow.Goals as goal
 

@@ -1,7 +1,7 @@
 use Rattle.std.proofs.Common.{arith}
 use Rattle.sqlite.specs.Held.{state}
 use Rattle.sqlite.specs.State.{HasCleanDisk}
-use Rattle.desk_core.specs.Shops.{kept_state}
+use Rattle.desk_core.specs.ShopView.{kept_state}
 use Rattle.desk_store.proofs.Midway.{undone}
 use Rattle.desk_store.proofs.save.save.Goals as goal
 

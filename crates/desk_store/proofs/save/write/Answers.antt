@@ -2,8 +2,8 @@ use Rattle.std.proofs.Common.{◌≡◌, true, sym, subst, arith}
 use Rattle.sqlite.specs.Held.{state}
 use Rattle.sqlite.specs.State.{HasCleanDisk, KeepsCommit}
 use Rattle.sqlite.proofs.StateLemmas.{survives_then, survives_weaker}
-use Rattle.desk_core.specs.Shops.{kept_state, state_of}
-use Rattle.desk_store.specs.Books.{TablesAre}
+use Rattle.desk_core.specs.ShopView.{kept_state, state_of}
+use Rattle.desk_store.specs.StateTables.{TablesAre}
 use Rattle.desk_store.proofs.Midway.{all_of_them, begun, both_ok, committed, keeps_failed, keeps_later, keeps_shown, keeps_then, keeps_unless, when_err}
 use Rattle.desk_store.proofs.save.write.Goals as goal
 

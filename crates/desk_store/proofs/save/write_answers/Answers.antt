@@ -1,7 +1,7 @@
 use Rattle.std.proofs.Common.{arith}
 use Rattle.sqlite.specs.Held.{state}
 use Rattle.sqlite.specs.State.{HasCleanDisk}
-use Rattle.desk_core.specs.Shops.{kept_state, state_of}
+use Rattle.desk_core.specs.ShopView.{kept_state, state_of}
 use Rattle.desk_store.proofs.Kept.{kept_there, now_there, own_words, small_answers, stay_kept}
 use Rattle.desk_store.proofs.Midway.{both_ok, one_written}
 use Rattle.desk_store.proofs.Suiting.{kept-suits}

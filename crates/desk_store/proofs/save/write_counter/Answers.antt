@@ -3,7 +3,7 @@ use Rattle.std.specs.Prelude.{All}
 use Rattle.sqlite.specs.Held.{state}
 use Rattle.sqlite.specs.State.{HasCleanDisk}
 use Rattle.part_core.specs.Columns.{IsSmall}
-use Rattle.desk_core.specs.Shops.{kept_state, state_of}
+use Rattle.desk_core.specs.ShopView.{kept_state, state_of}
 use Rattle.desk_store.specs.MetaColumns.{meta_columns, meta_of, only}
 use Rattle.desk_store.specs.declared.meta.MetaRow.{MetaRow}
 use Rattle.desk_store.proofs.Kept.{meta_there, own_meta}

@@ -1,6 +1,6 @@
 use Rattle.std.proofs.Common.{ap, ◌∙◌, ◌+◌, subst, sym}
 use Rattle.sqlite.specs.Held.{state}
-use Rattle.desk_core.specs.Shops.{kept_state, state_of}
+use Rattle.desk_core.specs.ShopView.{kept_state, state_of}
 use Rattle.desk_store.specs.Saving.{Goes, IsUnderWay}
 use Rattle.desk_store.proofs.Sheets.{allocation-sheet, at_table, build-sheet, category-sheet, entry-sheet, item-sheet, line-sheet, location-sheet, order-line-sheet, order-sheet, part-sheet, substitute-sheet}
 use Rattle.table_store.specs.Schema.{position}
@@ -27,7 +27,7 @@ pub write_sheet-requires-in-Items-clause-sheet : goal.write_sheet-requires-in-It
 write_sheet-requires-in-Items-clause-sheet g c = at_table c.args.table Items c.items.result.now c.args.shop.now.yard.items c.in-Items.is (c.items.ensures ∙ ap (λ k. k.items) c.yard-in-Items.ensures) (item-sheet c.args.shop.now c.requires.follows)
 
 pub write_sheet-requires-in-History-clause-sheet : goal.write_sheet-requires-in-History-clause-sheet
-write_sheet-requires-in-History-clause-sheet g c = at_table c.args.table History c.journal.result.now c.args.shop.now.yard.history c.in-History.is (c.journal.ensures ∙ ap (λ k. k.history) c.yard-in-History.ensures) (entry-sheet c.args.shop.now c.requires.follows)
+write_sheet-requires-in-History-clause-sheet g c = at_table c.args.table History c.whole_history.result.now c.args.shop.now.yard.history c.in-History.is (c.whole_history.ensures ∙ ap (λ k. k.history) c.yard-in-History.ensures) (entry-sheet c.args.shop.now c.requires.follows)
 
 pub write_sheet-requires-in-Orders-clause-sheet : goal.write_sheet-requires-in-Orders-clause-sheet
 write_sheet-requires-in-Orders-clause-sheet g c = at_table c.args.table Orders c.orders-in-Orders.result.now c.args.shop.now.orders.orders c.in-Orders.is (c.orders-in-Orders.ensures ∙ ap (λ k. k.orders) c.orders.ensures) (order-sheet c.args.shop.now c.requires.follows)

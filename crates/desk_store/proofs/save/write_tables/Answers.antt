@@ -2,7 +2,7 @@ use Rattle.std.proofs.Common.{refl, ◌+◌, sym, subst, arith}
 use Rattle.sqlite.specs.Held.{state}
 use Rattle.sqlite.specs.State.{HasCleanDisk}
 use Rattle.sqlite.proofs.StateLemmas.{survives_then}
-use Rattle.desk_core.specs.Shops.{kept_state, state_of}
+use Rattle.desk_core.specs.ShopView.{kept_state, state_of}
 use Rattle.desk_store.specs.Saving.{IsUnderWay}
 use Rattle.desk_store.proofs.Midway.{goes_fault, keeps_then, survives_same}
 use Rattle.desk_store.proofs.save.write_tables.Goals as goal

@@ -1,6 +1,6 @@
 use Rattle.sqlite.specs.Held.{state}
 use Rattle.sqlite.specs.State.{HasCleanDisk, KeepsCommit, Survives}
-use Rattle.desk_core.specs.Shops.{kept_state, state_of}
+use Rattle.desk_core.specs.ShopView.{kept_state, state_of}
 use Rattle.desk_store.specs.Saving.{IsUnderWay}
 use Rattle.desk_store.proofs.save.write_tables.Given as goal
 

@@ -1,5 +1,5 @@
 use Rattle.std.proofs.Common.{◌≡◌, ◌++◌, drop, map}
-use Rattle.part_core.specs.Catalogues.{parts_of}
+use Rattle.part_core.specs.CatalogueView.{parts_of}
 use Rattle.report_core.specs.Lines.{lines_of}
 use Rattle.report_core.specs.Shortage.{shortage_line}
 use Rattle.report_core.proofs.shortage.shortage_lines.Given as goal

@@ -1,9 +1,9 @@
 use Rattle.std.proofs.Common.{ap}
-use Rattle.part_core.specs.Catalogues.{parts_of}
+use Rattle.part_core.specs.CatalogueView.{parts_of}
 use Rattle.part_core.specs.declared.part.Part.{Part}
 use Rattle.part_core.proofs.SlotLemmas.{IfOk-map}
-use Rattle.bom_core.specs.Boms.{bills_of}
-use Rattle.desk_core.specs.Shops.{state_of}
+use Rattle.bom_core.specs.BomsView.{bills_of}
+use Rattle.desk_core.specs.ShopView.{state_of}
 use Rattle.report_core.proofs.Uses.{used_rows_lent}
 use Rattle.report_core.proofs.where_used.parts_using.Goals as goal
 

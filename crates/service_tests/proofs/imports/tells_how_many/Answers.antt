@@ -1,6 +1,6 @@
 use Rattle.std.proofs.Common.{subst, sym}
 use Rattle.desk_core.specs.Machine.{IsSoundState}
-use Rattle.desk_core.specs.Shops.{state_of}
+use Rattle.desk_core.specs.ShopView.{state_of}
 use Rattle.service_tests.proofs.imports.tells_how_many.Goals as goal
 
 pub import_file-end-requires : goal.import_file-end-requires

@@ -1,5 +1,5 @@
 use Rattle.std.proofs.Common.{◌+◌, Some, List, ℕ, drop, length, sym, ap, ◌∙◌}
-use Rattle.yard_core.specs.Books.{books_of}
+use Rattle.yard_core.specs.StockBooks.{stock_books_of}
 use Rattle.stock_core.specs.Steps.{make_each}
 use Rattle.stock_core.proofs.Rooms.{next-serial, room-made, room-rest}
 use Rattle.stock_core.proofs.arrivals.make_each.Goals as goal
@@ -10,8 +10,8 @@ loop-serial-preserved c =
     let serials = c.args.serials.now in
     let i = c.loop-serial.serial-index in
     let x = c.in_ok-own.own in
-    let b = books_of c.loop-serial.yard c.loop-serial.counter in
-    let new = books_of c.make_one.new.yard c.make_one.new.counter in
+    let b = stock_books_of c.loop-serial.yard c.loop-serial.counter in
+    let new = stock_books_of c.make_one.new.yard c.make_one.new.counter in
     let rest : List (List ℕ) = drop (i + 1) serials in
     let here = next-serial serials i c.serial-item.result x c.loop-serial-test.true c.serial-item.is c.in_ok-own.ensures in
     record {

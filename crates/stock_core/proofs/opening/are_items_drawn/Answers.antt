@@ -3,7 +3,7 @@ use Rattle.std.specs.Borrow.{Bor}
 use Rattle.std.specs.FinMap as table
 use Rattle.part_core.specs.Sheet.{now_of}
 use Rattle.forest.specs.declared.item.Item.{Item}
-use Rattle.yard_core.specs.Yards.{stock_of}
+use Rattle.yard_core.specs.YardView.{stock_of}
 use Rattle.stock_core.proofs.Opened.{drawn_from}
 use Rattle.stock_core.proofs.opening.are_items_drawn.Goals as goal
 

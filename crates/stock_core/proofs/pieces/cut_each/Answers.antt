@@ -1,5 +1,5 @@
 use Rattle.std.proofs.Common.{◌+◌, Some, List, ℕ, drop, length, refl, sym, ap, ◌∙◌}
-use Rattle.yard_core.specs.Books.{books_of}
+use Rattle.yard_core.specs.StockBooks.{stock_books_of}
 use Rattle.stock_core.specs.Steps.{cut_each}
 use Rattle.stock_core.proofs.Rooms.{can-cut, next-serial, pieces-cut, pieces-whole, room-cut, room-rest, whole-pieces}
 use Rattle.stock_core.proofs.pieces.cut_each.Goals as goal
@@ -7,7 +7,7 @@ use Rattle.stock_core.proofs.pieces.cut_each.Goals as goal
 pub loop-serial-init : goal.loop-serial-init
 loop-serial-init c = record {
   room = c.requires.room;
-  pieces = pieces-whole c.args.item c.args.serials.now (books_of c.args.yard.now c.args.counter.now) c.requires.whole;
+  pieces = pieces-whole c.args.item c.args.serials.now (stock_books_of c.args.yard.now c.args.counter.now) c.requires.whole;
   rest = refl;
   kept = refl;
 }
@@ -17,7 +17,7 @@ cut_off-requires c =
     let serials = c.args.serials.now in
     let i = c.loop-serial.serial-index in
     let x = c.in_ok-own.own in
-    let b = books_of c.loop-serial.yard c.loop-serial.counter in
+    let b = stock_books_of c.loop-serial.yard c.loop-serial.counter in
     let rest : List (List ℕ) = drop (i + 1) serials in
     let here = next-serial serials i c.serial-item.result x c.loop-serial-test.true c.serial-item.is c.in_ok-own.ensures in
     record {
@@ -31,8 +31,8 @@ loop-serial-preserved c =
     let serials = c.args.serials.now in
     let i = c.loop-serial.serial-index in
     let x = c.in_ok-own.own in
-    let b = books_of c.loop-serial.yard c.loop-serial.counter in
-    let new = books_of c.cut_off.new.yard c.cut_off.new.counter in
+    let b = stock_books_of c.loop-serial.yard c.loop-serial.counter in
+    let new = stock_books_of c.cut_off.new.yard c.cut_off.new.counter in
     let rest : List (List ℕ) = drop (i + 1) serials in
     let here = next-serial serials i c.serial-item.result x c.loop-serial-test.true c.serial-item.is c.in_ok-own.ensures in
     let room = room-rest x rest (drop i serials) b here c.loop-serial.invariant.room in

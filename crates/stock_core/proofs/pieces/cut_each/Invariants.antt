@@ -1,5 +1,5 @@
 use Rattle.std.proofs.Common.{◌≡◌, drop, length}
-use Rattle.yard_core.specs.Books.{books_of, kept_books}
+use Rattle.yard_core.specs.StockBooks.{stock_books_of, kept_stock_books}
 use Rattle.stock_core.specs.Arrives.{HasRoom}
 use Rattle.stock_core.specs.Steps.{cut_each}
 use Rattle.stock_core.proofs.Rooms.{HasPieces}
@@ -8,8 +8,8 @@ use Rattle.stock_core.proofs.pieces.cut_each.Given as goal
 abbrev pub invariant-loop-serial : goal.invariant-loop-serial
 invariant-loop-serial l =
     record {
-      room : HasRoom (length (drop l.serial-index l.serials)) (books_of l.yard l.counter);
-      pieces : HasPieces l.item (drop l.serial-index l.serials) (books_of l.yard l.counter);
-      rest : cut_each l.item (drop l.serial-index l.serials) l.day (books_of l.yard l.counter) ≡ cut_each l.item l.serials l.day (books_of l.initial.yard l.initial.counter);
-      kept : kept_books l.yard l.counter ≡ kept_books l.initial.yard l.initial.counter;
+      room : HasRoom (length (drop l.serial-index l.serials)) (stock_books_of l.yard l.counter);
+      pieces : HasPieces l.item (drop l.serial-index l.serials) (stock_books_of l.yard l.counter);
+      rest : cut_each l.item (drop l.serial-index l.serials) l.day (stock_books_of l.yard l.counter) ≡ cut_each l.item l.serials l.day (stock_books_of l.initial.yard l.initial.counter);
+      kept : kept_stock_books l.yard l.counter ≡ kept_stock_books l.initial.yard l.initial.counter;
     }

@@ -10,22 +10,22 @@ use Rattle.table_store.proofs.open.opened.Goals as goal
 
 pub returns-in-Ok-clause-shaped : goal.returns-in-Ok-clause-shaped
 returns-in-Ok-clause-shaped g c clean table there =
-    let store = c.args.store in
+    let database = c.args.database in
     let sound = sym (c.if-is_broken.ensures (omega (arith, clean, c.in-Ok.ensures.clean))) in
     let same = c.in-Ok.ensures.trees clean in
     let opens = c.in-Ok.ensures.opens clean in
     let schema = (state g.S.Store c.in-Ok.conn).now.schema in
     let lists = subst (IsSound schema) same (opens.1 opens.0.is_open).0 in
     subst (λ (trees : Trees). IsShaped shape.Table (trees table.tree)) (sym same)
-    (tables_ordered (g.S.Store.view store) schema (g.met.S.Store.ordered store sound) (g.met.S.Alter.listed store sound) lists table there)
+    (tables_ordered (g.S.Store.view database) schema (g.met.S.Store.ordered database sound) (g.met.S.Alter.listed database sound) lists table there)
 
 pub returns-in-Ok-clause-left : goal.returns-in-Ok-clause-left
 returns-in-Ok-clause-left g c clean db leaves =
-    let store = c.args.store in
-    let unspoilt : IsClean (g.S.Store.view store) = omega (arith, clean, c.in-Ok.ensures.clean) in
+    let database = c.args.database in
+    let unspoilt : IsClean (g.S.Store.view database) = omega (arith, clean, c.in-Ok.ensures.clean) in
     let sound = sym (c.if-is_broken.ensures unspoilt) in
     let opens = (c.in-Ok.ensures.opens clean).0 in
     let last = g.met.S.Store.settled c.in-Ok.conn.store db opens.is_open leaves in
     let here = sym (ap (λ (d : Database). d.trees) opens.clean) ∙ c.in-Ok.ensures.trees clean ∙ (c.requires unspoilt sound).clean in
-    let is_open = open_if_sound (g.S.Store.view store).is_open (g.S.Store.view store).is_broken (g.met.S.Store.broken_if_shut store) sound in
-    subst (g.S.Store.recovers store) (sym (last ∙ here)) (g.met.S.Store.stays store is_open)
+    let is_open = open_if_sound (g.S.Store.view database).is_open (g.S.Store.view database).is_broken (g.met.S.Store.broken_if_shut database) sound in
+    subst (g.S.Store.recovers database) (sym (last ∙ here)) (g.met.S.Store.stays database is_open)

@@ -1,5 +1,5 @@
 use Rattle.std.proofs.Common.{ap, ◌∙◌, min, refl}
-use Rattle.yard_core.specs.Yards.{stock_of}
+use Rattle.yard_core.specs.YardView.{stock_of}
 use Rattle.alloc_core.specs.Allotments.{allotments_of, for_line}
 use Rattle.alloc_core.proofs.Turns.{turn-past}
 use Rattle.alloc_core.proofs.allocations.Allocations.allot.Goals as goal

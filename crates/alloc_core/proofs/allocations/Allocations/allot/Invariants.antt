@@ -1,7 +1,7 @@
 use Rattle.std.proofs.Common.{◌≡◌, drop}
 use Rattle.part_core.specs.Counter.{kept_numbering}
-use Rattle.yard_core.specs.Yards.{stock_of}
-use Rattle.alloc_core.specs.AllocationTables.{kept_allocations}
+use Rattle.yard_core.specs.YardView.{stock_of}
+use Rattle.alloc_core.specs.AllocationsView.{kept_allocations}
 use Rattle.alloc_core.specs.Allotments.{allotments_of, for_line}
 use Rattle.alloc_core.specs.Allotting.{allot_in_turn}
 use Rattle.alloc_core.proofs.allocations.Allocations.allot.Given as goal

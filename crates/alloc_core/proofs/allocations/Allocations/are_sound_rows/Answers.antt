@@ -1,7 +1,7 @@
 use Rattle.std.proofs.Common.{rules, not}
 use Rattle.part_core.proofs.RowTests.{each-tested}
-use Rattle.yard_core.specs.Yards.{stock_of}
-use Rattle.alloc_core.specs.AllocationTables.{allocations_now}
+use Rattle.yard_core.specs.YardView.{stock_of}
+use Rattle.alloc_core.specs.AllocationsView.{allocations_now}
 use Rattle.alloc_core.specs.RowTests.{is_sound_row}
 use Rattle.alloc_core.proofs.Opened.{sound_row-is}
 use Rattle.alloc_core.proofs.allocations.Allocations.are_sound_rows.Goals as goal

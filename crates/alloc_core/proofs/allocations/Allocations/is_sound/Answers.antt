@@ -1,7 +1,7 @@
 use Rattle.std.proofs.Common.{◌≡◌, true, false, sym, ◌∙◌, subst}
 use Rattle.part_core.specs.Rows.{StandRight}
-use Rattle.yard_core.specs.Yards.{stock_of}
-use Rattle.alloc_core.specs.AllocationTables.{allocations_now}
+use Rattle.yard_core.specs.YardView.{stock_of}
+use Rattle.alloc_core.specs.AllocationsView.{allocations_now}
 use Rattle.alloc_core.specs.declared.allocation.Allocation.{Allocation}
 use Rattle.alloc_core.proofs.Opened.{covered-each, within-all}
 use Rattle.alloc_core.proofs.allocations.Allocations.is_sound.Goals as goal

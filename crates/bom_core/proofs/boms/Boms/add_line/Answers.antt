@@ -1,9 +1,9 @@
 use Rattle.std.proofs.Common.{refl, sym, [], ◌∷◌}
-use Rattle.part_core.specs.Catalogues.{parts_of}
+use Rattle.part_core.specs.CatalogueView.{parts_of}
 use Rattle.part_core.specs.Counter.{passes_limit}
 use Rattle.part_core.specs.declared.refusal.Refusal.TheVariants.{Cycle, Full}
 use Rattle.part_core.proofs.Conditions.{first-before}
-use Rattle.bom_core.specs.Boms.{bill_books}
+use Rattle.bom_core.specs.BomsView.{bill_books}
 use Rattle.bom_core.specs.Lines.{add_line, line_row_checks}
 use Rattle.bom_core.specs.Walks.{contains_itself}
 use Rattle.bom_core.proofs.boms.Boms.add_line.Goals as goal

@@ -1,7 +1,7 @@
 use Rattle.std.proofs.Common.{rules, not, ◌≡◌, true}
-use Rattle.part_core.specs.Catalogues.{parts_of}
+use Rattle.part_core.specs.CatalogueView.{parts_of}
 use Rattle.part_core.proofs.RowTests.{each-tested}
-use Rattle.bom_core.specs.Boms.{bills_of}
+use Rattle.bom_core.specs.BomsView.{bills_of}
 use Rattle.bom_core.specs.RowTests.{is_needed}
 use Rattle.bom_core.proofs.RowTests.{each-needed}
 use Rattle.bom_core.proofs.boms.Boms.are_needed.Goals as goal

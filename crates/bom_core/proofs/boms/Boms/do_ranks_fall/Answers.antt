@@ -1,7 +1,7 @@
 use Rattle.std.proofs.Common.{◌≡◌, true, false, not, rules, refl, ap}
-use Rattle.part_core.specs.Catalogues.{parts_of}
+use Rattle.part_core.specs.CatalogueView.{parts_of}
 use Rattle.part_core.proofs.RowTests.{each-tested}
-use Rattle.bom_core.specs.Boms.{bills_of}
+use Rattle.bom_core.specs.BomsView.{bills_of}
 use Rattle.bom_core.specs.Ranks.{is_below, is_bounded, is_falling, ranks_at}
 use Rattle.bom_core.proofs.Falling.{falling-acyclic}
 use Rattle.bom_core.proofs.boms.Boms.do_ranks_fall.Goals as goal

@@ -1,13 +1,13 @@
 use Rattle.std.proofs.Common.{◌≡◌, ◌||◌, [], ◌∷◌, sym, ap, ◌∙◌, rules, eqb-true}
 use Rattle.std.specs.Prelude.{◌==◌, ◌&&◌, not}
 use Rattle.std.specs.List.{list_any}
-use Rattle.part_core.specs.Catalogues.{parts_of}
+use Rattle.part_core.specs.CatalogueView.{parts_of}
 use Rattle.part_core.specs.declared.part.Part.{Part}
 use Rattle.part_core.proofs.Conditions.{and_parts}
-use Rattle.bom_core.specs.declared.line.Side.TheVariants.{Assembly}
+use Rattle.bom_core.specs.declared.line.Role.TheVariants.{Assembly}
 use Rattle.bom_core.specs.Bills.{fits_line, line_rows, part_rows, substitute_rows}
-use Rattle.bom_core.specs.Boms.{bills_of}
-use Rattle.bom_core.specs.Sides.{installs, is_for_variants}
+use Rattle.bom_core.specs.BomsView.{bills_of}
+use Rattle.bom_core.specs.Roles.{installs, is_for_variants}
 use Rattle.bom_core.proofs.LookUps.{fits-split}
 use Rattle.bom_core.proofs.Member.{or_left}
 use Rattle.bom_core.proofs.boms.Boms.fits_in.Goals as goal

@@ -1,10 +1,10 @@
 use Rattle.std.proofs.Common.{sym, ap}
 use Rattle.std.specs.Prelude.{◌&&◌}
-use Rattle.bom_core.specs.declared.line.Side.TheVariants.{Assembly}
+use Rattle.bom_core.specs.declared.line.Role.TheVariants.{Assembly}
 use Rattle.bom_core.specs.Bills.{line_rows, part_rows, substitute_rows}
-use Rattle.bom_core.specs.Boms.{bills_of}
-use Rattle.bom_core.specs.Sides.{installs}
-use Rattle.part_core.specs.Catalogues.{parts_of}
+use Rattle.bom_core.specs.BomsView.{bills_of}
+use Rattle.bom_core.specs.Roles.{installs}
+use Rattle.part_core.specs.CatalogueView.{parts_of}
 use Rattle.bom_core.proofs.LookUps.{any-none, for_no_variants}
 use Rattle.bom_core.proofs.boms.Boms.fits_in_template.Goals as goal
 

@@ -1,7 +1,7 @@
 use Rattle.std.proofs.Common.{rules, not}
-use Rattle.part_core.specs.Catalogues.{parts_of}
+use Rattle.part_core.specs.CatalogueView.{parts_of}
 use Rattle.part_core.proofs.RowTests.{each-tested}
-use Rattle.bom_core.specs.Boms.{bills_of}
+use Rattle.bom_core.specs.BomsView.{bills_of}
 use Rattle.bom_core.specs.Changes.{has_row}
 use Rattle.bom_core.proofs.RowTests.{has_row-is}
 use Rattle.bom_core.proofs.boms.Boms.have_assemblies.Goals as goal

@@ -1,6 +1,6 @@
 use Rattle.std.proofs.Common.{rules, not}
 use Rattle.part_core.proofs.RowTests.{each-tested}
-use Rattle.bom_core.specs.Boms.{bills_of}
+use Rattle.bom_core.specs.BomsView.{bills_of}
 use Rattle.bom_core.specs.RowTests.{has_quantity}
 use Rattle.bom_core.proofs.RowTests.{has_quantity-is}
 use Rattle.bom_core.proofs.boms.Boms.have_quantities.Goals as goal

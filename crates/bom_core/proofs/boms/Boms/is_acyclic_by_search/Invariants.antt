@@ -1,8 +1,8 @@
 use Rattle.std.proofs.Common.{◌<◌, ℕ, get_or}
 use Rattle.std.specs.Borrow.{Bor}
-use Rattle.part_core.specs.Catalogues.{parts_of}
+use Rattle.part_core.specs.CatalogueView.{parts_of}
 use Rattle.part_core.specs.declared.part.Part.{Part}
-use Rattle.bom_core.specs.Boms.{bills_of}
+use Rattle.bom_core.specs.BomsView.{bills_of}
 use Rattle.bom_core.specs.Walks.{HasWalk}
 use Rattle.bom_core.proofs.boms.Boms.is_acyclic_by_search.Given as goal
 

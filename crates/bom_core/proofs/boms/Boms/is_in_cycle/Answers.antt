@@ -1,7 +1,7 @@
 use Rattle.std.proofs.Common.{◌≡◌, ◌<◌, true, false, length, get_or, refl, sym, ◌∙◌, subst, arith, below_more}
-use Rattle.part_core.specs.Catalogues.{parts_of}
+use Rattle.part_core.specs.CatalogueView.{parts_of}
 use Rattle.bom_core.specs.Bills.{covers, part_rows}
-use Rattle.bom_core.specs.Boms.{bills_of}
+use Rattle.bom_core.specs.BomsView.{bills_of}
 use Rattle.bom_core.specs.Search.{is_among}
 use Rattle.bom_core.specs.Walks.{HasWalk}
 use Rattle.bom_core.proofs.Closed.{place, among-at}

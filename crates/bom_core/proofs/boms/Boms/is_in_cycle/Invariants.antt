@@ -1,6 +1,6 @@
 use Rattle.std.proofs.Common.{ℕ, ◌<◌, get_or}
-use Rattle.part_core.specs.Catalogues.{parts_of}
-use Rattle.bom_core.specs.Boms.{bills_of}
+use Rattle.part_core.specs.CatalogueView.{parts_of}
+use Rattle.bom_core.specs.BomsView.{bills_of}
 use Rattle.bom_core.specs.Walks.{HasWalk}
 use Rattle.bom_core.proofs.boms.Boms.is_in_cycle.Given as goal
 

@@ -1,6 +1,6 @@
 use Rattle.std.proofs.Common.{◌≡◌, true, sym}
-use Rattle.part_core.specs.Catalogues.{parts_of}
-use Rattle.bom_core.specs.Boms.{bills_of}
+use Rattle.part_core.specs.CatalogueView.{parts_of}
+use Rattle.bom_core.specs.BomsView.{bills_of}
 use Rattle.bom_core.proofs.Edges.{substitute-cycles}
 use Rattle.part_core.proofs.Conditions.{not_true}
 use Rattle.bom_core.proofs.boms.Boms.put_substitute.Goals as goal

@@ -2,11 +2,11 @@ use Rattle.std.proofs.Common.{ℕ, Bool, ap, ◌∙◌, rules}
 use Rattle.std.specs.Prelude.{filter}
 use Rattle.std.specs.FinMap as table
 use Rattle.part_core.specs.declared.part.Part.{Part}
-use Rattle.part_core.specs.Catalogues.{parts_of}
+use Rattle.part_core.specs.CatalogueView.{parts_of}
 use Rattle.part_core.specs.Sheet.{now_of}
 use Rattle.part_core.proofs.SlotLemmas.{IfOk-map}
 use Rattle.bom_core.specs.Bills.{contains}
-use Rattle.bom_core.specs.Boms.{bills_of}
+use Rattle.bom_core.specs.BomsView.{bills_of}
 use Rattle.bom_core.specs.Search.{is_among}
 use Rattle.bom_core.proofs.Cycles.{steps-turned, steps-back}
 use Rattle.bom_core.proofs.boms.Boms.where_used.Goals as goal

@@ -1,11 +1,11 @@
 use Rattle.std.proofs.Common.{◌≡◌, true, rules, not}
-use Rattle.part_core.specs.Catalogues.{parts_of}
+use Rattle.part_core.specs.CatalogueView.{parts_of}
 use Rattle.part_core.proofs.RowTests.{each-tested}
-use Rattle.bom_core.specs.Boms.{bills_of}
-use Rattle.alloc_core.specs.AllocationTables.{allocations_now}
+use Rattle.bom_core.specs.BomsView.{bills_of}
+use Rattle.alloc_core.specs.AllocationsView.{allocations_now}
 use Rattle.alloc_core.specs.declared.allocation.Allocation.{Allocation}
-use Rattle.yard_core.specs.Yards.{stock_of}
-use Rattle.build_core.specs.BuildTables.{builds_now}
+use Rattle.yard_core.specs.YardView.{stock_of}
+use Rattle.build_core.specs.BuildsView.{builds_now}
 use Rattle.build_core.specs.RowTests.{is_right_meant}
 use Rattle.build_core.proofs.builds.Builds.are_right_meant.Goals as goal
 

@@ -1,9 +1,9 @@
 use Rattle.std.proofs.Common.{◌≡◌, ℕ, ◌<◌, true, get_or}
 use Rattle.std.specs.Borrow.{Bor}
-use Rattle.part_core.specs.Catalogues.{parts_of}
-use Rattle.bom_core.specs.Boms.{bills_of}
+use Rattle.part_core.specs.CatalogueView.{parts_of}
+use Rattle.bom_core.specs.BomsView.{bills_of}
 use Rattle.forest.specs.declared.item.Item.{Item}
-use Rattle.build_core.specs.BuildTables.{builds_now}
+use Rattle.build_core.specs.BuildsView.{builds_now}
 use Rattle.build_core.specs.RowTests.{is_right_placed}
 use Rattle.build_core.proofs.builds.Builds.are_right_placed.Given as goal
 

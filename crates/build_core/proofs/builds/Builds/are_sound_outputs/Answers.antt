@@ -2,14 +2,14 @@ use Rattle.std.proofs.Common.{◌≡◌, ◌↔◌, ◌∙◌, true, ap, map, su
 use Rattle.std.specs.Borrow.{Bor}
 use Rattle.std.specs.FinMap as table
 use Rattle.std.specs.List.{All}
-use Rattle.part_core.specs.Catalogues.{parts_of}
+use Rattle.part_core.specs.CatalogueView.{parts_of}
 use Rattle.part_core.specs.Rows.{EachRow}
 use Rattle.part_core.specs.Sheet.{now_of}
-use Rattle.bom_core.specs.Boms.{bills_of}
+use Rattle.bom_core.specs.BomsView.{bills_of}
 use Rattle.forest.specs.declared.item.Item.{Item}
-use Rattle.yard_core.specs.Yards.{stock_of}
+use Rattle.yard_core.specs.YardView.{stock_of}
 use Rattle.yard_core.proofs.ByIndex.{all-each}
-use Rattle.build_core.specs.BuildTables.{builds_now}
+use Rattle.build_core.specs.BuildsView.{builds_now}
 use Rattle.build_core.specs.RowTests.{is_right_placed}
 use Rattle.build_core.proofs.builds.Builds.are_sound_outputs.Goals as goal
 

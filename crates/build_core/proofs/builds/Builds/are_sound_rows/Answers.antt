@@ -1,8 +1,8 @@
 use Rattle.std.proofs.Common.{rules, not}
-use Rattle.part_core.specs.Catalogues.{parts_of}
+use Rattle.part_core.specs.CatalogueView.{parts_of}
 use Rattle.part_core.proofs.RowTests.{each-tested}
-use Rattle.yard_core.specs.Yards.{stock_of}
-use Rattle.build_core.specs.BuildTables.{builds_now}
+use Rattle.yard_core.specs.YardView.{stock_of}
+use Rattle.build_core.specs.BuildsView.{builds_now}
 use Rattle.build_core.specs.RowTests.{is_sound_build}
 use Rattle.build_core.proofs.Opened.{sound_build-is}
 use Rattle.build_core.proofs.builds.Builds.are_sound_rows.Goals as goal

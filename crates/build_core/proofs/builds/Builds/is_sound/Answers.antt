@@ -1,9 +1,9 @@
 use Rattle.std.proofs.Common.{◌≡◌, ◌↔◌, true, false, sym, ◌∙◌, subst, IsTrue, IfOk, Ok, Err}
-use Rattle.part_core.specs.Catalogues.{parts_of}
+use Rattle.part_core.specs.CatalogueView.{parts_of}
 use Rattle.part_core.specs.Rows.{EachRow, StandRight}
-use Rattle.bom_core.specs.Boms.{bills_of}
+use Rattle.bom_core.specs.BomsView.{bills_of}
 use Rattle.forest.specs.declared.item.Item.{Item}
-use Rattle.build_core.specs.BuildStores.{build_books}
+use Rattle.build_core.specs.BuildBooks.{build_books}
 use Rattle.build_core.specs.RowTests.{is_right_meant, is_right_placed}
 use Rattle.build_core.specs.Sound.{AreSoundBuilds}
 use Rattle.build_core.specs.declared.build.Build.{Build}

@@ -1,7 +1,7 @@
 use Rattle.std.proofs.Common.{◌≡◌, ◌∙◌, sym, ap, IfOk, map, Ok, Err}
 use Rattle.std.proofs.lemmas.Simd.{map-map}
 use Rattle.build_core.specs.Builds.{open_parts}
-use Rattle.build_core.specs.BuildTables.{builds_now}
+use Rattle.build_core.specs.BuildsView.{builds_now}
 use Rattle.build_core.specs.declared.build.Build.{Build}
 use Rattle.build_core.proofs.builds.Builds.open_parts.Goals as goal
 

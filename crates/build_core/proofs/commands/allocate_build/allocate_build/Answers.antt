@@ -1,12 +1,12 @@
 use Rattle.std.proofs.Common.{◌≡◌, None, sym, ◌∙◌, is_none, ◌||◌}
-use Rattle.part_core.specs.Catalogues.{parts_of}
+use Rattle.part_core.specs.CatalogueView.{parts_of}
 use Rattle.part_core.specs.Checks.{first}
 use Rattle.part_core.proofs.Conditions.{none-holds, or_none}
-use Rattle.bom_core.specs.Boms.{bills_of}
-use Rattle.stock_core.specs.Asked.{is_no_item}
+use Rattle.bom_core.specs.BomsView.{bills_of}
+use Rattle.stock_core.specs.ItemTests.{is_no_item}
 use Rattle.build_core.specs.AllocateBuild.{allocate_build_checks, is_no_named, wanted}
 use Rattle.build_core.specs.Builds.{is_no_build}
-use Rattle.build_core.specs.BuildStores.{build_books}
+use Rattle.build_core.specs.BuildBooks.{build_books}
 use Rattle.build_core.specs.Needs.{line_in}
 use Rattle.build_core.proofs.Named.{named-some}
 use Rattle.build_core.proofs.commands.allocate_build.allocate_build.Goals as goal

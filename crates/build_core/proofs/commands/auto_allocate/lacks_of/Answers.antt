@@ -1,9 +1,9 @@
 use Rattle.std.proofs.Common.{Bool}
-use Rattle.part_core.specs.Catalogues.{parts_of}
-use Rattle.alloc_core.specs.AllocationTables.{allocations_now}
+use Rattle.part_core.specs.CatalogueView.{parts_of}
+use Rattle.alloc_core.specs.AllocationsView.{allocations_now}
 use Rattle.alloc_core.specs.Allotting.{Need}
 use Rattle.bom_core.specs.declared.line.Line.{Line}
-use Rattle.yard_core.specs.Yards.{stock_of}
+use Rattle.yard_core.specs.YardView.{stock_of}
 use Rattle.build_core.specs.Lacks.{is_served, need_for}
 use Rattle.build_core.proofs.EachServed.{lines-passed}
 use Rattle.build_core.proofs.commands.auto_allocate.lacks_of.Goals as goal

@@ -1,8 +1,8 @@
 use Rattle.std.proofs.Common.{◌≡◌, ◌++◌, drop, map}
 use Rattle.std.specs.Prelude.{filter}
-use Rattle.part_core.specs.Catalogues.{parts_of}
-use Rattle.alloc_core.specs.AllocationTables.{allocations_now}
-use Rattle.yard_core.specs.Yards.{stock_of}
+use Rattle.part_core.specs.CatalogueView.{parts_of}
+use Rattle.alloc_core.specs.AllocationsView.{allocations_now}
+use Rattle.yard_core.specs.YardView.{stock_of}
 use Rattle.build_core.specs.Lacks.{is_served, need_for, needs_of}
 use Rattle.build_core.proofs.commands.auto_allocate.lacks_of.Given as goal
 

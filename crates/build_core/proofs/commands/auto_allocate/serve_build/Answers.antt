@@ -1,16 +1,16 @@
 use Rattle.std.proofs.Common.{◌≡◌, List, map, true, sym, ap, ◌∙◌, subst, Bor}
 use Rattle.std.proofs.lemmas.Result.{on_ok_weaker}
-use Rattle.part_core.specs.Catalogues.{parts_of}
+use Rattle.part_core.specs.CatalogueView.{parts_of}
 use Rattle.part_core.specs.Counter.{passes_limit}
-use Rattle.bom_core.specs.Boms.{bills_of}
+use Rattle.bom_core.specs.BomsView.{bills_of}
 use Rattle.bom_core.specs.declared.line.Line.{Line}
-use Rattle.yard_core.specs.Yards.{stock_of}
-use Rattle.alloc_core.specs.AllocationTables.{allocations_now}
+use Rattle.yard_core.specs.YardView.{stock_of}
+use Rattle.alloc_core.specs.AllocationsView.{allocations_now}
 use Rattle.alloc_core.specs.Allotments.{allotments_of}
 use Rattle.alloc_core.specs.Allotting.{Need, allot_lines}
 use Rattle.build_core.specs.AllocateBuild.{with_allotments}
 use Rattle.build_core.specs.Builds.{build_at}
-use Rattle.build_core.specs.BuildStores.{build_books}
+use Rattle.build_core.specs.BuildBooks.{build_books}
 use Rattle.build_core.specs.Lacks.{AreLines, needs_of}
 use Rattle.build_core.specs.Needs.{needs}
 use Rattle.build_core.specs.declared.build.Build.{Build}

@@ -1,7 +1,7 @@
 use Rattle.std.proofs.Common.{◌∙◌, refl}
-use Rattle.part_core.specs.Catalogues.{parts_of}
-use Rattle.bom_core.specs.Boms.{bills_of}
-use Rattle.yard_core.specs.Yards.{stock_of}
+use Rattle.part_core.specs.CatalogueView.{parts_of}
+use Rattle.bom_core.specs.BomsView.{bills_of}
+use Rattle.yard_core.specs.YardView.{stock_of}
 use Rattle.alloc_core.specs.Allotments.{allotments_of}
 use Rattle.build_core.proofs.EachServed.{served-drawn, served-more, served-past}
 use Rattle.build_core.proofs.commands.auto_allocate.serve_each.Goals as goal

@@ -1,9 +1,9 @@
 use Rattle.std.proofs.Common.{◌≡◌, drop}
-use Rattle.part_core.specs.Catalogues.{parts_of}
+use Rattle.part_core.specs.CatalogueView.{parts_of}
 use Rattle.part_core.specs.Counter.{kept_numbering}
-use Rattle.bom_core.specs.Boms.{bills_of}
-use Rattle.yard_core.specs.Yards.{stock_of}
-use Rattle.alloc_core.specs.AllocationTables.{kept_allocations}
+use Rattle.bom_core.specs.BomsView.{bills_of}
+use Rattle.yard_core.specs.YardView.{stock_of}
+use Rattle.alloc_core.specs.AllocationsView.{kept_allocations}
 use Rattle.alloc_core.specs.Allotments.{allotments_of}
 use Rattle.alloc_core.specs.Allotting.{allot_lines}
 use Rattle.alloc_core.proofs.Allotted.{AreDrawn}

@@ -1,11 +1,11 @@
 use Rattle.std.proofs.Common.{◌≡◌, ◌+◌, get_or, drop, refl, sym, ap, ◌∙◌, subst, List, ℕ}
 use Rattle.std.proofs.lemmas.List.{drop_all, drop_more}
 use Rattle.forest.specs.declared.place.Place.TheVariants.{Gone}
-use Rattle.yard_core.specs.Books.{books_of, with_stock}
-use Rattle.yard_core.specs.Yards.{stock_of}
+use Rattle.yard_core.specs.StockBooks.{stock_books_of, with_stock}
+use Rattle.yard_core.specs.YardView.{stock_of}
 use Rattle.build_core.specs.Builds.{BuildBooks}
 use Rattle.yard_core.specs.Outputs.{outputs_of}
-use Rattle.build_core.specs.BuildStores.{build_books}
+use Rattle.build_core.specs.BuildBooks.{build_books}
 use Rattle.build_core.specs.CancelBuild.{lift_each}
 use Rattle.build_core.proofs.Clearing.{IsClearing, clearing-all, can-clear, room-clear, clearing-one, same-books}
 use Rattle.build_core.proofs.commands.cancel_build.give_up.Goals as goal
@@ -25,8 +25,8 @@ pub lift-requires-clause-can : goal.lift-requires-clause-can
 lift-requires-clause-can c =
     let xs = c.deref-output-items.result.now in
     let i = c.loop-output.output-index in
-    let old = books_of c.args.yard.now c.args.counter.now in
-    let b = books_of c.loop-output.yard c.args.counter.now in
+    let old = stock_books_of c.args.yard.now c.args.counter.now in
+    let b = stock_books_of c.loop-output.yard c.args.counter.now in
     can-clear c.args.build c.args.day xs (get_or xs i 0) (drop (i + 1) xs) old b
     (subst (λ (ys : List ℕ). IsClearing c.args.build c.args.day xs ys old b) (drop_more xs i 0 c.loop-output-test.true) c.loop-output.invariant.left)
 
@@ -34,8 +34,8 @@ pub lift-requires-clause-room : goal.lift-requires-clause-room
 lift-requires-clause-room c =
     let xs = c.deref-output-items.result.now in
     let i = c.loop-output.output-index in
-    let old = books_of c.args.yard.now c.args.counter.now in
-    let b = books_of c.loop-output.yard c.args.counter.now in
+    let old = stock_books_of c.args.yard.now c.args.counter.now in
+    let b = stock_books_of c.loop-output.yard c.args.counter.now in
     room-clear c.args.build c.args.day xs (get_or xs i 0) (drop (i + 1) xs) old b
     (subst (λ (ys : List ℕ). IsClearing c.args.build c.args.day xs ys old b) (drop_more xs i 0 c.loop-output-test.true) c.loop-output.invariant.left)
     c.args.counter.now.limits.entries_within
@@ -44,12 +44,12 @@ pub loop-output-preserved : goal.loop-output-preserved
 loop-output-preserved c =
     let xs = c.deref-output-items.result.now in
     let i = c.loop-output.output-index in
-    let old = books_of c.args.yard.now c.args.counter.now in
-    let b = books_of c.loop-output.yard c.args.counter.now in
+    let old = stock_books_of c.args.yard.now c.args.counter.now in
+    let b = stock_books_of c.loop-output.yard c.args.counter.now in
     record {
       left = clearing-one c.args.build c.args.day xs (get_or xs i 0) (drop (i + 1) xs) old b
           (subst (λ (ys : List ℕ). IsClearing c.args.build c.args.day xs ys old b) (drop_more xs i 0 c.loop-output-test.true) c.loop-output.invariant.left)
-          (books_of c.lift.new.self c.args.counter.now) (ap (λ s. with_stock s b) c.in_ok-lift.ensures.ok);
+          (stock_books_of c.lift.new.self c.args.counter.now) (ap (λ s. with_stock s b) c.in_ok-lift.ensures.ok);
       kept = c.in_ok-lift.ensures.kept ∙ c.loop-output.invariant.kept;
     }
 

@@ -1,9 +1,9 @@
 use Rattle.std.proofs.Common.{◌≡◌, ◌+◌, ◌≤◌, List, [], drop, refl, sym, ap, ◌∙◌, subst, arith}
-use Rattle.yard_core.specs.Books.{Books, books_of, is_full}
+use Rattle.yard_core.specs.StockBooks.{StockBooks, stock_books_of, is_full}
 use Rattle.yard_core.specs.Outputs.{LeavesOutputs}
 use Rattle.alloc_core.specs.declared.allocation.Allocation.{Allocation}
 use Rattle.stock_core.specs.Serving.{serve_each}
-use Rattle.build_core.specs.BuildStores.{build_books}
+use Rattle.build_core.specs.BuildBooks.{build_books}
 use Rattle.build_core.specs.CompleteBuild.{build_rows, used_for}
 use Rattle.std.proofs.lemmas.List.{drop_all}
 use Rattle.build_core.proofs.CompleteBuildSound.{left-start}
@@ -11,7 +11,7 @@ use Rattle.build_core.proofs.Served.{IsLeft, left-cut, left-from, left-full, lef
 use Rattle.build_core.proofs.commands.complete_build.use_up_all.Goals as goal
 
 -- what is an output stays so
-abbrev quiet_beside : Books → List Allocation → Books → Type 0
+abbrev quiet_beside : StockBooks → List Allocation → StockBooks → Type 0
 quiet_beside old xs c = LeavesOutputs old.stock.items c.stock.items
 
 pub loop-row-init : goal.loop-row-init
@@ -32,8 +32,8 @@ use_up-used-requires-clause-can c = λ more room.
     let rows = c.deref-row-items.result.now in
     let i = c.loop-row.row-index in
     let go = used_for c.args.build c.args.day in
-    let old = books_of c.args.yard.now c.args.counter.now in
-    let b = books_of c.loop-row.yard c.loop-row.counter in
+    let old = stock_books_of c.args.yard.now c.args.counter.now in
+    let b = stock_books_of c.loop-row.yard c.loop-row.counter in
     let left = left-from go c.args.day (quiet_beside old) rows i c.row-item.result old b c.loop-row-test.true c.row-item.is c.loop-row.invariant.left in
     left-cut go c.args.day (quiet_beside old) (seen rows) c.row-item.result.now (seen (drop (i + 1) rows)) old b left more room c.loop-row.counter.limits.entries_within
 
@@ -45,8 +45,8 @@ returns-in-Err-clause-full c = λ e.
     let day = c.args.day in
     let go = used_for n day in
     let before = build_books c.args.builds.now c.args.allocations.now c.args.yard.now c.args.counter.now in
-    let old = books_of c.args.yard.now c.args.counter.now in
-    let b = books_of c.loop-row.yard c.loop-row.counter in
+    let old = stock_books_of c.args.yard.now c.args.counter.now in
+    let b = stock_books_of c.loop-row.yard c.loop-row.counter in
     let are : seen rows ≡ build_rows n before = ap seen c.deref-row-items.ensures.value ∙ c.in_ok-rows.ensures in
     let left = left-from go day (quiet_beside old) rows i c.row-item.result old b c.loop-row-test.true c.row-item.is c.loop-row.invariant.left in
     ap (λ (xs : List Allocation). is_full (serve_each go day xs old)) (sym are)
@@ -57,12 +57,12 @@ loop-row-preserved c =
     let rows = c.deref-row-items.result.now in
     let i = c.loop-row.row-index in
     let go = used_for c.args.build c.args.day in
-    let old = books_of c.args.yard.now c.args.counter.now in
-    let b = books_of c.loop-row.yard c.loop-row.counter in
+    let old = stock_books_of c.args.yard.now c.args.counter.now in
+    let b = stock_books_of c.loop-row.yard c.loop-row.counter in
     let left = left-from go c.args.day (quiet_beside old) rows i c.row-item.result old b c.loop-row-test.true c.row-item.is c.loop-row.invariant.left in
     record {
       left = left-one go c.args.day (quiet_beside old) (seen rows) c.row-item.result.now (seen (drop (i + 1) rows)) old b left
-          (books_of c.use_up-used.new.yard c.use_up-used.new.counter) c.in_default.ensures.ok c.in_default.ensures.within;
+          (stock_books_of c.use_up-used.new.yard c.use_up-used.new.counter) c.in_default.ensures.ok c.in_default.ensures.within;
       kept = c.use_up-used.ensures.kept ∙ c.loop-row.invariant.kept;
     }
 
@@ -74,8 +74,8 @@ returns-clause-ok c =
     let day = c.args.day in
     let go = used_for n day in
     let before = build_books c.args.builds.now c.args.allocations.now c.args.yard.now c.args.counter.now in
-    let old = books_of c.args.yard.now c.args.counter.now in
-    let b = books_of c.loop-row.yard c.loop-row.counter in
+    let old = stock_books_of c.args.yard.now c.args.counter.now in
+    let b = stock_books_of c.loop-row.yard c.loop-row.counter in
     let are : seen rows ≡ build_rows n before = ap seen c.deref-row-items.ensures.value ∙ c.in_ok-rows.ensures in
     let none : seen (drop i rows) ≡ [] = ap seen (drop_all i rows c.loop-row-test.false) in
     sym (ap (λ (xs : List Allocation). serve_each go day xs b) none) ∙ c.loop-row.invariant.left.served
@@ -83,6 +83,6 @@ returns-clause-ok c =
 
 pub returns-clause-within : goal.returns-clause-within
 returns-clause-within c =
-    let b = books_of c.loop-row.yard c.loop-row.counter in
+    let b = stock_books_of c.loop-row.yard c.loop-row.counter in
     let numbers : b.counter.next ≤ b.counter.limits.numbers + 1 = omega (arith, c.largest.ensures.next, c.largest.ensures.value) in
     within-limits b numbers c.loop-row.invariant.left.within

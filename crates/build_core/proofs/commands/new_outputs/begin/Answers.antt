@@ -1,15 +1,15 @@
 use Rattle.std.proofs.Common.{◌≡◌, ℕ, ◌≤◌, false, List, length, Option, Some, None, arith}
 use Rattle.std.proofs.lemmas.Bool.{ltb-false}
-use Rattle.part_core.specs.Catalogues.{parts_of}
+use Rattle.part_core.specs.CatalogueView.{parts_of}
 use Rattle.part_core.specs.Quantity.{is_bad_quantity}
 use Rattle.part_core.proofs.Conditions.{none-holds, or_none}
-use Rattle.bom_core.specs.Boms.{bills_of}
+use Rattle.bom_core.specs.BomsView.{bills_of}
 use Rattle.stock_core.specs.Arrives.{count_of}
 use Rattle.stock_core.specs.Serials.{are_many, given}
 use Rattle.stock_core.proofs.Checked.{good-quantity}
 use Rattle.stock_core.proofs.Rooms.{room-few}
 use Rattle.build_core.specs.Builds.{build_at}
-use Rattle.build_core.specs.BuildStores.{build_books}
+use Rattle.build_core.specs.BuildBooks.{build_books}
 use Rattle.build_core.specs.NewOutputs.{new_outputs, new_outputs_checks}
 use Rattle.build_core.proofs.Begun.{uses-begun}
 use Rattle.build_core.proofs.commands.new_outputs.begin.Goals as goal

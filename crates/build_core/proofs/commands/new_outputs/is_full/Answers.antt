@@ -4,8 +4,8 @@ use Rattle.part_core.specs.Counter.{lacks}
 use Rattle.stock_core.proofs.Uses.{full-used}
 use Rattle.stock_core.specs.Arrives.{count_of}
 use Rattle.build_core.specs.Builds.{build_at}
-use Rattle.build_core.specs.BuildStores.{build_books}
-use Rattle.yard_core.specs.Books.{entries_in}
+use Rattle.build_core.specs.BuildBooks.{build_books}
+use Rattle.yard_core.specs.StockBooks.{entries_in}
 use Rattle.build_core.specs.NewOutputs.{new_outputs}
 use Rattle.build_core.proofs.Begun.{uses-begun}
 use Rattle.build_core.proofs.commands.new_outputs.is_full.Goals as goal

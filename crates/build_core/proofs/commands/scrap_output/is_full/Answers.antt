@@ -2,8 +2,8 @@ use Rattle.std.proofs.Common.{ap, ◌∙◌, ◌||◌, ◌+◌}
 use Rattle.std.specs.Prelude.{nat_lt}
 use Rattle.part_core.specs.Counter.{lacks}
 use Rattle.stock_core.proofs.Uses.{full-used}
-use Rattle.yard_core.specs.Books.{entries_in}
-use Rattle.build_core.specs.BuildStores.{build_books}
+use Rattle.yard_core.specs.StockBooks.{entries_in}
+use Rattle.build_core.specs.BuildBooks.{build_books}
 use Rattle.build_core.specs.ScrapOutput.{scrap_output}
 use Rattle.build_core.proofs.EachUses.{scrapped_entries, uses-scrapped}
 use Rattle.build_core.proofs.commands.scrap_output.is_full.Goals as goal

@@ -1,7 +1,7 @@
 use Rattle.std.proofs.Common.{arith}
 use Rattle.part_core.proofs.Conditions.{none-holds}
 use Rattle.stock_core.proofs.Able.{room-left}
-use Rattle.build_core.specs.BuildStores.{build_books}
+use Rattle.build_core.specs.BuildBooks.{build_books}
 use Rattle.build_core.specs.ScrapOutput.{scrap_output, scrap_output_checks}
 use Rattle.build_core.proofs.EachUses.{scrapped_entries, uses-scrapped}
 use Rattle.build_core.proofs.commands.scrap_output.write_off.Goals as goal

@@ -1,6 +1,6 @@
 use Rattle.std.proofs.Common.{sym, subst}
 use Rattle.desk_core.specs.Machine.{IsSoundState}
-use Rattle.desk_core.specs.Shops.{state_of}
+use Rattle.desk_core.specs.ShopView.{state_of}
 use Rattle.desk_core.proofs.Steps.{plain-sound}
 use Rattle.desk_core.proofs.shop.Shop.accept.Goals as goal
 

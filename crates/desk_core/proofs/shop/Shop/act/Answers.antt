@@ -1,7 +1,7 @@
-use Rattle.part_core.specs.Catalogues.{parts_of}
-use Rattle.bom_core.specs.Boms.{bills_of}
+use Rattle.part_core.specs.CatalogueView.{parts_of}
+use Rattle.bom_core.specs.BomsView.{bills_of}
 use Rattle.desk_core.specs.Machine.{is_build, is_order}
-use Rattle.desk_core.specs.Shops.{state_of}
+use Rattle.desk_core.specs.ShopView.{state_of}
 use Rattle.desk_core.proofs.shop.Shop.act.Goals as goal
 
 pub act-requires-in-Order-clause-sound : goal.act-requires-in-Order-clause-sound

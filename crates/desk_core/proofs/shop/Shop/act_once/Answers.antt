@@ -1,4 +1,4 @@
-use Rattle.desk_core.specs.Shops.{state_of}
+use Rattle.desk_core.specs.ShopView.{state_of}
 use Rattle.desk_core.proofs.Steps.{kept-sound}
 use Rattle.desk_core.proofs.shop.Shop.act_once.Goals as goal
 

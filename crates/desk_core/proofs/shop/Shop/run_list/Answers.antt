@@ -2,7 +2,7 @@ use Rattle.std.proofs.Common.{◌≡◌, ◌+◌, ◌++◌, ◌∷◌, [], lengt
 use Rattle.std.proofs.lemmas.Grind.{common_steps}
 use Rattle.std.proofs.lemmas.List.{take_all, take_more}
 use Rattle.desk_core.specs.Machine.{AreDrawn, answered, answers_of, entries_in, entries_of, ids_of, told}
-use Rattle.desk_core.specs.Shops.{state_of}
+use Rattle.desk_core.specs.ShopView.{state_of}
 use Rattle.desk_core.proofs.Steps.{run-push, told_in}
 use Rattle.desk_core.proofs.shop.Shop.run_list.Goals as goal
 

@@ -1,6 +1,6 @@
 use Rattle.std.proofs.Common.{◌≡◌, ◌≤◌, length, take, vec_capacity}
 use Rattle.desk_core.specs.Machine.{run, answered, told, IsSoundState}
-use Rattle.desk_core.specs.Shops.{state_of}
+use Rattle.desk_core.specs.ShopView.{state_of}
 use Rattle.desk_core.proofs.shop.Shop.run_list.Given as goal
 
 abbrev pub invariant-loop-request : goal.invariant-loop-request

@@ -2,7 +2,7 @@ use Rattle.std.proofs.Common.{inl, inr, refl, arith, sym, subst}
 use Rattle.sqlite.specs.Held.{state}
 use Rattle.sqlite.specs.State.{HasCleanDisk}
 use Rattle.desk_core.specs.Machine.{State, start}
-use Rattle.desk_store.specs.Books.{HoldsBooks, TablesAre}
+use Rattle.desk_store.specs.StateTables.{HoldsBooks, TablesAre}
 use Rattle.desk_store.specs.Saving.{IsUnderWay}
 use Rattle.desk_store.proofs.Midway.{all_of_them, committed, keeps_failed, keeps_then}
 use Rattle.desk_store.proofs.Starting.{handed, never_foreign, of_store, told_made, told_of_creating}

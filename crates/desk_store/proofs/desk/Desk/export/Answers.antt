@@ -1,4 +1,4 @@
-use Rattle.desk_core.specs.Shops.{state_of}
+use Rattle.desk_core.specs.ShopView.{state_of}
 use Rattle.desk_store.specs.Exports.{table_text}
 use Rattle.desk_store.proofs.Sent.{none_sent}
 use Rattle.desk_store.proofs.desk.Desk.export.Goals as goal

@@ -1,8 +1,8 @@
 use Rattle.std.proofs.Common.{◌∙◌, arith, subst, sym}
 use Rattle.sqlite.specs.Held.{state}
 use Rattle.sqlite.specs.State.{HasCleanDisk}
-use Rattle.desk_core.specs.Shops.{state_of}
-use Rattle.desk_store.specs.Books.{TablesAre}
+use Rattle.desk_core.specs.ShopView.{state_of}
+use Rattle.desk_store.specs.StateTables.{TablesAre}
 use Rattle.desk_store.proofs.Opens.{opened-books, why_not}
 use Rattle.desk_store.proofs.Readings.{was-clean}
 use Rattle.desk_store.proofs.desk.Desk.open.Goals as goal

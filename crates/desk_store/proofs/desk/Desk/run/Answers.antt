@@ -1,6 +1,6 @@
 use Rattle.std.proofs.Common.{sym, subst}
 use Rattle.desk_core.specs.Machine.{State}
-use Rattle.desk_core.specs.Shops.{state_of}
+use Rattle.desk_core.specs.ShopView.{state_of}
 use Rattle.desk_core.specs.Staying.{AllStay}
 use Rattle.desk_core.proofs.AllStays.{accepted_stays}
 use Rattle.desk_store.proofs.desk.Desk.run.Goals as goal

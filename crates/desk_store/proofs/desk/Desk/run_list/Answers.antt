@@ -2,7 +2,7 @@ use Rattle.std.proofs.Common.{◌≡◌, ◌+◌, ◌++◌, ◌∷◌, [], is_so
 use Rattle.std.proofs.lemmas.Grind.{common_steps}
 use Rattle.std.proofs.lemmas.List.{take_all, take_more}
 use Rattle.desk_core.specs.Machine.{AreDrawn, answers_of, entries_in, entries_of, ids_of}
-use Rattle.desk_core.specs.Shops.{state_of}
+use Rattle.desk_core.specs.ShopView.{state_of}
 use Rattle.desk_core.proofs.Steps.{told_in}
 use Rattle.desk_store.specs.Outcomes.{answered, told}
 use Rattle.desk_store.proofs.Runs.{ClosesBy, closes_push, left_at, run_push, stopped_anew}

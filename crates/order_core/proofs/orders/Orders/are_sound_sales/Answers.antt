@@ -1,6 +1,6 @@
 use Rattle.std.proofs.Common.{rules, not}
 use Rattle.part_core.proofs.RowTests.{each-tested}
-use Rattle.order_core.specs.OrderStores.{order_books}
+use Rattle.order_core.specs.OrderBooks.{order_books}
 use Rattle.order_core.specs.RowTests.{is_sound_purpose}
 use Rattle.order_core.proofs.Opened.{purpose-is}
 use Rattle.order_core.proofs.orders.Orders.are_sound_sales.Goals as goal

@@ -1,7 +1,7 @@
 use Rattle.std.proofs.Common.{rules, not}
 use Rattle.part_core.specs.Sheet.{now_of}
 use Rattle.part_core.proofs.RowTests.{each-tested}
-use Rattle.alloc_core.specs.AllocationTables.{allocations_now}
+use Rattle.alloc_core.specs.AllocationsView.{allocations_now}
 use Rattle.order_core.specs.RowTests.{is_within}
 use Rattle.order_core.proofs.Opened.{within-is}
 use Rattle.order_core.proofs.orders.Orders.are_within.Goals as goal

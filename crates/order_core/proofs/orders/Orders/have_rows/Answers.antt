@@ -1,5 +1,5 @@
 use Rattle.std.proofs.Common.{rules, not}
-use Rattle.part_core.specs.Catalogues.{parts_of}
+use Rattle.part_core.specs.CatalogueView.{parts_of}
 use Rattle.part_core.specs.Sheet.{now_of}
 use Rattle.part_core.proofs.RowTests.{each-tested}
 use Rattle.order_core.specs.RowTests.{has_rows}

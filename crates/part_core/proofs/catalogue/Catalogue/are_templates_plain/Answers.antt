@@ -1,5 +1,5 @@
 use Rattle.std.proofs.Common.{rules, not}
-use Rattle.part_core.specs.Catalogues.{parts_of}
+use Rattle.part_core.specs.CatalogueView.{parts_of}
 use Rattle.part_core.specs.RowTests.{is_plain}
 use Rattle.part_core.proofs.RowTests.{each-tested, is_plain-is}
 use Rattle.part_core.proofs.catalogue.Catalogue.are_templates_plain.Goals as goal

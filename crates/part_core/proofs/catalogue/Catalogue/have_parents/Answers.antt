@@ -1,5 +1,5 @@
 use Rattle.std.proofs.Common.{rules, not}
-use Rattle.part_core.specs.Catalogues.{parts_of}
+use Rattle.part_core.specs.CatalogueView.{parts_of}
 use Rattle.part_core.specs.NamedRows.{has_parent}
 use Rattle.part_core.proofs.RowTests.{each-tested, has_parent-is}
 use Rattle.part_core.proofs.catalogue.Catalogue.have_parents.Goals as goal

@@ -1,5 +1,5 @@
 use Rattle.std.proofs.Common.{rules, not}
-use Rattle.part_core.specs.Catalogues.{parts_of}
+use Rattle.part_core.specs.CatalogueView.{parts_of}
 use Rattle.part_core.specs.RowTests.{has_template}
 use Rattle.part_core.proofs.RowTests.{each-tested, has_template-is}
 use Rattle.part_core.proofs.catalogue.Catalogue.have_templates.Goals as goal

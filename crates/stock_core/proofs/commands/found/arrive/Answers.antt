@@ -1,9 +1,9 @@
 use Rattle.std.proofs.Common.{arith, refl}
-use Rattle.part_core.specs.Catalogues.{parts_of}
+use Rattle.part_core.specs.CatalogueView.{parts_of}
 use Rattle.part_core.proofs.Conditions.{none-holds}
 use Rattle.forest.specs.declared.entry.Kind.TheVariants as kind
 use Rattle.forest.specs.declared.place.Place.TheVariants.{At}
-use Rattle.yard_core.specs.Books.{books_of}
+use Rattle.yard_core.specs.StockBooks.{stock_books_of}
 use Rattle.stock_core.specs.Arrives.{count_of}
 use Rattle.stock_core.specs.Found.{found, found_checks}
 use Rattle.stock_core.proofs.Rooms.{room-checked}
@@ -12,7 +12,7 @@ use Rattle.stock_core.proofs.commands.found.arrive.Goals as goal
 
 pub make_new-requires-clause-room : goal.make_new-requires-clause-room
 make_new-requires-clause-room c =
-    let b = books_of c.args.yard.now c.args.counter.now in
+    let b = stock_books_of c.args.yard.now c.args.counter.now in
     let new = c.args.new.now in
     let holds = none-holds (found_checks c.args.part c.args.location new c.args.day (parts_of c.args.catalogue.now) b) c.requires.checked in
     room-checked (count_of new.serials) b (found c.args.part c.args.location new c.args.day b) c.requires.sound (omega (arith, c.args.counter.now.limits.entries_within))

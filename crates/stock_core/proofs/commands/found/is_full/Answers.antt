@@ -1,11 +1,11 @@
 use Rattle.std.proofs.Common.{◌∙◌, refl}
-use Rattle.yard_core.specs.Books.{books_of}
+use Rattle.yard_core.specs.StockBooks.{stock_books_of}
 use Rattle.std.proofs.Common.{ap, ◌||◌, ◌+◌}
 use Rattle.std.specs.Prelude.{nat_lt}
 use Rattle.part_core.specs.Counter.{lacks}
 use Rattle.forest.specs.declared.entry.Kind.TheVariants as kind
 use Rattle.forest.specs.declared.place.Place.TheVariants.{At}
-use Rattle.yard_core.specs.Books.{entries_in}
+use Rattle.yard_core.specs.StockBooks.{entries_in}
 use Rattle.stock_core.specs.Arrives.{count_of}
 use Rattle.stock_core.specs.Found.{found}
 use Rattle.stock_core.proofs.Uses.{full-used, uses-make_new}
@@ -13,7 +13,7 @@ use Rattle.stock_core.proofs.commands.found.is_full.Goals as goal
 
 pub returns : goal.returns
 returns c day =
-    let b = books_of c.args.yard.now c.args.counter.now in
+    let b = stock_books_of c.args.yard.now c.args.counter.now in
     let count = count_of c.args.new.now.serials in
     c.lacks_room.ensures
     ∙ ap (λ n. lacks n b.counter || nat_lt b.counter.limits.entries (entries_in b + n)) c.count_of-count.ensures

@@ -3,8 +3,8 @@ use Rattle.std.specs.List.{list_any}
 use Rattle.std.specs.Prelude.{not}
 use Rattle.std.proofs.lemmas.Iterator.{YieldsList-from_slice}
 use Rattle.std.proofs.lemmas.Iterator.Search.{any_from_yields_List}
-use Rattle.yard_core.specs.Yards.{stock_of}
-use Rattle.stock_core.specs.Asked.{is_loose}
+use Rattle.yard_core.specs.YardView.{stock_of}
+use Rattle.stock_core.specs.ItemTests.{is_loose}
 use Rattle.stock_core.proofs.commands.merge.is_one_fixed.Goals as goal
 
 pub returns-else-not-is_loose : goal.returns-else-not-is_loose

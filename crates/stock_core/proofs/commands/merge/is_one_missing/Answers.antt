@@ -2,8 +2,8 @@ use Rattle.std.proofs.Common.{◌||◌, sym, ap, ◌∙◌, rules, tests}
 use Rattle.std.specs.List.{list_any}
 use Rattle.std.proofs.lemmas.Iterator.{YieldsList-from_slice}
 use Rattle.std.proofs.lemmas.Iterator.Search.{any_from_yields_List}
-use Rattle.yard_core.specs.Yards.{stock_of}
-use Rattle.stock_core.specs.Asked.{is_no_item}
+use Rattle.yard_core.specs.YardView.{stock_of}
+use Rattle.stock_core.specs.ItemTests.{is_no_item}
 use Rattle.stock_core.proofs.commands.merge.is_one_missing.Goals as goal
 
 pub returns-else-is_no_item : goal.returns-else-is_no_item

@@ -1,7 +1,7 @@
 use Rattle.std.proofs.Common.{◌≡◌, ◌+◌, ◌*◌, ◌^◌, ◌<◌, take}
 use Rattle.std.specs.Prelude.{sum_by}
-use Rattle.yard_core.specs.Yards.{stock_of}
-use Rattle.stock_core.specs.Asked.{quantity_at}
+use Rattle.yard_core.specs.YardView.{stock_of}
+use Rattle.stock_core.specs.ItemTests.{quantity_at}
 use Rattle.stock_core.proofs.commands.merge.total.Given as goal
 
 abbrev pub invariant-loop-item : goal.invariant-loop-item

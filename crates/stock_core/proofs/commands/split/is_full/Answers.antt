@@ -1,5 +1,5 @@
 use Rattle.std.proofs.Common.{◌∙◌}
-use Rattle.yard_core.specs.Books.{books_of}
+use Rattle.yard_core.specs.StockBooks.{stock_books_of}
 use Rattle.std.proofs.Common.{None}
 use Rattle.stock_core.specs.Split.{split}
 use Rattle.stock_core.proofs.Uses.{full-used, uses-cut_off}
@@ -7,5 +7,5 @@ use Rattle.stock_core.proofs.commands.split.is_full.Goals as goal
 
 pub returns : goal.returns
 returns c day =
-    let b = books_of c.args.yard.now c.args.counter.now in
+    let b = stock_books_of c.args.yard.now c.args.counter.now in
     c.lacks_room.ensures ∙ full-used 1 1 b (split c.args.item c.args.quantity day b) (uses-cut_off c.args.item c.args.quantity None day b c.requires.stock.history)

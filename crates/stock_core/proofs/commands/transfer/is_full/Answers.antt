@@ -1,6 +1,6 @@
 use Rattle.std.proofs.Common.{◌≡◌, true, false, None, sym, ap, ◌∙◌}
-use Rattle.yard_core.specs.Books.{books_of, is_full}
-use Rattle.stock_core.specs.Asked.{has_more}
+use Rattle.yard_core.specs.StockBooks.{stock_books_of, is_full}
+use Rattle.stock_core.specs.ItemTests.{has_more}
 use Rattle.stock_core.specs.Steps.{cut_off}
 use Rattle.stock_core.specs.Transfer.{carried}
 use Rattle.stock_core.proofs.Transfers.{uses-carried, uses-part}
@@ -9,7 +9,7 @@ use Rattle.stock_core.proofs.commands.transfer.is_full.Goals as goal
 
 pub returns-then-has_more : goal.returns-then-has_more
 returns-then-has_more c day =
-    let b = books_of c.args.yard.now c.args.counter.now in
+    let b = stock_books_of c.args.yard.now c.args.counter.now in
     let more : has_more c.args.item c.args.quantity b.stock ≡ true = sym c.has_more.ensures ∙ c.if-has_more.true in
     c.lacks_room.ensures ∙ full-used 1 2 b (carried c.args.location day (cut_off c.args.item c.args.quantity None day b, b.counter.next))
     (uses-part c.args.item c.args.location c.args.quantity day b c.requires.sound c.requires.loose)
@@ -17,7 +17,7 @@ returns-then-has_more c day =
 
 pub returns-else-has_more : goal.returns-else-has_more
 returns-else-has_more c day =
-    let b = books_of c.args.yard.now c.args.counter.now in
+    let b = stock_books_of c.args.yard.now c.args.counter.now in
     let all : has_more c.args.item c.args.quantity b.stock ≡ false = sym c.has_more.ensures ∙ c.if-has_more.false in
     c.lacks_room-else-has_more.ensures ∙ full-used 0 1 b (carried c.args.location day (b, c.args.item))
     (uses-carried c.args.item c.args.location day b c.requires.sound.stock.history c.requires.loose)

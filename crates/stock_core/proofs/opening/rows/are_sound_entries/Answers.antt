@@ -1,8 +1,8 @@
 use Rattle.std.proofs.Common.{◌≡◌, true, false, refl, sym, ◌∙◌, arith, subst}
 use Rattle.std.specs.Borrow.{Bor}
-use Rattle.part_core.specs.Catalogues.{parts_of}
+use Rattle.part_core.specs.CatalogueView.{parts_of}
 use Rattle.stock_core.specs.Sound.{IsSoundEntry}
-use Rattle.yard_core.specs.Yards.{stock_of}
+use Rattle.yard_core.specs.YardView.{stock_of}
 use Rattle.forest.specs.declared.entry.Entry.{Entry}
 use Rattle.yard_core.proofs.ByIndex.{all-at, all-seen}
 use Rattle.stock_core.proofs.opening.rows.are_sound_entries.Goals as goal

@@ -3,7 +3,7 @@ use Rattle.std.specs.Prelude.{option_map}
 use Rattle.std.specs.Borrow.{Bor}
 use Rattle.std.specs.HashSet as hash
 use Rattle.std.specs.List.{list_any}
-use Rattle.part_core.specs.Catalogues.{parts_of}
+use Rattle.part_core.specs.CatalogueView.{parts_of}
 use Rattle.yard_core.specs.Stock.{holds_serial}
 use Rattle.stock_core.specs.Opening.{Key, held_key, seen_key}
 use Rattle.yard_core.proofs.Below.{seen}

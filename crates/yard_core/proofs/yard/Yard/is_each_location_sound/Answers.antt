@@ -1,7 +1,7 @@
 use Rattle.std.proofs.Common.{◌≡◌, true, false, refl, sym, ◌∙◌, arith, subst}
 use Rattle.std.specs.Borrow.{Bor}
 use Rattle.yard_core.specs.SoundLocations.{IsSoundLocation}
-use Rattle.yard_core.specs.Yards.{stock_of}
+use Rattle.yard_core.specs.YardView.{stock_of}
 use Rattle.part_core.specs.declared.named_row.NamedRow.{NamedRow as Location}
 use Rattle.yard_core.proofs.ByIndex.{all-at, all-seen}
 use Rattle.yard_core.proofs.yard.Yard.is_each_location_sound.Goals as goal

@@ -5,7 +5,7 @@ use Rattle.part_core.specs.Sheet.{now_of}
 use Rattle.forest.specs.declared.item.Item.{Item}
 use Rattle.forest.specs.declared.entry.Entry.{Entry}
 use Rattle.yard_core.specs.Climbs.{IsByNumber}
-use Rattle.yard_core.specs.Yards.{stock_of}
+use Rattle.yard_core.specs.YardView.{stock_of}
 use Rattle.yard_core.proofs.Opened.{own_by_number, sound_from}
 use Rattle.yard_core.proofs.yard.Yard.is_sound.Goals as goal
 

@@ -1,11 +1,11 @@
 -- What a contract sees of a shop: the machine's state now, and as last kept.
-use Rattle.part_core.specs.Catalogues.{parts_of, kept_parts}
+use Rattle.part_core.specs.CatalogueView.{parts_of, kept_parts}
 use Rattle.part_core.specs.Counter.{kept_numbering, numbering_of}
 use Rattle.part_core.specs.Sheet.{now_of}
-use Rattle.bom_core.specs.Boms.{bills_of, kept_bills}
-use Rattle.yard_core.specs.Yards.{stock_of, kept_of}
-use Rattle.alloc_core.specs.AllocationTables.{allocations_now, kept_allocations}
-use Rattle.build_core.specs.BuildTables.{builds_now, kept_builds}
+use Rattle.bom_core.specs.BomsView.{bills_of, kept_bills}
+use Rattle.yard_core.specs.YardView.{stock_of, kept_of}
+use Rattle.alloc_core.specs.AllocationsView.{allocations_now, kept_allocations}
+use Rattle.build_core.specs.BuildsView.{builds_now, kept_builds}
 use Rattle.desk_core.specs.declared.shop.Shop.{Shop}
 use Rattle.desk_core.specs.Machine.{State}
 

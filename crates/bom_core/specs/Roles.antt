@@ -6,27 +6,27 @@ use Rattle.part_core.specs.Sheet.{Table}
 use Rattle.part_core.specs.declared.part.Part.{Part}
 use Rattle.bom_core.specs.Bills.{covers, fits_line}
 use Rattle.bom_core.specs.declared.line.Line.{Line}
-use Rattle.bom_core.specs.declared.line.Side.{Side}
-use Rattle.bom_core.specs.declared.line.Side.TheVariants.{Assembly, Component}
+use Rattle.bom_core.specs.declared.line.Role.{Role}
+use Rattle.bom_core.specs.declared.line.Role.TheVariants.{Assembly, Component}
 use Rattle.bom_core.specs.declared.substitute.Substitute.{Substitute}
 
--- the part on that side of the line
-abbrev pub named : Side → Line → ℕ
+-- the part in that role of the line
+abbrev pub named : Role → Line → ℕ
 named Assembly l = l.assembly
 named Component l = l.component
 
 -- the line means the variants of that part too
-abbrev pub takes_variants : Side → Line → Bool
+abbrev pub takes_variants : Role → Line → Bool
 takes_variants Assembly l = l.flags.inherited
 takes_variants Component l = l.flags.variants
 
--- the part is that on the side of the line, or a variant of it where the line means those too
-abbrev pub is_covering : Side → List Part → ℕ → Line → Bool
-is_covering side parts p l = covers parts (named side l) (takes_variants side l) p
+-- the part is that in the role of the line, or a variant of it where the line means those too
+abbrev pub is_covering : Role → List Part → ℕ → Line → Bool
+is_covering role parts p l = covers parts (named role l) (takes_variants role l) p
 
 -- the line names the template, and means its variants
-abbrev pub is_for_variants : Side → Option ℕ → Line → Bool
-is_for_variants side template l = takes_variants side l && is_number (named side l) template
+abbrev pub is_for_variants : Role → Option ℕ → Line → Bool
+is_for_variants role template l = takes_variants role l && is_number (named role l) template
 
 -- the line isn't consumable, and fits the part
 abbrev pub installs : List Part → List Substitute → ℕ → Line → Bool

@@ -1,4 +1,4 @@
--- What the bills hold now, and what they held when they were last kept.
+-- What a contract sees of the bills: what they hold now, and what they held when they were last kept.
 use Rattle.std.specs.Prelude.{List, [], ◌∷◌}
 use Rattle.part_core.specs.Counter.{Counting, kept_numbering, numbering_of}
 use Rattle.part_core.specs.Filled.{filled}

@@ -1,4 +1,4 @@
--- What builds are now, and what they were when they were last kept.
+-- What a contract sees of builds: what they are now, and what they were when they were last kept.
 use Rattle.std.specs.Prelude.{ℕ, ◌==◌, ◌&&◌, Bool, List, [], ◌∷◌}
 use Rattle.std.specs.FinMap as table
 use Rattle.std.specs.List.{list_any}

@@ -1,11 +1,11 @@
-//! What is asked of items. One that isn't there counts as one that is gone.
+//! Tests of items, of which checks are made. An item that isn't there counts as one that is gone.
 ghost use Rattle.std.specs.Prelude.{◌≡◌, is_none};
 ghost use Rattle.part_core.specs.Status.{is_allocatable};
 ghost use Rattle.forest.specs.Forest.{is_off};
 ghost use Rattle.forest.specs.Rows.{parent_in};
 ghost use Rattle.yard_core.specs.Stock.{item_at};
-ghost use Rattle.yard_core.specs.Yards.{stock_of};
-ghost use Rattle.stock_core.specs.Asked.{has_less, has_more, is_loose, is_no_item, is_no_location, is_serialised, part_at, quantity_at, stands_loose};
+ghost use Rattle.yard_core.specs.YardView.{stock_of};
+ghost use Rattle.stock_core.specs.ItemTests.{has_less, has_more, is_loose, is_no_item, is_no_location, is_serialised, part_at, quantity_at, stands_loose};
 
 use part_core::{Id, Quantity};
 use yard_core::{Place, Yard};

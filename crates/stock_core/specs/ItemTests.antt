@@ -1,4 +1,4 @@
--- What is asked of items.
+-- Tests of items, of which checks are made.
 use Rattle.std.specs.Prelude.{ℕ, Bool, is_none, is_some, nat_lt, [], ◌∷◌}
 use Rattle.std.specs.FinMap as table
 use Rattle.forest.specs.Forest.{is_at}

@@ -49,16 +49,16 @@ struct Edge {
 
 // The points and the edges between them.
 #[derive(Drop)]
-struct Order {
+struct Points {
     states: HashMap<Point, State>,
     edges: Vec<Edge>,
     // The points that are settled, in order.
     settled: Vec<Point>,
 }
 
-impl Order {
+impl Points {
     fn new(alloc: Global) -> Self {
-        Order {
+        Points {
             states: HashMap::new(alloc),
             edges: Vec::new(alloc),
             settled: Vec::new(alloc),
@@ -272,21 +272,21 @@ pub fn rank_parts(
     catalogue: &Catalogue,
 ) -> Result<Ranking, AllocError> {
     let parts = catalogue.parts().select(|_| true)?;
-    let mut order = Order::new(alloc);
+    let mut points = Points::new(alloc);
     for part in &parts {
-        order.put_part(part)?;
+        points.put_part(part)?;
     }
     for line in &boms.lines().select(|_| true)? {
-        order.put_line(line)?;
+        points.put_line(line)?;
     }
     for substitute in &boms.substitutes().select(|_| true)? {
-        order.put_substitute(boms, substitute)?;
+        points.put_substitute(boms, substitute)?;
     }
-    order.settle(&parts)?;
+    points.settle(&parts)?;
     let mut ranks = HashMap::new(alloc);
     for part in &parts {
-        ranks.insert(part.number, order.ranks(part.number))?;
+        ranks.insert(part.number, points.ranks(part.number))?;
     }
-    let looped = order.looped(alloc, &parts)?;
+    let looped = points.looped(alloc, &parts)?;
     Ok(Ranking { ranks, looped })
 }

@@ -1,4 +1,4 @@
--- The books of a desk: which tables of the file hold a state of the machine, and what a crash leaves of them.
+-- Which tables of a file hold a state of the machine, and what a crash leaves of them.
 use Rattle.std.specs.Prelude.{List}
 use Rattle.sqlite.specs.Order.{Row}
 use Rattle.sqlite.specs.State as sqlite

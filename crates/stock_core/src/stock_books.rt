@@ -1,8 +1,8 @@
-//! The books of a command: whether the limits leave room for it, and its end.
+//! The stock books of a command: whether the limits leave room for it, and its end.
 ghost use Rattle.std.specs.Prelude.{◌≡◌, ◌+◌, ◌||◌, nat_lt, Err, IfOk, IsOk, OnErr};
 ghost use Rattle.part_core.specs.Counter.{lacks, numbering_of};
 ghost use Rattle.part_core.specs.declared.refusal.CoreFault.{CoreFault};
-ghost use Rattle.yard_core.specs.Books.{answer_of, books_of, entries_in, kept_books};
+ghost use Rattle.yard_core.specs.StockBooks.{answer_of, stock_books_of, entries_in, kept_stock_books};
 
 use part_core::{Answer, CoreFault, Counter};
 use std::alloc::{AllocError, Global};
@@ -10,7 +10,7 @@ use yard_core::Yard;
 
 /// Whether so many numbers, or so many entries, more pass the limits.
 pub fn lacks_room(yard: &Yard, counter: &Counter, numbers: u64, entries: u64) -> bool
-    ensures { let b = books_of yard.now counter.now in
+    ensures { let b = stock_books_of yard.now counter.now in
         result ≡ (lacks numbers b.counter
         || nat_lt b.counter.limits.entries (entries_in b + entries)) }
 {
@@ -28,12 +28,12 @@ pub fn conclude(
 ) -> Result<Answer, CoreFault>
     ensures moved { IfOk result (λ _. IsOk moved) }
     ensures done { IfOk result (λ _.
-        books_of yard.new counter.new ≡ books_of yard.old counter.old) }
+        stock_books_of yard.new counter.new ≡ stock_books_of yard.old counter.old) }
     ensures told { IfOk result (λ answer.
-        answer ≡ answer_of (kept_books yard.old counter.old) (books_of yard.old counter.old)) }
+        answer ≡ answer_of (kept_stock_books yard.old counter.old) (stock_books_of yard.old counter.old)) }
     ensures memory { OnErr result (result ≡ Err CoreFault.Memory) }
-    ensures back { OnErr result (books_of yard.new counter.new ≡ kept_books yard.old counter.old) }
-    ensures kept { kept_books yard.new counter.new ≡ kept_books yard.old counter.old }
+    ensures back { OnErr result (stock_books_of yard.new counter.new ≡ kept_stock_books yard.old counter.old) }
+    ensures kept { kept_stock_books yard.new counter.new ≡ kept_stock_books yard.old counter.old }
 {
     let entries = yard.entries().saturating_sub(yard.kept_entries());
     let ids = match moved {

@@ -1,11 +1,11 @@
-//! The end of a command on builds: what it changed stands, or all is taken back.
+//! The end of a command on orders: what it changed stands, or all is taken back.
 ghost use Rattle.std.specs.Prelude.{◌≡◌, Err, IfOk, IsOk, OnErr};
 ghost use Rattle.part_core.specs.declared.refusal.CoreFault.{CoreFault};
-ghost use Rattle.yard_core.specs.Books.{answer_of, books_of, kept_books};
-ghost use Rattle.build_core.specs.BuildStores.{Ends, kept_build_books, build_books};
-ghost use Rattle.build_core.specs.declared.books.Halt.TheVariants as halts;
+ghost use Rattle.yard_core.specs.StockBooks.{answer_of, stock_books_of, kept_stock_books};
+ghost use Rattle.order_core.specs.OrderBooks.{Ends, kept_order_books, order_books};
+ghost use Rattle.order_core.specs.declared.order_books.Halt.TheVariants as halts;
 
-use crate::builds::Builds;
+use crate::orders::Orders;
 use alloc_core::Allocations;
 use part_core::{Answer, CoreFault, Counter, Refusal};
 use std::alloc::{AllocError, Global};
@@ -30,21 +30,21 @@ impl From<AllocError> for Halt {
 /// where the limits left no room or there was no memory for them or for the answer, takes everything back.
 pub fn conclude(
     alloc: Global,
-    builds: &mut Builds,
+    orders: &mut Orders,
     allocations: &mut Allocations,
     yard: &mut Yard,
     counter: &mut Counter,
     moved: Result<(), Halt>,
 ) -> Result<Answer, CoreFault>
     ensures ended { Ends moved result }
-    ensures done { IfOk result (λ _. build_books builds.new allocations.new yard.new counter.new
-        ≡ build_books builds.old allocations.old yard.old counter.old) }
+    ensures done { IfOk result (λ _. order_books orders.new allocations.new yard.new counter.new
+        ≡ order_books orders.old allocations.old yard.old counter.old) }
     ensures told { IfOk result (λ answer.
-        answer ≡ answer_of (kept_books yard.old counter.old) (books_of yard.old counter.old)) }
-    ensures back { OnErr result (build_books builds.new allocations.new yard.new counter.new
-        ≡ kept_build_books builds.old allocations.old yard.old counter.old) }
-    ensures kept { kept_build_books builds.new allocations.new yard.new counter.new
-        ≡ kept_build_books builds.old allocations.old yard.old counter.old }
+        answer ≡ answer_of (kept_stock_books yard.old counter.old) (stock_books_of yard.old counter.old)) }
+    ensures back { OnErr result (order_books orders.new allocations.new yard.new counter.new
+        ≡ kept_order_books orders.old allocations.old yard.old counter.old) }
+    ensures kept { kept_order_books orders.new allocations.new yard.new counter.new
+        ≡ kept_order_books orders.old allocations.old yard.old counter.old }
 {
     let entries = yard.entries().saturating_sub(yard.kept_entries());
     let fault = match moved {
@@ -55,7 +55,7 @@ pub fn conclude(
         Err(Halt::Full) => CoreFault::Refused(Refusal::Full),
         Err(Halt::Memory) => CoreFault::Memory,
     };
-    builds.back();
+    orders.back();
     allocations.back();
     yard.back();
     counter.back();
@@ -66,26 +66,26 @@ pub fn conclude(
 /// since the books were kept, or, where there was no memory, takes everything back.
 pub fn finish(
     alloc: Global,
-    builds: &mut Builds,
+    orders: &mut Orders,
     allocations: &mut Allocations,
     yard: &mut Yard,
     counter: &mut Counter,
     made: Result<(), AllocError>,
 ) -> Result<Answer, CoreFault>
     ensures made { IfOk result (λ _. IsOk made) }
-    ensures done { IfOk result (λ _. build_books builds.new allocations.new yard.new counter.new
-        ≡ build_books builds.old allocations.old yard.old counter.old) }
+    ensures done { IfOk result (λ _. order_books orders.new allocations.new yard.new counter.new
+        ≡ order_books orders.old allocations.old yard.old counter.old) }
     ensures told { IfOk result (λ answer.
-        answer ≡ answer_of (kept_books yard.old counter.old) (books_of yard.old counter.old)) }
+        answer ≡ answer_of (kept_stock_books yard.old counter.old) (stock_books_of yard.old counter.old)) }
     ensures memory { OnErr result (result ≡ Err CoreFault.Memory) }
-    ensures back { OnErr result (build_books builds.new allocations.new yard.new counter.new
-        ≡ kept_build_books builds.old allocations.old yard.old counter.old) }
-    ensures kept { kept_build_books builds.new allocations.new yard.new counter.new
-        ≡ kept_build_books builds.old allocations.old yard.old counter.old }
+    ensures back { OnErr result (order_books orders.new allocations.new yard.new counter.new
+        ≡ kept_order_books orders.old allocations.old yard.old counter.old) }
+    ensures kept { kept_order_books orders.new allocations.new yard.new counter.new
+        ≡ kept_order_books orders.old allocations.old yard.old counter.old }
 {
     let moved = match made {
         Ok(()) => Ok(()),
         Err(_) => Err(Halt::Memory),
     };
-    conclude(alloc, builds, allocations, yard, counter, moved)
+    conclude(alloc, orders, allocations, yard, counter, moved)
 }

@@ -1,4 +1,5 @@
--- What the stores that a command on builds is lent hold now, and what they held when they were last kept.
+-- What a contract sees of the build books, which a command on builds is lent: what they hold now, and what they held
+-- when they were last kept.
 use Rattle.std.specs.Prelude.{◌≡◌, ℕ, Bool, List, Result, Ok, Err, IsOk}
 use Rattle.part_core.specs.Acts.{Acts}
 use Rattle.part_core.specs.Catalogue.{Parts}
@@ -9,25 +10,25 @@ use Rattle.part_core.specs.declared.refusal.CoreFault.{CoreFault}
 use Rattle.part_core.specs.declared.refusal.CoreFault.TheVariants.{Refused, Memory}
 use Rattle.part_core.specs.declared.refusal.Refusal.TheVariants as refusals
 use Rattle.bom_core.specs.Bills.{Bills}
-use Rattle.alloc_core.specs.AllocationTables.{allocations_now, kept_allocations}
+use Rattle.alloc_core.specs.AllocationsView.{allocations_now, kept_allocations}
 use Rattle.alloc_core.specs.declared.allocations.Allocations.{Allocations}
-use Rattle.yard_core.specs.Books.{answer_of, books_of, kept_books}
+use Rattle.yard_core.specs.StockBooks.{answer_of, stock_books_of, kept_stock_books}
 use Rattle.yard_core.specs.declared.yard.Yard.{Yard}
 use Rattle.build_core.specs.Builds.{BuildBooks}
-use Rattle.build_core.specs.BuildTables.{builds_now, kept_builds}
+use Rattle.build_core.specs.BuildsView.{builds_now, kept_builds}
 use Rattle.build_core.specs.Sound.{AreSoundBooks}
-use Rattle.build_core.specs.declared.books.Halt.{Halt}
-use Rattle.build_core.specs.declared.books.Halt.TheVariants as halts
+use Rattle.build_core.specs.declared.build_books.Halt.{Halt}
+use Rattle.build_core.specs.declared.build_books.Halt.TheVariants as halts
 use Rattle.build_core.specs.declared.builds.Builds.{Builds}
 
 abbrev pub build_books : Builds → Allocations → Yard → Counting → BuildBooks
-build_books b a y c = record { builds = builds_now b; allocations = allocations_now a; books = books_of y c }
+build_books b a y c = record { builds = builds_now b; allocations = allocations_now a; books = stock_books_of y c }
 
 abbrev pub kept_build_books : Builds → Allocations → Yard → Counting → BuildBooks
-kept_build_books b a y c = record { builds = kept_builds b; allocations = kept_allocations a; books = kept_books y c }
+kept_build_books b a y c = record { builds = kept_builds b; allocations = kept_allocations a; books = kept_stock_books y c }
 
 -- a command does this to the books and answers what that drew and wrote; or it is refused by the first
--- check that applies, or ends for want of memory, and nothing has changed
+-- check that applies, or runs out of memory, and nothing has changed
 abbrev pub Does : List Check → BuildBooks → BuildBooks → Result Answer CoreFault → BuildBooks → Type 0
 Does checks after old result new = Acts checks (after, answer_of old.books after.books) old result new
 
