@@ -68,7 +68,7 @@ fn numbers_of(alloc: Global, rows: &[&Allocation]) -> Result<Vec<Id>, AllocError
 /// Takes out the rows of these numbers. An error is one of memory, and may have left some of them.
 fn remove_all(rows: &mut IndexedSheet<Allocation>, numbers: &[Id]) -> Result<(), AllocError>
     ensures removed { OnOk result (now_of rows.new ≡ removed_all numbers.now (now_of rows.old)) }
-    ensures kept { rows.new.kept ≡ rows.old.kept }
+    ensures before { rows.new.before ≡ rows.old.before }
 {
     for number in numbers {
         rows.remove(*number)?;
@@ -92,13 +92,13 @@ impl Drop for Allocations {
 
 impl Allocations {
     ghost use Rattle.alloc_core.specs.Allocations.{allocated, allocated_for_build_line, allocated_for_line, allocated_for_sale_line, allocation_in, allocations_of, free, has_allocations, is_above_free, released_for};
-    ghost use Rattle.alloc_core.specs.AllocationsView.{allocations_from, allocations_now, kept_allocations};
+    ghost use Rattle.alloc_core.specs.AllocationsView.{allocations_before, allocations_from, allocations_now};
     ghost use Rattle.alloc_core.specs.Release.{release};
 
     /// No allocation.
     pub fn new(alloc: Global) -> Self
         ensures now { allocations_now result ≡ table.empty }
-        ensures kept { kept_allocations result ≡ table.empty }
+        ensures before { allocations_before result ≡ table.empty }
     {
         Allocations {
             rows: IndexedSheet::new(alloc),
@@ -106,10 +106,10 @@ impl Allocations {
         }
     }
 
-    /// The allocations of these rows, which are those that are kept. An error is one of memory.
+    /// The allocations of these rows, now and before. An error is one of memory.
     pub fn assemble(alloc: Global, rows: Vec<Allocation>) -> Result<Self, AllocError>
         ensures now { IfOk result (λ all. allocations_now all ≡ allocations_from rows.items) }
-        ensures kept { IfOk result (λ all. kept_allocations all ≡ allocations_from rows.items) }
+        ensures before { IfOk result (λ all. allocations_before all ≡ allocations_from rows.items) }
     {
         let rows = IndexedSheet::filled(alloc, rows)?;
         Ok(Allocations { rows, alloc })
@@ -222,7 +222,7 @@ impl Allocations {
         ensures ok { OnOk result (allocations_now self.new
             ≡ table.insert (allocations_now self.old) (row.number ∷ []) row) }
         ensures err { OnErr result (self.new ≡ self.old) }
-        ensures kept { kept_allocations self.new ≡ kept_allocations self.old }
+        ensures before { allocations_before self.new ≡ allocations_before self.old }
     {
         self.rows.put(row)
     }
@@ -232,7 +232,7 @@ impl Allocations {
         ensures ok { OnOk result (allocations_now self.new
             ≡ release number (allocations_now self.old)) }
         ensures err { OnErr result (self.new ≡ self.old) }
-        ensures kept { kept_allocations self.new ≡ kept_allocations self.old }
+        ensures before { allocations_before self.new ≡ allocations_before self.old }
     {
         self.rows.remove(number)
     }
@@ -241,7 +241,7 @@ impl Allocations {
     pub fn release_for(&mut self, owner: Owner) -> Result<(), AllocError>
         ensures ok { OnOk result (allocations_now self.new
             ≡ released_for owner (allocations_now self.old)) }
-        ensures kept { kept_allocations self.new ≡ kept_allocations self.old }
+        ensures before { allocations_before self.new ≡ allocations_before self.old }
     {
         let numbers = self.numbers_for(owner)?;
         remove_all(&mut self.rows, numbers.as_slice())
@@ -257,18 +257,18 @@ impl Allocations {
         numbers_of(self.alloc, rows.as_slice())
     }
 
-    /// What was changed stays so.
+    /// Makes the changes final: the rows now become the rows before.
     pub fn keep(&mut self)
         ensures now { allocations_now self.new ≡ allocations_now self.old }
-        ensures kept { kept_allocations self.new ≡ allocations_now self.old }
+        ensures before { allocations_before self.new ≡ allocations_now self.old }
     {
         self.rows.keep();
     }
 
-    /// What was changed since it was last kept is taken back.
+    /// Takes the changes back: the rows are again those before.
     pub fn back(&mut self)
-        ensures now { allocations_now self.new ≡ kept_allocations self.old }
-        ensures kept { kept_allocations self.new ≡ kept_allocations self.old }
+        ensures now { allocations_now self.new ≡ allocations_before self.old }
+        ensures before { allocations_before self.new ≡ allocations_before self.old }
     {
         self.rows.back();
     }

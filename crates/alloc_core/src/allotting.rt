@@ -1,8 +1,8 @@
 //! What is missing for a line of a build is taken from what is free of items, one after another.
 ghost use Rattle.std.specs.Prelude.{◌≡◌, ◌-◌, Err, IfOk, OnOk, min, true};
-ghost use Rattle.part_core.specs.Counter.{kept_numbering, passes_limit};
+ghost use Rattle.part_core.specs.Counter.{numbering_before, passes_limit};
 ghost use Rattle.yard_core.specs.YardView.{stock_of};
-ghost use Rattle.alloc_core.specs.AllocationsView.{allocations_now, kept_allocations};
+ghost use Rattle.alloc_core.specs.AllocationsView.{allocations_before, allocations_now};
 ghost use Rattle.alloc_core.specs.Allocations.{free};
 ghost use Rattle.alloc_core.specs.Allotments.{allotments_of, for_line};
 ghost use Rattle.alloc_core.specs.Allotting.{allocate_some, allot_in_turn};
@@ -78,8 +78,8 @@ fn put_some(
     ensures full { result ≡ Err faults.Full → passes_limit
         (allocate_some (for_line build line) item quantity
         (allotments_of allocations.old counter.old)).counter ≡ true }
-    ensures allocations_kept { kept_allocations allocations.new ≡ kept_allocations allocations.old }
-    ensures counter_kept { kept_numbering counter.new ≡ kept_numbering counter.old }
+    ensures allocations_before { allocations_before allocations.new ≡ allocations_before allocations.old }
+    ensures counter_before { numbering_before counter.new ≡ numbering_before counter.old }
 {
     if quantity == 0 {
         return Ok(());
@@ -121,8 +121,8 @@ impl Allocations {
         ensures full { result ≡ Err faults.Full → passes_limit
             (allot_in_turn (for_line build line) items.now missing (stock_of yard.now)
             (allotments_of self.old counter.old)).counter ≡ true }
-        ensures kept { kept_allocations self.new ≡ kept_allocations self.old }
-        ensures counter_kept { kept_numbering counter.new ≡ kept_numbering counter.old }
+        ensures before { allocations_before self.new ≡ allocations_before self.old }
+        ensures counter_before { numbering_before counter.new ≡ numbering_before counter.old }
     {
         let mut left = missing;
         for item in items {

@@ -3,7 +3,7 @@ ghost use Rattle.std.specs.Prelude.{◌≡◌};
 ghost use Rattle.part_core.specs.Acts.{Acts};
 ghost use Rattle.part_core.specs.CatalogueView.{parts_of};
 ghost use Rattle.bom_core.specs.BomMachine.{ChecksAreInOrder, EffectsAreSound, answer_of, checks, effect};
-ghost use Rattle.bom_core.specs.BomsView.{bill_books, bills_of, kept_bill_books};
+ghost use Rattle.bom_core.specs.BomsView.{bill_books, bill_books_before, bills_of};
 ghost use Rattle.bom_core.specs.Sound.{IsSoundBill};
 
 use crate::boms::Boms;
@@ -35,14 +35,14 @@ pub fn act(
     open_parts: &[Id],
     command: &BomCommand,
 ) -> Result<Answer, CoreFault>
-    requires nothing_pending { kept_bill_books boms.old counter.old
+    requires nothing_pending { bill_books_before boms.old counter.old
         ≡ bill_books boms.old counter.old }
     requires sound { IsSoundBill (parts_of catalogue.now) (bills_of boms.old) counter.old.next }
     ensures acts { let b = bill_books boms.old counter.old in
         let after = effect command.now b in
         Acts (checks command.now open_parts.now (parts_of catalogue.now) b)
         (after, answer_of b after) b result (bill_books boms.new counter.new) }
-    ensures kept { kept_bill_books boms.new counter.new ≡ kept_bill_books boms.old counter.old }
+    ensures before { bill_books_before boms.new counter.new ≡ bill_books_before boms.old counter.old }
 {
     match command {
         BomCommand::AddLine(new) => {

@@ -26,7 +26,7 @@ pub struct Boms {
     substitutes: IndexedSheet<Substitute>,
     alloc: Global,
     ghost numbered: { AreNumbered lines.rows },
-    ghost kept_numbered: { AreNumbered lines.kept },
+    ghost numbered_before: { AreNumbered lines.before },
 }
 
 // It is written out, so that a caller does not prove again how each part is dropped.
@@ -41,12 +41,12 @@ impl Drop for Boms {
 }
 
 impl Boms {
-    ghost use Rattle.bom_core.specs.BomsView.{bills_from, bills_of, kept_bills};
+    ghost use Rattle.bom_core.specs.BomsView.{bills_before, bills_from, bills_of};
 
     /// Bills with no line.
     pub fn new(alloc: Global) -> Self
         ensures now { bills_of result ≡ no_bills }
-        ensures kept { kept_bills result ≡ no_bills }
+        ensures before { bills_before result ≡ no_bills }
     {
         Boms {
             lines: IndexedSheet::new(alloc),
@@ -55,7 +55,7 @@ impl Boms {
         }
     }
 
-    /// The bills of these rows, which are those that are kept. An error is one of memory.
+    /// The bills of these rows, now and before. An error is one of memory.
     pub fn assemble(
         alloc: Global,
         lines: Vec<Line>,
@@ -63,8 +63,8 @@ impl Boms {
     ) -> Result<Self, AllocError>
         ensures now { IfOk result (λ boms.
             bills_of boms ≡ bills_from lines.items substitutes.items) }
-        ensures kept { IfOk result (λ boms.
-            kept_bills boms ≡ bills_from lines.items substitutes.items) }
+        ensures before { IfOk result (λ boms.
+            bills_before boms ≡ bills_from lines.items substitutes.items) }
     {
         let lines = IndexedSheet::filled(alloc, lines)?;
         let substitutes = IndexedSheet::filled(alloc, substitutes)?;
@@ -103,19 +103,19 @@ impl Boms {
         self.substitutes.rows().get(&number)
     }
 
-    /// The rows now are those that are kept from here on.
+    /// Makes the changes final: the rows now become the rows before.
     pub fn keep(&mut self)
         ensures now { bills_of self.new ≡ bills_of self.old }
-        ensures kept { kept_bills self.new ≡ bills_of self.old }
+        ensures before { bills_before self.new ≡ bills_of self.old }
     {
         self.lines.keep();
         self.substitutes.keep();
     }
 
-    /// The rows are again those that were last kept.
+    /// Takes the changes back: the rows are again those before.
     pub fn back(&mut self)
-        ensures now { bills_of self.new ≡ kept_bills self.old }
-        ensures kept { kept_bills self.new ≡ kept_bills self.old }
+        ensures now { bills_of self.new ≡ bills_before self.old }
+        ensures before { bills_before self.new ≡ bills_before self.old }
     {
         self.lines.back();
         self.substitutes.back();

@@ -1,4 +1,4 @@
--- What a catalogue and bills are after a part or a line came and everything was kept.
+-- What a catalogue and bills are after a part or a line came and was made final.
 use Rattle.std.proofs.Common.{◌≡◌, ℕ, List, ap, subst}
 use Rattle.std.specs.Prelude.{Ok}
 use Rattle.part_core.specs.Acts.{Acts}

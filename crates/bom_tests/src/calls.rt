@@ -1,6 +1,6 @@
 //! Each public call once, and a chain of assemblies that would close.
 ghost use Rattle.std.specs.Prelude.{◌≡◌, IfOk};
-ghost use Rattle.bom_core.specs.BomsView.{bills_of, kept_bills};
+ghost use Rattle.bom_core.specs.BomsView.{bills_before, bills_of};
 ghost use Rattle.bom_tests.specs.Ready.{IsReady};
 
 use bom_core::{Boms, LineFlags, NewLine, a_new_part_makes_no_cycle, no_bills_are_sound};
@@ -89,14 +89,14 @@ fn reads(
     Ok(fits && effective && reaches && used)
 }
 
-// Whether the substitute goes and comes back, and goes with its line. What `boms` holds is kept.
+// Whether the substitute goes and comes back, and goes with its line. Nothing is pending in `boms`.
 fn drops(
     catalogue: &Catalogue,
     boms: &mut Boms,
     number: Id,
     substitute: Id,
 ) -> Result<bool, CoreFault>
-    requires { kept_bills boms.old ≡ bills_of boms.old }
+    requires { bills_before boms.old ≡ bills_of boms.old }
 {
     boms.drop_substitute(catalogue, &[], substitute)?;
     let away = boms.substitute(substitute).is_none();

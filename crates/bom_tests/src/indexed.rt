@@ -1,4 +1,4 @@
-//! Rows that are found by what stands in them, also after changes, kept and taken back.
+//! Rows that are found by what stands in them, also after changes, and after `keep` and `back`.
 use part_core::{Indexed, IndexedSheet, Row};
 use std::alloc::{AllocError, Global};
 use std::process::Abort;
@@ -94,8 +94,8 @@ fn expect_maker(
     Ok(())
 }
 
-// Tools 20 and 3 in drawer 1 and tool 5 in drawer 2, all of maker 1 but tool 3, and all kept.
-fn kept_sheet(alloc: Global) -> Result<IndexedSheet<Tool>, AllocError> {
+// Tools 20 and 3 in drawer 1 and tool 5 in drawer 2, all of maker 1 but tool 3, now and before.
+fn sheet_before(alloc: Global) -> Result<IndexedSheet<Tool>, AllocError> {
     let mut sheet = IndexedSheet::new(alloc);
     put_tool(&mut sheet, 20, 1, 1)?;
     put_tool(&mut sheet, 3, 1, 2)?;
@@ -106,7 +106,7 @@ fn kept_sheet(alloc: Global) -> Result<IndexedSheet<Tool>, AllocError> {
 
 #[test]
 fn finds_rows_by_each_key(rt: HostRuntime) -> Result<(), Fail> {
-    let sheet = kept_sheet(rt.alloc())?;
+    let sheet = sheet_before(rt.alloc())?;
     expect_drawer(&rt, rt.alloc(), &sheet, 1, &[3, 20])?;
     expect_drawer(&rt, rt.alloc(), &sheet, 2, &[5])?;
     expect_drawer(&rt, rt.alloc(), &sheet, 3, &[])?;
@@ -117,7 +117,7 @@ fn finds_rows_by_each_key(rt: HostRuntime) -> Result<(), Fail> {
 
 #[test]
 fn tests_the_row_of_a_number(rt: HostRuntime) -> Result<(), Fail> {
-    let sheet = kept_sheet(rt.alloc())?;
+    let sheet = sheet_before(rt.alloc())?;
     assert!(rt; sheet.any_at(5, |tool| tool.number == 5 && tool.drawer == 2));
     assert!(rt; !sheet.any_at(5, |tool| tool.number == 5 && tool.drawer == 1));
     assert!(rt; !sheet.any_at(6, |tool| tool.number == 6));
@@ -126,7 +126,7 @@ fn tests_the_row_of_a_number(rt: HostRuntime) -> Result<(), Fail> {
 
 #[test]
 fn takes_a_changed_row_back(rt: HostRuntime) -> Result<(), Fail> {
-    let mut sheet = kept_sheet(rt.alloc())?;
+    let mut sheet = sheet_before(rt.alloc())?;
     put_tool(&mut sheet, 3, 2, 2)?;
     expect_drawer(&rt, rt.alloc(), &sheet, 1, &[20])?;
     expect_drawer(&rt, rt.alloc(), &sheet, 2, &[3, 5])?;
@@ -139,7 +139,7 @@ fn takes_a_changed_row_back(rt: HostRuntime) -> Result<(), Fail> {
 
 #[test]
 fn keeps_a_row_changed_twice(rt: HostRuntime) -> Result<(), Fail> {
-    let mut sheet = kept_sheet(rt.alloc())?;
+    let mut sheet = sheet_before(rt.alloc())?;
     put_tool(&mut sheet, 3, 7, 2)?;
     put_tool(&mut sheet, 3, 2, 7)?;
     sheet.keep();
@@ -153,7 +153,7 @@ fn keeps_a_row_changed_twice(rt: HostRuntime) -> Result<(), Fail> {
 
 #[test]
 fn takes_removed_rows_back(rt: HostRuntime) -> Result<(), Fail> {
-    let mut sheet = kept_sheet(rt.alloc())?;
+    let mut sheet = sheet_before(rt.alloc())?;
     sheet.remove(3)?;
     sheet.remove(4)?;
     put_tool(&mut sheet, 8, 1, 9)?;
@@ -168,7 +168,7 @@ fn takes_removed_rows_back(rt: HostRuntime) -> Result<(), Fail> {
 
 #[test]
 fn keeps_removed_rows_out(rt: HostRuntime) -> Result<(), Fail> {
-    let mut sheet = kept_sheet(rt.alloc())?;
+    let mut sheet = sheet_before(rt.alloc())?;
     sheet.remove(3)?;
     sheet.remove(20)?;
     put_tool(&mut sheet, 20, 1, 4)?;

@@ -1,4 +1,4 @@
-//! Rows that are put, changed, kept and taken back.
+//! Rows that are put and changed, also after `keep` and `back`.
 use part_core::{Row, Sheet};
 use std::alloc::{AllocError, Global};
 use std::process::Abort;
@@ -54,8 +54,8 @@ fn count_of(sheet: &Sheet<Stock>, number: u64) -> Option<u64> {
     sheet.get(&number).map(|row| row.count)
 }
 
-// A sheet with two of part 1 and three of part 2, both kept.
-fn kept_sheet(alloc: Global) -> Result<Sheet<Stock>, AllocError> {
+// A sheet with two of part 1 and three of part 2, now and before.
+fn sheet_before(alloc: Global) -> Result<Sheet<Stock>, AllocError> {
     let mut sheet = Sheet::new(alloc);
     put_count(&mut sheet, 1, 2)?;
     put_count(&mut sheet, 2, 3)?;
@@ -65,7 +65,7 @@ fn kept_sheet(alloc: Global) -> Result<Sheet<Stock>, AllocError> {
 
 #[test]
 fn takes_changes_back(rt: HostRuntime) -> Result<(), Fail> {
-    let mut sheet = kept_sheet(rt.alloc())?;
+    let mut sheet = sheet_before(rt.alloc())?;
     assert!(rt; sheet.pending()?.is_empty());
     assert_eq!(rt; sheet.len(), 2);
 
@@ -90,8 +90,8 @@ fn takes_changes_back(rt: HostRuntime) -> Result<(), Fail> {
 }
 
 #[test]
-fn lists_no_row_that_is_as_kept(rt: HostRuntime) -> Result<(), Fail> {
-    let mut sheet = kept_sheet(rt.alloc())?;
+fn lists_no_row_that_is_as_before(rt: HostRuntime) -> Result<(), Fail> {
+    let mut sheet = sheet_before(rt.alloc())?;
     set_count(&rt, &mut sheet, 1, 5)?;
     set_count(&rt, &mut sheet, 1, 2)?;
     put_count(&mut sheet, 3, 4)?;
@@ -118,10 +118,10 @@ fn selects_in_order_of_key(rt: HostRuntime) -> Result<(), Fail> {
 
 #[test]
 fn puts_a_removed_row_again(rt: HostRuntime) -> Result<(), Fail> {
-    let mut sheet = kept_sheet(rt.alloc())?;
+    let mut sheet = sheet_before(rt.alloc())?;
     sheet.remove(&1)?;
     assert_eq!(rt; sheet.len(), 1);
-    assert_eq!(rt; sheet.kept_len(), 2);
+    assert_eq!(rt; sheet.length_before(), 2);
     put_count(&mut sheet, 1, 7)?;
     put_count(&mut sheet, 3, 4)?;
     sheet.remove(&2)?;

@@ -1,5 +1,5 @@
 -- What a contract sees of the build books, which a command on builds is lent: what they hold now, and what they held
--- when they were last kept.
+-- before the request.
 use Rattle.std.specs.Prelude.{◌≡◌, ℕ, Bool, List, Result, Ok, Err, IsOk}
 use Rattle.part_core.specs.Acts.{Acts}
 use Rattle.part_core.specs.Catalogue.{Parts}
@@ -10,12 +10,12 @@ use Rattle.part_core.specs.declared.refusal.CoreFault.{CoreFault}
 use Rattle.part_core.specs.declared.refusal.CoreFault.TheVariants.{Refused, Memory}
 use Rattle.part_core.specs.declared.refusal.Refusal.TheVariants as refusals
 use Rattle.bom_core.specs.Bills.{Bills}
-use Rattle.alloc_core.specs.AllocationsView.{allocations_now, kept_allocations}
+use Rattle.alloc_core.specs.AllocationsView.{allocations_before, allocations_now}
 use Rattle.alloc_core.specs.declared.allocations.Allocations.{Allocations}
-use Rattle.yard_core.specs.StockBooks.{answer_of, stock_books_of, kept_stock_books}
+use Rattle.yard_core.specs.StockBooks.{answer_of, stock_books_of, stock_books_before}
 use Rattle.yard_core.specs.declared.yard.Yard.{Yard}
 use Rattle.build_core.specs.Builds.{BuildBooks}
-use Rattle.build_core.specs.BuildsView.{builds_now, kept_builds}
+use Rattle.build_core.specs.BuildsView.{builds_before, builds_now}
 use Rattle.build_core.specs.Sound.{AreSoundBooks}
 use Rattle.build_core.specs.declared.build_books.Halt.{Halt}
 use Rattle.build_core.specs.declared.build_books.Halt.TheVariants as halts
@@ -24,8 +24,8 @@ use Rattle.build_core.specs.declared.builds.Builds.{Builds}
 abbrev pub build_books : Builds → Allocations → Yard → Counting → BuildBooks
 build_books b a y c = record { builds = builds_now b; allocations = allocations_now a; books = stock_books_of y c }
 
-abbrev pub kept_build_books : Builds → Allocations → Yard → Counting → BuildBooks
-kept_build_books b a y c = record { builds = kept_builds b; allocations = kept_allocations a; books = kept_stock_books y c }
+abbrev pub build_books_before : Builds → Allocations → Yard → Counting → BuildBooks
+build_books_before b a y c = record { builds = builds_before b; allocations = allocations_before a; books = stock_books_before y c }
 
 -- a command does this to the books and answers what that drew and wrote; or it is refused by the first
 -- check that applies, or runs out of memory, and nothing has changed

@@ -1,4 +1,4 @@
--- What a contract sees of builds: what they are now, and what they were when they were last kept.
+-- What a contract sees of builds: what they are now, and what they were before the request.
 use Rattle.std.specs.Prelude.{ℕ, ◌==◌, ◌&&◌, Bool, List, [], ◌∷◌}
 use Rattle.std.specs.FinMap as table
 use Rattle.std.specs.List.{list_any}
@@ -11,8 +11,8 @@ use Rattle.build_core.specs.declared.builds.Builds.{Builds}
 abbrev pub builds_now : Builds → Table Build
 builds_now b = now_of b.rows
 
-abbrev pub kept_builds : Builds → Table Build
-kept_builds b = b.rows.kept
+abbrev pub builds_before : Builds → Table Build
+builds_before b = b.rows.before
 
 -- the table of these rows
 abbrev pub builds_from : List Build → Table Build

@@ -4,7 +4,7 @@ ghost use Rattle.part_core.specs.CatalogueView.{parts_of};
 ghost use Rattle.bom_core.specs.BomsView.{bills_of};
 ghost use Rattle.bom_core.specs.Sound.{IsSoundBill};
 ghost use Rattle.build_core.specs.BuildMachine.{checks, effect};
-ghost use Rattle.build_core.specs.BuildBooks.{AreSoundSomehow, Does, build_books, kept_build_books};
+ghost use Rattle.build_core.specs.BuildBooks.{AreSoundSomehow, Does, build_books, build_books_before};
 
 use crate::builds::Builds;
 use crate::{
@@ -90,7 +90,7 @@ pub fn act(
     day: Day,
     command: &BuildCommand,
 ) -> Result<Answer, CoreFault>
-    requires nothing_pending { kept_build_books builds.old allocations.old yard.old counter.old
+    requires nothing_pending { build_books_before builds.old allocations.old yard.old counter.old
         ≡ build_books builds.old allocations.old yard.old counter.old }
     requires sound { AreSoundSomehow (build_books builds.old allocations.old yard.old counter.old) }
     requires bill { IsSoundBill (parts_of catalogue.now) (bills_of boms.now) counter.old.next }
@@ -98,8 +98,8 @@ pub fn act(
         Does (checks command.now day (parts_of catalogue.now) (bills_of boms.now) b)
         (effect command.now day (parts_of catalogue.now) (bills_of boms.now) b) b result
         (build_books builds.new allocations.new yard.new counter.new) }
-    ensures kept { kept_build_books builds.new allocations.new yard.new counter.new
-        ≡ kept_build_books builds.old allocations.old yard.old counter.old }
+    ensures before { build_books_before builds.new allocations.new yard.new counter.new
+        ≡ build_books_before builds.old allocations.old yard.old counter.old }
 {
     match command {
         BuildCommand::NewBuild { part, quantity } => new_build(

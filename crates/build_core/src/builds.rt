@@ -31,12 +31,12 @@ fn parts_of(alloc: Global, rows: &[&Build]) -> Result<Vec<Id>, AllocError>
 }
 
 impl Builds {
-    ghost use Rattle.build_core.specs.BuildsView.{builds_from, builds_now, has_open, kept_builds};
+    ghost use Rattle.build_core.specs.BuildsView.{builds_before, builds_from, builds_now, has_open};
 
     /// No build.
     pub fn new(alloc: Global) -> Self
         ensures now { builds_now result ≡ table.empty }
-        ensures kept { kept_builds result ≡ table.empty }
+        ensures before { builds_before result ≡ table.empty }
     {
         Builds {
             rows: IndexedSheet::new(alloc),
@@ -44,10 +44,10 @@ impl Builds {
         }
     }
 
-    /// The builds of these rows, which are those that are kept. An error is one of memory.
+    /// The builds of these rows, now and before. An error is one of memory.
     pub fn assemble(alloc: Global, rows: Vec<Build>) -> Result<Self, AllocError>
         ensures now { IfOk result (λ all. builds_now all ≡ builds_from rows.items) }
-        ensures kept { IfOk result (λ all. kept_builds all ≡ builds_from rows.items) }
+        ensures before { IfOk result (λ all. builds_before all ≡ builds_from rows.items) }
     {
         let rows = IndexedSheet::filled(alloc, rows)?;
         Ok(Builds { rows, alloc })
@@ -106,7 +106,7 @@ impl Builds {
     pub(crate) fn add_build(&mut self, row: Build) -> Result<(), AllocError>
         ensures ok { OnOk result (builds_now self.new ≡ put_build row (builds_now self.old)) }
         ensures err { OnErr result (self.new ≡ self.old) }
-        ensures kept { kept_builds self.new ≡ kept_builds self.old }
+        ensures before { builds_before self.new ≡ builds_before self.old }
     {
         self.rows.put(row)
     }
@@ -117,7 +117,7 @@ impl Builds {
         ensures ok { OnOk result (builds_now self.new ≡ put_build
             (in_state state (build_in number (builds_now self.old))) (builds_now self.old)) }
         ensures err { OnErr result (self.new ≡ self.old) }
-        ensures kept { kept_builds self.new ≡ kept_builds self.old }
+        ensures before { builds_before self.new ≡ builds_before self.old }
     {
         let Some(build) = self.rows.get(number) else {
             unreachable!()
@@ -134,7 +134,7 @@ impl Builds {
         ensures ok { OnOk result (builds_now self.new ≡ put_build
             (with_done more (build_in number (builds_now self.old))) (builds_now self.old)) }
         ensures err { OnErr result (self.new ≡ self.old) }
-        ensures kept { kept_builds self.new ≡ kept_builds self.old }
+        ensures before { builds_before self.new ≡ builds_before self.old }
     {
         let Some(build) = self.rows.get(number) else {
             unreachable!()
@@ -144,18 +144,18 @@ impl Builds {
         self.rows.put(row)
     }
 
-    /// What was changed stays so.
+    /// Makes the changes final: the rows now become the rows before.
     pub fn keep(&mut self)
         ensures now { builds_now self.new ≡ builds_now self.old }
-        ensures kept { kept_builds self.new ≡ builds_now self.old }
+        ensures before { builds_before self.new ≡ builds_now self.old }
     {
         self.rows.keep();
     }
 
-    /// What was changed since it was last kept is taken back.
+    /// Takes the changes back: the rows are again those before.
     pub fn back(&mut self)
-        ensures now { builds_now self.new ≡ kept_builds self.old }
-        ensures kept { kept_builds self.new ≡ kept_builds self.old }
+        ensures now { builds_now self.new ≡ builds_before self.old }
+        ensures before { builds_before self.new ≡ builds_before self.old }
     {
         self.rows.back();
     }

@@ -1,7 +1,7 @@
 //! Builds in another state.
 ghost use Rattle.std.specs.Prelude.{◌≡◌, OnOk, false};
 ghost use Rattle.build_core.specs.Builds.{is_no_build, set_state};
-ghost use Rattle.build_core.specs.BuildBooks.{build_books, kept_build_books};
+ghost use Rattle.build_core.specs.BuildBooks.{build_books, build_books_before};
 
 use crate::builds::Builds;
 use crate::state::BuildState;
@@ -23,8 +23,8 @@ pub(crate) fn change_state(
         (build_books builds.old allocations.now yard.now counter.now) ≡ false }
     ensures ok { OnOk result (build_books builds.new allocations.now yard.now counter.now
         ≡ set_state state build (build_books builds.old allocations.now yard.now counter.now)) }
-    ensures kept { kept_build_books builds.new allocations.now yard.now counter.now
-        ≡ kept_build_books builds.old allocations.now yard.now counter.now }
+    ensures before { build_books_before builds.new allocations.now yard.now counter.now
+        ≡ build_books_before builds.old allocations.now yard.now counter.now }
 {
     builds.set_state(build, state)
 }

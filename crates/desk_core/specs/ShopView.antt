@@ -1,11 +1,11 @@
--- What a contract sees of a shop: the machine's state now, and as last kept.
-use Rattle.part_core.specs.CatalogueView.{parts_of, kept_parts}
-use Rattle.part_core.specs.Counter.{kept_numbering, numbering_of}
+-- What a contract sees of a shop: the machine's state now, and before the request.
+use Rattle.part_core.specs.CatalogueView.{parts_of, parts_before}
+use Rattle.part_core.specs.Counter.{numbering_before, numbering_of}
 use Rattle.part_core.specs.Sheet.{now_of}
-use Rattle.bom_core.specs.BomsView.{bills_of, kept_bills}
-use Rattle.yard_core.specs.YardView.{stock_of, kept_of}
-use Rattle.alloc_core.specs.AllocationsView.{allocations_now, kept_allocations}
-use Rattle.build_core.specs.BuildsView.{builds_now, kept_builds}
+use Rattle.bom_core.specs.BomsView.{bills_before, bills_of}
+use Rattle.yard_core.specs.YardView.{stock_of, stock_before}
+use Rattle.alloc_core.specs.AllocationsView.{allocations_before, allocations_now}
+use Rattle.build_core.specs.BuildsView.{builds_before, builds_now}
 use Rattle.desk_core.specs.declared.shop.Shop.{Shop}
 use Rattle.desk_core.specs.Machine.{State}
 
@@ -23,16 +23,16 @@ state_of shop =
       answers = now_of shop.answers;
     }
 
-abbrev pub kept_state : Shop → State
-kept_state shop =
+abbrev pub state_before : Shop → State
+state_before shop =
     record {
-      parts = kept_parts shop.catalogue;
-      bills = kept_bills shop.boms;
-      stock = kept_of shop.yard;
-      allocations = kept_allocations shop.allocations;
-      orders = shop.orders.orders.kept;
-      order_lines = shop.orders.lines.kept;
-      builds = kept_builds shop.builds;
-      counter = kept_numbering shop.counter;
-      answers = shop.answers.kept;
+      parts = parts_before shop.catalogue;
+      bills = bills_before shop.boms;
+      stock = stock_before shop.yard;
+      allocations = allocations_before shop.allocations;
+      orders = shop.orders.orders.before;
+      order_lines = shop.orders.lines.before;
+      builds = builds_before shop.builds;
+      counter = numbering_before shop.counter;
+      answers = shop.answers.before;
     }

@@ -11,7 +11,7 @@ ghost use Rattle.forest.specs.Forest.{Balanced};
 ghost use Rattle.yard_core.specs.Stock.{forest_and_history};
 ghost use Rattle.stock_core.specs.Sound.{SerialsStandOnce};
 ghost use Rattle.desk_core.specs.Machine.{Accepts, AreDrawn, Decides, IsSoundState, answer_of, answered, answers_of, checks, effect, entries_in, entries_of, ids_of, run, start, told, with_answer};
-ghost use Rattle.desk_core.specs.ShopView.{kept_state, state_of};
+ghost use Rattle.desk_core.specs.ShopView.{state_before, state_of};
 
 use crate::accepted::Accepted;
 use crate::command::{Command, Request};
@@ -66,7 +66,7 @@ impl Shop {
     /// A shop with nothing in it.
     pub fn new(alloc: Global, limits: Limits) -> Self
         ensures state { state_of result ≡ start limits }
-        ensures kept { kept_state result ≡ start limits }
+        ensures before { state_before result ≡ start limits }
         ensures sound { IsSoundState (state_of result) }
     {
         Shop {
@@ -141,13 +141,13 @@ impl Shop {
     /// Does the command by the machine of the crate that has it.
     #[tactic(auto, using(crate::proofs::Acting::alloc_acts))]
     fn act(&mut self, request: &Request) -> Result<Answer, CoreFault>
-        requires nothing_pending { kept_state self.old ≡ state_of self.old }
+        requires nothing_pending { state_before self.old ≡ state_of self.old }
         requires sound { IsSoundState (state_of self.old) }
         ensures acts { let s = state_of self.old in
             let after = effect s request.now.day request.now.command in
             Acts (checks s request.now.day request.now.command)
             (after, answer_of s after) s result (state_of self.new) }
-        ensures kept { kept_state self.new ≡ kept_state self.old }
+        ensures before { state_before self.new ≡ state_before self.old }
     {
         match &request.command {
             Command::Part(command) => part_command::act(
@@ -216,7 +216,7 @@ impl Shop {
     ) -> Result<(), AllocError>
         ensures ok { OnOk result (state_of self.new
             ≡ with_answer (Some key.now) command answer.now (state_of self.old)) }
-        ensures kept { kept_state self.new ≡ kept_state self.old }
+        ensures before { state_before self.new ≡ state_before self.old }
     {
         let word = key.copy(self.alloc)?;
         let answer = answer.copy(self.alloc)?;
@@ -230,11 +230,11 @@ impl Shop {
     /// Does the request of this key, once: a repeat is answered as before, another command is refused.
     fn act_once(&mut self, key: &Key, request: &Request) -> Result<Accepted, CoreFault>
         requires named { request.now.key ≡ Some key.now }
-        requires nothing_pending { kept_state self.old ≡ state_of self.old }
+        requires nothing_pending { state_before self.old ≡ state_of self.old }
         requires sound { IsSoundState (state_of self.old) }
         ensures accepts { Accepts (state_of self.old) request.now result (state_of self.new) }
-        ensures pending { OnErr result (kept_state self.new ≡ state_of self.new) }
-        ensures kept { kept_state self.new ≡ kept_state self.old }
+        ensures pending { OnErr result (state_before self.new ≡ state_of self.new) }
+        ensures before { state_before self.new ≡ state_before self.old }
         ensures sound { IsSoundState (state_of self.new) }
     {
         let command = CommandText::new(command_text(self.alloc, &request.command)?);
@@ -254,10 +254,10 @@ impl Shop {
         }
     }
 
-    /// What is pending stays so.
+    /// Makes what is pending final: the state now becomes the state before.
     pub fn keep(&mut self)
         ensures now { state_of self.new ≡ state_of self.old }
-        ensures kept { kept_state self.new ≡ state_of self.old }
+        ensures before { state_before self.new ≡ state_of self.old }
     {
         self.catalogue.keep();
         self.boms.keep();
@@ -269,10 +269,10 @@ impl Shop {
         self.answers.keep();
     }
 
-    /// What is pending is taken back.
+    /// Takes back what is pending: the state is again the one before.
     pub fn back(&mut self)
-        ensures now { state_of self.new ≡ kept_state self.old }
-        ensures kept { kept_state self.new ≡ kept_state self.old }
+        ensures now { state_of self.new ≡ state_before self.old }
+        ensures before { state_before self.new ≡ state_before self.old }
     {
         self.catalogue.back();
         self.boms.back();
@@ -285,13 +285,13 @@ impl Shop {
     }
 
     /// One step of the machine, of which it is told whether it accepts the request anew. What was pending before is
-    /// kept, and what is pending after are this request's changes: none after a repeat, nor after a refusal and where
+    /// final, and what is pending after are this request's changes: none after a repeat, nor after a refusal and where
     /// memory runs out, which leave the state as it was.
     pub fn accept(&mut self, request: &Request) -> Result<Accepted, CoreFault>
         requires { IsSoundState (state_of self.old) }
         ensures accepts { Accepts (state_of self.old) request.now result (state_of self.new) }
-        ensures pending { OnErr result (kept_state self.new ≡ state_of self.new) }
-        ensures before { kept_state self.new ≡ state_of self.old }
+        ensures pending { OnErr result (state_before self.new ≡ state_of self.new) }
+        ensures before { state_before self.new ≡ state_of self.old }
         ensures sound { IsSoundState (state_of self.new) }
     {
         self.keep();
@@ -305,8 +305,8 @@ impl Shop {
     pub fn decide(&mut self, request: &Request) -> Result<Answer, CoreFault>
         requires { IsSoundState (state_of self.old) }
         ensures decides { Decides (state_of self.old) request.now result (state_of self.new) }
-        ensures pending { OnErr result (kept_state self.new ≡ state_of self.new) }
-        ensures before { kept_state self.new ≡ state_of self.old }
+        ensures pending { OnErr result (state_before self.new ≡ state_of self.new) }
+        ensures before { state_before self.new ≡ state_of self.old }
         ensures sound { IsSoundState (state_of self.new) }
     {
         Ok(self.accept(request)?.answer())

@@ -23,11 +23,11 @@ module _ (sheet source : Rows KeptRow) (same : sheet ≡ source) where
   pub own_words : ((k : List ℕ) (row : KeptRow) → get (now_of source) k ≡ Some row → StandsKept k row) → StandUnderKeys (λ (r : KeptRow). r.word) (now_of sheet)
   own_words h = subst (λ (s : Rows KeptRow). StandUnderKeys (λ (r : KeptRow). r.word) (now_of s)) (sym same) (λ k r is. (h k r is).own)
 
-  pub stay_kept : StayAsTheyAre source.kept (now_of source) → StayAsTheyAre sheet.kept (now_of sheet)
-  stay_kept h = subst (λ (s : Rows KeptRow). StayAsTheyAre s.kept (now_of s)) (sym same) h
+  pub answers_stay : StayAsTheyAre source.before (now_of source) → StayAsTheyAre sheet.before (now_of sheet)
+  answers_stay h = subst (λ (s : Rows KeptRow). StayAsTheyAre s.before (now_of s)) (sym same) h
 
-  pub kept_there : (tree : List Row) → IsTableOf kept_from kept_columns Kept tree source.kept → IsTableOf kept_from kept_columns Kept tree sheet.kept
-  kept_there tree h = subst (λ (s : Rows KeptRow). IsTableOf kept_from kept_columns Kept tree s.kept) (sym same) h
+  pub before_there : (tree : List Row) → IsTableOf kept_from kept_columns Kept tree source.before → IsTableOf kept_from kept_columns Kept tree sheet.before
+  before_there tree h = subst (λ (s : Rows KeptRow). IsTableOf kept_from kept_columns Kept tree s.before) (sym same) h
 
   pub now_there : (tree : List Row) → IsTableOf kept_from kept_columns Kept tree (now_of sheet) → IsTableOf kept_from kept_columns Kept tree (now_of source)
   now_there tree h = subst (λ (s : Rows KeptRow). IsTableOf kept_from kept_columns Kept tree (now_of s)) same h

@@ -26,7 +26,7 @@ use Rattle.build_core.specs.BuildColumns.{build_columns, build_from}
 use Rattle.build_core.specs.declared.build.Build.{Build}
 use Rattle.yard_core.proofs.OwnKeys.{keyed-own}
 use Rattle.desk_core.specs.Machine.{State}
-use Rattle.desk_core.specs.ShopView.{kept_state, state_of}
+use Rattle.desk_core.specs.ShopView.{state_before, state_of}
 use Rattle.desk_core.specs.declared.shop.Shop.{Shop}
 use Rattle.desk_store.specs.Saving.{IsSheetIn, MayFollow}
 use Rattle.desk_store.proofs.Suiting.{allocation-suits, build-suits, category-suits, entry-suits, item-suits, line-suits, location-suits, order-line-suits, order-suits, part-suits, substitute-suits}
@@ -43,8 +43,8 @@ pub at_table : {R : Type 0} {from : List Column → Option R} {columns : R → L
 at_table {from} {columns} {key} {digits} {old} {new} table given sheet source is same h =
     subst (λ t. IsSheetIn from columns key digits old new t sheet) (sym is) (subst (IsSheetIn from columns key digits old new given) (sym same) h)
 
-module _ (shop : Shop) (f : MayFollow (kept_state shop) (state_of shop)) where
-  pub category-sheet : IsSheetIn named_from named_columns (λ (x : Category). x.number ∷ []) number_digits (kept_state shop) (state_of shop) Categories shop.catalogue.categories
+module _ (shop : Shop) (f : MayFollow (state_before shop) (state_of shop)) where
+  pub category-sheet : IsSheetIn named_from named_columns (λ (x : Category). x.number ∷ []) number_digits (state_before shop) (state_of shop) Categories shop.catalogue.categories
   category-sheet = record {
     suits = category-suits;
     own = (own_keys (λ (x : Category). x.number) _ _ f.after.bills.catalogue.categories, own_keys (λ (x : Category). x.number) _ _ f.before.bills.catalogue.categories);
@@ -54,7 +54,7 @@ module _ (shop : Shop) (f : MayFollow (kept_state shop) (state_of shop)) where
     is = λ tree h. h;
   }
 
-  pub part-sheet : IsSheetIn part_from part_columns (λ (x : Part). x.number ∷ []) number_digits (kept_state shop) (state_of shop) Parts shop.catalogue.parts
+  pub part-sheet : IsSheetIn part_from part_columns (λ (x : Part). x.number ∷ []) number_digits (state_before shop) (state_of shop) Parts shop.catalogue.parts
   part-sheet = record {
     suits = part-suits;
     own = (own_keys (λ (x : Part). x.number) _ _ f.after.bills.catalogue.parts, own_keys (λ (x : Part). x.number) _ _ f.before.bills.catalogue.parts);
@@ -64,7 +64,7 @@ module _ (shop : Shop) (f : MayFollow (kept_state shop) (state_of shop)) where
     is = λ tree h. h;
   }
 
-  pub line-sheet : IsSheetIn line_from line_columns (λ (x : Line). x.number ∷ []) number_digits (kept_state shop) (state_of shop) Lines shop.boms.lines
+  pub line-sheet : IsSheetIn line_from line_columns (λ (x : Line). x.number ∷ []) number_digits (state_before shop) (state_of shop) Lines shop.boms.lines
   line-sheet = record {
     suits = line-suits;
     own = (own_keys (λ (x : Line). x.number) _ _ f.after.bills.line_rows, own_keys (λ (x : Line). x.number) _ _ f.before.bills.line_rows);
@@ -74,7 +74,7 @@ module _ (shop : Shop) (f : MayFollow (kept_state shop) (state_of shop)) where
     is = λ tree h. h;
   }
 
-  pub substitute-sheet : IsSheetIn substitute_from substitute_columns (λ (x : Substitute). x.number ∷ []) number_digits (kept_state shop) (state_of shop) Substitutes shop.boms.substitutes
+  pub substitute-sheet : IsSheetIn substitute_from substitute_columns (λ (x : Substitute). x.number ∷ []) number_digits (state_before shop) (state_of shop) Substitutes shop.boms.substitutes
   substitute-sheet = record {
     suits = substitute-suits;
     own = (own_keys (λ (x : Substitute). x.number) _ _ f.after.bills.substitute_rows, own_keys (λ (x : Substitute). x.number) _ _ f.before.bills.substitute_rows);
@@ -84,7 +84,7 @@ module _ (shop : Shop) (f : MayFollow (kept_state shop) (state_of shop)) where
     is = λ tree h. h;
   }
 
-  pub location-sheet : IsSheetIn named_from named_columns (λ (x : Location). x.number ∷ []) number_digits (kept_state shop) (state_of shop) Locations shop.yard.locations
+  pub location-sheet : IsSheetIn named_from named_columns (λ (x : Location). x.number ∷ []) number_digits (state_before shop) (state_of shop) Locations shop.yard.locations
   location-sheet = record {
     suits = location-suits;
     own = (own_keys (λ (x : Location). x.number) _ _ f.after.stock.items.locations.rows, own_keys (λ (x : Location). x.number) _ _ f.before.stock.items.locations.rows);
@@ -94,7 +94,7 @@ module _ (shop : Shop) (f : MayFollow (kept_state shop) (state_of shop)) where
     is = λ tree h. h;
   }
 
-  pub item-sheet : IsSheetIn item_from item_columns (λ (x : Item). x.number ∷ []) number_digits (kept_state shop) (state_of shop) Items shop.yard.items
+  pub item-sheet : IsSheetIn item_from item_columns (λ (x : Item). x.number ∷ []) number_digits (state_before shop) (state_of shop) Items shop.yard.items
   item-sheet = record {
     suits = item-suits;
     own = (own_keys (λ (x : Item). x.number) _ _ f.after.stock.items.rows, own_keys (λ (x : Item). x.number) _ _ f.before.stock.items.rows);
@@ -104,7 +104,7 @@ module _ (shop : Shop) (f : MayFollow (kept_state shop) (state_of shop)) where
     is = λ tree h. h;
   }
 
-  pub entry-sheet : IsSheetIn entry_from entry_columns (λ (x : Entry). x.number ∷ []) number_digits (kept_state shop) (state_of shop) History shop.yard.history
+  pub entry-sheet : IsSheetIn entry_from entry_columns (λ (x : Entry). x.number ∷ []) number_digits (state_before shop) (state_of shop) History shop.yard.history
   entry-sheet = record {
     suits = entry-suits;
     own = (keyed-own (λ (x : Entry). x.number) _ f.after.stock.items.stock.history.own, keyed-own (λ (x : Entry). x.number) _ f.before.stock.items.stock.history.own);
@@ -114,7 +114,7 @@ module _ (shop : Shop) (f : MayFollow (kept_state shop) (state_of shop)) where
     is = λ tree h. h;
   }
 
-  pub order-sheet : IsSheetIn orders.order_from orders.order_columns (λ (x : Order). x.number ∷ []) number_digits (kept_state shop) (state_of shop) Orders shop.orders.orders
+  pub order-sheet : IsSheetIn orders.order_from orders.order_columns (λ (x : Order). x.number ∷ []) number_digits (state_before shop) (state_of shop) Orders shop.orders.orders
   order-sheet = record {
     suits = order-suits;
     own = (own_keys (λ (x : Order). x.number) _ _ f.after.orders.orders, own_keys (λ (x : Order). x.number) _ _ f.before.orders.orders);
@@ -124,7 +124,7 @@ module _ (shop : Shop) (f : MayFollow (kept_state shop) (state_of shop)) where
     is = λ tree h. h;
   }
 
-  pub order-line-sheet : IsSheetIn orders.line_from orders.line_columns (λ (x : OrderLine). x.number ∷ []) number_digits (kept_state shop) (state_of shop) OrderLines shop.orders.lines
+  pub order-line-sheet : IsSheetIn orders.line_from orders.line_columns (λ (x : OrderLine). x.number ∷ []) number_digits (state_before shop) (state_of shop) OrderLines shop.orders.lines
   order-line-sheet = record {
     suits = order-line-suits;
     own = (own_keys (λ (x : OrderLine). x.number) _ _ f.after.orders.lines, own_keys (λ (x : OrderLine). x.number) _ _ f.before.orders.lines);
@@ -134,7 +134,7 @@ module _ (shop : Shop) (f : MayFollow (kept_state shop) (state_of shop)) where
     is = λ tree h. h;
   }
 
-  pub build-sheet : IsSheetIn build_from build_columns (λ (x : Build). x.number ∷ []) number_digits (kept_state shop) (state_of shop) Builds shop.builds.rows
+  pub build-sheet : IsSheetIn build_from build_columns (λ (x : Build). x.number ∷ []) number_digits (state_before shop) (state_of shop) Builds shop.builds.rows
   build-sheet = record {
     suits = build-suits;
     own = (own_keys (λ (x : Build). x.number) _ _ f.after.builds.rows, own_keys (λ (x : Build). x.number) _ _ f.before.builds.rows);
@@ -144,7 +144,7 @@ module _ (shop : Shop) (f : MayFollow (kept_state shop) (state_of shop)) where
     is = λ tree h. h;
   }
 
-  pub allocation-sheet : IsSheetIn allocation_from allocation_columns (λ (x : Allocation). x.number ∷ []) number_digits (kept_state shop) (state_of shop) Allocations shop.allocations.rows
+  pub allocation-sheet : IsSheetIn allocation_from allocation_columns (λ (x : Allocation). x.number ∷ []) number_digits (state_before shop) (state_of shop) Allocations shop.allocations.rows
   allocation-sheet = record {
     suits = allocation-suits;
     own = (own_keys (λ (x : Allocation). x.number) _ _ f.after.allocations.rows, own_keys (λ (x : Allocation). x.number) _ _ f.before.allocations.rows);

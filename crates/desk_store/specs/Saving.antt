@@ -43,13 +43,13 @@ pub record Goes (old new : State) (count : ℕ) (d e : sqlite.State) (r : Result
 -- ---- what is written
 
 module _ {R : Type 0} (row_from : List Column → Option R) (columns_of : R → List Column) (key_of : R → List ℕ) (digits : ℕ → List ℕ) where
-  -- the sheet has the rows of this table in the two states, as it was kept and as it is now, and the table takes them
+  -- the sheet has the rows of this table in the two states, as it was before and as it is now, and the table takes them
   pub record IsSheetIn (old new : State) (table : TableName) (sheet : Rows R) : Type 0 where
     pub suits : Suits columns_of key_of digits table
-    pub own : StandUnderKeys key_of (now_of sheet) × StandUnderKeys key_of sheet.kept
-    pub small : AreSmall columns_of (now_of sheet) × AreSmall columns_of sheet.kept
-    pub stays : AreDropped table ⊎ StayThere sheet.kept (now_of sheet)
-    pub was : (tree : List Row) → IsTableIn old table tree → IsTableOf row_from columns_of table tree sheet.kept
+    pub own : StandUnderKeys key_of (now_of sheet) × StandUnderKeys key_of sheet.before
+    pub small : AreSmall columns_of (now_of sheet) × AreSmall columns_of sheet.before
+    pub stays : AreDropped table ⊎ StayThere sheet.before (now_of sheet)
+    pub was : (tree : List Row) → IsTableIn old table tree → IsTableOf row_from columns_of table tree sheet.before
     pub is : (tree : List Row) → IsTableOf row_from columns_of table tree (now_of sheet) → IsTableIn new table tree
 
 -- no number that a row may have is too large for a file

@@ -2,27 +2,27 @@
 //!
 //! These functions do nothing when they are run, and are called for their contracts alone.
 ghost use Rattle.desk_core.specs.Machine.{IsSoundState};
-ghost use Rattle.desk_core.specs.ShopView.{kept_state, state_of};
+ghost use Rattle.desk_core.specs.ShopView.{state_before, state_of};
 ghost use Rattle.desk_core.specs.Staying.{AllStay};
 ghost use Rattle.desk_store.specs.Saving.{HaveSmallNumbers, MayFollow};
 
 use desk_core::{Shop, rows_are_small};
 
-/// The numbers of a shop that rows may have are below 2 to the 63, now and as last kept.
+/// The numbers of a shop that rows may have are below 2 to the 63, now and before the request.
 pub fn numbers_are_small(shop: &Shop)
     ensures now { HaveSmallNumbers (state_of shop.now) }
-    ensures kept { HaveSmallNumbers (kept_state shop.now) }
+    ensures before { HaveSmallNumbers (state_before shop.now) }
 {
     let _limits = shop.counter().limits();
     let _largest = shop.counter().largest();
 }
 
-/// The tables of the shop as it is kept may become those of the shop now.
+/// The tables of the shop before the request may become those of the shop now.
 pub fn may_follow(shop: &Shop)
-    requires before { IsSoundState (kept_state shop.now) }
+    requires before { IsSoundState (state_before shop.now) }
     requires after { IsSoundState (state_of shop.now) }
-    requires stays { AllStay (kept_state shop.now) (state_of shop.now) }
-    ensures { MayFollow (kept_state shop.now) (state_of shop.now) }
+    requires stays { AllStay (state_before shop.now) (state_of shop.now) }
+    ensures { MayFollow (state_before shop.now) (state_of shop.now) }
 {
     rows_are_small();
     numbers_are_small(shop);

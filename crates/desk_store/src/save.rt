@@ -1,6 +1,6 @@
 //! The changes of a request go into the tables, all in one transaction.
 //!
-//! The tables are those of the state that is kept, and become those of the state now: each sheet writes the rows that
+//! The tables are those of the state before, and become those of the state now: each sheet writes the rows that
 //! changed, and the row of the counter is written whole. No table is written outside the transaction, so what a crash
 //! leaves has all of it or none.
 //!
@@ -11,7 +11,7 @@ ghost use Rattle.sqlite.specs.Held.{state};
 ghost use Rattle.sqlite.specs.State.{HasCleanDisk, KeepsCommit, Survives};
 ghost use Rattle.part_core.specs.RowKeys.{number_digits};
 ghost use Rattle.desk_core.specs.Machine.{IsSoundState};
-ghost use Rattle.desk_core.specs.ShopView.{kept_state, state_of};
+ghost use Rattle.desk_core.specs.ShopView.{state_before, state_of};
 ghost use Rattle.desk_core.specs.Staying.{AllStay};
 ghost use Rattle.desk_store.specs.StateTables.{HoldsBooks, TablesAre};
 ghost use Rattle.desk_store.specs.Saving.{Goes, IsSheetIn, IsUnderWay, MayFollow};
@@ -39,11 +39,11 @@ fn write_sheet<S: Alter, R: Stored + Row<Key = u64>>(
     sheet: &Sheet<R>,
 ) -> Result<(), TableFault>
     requires under_way { HasCleanDisk (state S.Store conn.old)
-        → IsUnderWay (kept_state shop.now) (state_of shop.now) (position table)
+        → IsUnderWay (state_before shop.now) (state_of shop.now) (position table)
         (state S.Store conn.old) }
     requires sheet { IsSheetIn R.row_from R.columns_of R.key_of number_digits
-        (kept_state shop.now) (state_of shop.now) table sheet.now }
-    ensures { Goes (kept_state shop.now) (state_of shop.now) (position table + 1)
+        (state_before shop.now) (state_of shop.now) table sheet.now }
+    ensures { Goes (state_before shop.now) (state_of shop.now) (position table + 1)
         (state S.Store conn.old) (state S.Store conn.new) result }
 {
     write_pending::<S, R>(alloc, conn, table, sheet)
@@ -55,11 +55,11 @@ fn write_counter<S: Alter>(
     conn: &mut Connection<S>,
     shop: &Shop,
 ) -> Result<(), TableFault>
-    requires follows { MayFollow (kept_state shop.now) (state_of shop.now) }
+    requires follows { MayFollow (state_before shop.now) (state_of shop.now) }
     requires under_way { HasCleanDisk (state S.Store conn.old)
-        → IsUnderWay (kept_state shop.now) (state_of shop.now) (position Meta)
+        → IsUnderWay (state_before shop.now) (state_of shop.now) (position Meta)
         (state S.Store conn.old) }
-    ensures { Goes (kept_state shop.now) (state_of shop.now) (position Meta + 1)
+    ensures { Goes (state_before shop.now) (state_of shop.now) (position Meta + 1)
         (state S.Store conn.old) (state S.Store conn.new) result }
 {
     write_row::<S, MetaRow>(alloc, conn, TableName::Meta, &MetaRow::of(shop))
@@ -71,11 +71,11 @@ fn write_answers<S: Alter>(
     conn: &mut Connection<S>,
     shop: &Shop,
 ) -> Result<(), TableFault>
-    requires follows { MayFollow (kept_state shop.now) (state_of shop.now) }
+    requires follows { MayFollow (state_before shop.now) (state_of shop.now) }
     requires under_way { HasCleanDisk (state S.Store conn.old)
-        → IsUnderWay (kept_state shop.now) (state_of shop.now) (position KeptTable)
+        → IsUnderWay (state_before shop.now) (state_of shop.now) (position KeptTable)
         (state S.Store conn.old) }
-    ensures { Goes (kept_state shop.now) (state_of shop.now) (position KeptTable + 1)
+    ensures { Goes (state_before shop.now) (state_of shop.now) (position KeptTable + 1)
         (state S.Store conn.old) (state S.Store conn.new) result }
 {
     write_kept::<S, Kept>(alloc, conn, shop.answers())
@@ -88,11 +88,11 @@ fn write_table<S: Alter>(
     shop: &Shop,
     table: TableName,
 ) -> Result<(), TableFault>
-    requires follows { MayFollow (kept_state shop.now) (state_of shop.now) }
+    requires follows { MayFollow (state_before shop.now) (state_of shop.now) }
     requires under_way { HasCleanDisk (state S.Store conn.old)
-        → IsUnderWay (kept_state shop.now) (state_of shop.now) (position table)
+        → IsUnderWay (state_before shop.now) (state_of shop.now) (position table)
         (state S.Store conn.old) }
-    ensures { Goes (kept_state shop.now) (state_of shop.now) (position table + 1)
+    ensures { Goes (state_before shop.now) (state_of shop.now) (position table + 1)
         (state S.Store conn.old) (state S.Store conn.new) result }
 {
     match table {
@@ -120,10 +120,10 @@ fn write_tables<S: Alter>(
     conn: &mut Connection<S>,
     shop: &Shop,
 ) -> Result<(), TableFault>
-    requires follows { MayFollow (kept_state shop.now) (state_of shop.now) }
+    requires follows { MayFollow (state_before shop.now) (state_of shop.now) }
     requires under_way { HasCleanDisk (state S.Store conn.old)
-        → IsUnderWay (kept_state shop.now) (state_of shop.now) 0 (state S.Store conn.old) }
-    ensures { Goes (kept_state shop.now) (state_of shop.now) 13
+        → IsUnderWay (state_before shop.now) (state_of shop.now) 0 (state S.Store conn.old) }
+    ensures { Goes (state_before shop.now) (state_of shop.now) 13
         (state S.Store conn.old) (state S.Store conn.new) result }
 {
     for place in 0..13 {
@@ -135,9 +135,9 @@ fn write_tables<S: Alter>(
 /// The whole transaction. After a fault it is undone, or still open without a commit.
 #[tactic(auto, using(crate::proofs::Starting::of_store))]
 fn write<S: Alter>(alloc: Global, conn: &mut Connection<S>, shop: &Shop) -> Result<(), TableFault>
-    requires follows { MayFollow (kept_state shop.now) (state_of shop.now) }
+    requires follows { MayFollow (state_before shop.now) (state_of shop.now) }
     requires books { HasCleanDisk (state S.Store conn.old)
-        → HoldsBooks (kept_state shop.now) (state S.Store conn.old) }
+        → HoldsBooks (state_before shop.now) (state S.Store conn.old) }
     ensures saved { HasCleanDisk (state S.Store conn.new)
         → OnOk result (HoldsBooks (state_of shop.now) (state S.Store conn.new)) }
     ensures commit { HasCleanDisk (state S.Store conn.new)
@@ -151,7 +151,7 @@ fn write<S: Alter>(alloc: Global, conn: &mut Connection<S>, shop: &Shop) -> Resu
     commit(conn)
 }
 
-/// Makes the tables those of the shop now, where they are those of the shop as it is kept.
+/// Makes the tables those of the shop now, where they are those of the shop before the request.
 ///
 /// `Memory` where a growth was refused, after which nothing has changed. After `Store` a crash leaves the tables before or
 /// after.
@@ -161,14 +161,14 @@ pub fn save<S: Alter>(
     shop: &Shop,
 ) -> Result<(), TableFault>
     requires books { HasCleanDisk (state S.Store conn.old)
-        → HoldsBooks (kept_state shop.now) (state S.Store conn.old) }
-    requires before { IsSoundState (kept_state shop.now) }
+        → HoldsBooks (state_before shop.now) (state S.Store conn.old) }
+    requires before { IsSoundState (state_before shop.now) }
     requires after { IsSoundState (state_of shop.now) }
-    requires stays { AllStay (kept_state shop.now) (state_of shop.now) }
+    requires stays { AllStay (state_before shop.now) (state_of shop.now) }
     ensures saved { HasCleanDisk (state S.Store conn.new)
         → OnOk result (HoldsBooks (state_of shop.now) (state S.Store conn.new)) }
     ensures memory { HasCleanDisk (state S.Store conn.new) → result ≡ Err Memory
-        → HoldsBooks (kept_state shop.now) (state S.Store conn.new) }
+        → HoldsBooks (state_before shop.now) (state S.Store conn.new) }
     ensures free { HasCleanDisk (state S.Store conn.new)
         → (state S.Store conn.new).in_transaction ≡ false }
     ensures fault { IfErr result IsOfMemoryOrStore }

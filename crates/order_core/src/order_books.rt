@@ -1,8 +1,8 @@
 //! The end of a command on orders: what it changed stands, or all is taken back.
 ghost use Rattle.std.specs.Prelude.{◌≡◌, Err, IfOk, IsOk, OnErr};
 ghost use Rattle.part_core.specs.declared.refusal.CoreFault.{CoreFault};
-ghost use Rattle.yard_core.specs.StockBooks.{answer_of, stock_books_of, kept_stock_books};
-ghost use Rattle.order_core.specs.OrderBooks.{Ends, kept_order_books, order_books};
+ghost use Rattle.yard_core.specs.StockBooks.{answer_of, stock_books_of, stock_books_before};
+ghost use Rattle.order_core.specs.OrderBooks.{Ends, order_books, order_books_before};
 ghost use Rattle.order_core.specs.declared.order_books.Halt.TheVariants as halts;
 
 use crate::orders::Orders;
@@ -26,7 +26,7 @@ impl From<AllocError> for Halt {
     }
 }
 
-/// Ends a command whose changes were tried: answers what they drew and wrote since the books were kept, or,
+/// Ends a command whose changes were tried: answers what they drew and wrote since the request began, or,
 /// where the limits left no room or there was no memory for them or for the answer, takes everything back.
 pub fn conclude(
     alloc: Global,
@@ -40,13 +40,13 @@ pub fn conclude(
     ensures done { IfOk result (λ _. order_books orders.new allocations.new yard.new counter.new
         ≡ order_books orders.old allocations.old yard.old counter.old) }
     ensures told { IfOk result (λ answer.
-        answer ≡ answer_of (kept_stock_books yard.old counter.old) (stock_books_of yard.old counter.old)) }
+        answer ≡ answer_of (stock_books_before yard.old counter.old) (stock_books_of yard.old counter.old)) }
     ensures back { OnErr result (order_books orders.new allocations.new yard.new counter.new
-        ≡ kept_order_books orders.old allocations.old yard.old counter.old) }
-    ensures kept { kept_order_books orders.new allocations.new yard.new counter.new
-        ≡ kept_order_books orders.old allocations.old yard.old counter.old }
+        ≡ order_books_before orders.old allocations.old yard.old counter.old) }
+    ensures before { order_books_before orders.new allocations.new yard.new counter.new
+        ≡ order_books_before orders.old allocations.old yard.old counter.old }
 {
-    let entries = yard.entries().saturating_sub(yard.kept_entries());
+    let entries = yard.entries().saturating_sub(yard.entries_before());
     let fault = match moved {
         Ok(()) => match counter.pending(alloc) {
             Ok(ids) => return Ok(Answer { ids, entries }),
@@ -63,7 +63,7 @@ pub fn conclude(
 }
 
 /// Ends a command of which the limits leave room for all that it changes: answers what was drawn and written
-/// since the books were kept, or, where there was no memory, takes everything back.
+/// since the request began, or, where there was no memory, takes everything back.
 pub fn finish(
     alloc: Global,
     orders: &mut Orders,
@@ -76,12 +76,12 @@ pub fn finish(
     ensures done { IfOk result (λ _. order_books orders.new allocations.new yard.new counter.new
         ≡ order_books orders.old allocations.old yard.old counter.old) }
     ensures told { IfOk result (λ answer.
-        answer ≡ answer_of (kept_stock_books yard.old counter.old) (stock_books_of yard.old counter.old)) }
+        answer ≡ answer_of (stock_books_before yard.old counter.old) (stock_books_of yard.old counter.old)) }
     ensures memory { OnErr result (result ≡ Err CoreFault.Memory) }
     ensures back { OnErr result (order_books orders.new allocations.new yard.new counter.new
-        ≡ kept_order_books orders.old allocations.old yard.old counter.old) }
-    ensures kept { kept_order_books orders.new allocations.new yard.new counter.new
-        ≡ kept_order_books orders.old allocations.old yard.old counter.old }
+        ≡ order_books_before orders.old allocations.old yard.old counter.old) }
+    ensures before { order_books_before orders.new allocations.new yard.new counter.new
+        ≡ order_books_before orders.old allocations.old yard.old counter.old }
 {
     let moved = match made {
         Ok(()) => Ok(()),

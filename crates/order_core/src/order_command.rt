@@ -3,7 +3,7 @@ ghost use Rattle.std.specs.Prelude.{◌≡◌};
 ghost use Rattle.part_core.specs.CatalogueView.{parts_of};
 ghost use Rattle.order_core.specs.Beside.{SoundBesideBuilds};
 ghost use Rattle.order_core.specs.OrderMachine.{ChecksAreInOrder, EffectsAreSound, NoneComesForBuilds, RowsStay, checks, effect};
-ghost use Rattle.order_core.specs.OrderBooks.{AreSoundSomehow, Does, kept_order_books, order_books};
+ghost use Rattle.order_core.specs.OrderBooks.{AreSoundSomehow, Does, order_books, order_books_before};
 
 use crate::order::Partner;
 use crate::orders::Orders;
@@ -79,14 +79,14 @@ pub fn act(
     day: Day,
     command: &OrderCommand,
 ) -> Result<Answer, CoreFault>
-    requires nothing_pending { kept_order_books orders.old allocations.old yard.old counter.old
+    requires nothing_pending { order_books_before orders.old allocations.old yard.old counter.old
         ≡ order_books orders.old allocations.old yard.old counter.old }
     requires sound { AreSoundSomehow (order_books orders.old allocations.old yard.old counter.old) }
     ensures does { let b = order_books orders.old allocations.old yard.old counter.old in
         Does (checks command.now day (parts_of catalogue.now) b) (effect command.now day b) b result
         (order_books orders.new allocations.new yard.new counter.new) }
-    ensures kept { kept_order_books orders.new allocations.new yard.new counter.new
-        ≡ kept_order_books orders.old allocations.old yard.old counter.old }
+    ensures before { order_books_before orders.new allocations.new yard.new counter.new
+        ≡ order_books_before orders.old allocations.old yard.old counter.old }
 {
     match command {
         OrderCommand::NewOrder { side, partner } => {

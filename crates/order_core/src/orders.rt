@@ -45,8 +45,8 @@ impl Orders {
     pub fn new(alloc: Global) -> Self
         ensures orders { now_of result.orders ≡ table.empty }
         ensures lines { now_of result.lines ≡ table.empty }
-        ensures orders_kept { result.orders.kept ≡ table.empty }
-        ensures lines_kept { result.lines.kept ≡ table.empty }
+        ensures orders_before { result.orders.before ≡ table.empty }
+        ensures lines_before { result.lines.before ≡ table.empty }
     {
         Orders {
             orders: Sheet::new(alloc),
@@ -55,7 +55,7 @@ impl Orders {
         }
     }
 
-    /// The orders and lines of these rows, which are those that are kept. An error is one of memory.
+    /// The orders and lines of these rows, now and before. An error is one of memory.
     pub fn assemble(
         alloc: Global,
         orders: Vec<Order>,
@@ -65,8 +65,8 @@ impl Orders {
             ≡ filled (λ o. o.number ∷ []) orders.items) }
         ensures lines { IfOk result (λ all. now_of all.lines
             ≡ filled (λ l. l.number ∷ []) lines.items) }
-        ensures orders_kept { IfOk result (λ all. all.orders.kept ≡ now_of all.orders) }
-        ensures lines_kept { IfOk result (λ all. all.lines.kept ≡ now_of all.lines) }
+        ensures orders_before { IfOk result (λ all. all.orders.before ≡ now_of all.orders) }
+        ensures lines_before { IfOk result (λ all. all.lines.before ≡ now_of all.lines) }
     {
         let orders = Sheet::filled(alloc, orders)?;
         let lines = IndexedSheet::filled(alloc, lines)?;
@@ -139,7 +139,7 @@ impl Orders {
         ensures orders { OnOk result (now_of self.new.orders
             ≡ table.insert (now_of self.old.orders) (row.number ∷ []) row) }
         ensures lines { self.new.lines ≡ self.old.lines }
-        ensures orders_kept { self.new.orders.kept ≡ self.old.orders.kept }
+        ensures orders_before { self.new.orders.before ≡ self.old.orders.before }
     {
         self.orders.put(row)
     }
@@ -149,7 +149,7 @@ impl Orders {
         ensures lines { OnOk result (now_of self.new.lines
             ≡ table.insert (now_of self.old.lines) (row.number ∷ []) row) }
         ensures orders { self.new.orders ≡ self.old.orders }
-        ensures lines_kept { self.new.lines.kept ≡ self.old.lines.kept }
+        ensures lines_before { self.new.lines.before ≡ self.old.lines.before }
     {
         self.lines.put(row)
     }
@@ -161,7 +161,7 @@ impl Orders {
         ensures orders { OnOk result (now_of self.new.orders ≡ table.insert (now_of self.old.orders)
             (number ∷ []) (in_state state (order_in number (now_of self.old.orders)))) }
         ensures lines { self.new.lines ≡ self.old.lines }
-        ensures orders_kept { self.new.orders.kept ≡ self.old.orders.kept }
+        ensures orders_before { self.new.orders.before ≡ self.old.orders.before }
     {
         let Some(order) = self.orders.get(&number) else {
             unreachable!()
@@ -178,7 +178,7 @@ impl Orders {
         ensures lines { OnOk result (now_of self.new.lines
             ≡ done_more number more (now_of self.old.lines)) }
         ensures orders { self.new.orders ≡ self.old.orders }
-        ensures lines_kept { self.new.lines.kept ≡ self.old.lines.kept }
+        ensures lines_before { self.new.lines.before ≡ self.old.lines.before }
     {
         let Some(line) = self.lines.get(number) else {
             unreachable!()
@@ -193,23 +193,23 @@ impl Orders {
         self.lines.put(row)
     }
 
-    /// What was changed stays so.
+    /// Makes the changes final: the rows now become the rows before.
     pub fn keep(&mut self)
         ensures orders { now_of self.new.orders ≡ now_of self.old.orders }
         ensures lines { now_of self.new.lines ≡ now_of self.old.lines }
-        ensures orders_kept { self.new.orders.kept ≡ now_of self.old.orders }
-        ensures lines_kept { self.new.lines.kept ≡ now_of self.old.lines }
+        ensures orders_before { self.new.orders.before ≡ now_of self.old.orders }
+        ensures lines_before { self.new.lines.before ≡ now_of self.old.lines }
     {
         self.orders.keep();
         self.lines.keep();
     }
 
-    /// What was changed since it was last kept is taken back.
+    /// Takes the changes back: the rows are again those before.
     pub fn back(&mut self)
-        ensures orders { now_of self.new.orders ≡ self.old.orders.kept }
-        ensures lines { now_of self.new.lines ≡ self.old.lines.kept }
-        ensures orders_kept { self.new.orders.kept ≡ self.old.orders.kept }
-        ensures lines_kept { self.new.lines.kept ≡ self.old.lines.kept }
+        ensures orders { now_of self.new.orders ≡ self.old.orders.before }
+        ensures lines { now_of self.new.lines ≡ self.old.lines.before }
+        ensures orders_before { self.new.orders.before ≡ self.old.orders.before }
+        ensures lines_before { self.new.lines.before ≡ self.old.lines.before }
     {
         self.orders.back();
         self.lines.back();

@@ -1,7 +1,7 @@
 //! Orders in another state.
 ghost use Rattle.std.specs.Prelude.{◌≡◌, OnOk, false};
 ghost use Rattle.order_core.specs.Orders.{is_no_order, with_state};
-ghost use Rattle.order_core.specs.OrderBooks.{AreSoundSomehow, kept_order_books, order_books};
+ghost use Rattle.order_core.specs.OrderBooks.{AreSoundSomehow, order_books, order_books_before};
 
 use crate::orders::Orders;
 use crate::state::OrderState;
@@ -24,8 +24,8 @@ pub(crate) fn change_state(
         (order_books orders.old allocations.now yard.now counter.now) ≡ false }
     ensures ok { OnOk result (order_books orders.new allocations.now yard.now counter.now
         ≡ with_state state order (order_books orders.old allocations.now yard.now counter.now)) }
-    ensures kept { kept_order_books orders.new allocations.now yard.now counter.now
-        ≡ kept_order_books orders.old allocations.now yard.now counter.now }
+    ensures before { order_books_before orders.new allocations.now yard.now counter.now
+        ≡ order_books_before orders.old allocations.now yard.now counter.now }
 {
     orders.set_state(order, state)
 }

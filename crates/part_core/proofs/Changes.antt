@@ -1,4 +1,4 @@
--- The keys at which the rows differ from those last kept, found from the places of the changes.
+-- The keys at which the rows differ from those before, found from the places of the changes.
 use Rattle.std.proofs.Common.{◌≡◌, ◌≢◌, ◌⊎◌, inl, inr, ℕ, suc, zero, Bool, true, false, cond, ◌||◌, ◌+◌, ◌<◌, ◌≤◌, List, [], ◌∷◌, ◌++◌, take, length, get_or, Option, Some, None, refl, sym, ap, ◌∙◌, subst, arith}
 use Rattle.std.specs.Prelude.{slice_get, option_map, nat_eq}
 use Rattle.std.specs.FinMap as table
@@ -6,12 +6,12 @@ use Rattle.std.proofs.lemmas.List.{take_more}
 use Rattle.std.proofs.lemmas.List.Sums.{sum_by-take-le}
 use Rattle.part_core.specs.declared.slots.Held.{Held}
 use Rattle.part_core.specs.Sheet.{is_listed, IsDifference, IsDistinct, HasKeyAt}
-use Rattle.part_core.specs.Slots.{noted, times, kept_row, now_row, table_by, ArePlaces}
+use Rattle.part_core.specs.Slots.{noted, times, row_before, now_row, table_by, ArePlaces}
 use Rattle.part_core.proofs.Keys.{key_eq, key_eq-self, key_eq-true}
 use Rattle.part_core.proofs.Entries.{find_in, apart}
 use Rattle.part_core.proofs.Listing.{is_listed-push, is_listed-pushed}
 use Rattle.part_core.proofs.SlotLemmas.{get-slot, get-no_slot}
-use Rattle.part_core.proofs.Noted.{same_or_other, times-push_same, times-push_other, noted_at-most, noted_at-slot, noted_at-past, kept-unnoted, below_or_not}
+use Rattle.part_core.proofs.Noted.{same_or_other, times-push_same, times-push_other, noted_at-most, noted_at-slot, noted_at-past, before-unnoted, below_or_not}
 
 same_key : (a b : List ℕ) → Some a ≡ Some b → a ≡ b
 same_key a b e = cc
@@ -44,8 +44,8 @@ module _ {X : Type 0} where
 
   -- of the changes at these places, the keys whose rows differ are listed
   pub record AreListed (es : List (List ℕ × Held X)) (is : List ℕ) (ks : List (List ℕ)) : Type 0 where
-    pub source : (k : List ℕ) → is_listed k ks ≡ true → (j : ℕ) × (0 < times j is) × HasKeyAt es j k × (table.get (table_by now_row es) k ≢ table.get (table_by kept_row es) k)
-    pub done : (j : ℕ) (k : List ℕ) → 0 < times j is → HasKeyAt es j k → is_listed k ks ≡ false → table.get (table_by now_row es) k ≡ table.get (table_by kept_row es) k
+    pub source : (k : List ℕ) → is_listed k ks ≡ true → (j : ℕ) × (0 < times j is) × HasKeyAt es j k × (table.get (table_by now_row es) k ≢ table.get (table_by row_before es) k)
+    pub done : (j : ℕ) (k : List ℕ) → 0 < times j is → HasKeyAt es j k → is_listed k ks ≡ false → table.get (table_by now_row es) k ≡ table.get (table_by row_before es) k
 
   module _ (es : List (List ℕ × Held X)) (d : IsDistinct es) (is : List ℕ) (ks : List (List ℕ)) (l : AreListed es is ks) (i : ℕ) (k : List ℕ) (h : Held X) (at : slice_get es i ≡ Some (k, h)) where
     here : HasKeyAt es i k
@@ -62,43 +62,43 @@ module _ {X : Type 0} where
         by (inr other) = let s = times-push_other is i j other in omega arith
 
     -- a change that left the row as it was
-    pub AreListed-same : now_row h ≡ kept_row h → AreListed es (is ++ i ∷ []) ks
+    pub AreListed-same : now_row h ≡ row_before h → AreListed es (is ++ i ∷ []) ks
     AreListed-same same = record {
       source = λ q listed. let s = l.source q listed in (s.0, still s.0 s.1, s.2, s.3);
       done = λ j q in_it has unlisted. by j q in_it has unlisted (same_or_other j i);
     }
       where
-        equal : table.get (table_by now_row es) k ≡ table.get (table_by kept_row es) k
-        equal = get-slot now_row es i k h d at ∙ same ∙ sym (get-slot kept_row es i k h d at)
+        equal : table.get (table_by now_row es) k ≡ table.get (table_by row_before es) k
+        equal = get-slot now_row es i k h d at ∙ same ∙ sym (get-slot row_before es i k h d at)
 
-        by : (j : ℕ) (q : List ℕ) → 0 < times j (is ++ i ∷ []) → HasKeyAt es j q → is_listed q ks ≡ false → (j ≡ i) ⊎ (j ≢ i) → table.get (table_by now_row es) q ≡ table.get (table_by kept_row es) q
+        by : (j : ℕ) (q : List ℕ) → 0 < times j (is ++ i ∷ []) → HasKeyAt es j q → is_listed q ks ≡ false → (j ≡ i) ⊎ (j ≢ i) → table.get (table_by now_row es) q ≡ table.get (table_by row_before es) q
         by j q in_it has unlisted (inl e) =
             let same_q : q ≡ k = its_key q (subst (λ n. HasKeyAt es n q) e has) in
-            subst (λ r. table.get (table_by now_row es) r ≡ table.get (table_by kept_row es) r) (sym same_q) equal
+            subst (λ r. table.get (table_by now_row es) r ≡ table.get (table_by row_before es) r) (sym same_q) equal
         by j q in_it has unlisted (inr other) = l.done j q (let s = times-push_other is i j other in omega arith) has unlisted
 
     -- a change that shows
-    pub AreListed-pushed : now_row h ≢ kept_row h → AreListed es (is ++ i ∷ []) (ks ++ k ∷ [])
+    pub AreListed-pushed : now_row h ≢ row_before h → AreListed es (is ++ i ∷ []) (ks ++ k ∷ [])
     AreListed-pushed differs = record {
       source = λ q listed. from q listed (is_listed q ks) refl;
       done = λ j q in_it has unlisted. by j q in_it has (is_listed-pushed q k ks unlisted) (same_or_other j i);
     }
       where
-        own : (j : ℕ) × (0 < times j (is ++ i ∷ [])) × HasKeyAt es j k × (table.get (table_by now_row es) k ≢ table.get (table_by kept_row es) k)
-        own = (i, (let s = times-push_same is i in omega arith), here, λ e. differs (sym (get-slot now_row es i k h d at) ∙ e ∙ get-slot kept_row es i k h d at))
+        own : (j : ℕ) × (0 < times j (is ++ i ∷ [])) × HasKeyAt es j k × (table.get (table_by now_row es) k ≢ table.get (table_by row_before es) k)
+        own = (i, (let s = times-push_same is i in omega arith), here, λ e. differs (sym (get-slot now_row es i k h d at) ∙ e ∙ get-slot row_before es i k h d at))
 
         last : (q : List ℕ) (b : Bool) → b ≡ false → (b || key_eq k q) ≡ true → key_eq k q ≡ true
         last q true e o = cc
         last q false e o = o
 
         from : (q : List ℕ) → is_listed q (ks ++ k ∷ []) ≡ true → (b : Bool) → is_listed q ks ≡ b
-            → (j : ℕ) × (0 < times j (is ++ i ∷ [])) × HasKeyAt es j q × (table.get (table_by now_row es) q ≢ table.get (table_by kept_row es) q)
+            → (j : ℕ) × (0 < times j (is ++ i ∷ [])) × HasKeyAt es j q × (table.get (table_by now_row es) q ≢ table.get (table_by row_before es) q)
         from q listed true p = let s = l.source q p in (s.0, still s.0 s.1, s.2, s.3)
         from q listed false p =
             let same : k ≡ q = key_eq-true k q (last q (is_listed q ks) p (sym (is_listed-push q k ks) ∙ listed)) in
-            subst (λ r. (j : ℕ) × (0 < times j (is ++ i ∷ [])) × HasKeyAt es j r × (table.get (table_by now_row es) r ≢ table.get (table_by kept_row es) r)) same own
+            subst (λ r. (j : ℕ) × (0 < times j (is ++ i ∷ [])) × HasKeyAt es j r × (table.get (table_by now_row es) r ≢ table.get (table_by row_before es) r)) same own
 
-        by : (j : ℕ) (q : List ℕ) → 0 < times j (is ++ i ∷ []) → HasKeyAt es j q → (is_listed q ks ≡ false) × (key_eq k q ≡ false) → (j ≡ i) ⊎ (j ≢ i) → table.get (table_by now_row es) q ≡ table.get (table_by kept_row es) q
+        by : (j : ℕ) (q : List ℕ) → 0 < times j (is ++ i ∷ []) → HasKeyAt es j q → (is_listed q ks ≡ false) × (key_eq k q ≡ false) → (j ≡ i) ⊎ (j ≢ i) → table.get (table_by now_row es) q ≡ table.get (table_by row_before es) q
         by j q in_it has unlisted (inl e) =
             let same_q : q ≡ k = its_key q (subst (λ n. HasKeyAt es n q) e has) in
             let yes : key_eq k q ≡ true = ap (key_eq k) same_q ∙ key_eq-self k in
@@ -139,19 +139,19 @@ module _ {X : Type 0} where
       omega arith
 
   -- once all places are done with, the keys are the difference
-  pub IsDifference-listed : (es : List (List ℕ × Held X)) (is : List ℕ) (ks : List (List ℕ)) → IsDistinct es → ArePlaces is es → AreListed es is ks → IsDifference ks (table_by now_row es) (table_by kept_row es)
+  pub IsDifference-listed : (es : List (List ℕ × Held X)) (is : List ℕ) (ks : List (List ℕ)) → IsDistinct es → ArePlaces is es → AreListed es is ks → IsDifference ks (table_by now_row es) (table_by row_before es)
   IsDifference-listed es is ks d p l k = (λ unlisted. found unlisted (find_in k es) refl, λ e. unlisted e (is_listed k ks) refl)
     where
-      unlisted : table.get (table_by now_row es) k ≡ table.get (table_by kept_row es) k → (b : Bool) → is_listed k ks ≡ b → is_listed k ks ≡ false
+      unlisted : table.get (table_by now_row es) k ≡ table.get (table_by row_before es) k → (b : Bool) → is_listed k ks ≡ b → is_listed k ks ≡ false
       unlisted e false q = q
       unlisted e true q = absurd ((l.source k q).3 e)
 
-      at_place : is_listed k ks ≡ false → (j : ℕ) (h : Held X) → slice_get es j ≡ Some (k, h) → (b : Option (Option X)) → h.before ≡ b → table.get (table_by now_row es) k ≡ table.get (table_by kept_row es) k
-      at_place none j h at None is_none = get-slot now_row es j k h d at ∙ sym (get-slot kept_row es j k h d at ∙ kept-unnoted h.before h.row (ap noted is_none))
+      at_place : is_listed k ks ≡ false → (j : ℕ) (h : Held X) → slice_get es j ≡ Some (k, h) → (b : Option (Option X)) → h.before ≡ b → table.get (table_by now_row es) k ≡ table.get (table_by row_before es) k
+      at_place none j h at None is_none = get-slot now_row es j k h d at ∙ sym (get-slot row_before es j k h d at ∙ before-unnoted h.before h.row (ap noted is_none))
       at_place none j h at (Some o) is_some =
           let one : times j is ≡ 1 = p j ∙ noted_at-slot es j (k, h) at ∙ ap noted is_some in
           l.done j k (omega arith) (ap (option_map (λ (e : List ℕ × Held X). e.0)) at) none
 
-      found : is_listed k ks ≡ false → (o : Option (Held X)) → find_in k es ≡ o → table.get (table_by now_row es) k ≡ table.get (table_by kept_row es) k
-      found none None q = get-no_slot now_row es k d q ∙ sym (get-no_slot kept_row es k d q)
+      found : is_listed k ks ≡ false → (o : Option (Held X)) → find_in k es ≡ o → table.get (table_by now_row es) k ≡ table.get (table_by row_before es) k
+      found none None q = get-no_slot now_row es k d q ∙ sym (get-no_slot row_before es k d q)
       found none (Some h) q = let s = find-place es k h q in at_place none s.0 h s.1 h.before refl

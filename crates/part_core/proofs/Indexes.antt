@@ -1,4 +1,4 @@
--- An index after what is filed or logged grows, after a row is given or goes, after the rows are kept or taken back, and while it is swept.
+-- An index after what is filed or logged grows, after a row is given or goes, after `keep` or `back` of the rows, and while it is swept.
 use Rattle.std.proofs.Common.{◌≡◌, ◌==◌, ◌<◌, ◌^◌, inl, inr, arith, ℕ, Bool, true, false, cond, ◌||◌, List, [], ◌∷◌, ◌++◌, Option, Some, None, refl, sym, ap, ◌∙◌, subst, eqb-true}
 use Rattle.std.specs.Prelude.{◌&&◌, nat_lt}
 use Rattle.std.specs.FinMap as table
@@ -36,12 +36,12 @@ turn a b c d = ap (λ x. x && (b == d)) (flip a c) ∙ ap (λ x. (c == a) && x) 
     flip m n = grind (arith, nat_tests)
 
 module _ {X : Type 0} (keys : X → List ℕ) (key_of : X → List ℕ) where
-  pub IsIndex-empty : (s : Rows X) (fs ts : List Filing) → s.rows ≡ table.empty → s.kept ≡ table.empty → fs ≡ [] → IsIndex keys key_of s fs ts
-  IsIndex-empty s fs ts rows kept none = record {
+  pub IsIndex-empty : (s : Rows X) (fs ts : List Filing) → s.rows ≡ table.empty → s.before ≡ table.empty → fs ≡ [] → IsIndex keys key_of s fs ts
+  IsIndex-empty s fs ts rows before none = record {
     own = λ k x e. absurd (no_row s.rows rows k x e);
-    kept_own = λ k x e. absurd (no_row s.kept kept k x e);
+    own_before = λ k x e. absurd (no_row s.before before k x e);
     complete = λ n key h. absurd (no_key s.rows rows n key h);
-    kept_complete = λ n key h. absurd (no_key s.kept kept n key h);
+    complete_before = λ n key h. absurd (no_key s.before before n key h);
     exact = λ key n h free. let bad : false ≡ true = sym (ap (is_filed key n) none) ∙ h in cc;
   }
     where
@@ -56,9 +56,9 @@ module _ {X : Type 0} (keys : X → List ℕ) (key_of : X → List ℕ) where
     pub IsIndex-grown : (gs us : List Filing) → IsGrown fs ts gs us → IsIndex keys key_of s gs us
     IsIndex-grown gs us g = record {
       own = i.own;
-      kept_own = i.kept_own;
+      own_before = i.own_before;
       complete = λ n key h. g.filed key n (i.complete n key h);
-      kept_complete = λ n key h. g.filed key n (i.kept_complete n key h);
+      complete_before = λ n key h. g.filed key n (i.complete_before n key h);
       exact = λ key n h free. i.exact key n (g.new key n h free) (free_before key n (is_filed key n ts) refl free);
     }
       where
@@ -67,7 +67,7 @@ module _ {X : Type 0} (keys : X → List ℕ) (key_of : X → List ℕ) where
         free_before key n true e free = let yes = g.logged key n e in cc
 
     -- a number is given a row, or none: the row's keys are filed, and those of the row before are logged
-    module _ (n : ℕ) (o : Option X) (t : Rows X) (kept : t.kept ≡ s.kept)
+    module _ (n : ℕ) (o : Option X) (t : Rows X) (before : t.before ≡ s.before)
         (rows : (k : List ℕ) → table.get t.rows k ≡ cond (key_eq k (n ∷ [])) o (table.get s.rows k))
         (own : (x : X) → o ≡ Some x → StandsOwn keys key_of (n ∷ []) x)
         (filed : IsFiled keys fs n o) (logged : IsFiled keys ts n (table.get s.rows (n ∷ []))) where
@@ -99,40 +99,40 @@ module _ {X : Type 0} (keys : X → List ℕ) (key_of : X → List ℕ) where
       pub IsIndex-given : IsIndex keys key_of t fs ts
       IsIndex-given = record {
         own = own_given;
-        kept_own = subst (StandOwn keys key_of) (sym kept) i.kept_own;
+        own_before = subst (StandOwn keys key_of) (sym before) i.own_before;
         complete = filed_given;
-        kept_complete = subst (AreFiled keys fs) (sym kept) i.kept_complete;
-        exact = λ key m h free. (exact_given key m h free, ap (λ u. has_key keys key (table.get u (m ∷ []))) kept ∙ (i.exact key m h free).1);
+        complete_before = subst (AreFiled keys fs) (sym before) i.complete_before;
+        exact = λ key m h free. (exact_given key m h free, ap (λ u. has_key keys key (table.get u (m ∷ []))) before ∙ (i.exact key m h free).1);
       }
 
-    -- the rows are now those that are kept
-    pub IsIndex-kept : (t : Rows X) → t.rows ≡ s.rows → t.kept ≡ s.rows → IsIndex keys key_of t fs ts
-    IsIndex-kept t rows kept = record {
+    -- the rows now become the rows before
+    pub IsIndex-keep : (t : Rows X) → t.rows ≡ s.rows → t.before ≡ s.rows → IsIndex keys key_of t fs ts
+    IsIndex-keep t rows before = record {
       own = subst (StandOwn keys key_of) (sym rows) i.own;
-      kept_own = subst (StandOwn keys key_of) (sym kept) i.own;
+      own_before = subst (StandOwn keys key_of) (sym before) i.own;
       complete = subst (AreFiled keys fs) (sym rows) i.complete;
-      kept_complete = subst (AreFiled keys fs) (sym kept) i.complete;
+      complete_before = subst (AreFiled keys fs) (sym before) i.complete;
       exact = λ key n h free. (
         ap (λ u. has_key keys key (table.get u (n ∷ []))) rows ∙ (i.exact key n h free).0,
-        ap (λ u. has_key keys key (table.get u (n ∷ []))) kept ∙ (i.exact key n h free).0,
+        ap (λ u. has_key keys key (table.get u (n ∷ []))) before ∙ (i.exact key n h free).0,
       );
     }
 
-    -- the rows are again those that were kept
-    pub IsIndex-back : (t : Rows X) → t.rows ≡ s.kept → t.kept ≡ s.kept → IsIndex keys key_of t fs ts
-    IsIndex-back t rows kept = record {
-      own = subst (StandOwn keys key_of) (sym rows) i.kept_own;
-      kept_own = subst (StandOwn keys key_of) (sym kept) i.kept_own;
-      complete = subst (AreFiled keys fs) (sym rows) i.kept_complete;
-      kept_complete = subst (AreFiled keys fs) (sym kept) i.kept_complete;
+    -- the rows are again those before
+    pub IsIndex-back : (t : Rows X) → t.rows ≡ s.before → t.before ≡ s.before → IsIndex keys key_of t fs ts
+    IsIndex-back t rows before = record {
+      own = subst (StandOwn keys key_of) (sym rows) i.own_before;
+      own_before = subst (StandOwn keys key_of) (sym before) i.own_before;
+      complete = subst (AreFiled keys fs) (sym rows) i.complete_before;
+      complete_before = subst (AreFiled keys fs) (sym before) i.complete_before;
       exact = λ key n h free. (
         ap (λ u. has_key keys key (table.get u (n ∷ []))) rows ∙ (i.exact key n h free).1,
-        ap (λ u. has_key keys key (table.get u (n ∷ []))) kept ∙ (i.exact key n h free).1,
+        ap (λ u. has_key keys key (table.get u (n ∷ []))) before ∙ (i.exact key n h free).1,
       );
     }
 
     -- ---- a filing is looked at again
-    module _ (settled : s.rows ≡ s.kept) (us : List Filing) (f : Filing) (pop : ts ≡ us ++ f ∷ []) where
+    module _ (settled : s.rows ≡ s.before) (us : List Filing) (f : Filing) (pop : ts ≡ us ++ f ∷ []) where
       at_it : (key n : ℕ) → ((f.key == key) && (f.number == n)) ≡ true → (key ≡ f.key) × (n ≡ f.number)
       at_it key n e = let both = and_parts (f.key == key) (f.number == n) e in (sym (eqb-true f.key key both.0), sym (eqb-true f.number n both.1))
 
@@ -140,14 +140,14 @@ module _ {X : Type 0} (keys : X → List ℕ) (key_of : X → List ℕ) where
       pub IsIndex-stays : has_key keys f.key (table.get s.rows (f.number ∷ [])) ≡ true → IsIndex keys key_of s fs us
       IsIndex-stays has = record {
         own = i.own;
-        kept_own = i.kept_own;
+        own_before = i.own_before;
         complete = i.complete;
-        kept_complete = i.kept_complete;
+        complete_before = i.complete_before;
         exact = λ key n h free. by key n h free ((f.key == key) && (f.number == n)) refl;
       }
         where
           by : (key n : ℕ) → is_filed key n fs ≡ true → is_filed key n us ≡ false → (b : Bool) → ((f.key == key) && (f.number == n)) ≡ b
-              → (has_key keys key (table.get s.rows (n ∷ [])) ≡ true) × (has_key keys key (table.get s.kept (n ∷ [])) ≡ true)
+              → (has_key keys key (table.get s.rows (n ∷ [])) ≡ true) × (has_key keys key (table.get s.before (n ∷ [])) ≡ true)
           by key n h free false e = i.exact key n h (unlogged ts us f pop key n free false e)
           by key n h free true e =
               let same = at_it key n e in
@@ -173,14 +173,14 @@ module _ {X : Type 0} (keys : X → List ℕ) (key_of : X → List ℕ) where
         pub IsIndex-out : IsIndex keys key_of s b.keys us
         IsIndex-out = record {
           own = i.own;
-          kept_own = i.kept_own;
+          own_before = i.own_before;
           complete = still;
-          kept_complete = subst (AreFiled keys b.keys) settled still;
+          complete_before = subst (AreFiled keys b.keys) settled still;
           exact = λ key n h free. by key n free ((f.key == key) && (f.number == n)) refl (sym (left key n) ∙ h);
         }
           where
             by : (key n : ℕ) → is_filed key n us ≡ false → (c : Bool) → ((f.key == key) && (f.number == n)) ≡ c → cond c false (is_filed key n fs) ≡ true
-                → (has_key keys key (table.get s.rows (n ∷ [])) ≡ true) × (has_key keys key (table.get s.kept (n ∷ [])) ≡ true)
+                → (has_key keys key (table.get s.rows (n ∷ [])) ≡ true) × (has_key keys key (table.get s.before (n ∷ [])) ≡ true)
             by key n free true e h = cc
             by key n free false e h = i.exact key n h (unlogged ts us f pop key n free false e)
 

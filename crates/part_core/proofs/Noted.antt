@@ -8,7 +8,7 @@ use Rattle.std.proofs.lemmas.List.Sums.{sum_by_push, sum_by-cons}
 use Rattle.std.specs.List.Sorted.{IsNonDecreasing, IsPermutation}
 use Rattle.std.proofs.lemmas.List.Sorted.{sum_by-IsPermutation}
 use Rattle.part_core.specs.declared.slots.Held.{Held}
-use Rattle.part_core.specs.Slots.{first_of, noted, times, kept_row, now_row, rows_by, with_row, noted_at, ArePlaces, NoneFrom, IsUnnoted}
+use Rattle.part_core.specs.Slots.{first_of, noted, times, row_before, now_row, rows_by, with_row, noted_at, ArePlaces, NoneFrom, IsUnnoted}
 
 -- two numbers are the same or not
 pub same_or_other : (a b : ℕ) → (a ≡ b) ⊎ (a ≢ b)
@@ -187,21 +187,21 @@ module _ {X : Type 0} where
           length_more [] = refl
           length_more (x ∷ xs) = let r = length_more xs in omega arith
 
-  pub kept-unnoted : (b : Option (Option X)) (now : Option X) → noted b ≡ 0 → first_of b now ≡ now
-  kept-unnoted None now none = refl
-  kept-unnoted (Some o) now none = absurd (omega arith)
+  pub before-unnoted : (b : Option (Option X)) (now : Option X) → noted b ≡ 0 → first_of b now ≡ now
+  before-unnoted None now none = refl
+  before-unnoted (Some o) now none = absurd (omega arith)
 
-  -- where no change is noted, the rows are as last kept
-  pub rows-unnoted : (es : List (List ℕ × Held X)) → ((j : ℕ) → noted_at es j ≡ 0) → rows_by kept_row es ≡ rows_by now_row es
+  -- where no change is noted, the rows are as before
+  pub rows-unnoted : (es : List (List ℕ × Held X)) → ((j : ℕ) → noted_at es j ≡ 0) → rows_by row_before es ≡ rows_by now_row es
   rows-unnoted [] none = refl
   rows-unnoted (e ∷ es) none =
-      ap (λ o. with_row e.0 o (rows_by kept_row es)) (kept-unnoted e.1.before e.1.row (none 0))
+      ap (λ o. with_row e.0 o (rows_by row_before es)) (before-unnoted e.1.before e.1.row (none 0))
       ∙ ap (with_row e.0 e.1.row) (rows-unnoted es (λ j. none (suc j)))
 
-  -- a change that is noted tells what was kept, whatever the row is now
-  pub kept-noted : (b : Option (Option X)) (o p : Option X) → noted b ≡ 1 → first_of b o ≡ first_of b p
-  kept-noted None o p one = absurd (omega arith)
-  kept-noted (Some x) o p one = refl
+  -- a change that is noted tells what was there before, whatever the row is now
+  pub before-noted : (b : Option (Option X)) (o p : Option X) → noted b ≡ 1 → first_of b o ≡ first_of b p
+  before-noted None o p one = absurd (omega arith)
+  before-noted (Some x) o p one = refl
 
   -- a slot is in use that has a row, or a noted change
   pub used-row : (o : Option X) (b : Option (Option X)) → is_some o ≡ true → (is_some o || is_some b) ≡ true
@@ -222,8 +222,8 @@ module _ {X : Type 0} where
   still_noted None false e f = cc
   still_noted (Some o) r e f = refl
 
-  pub kept-newly : (b : Option (Option X)) (o : Option X) (r : Bool) → is_some b ≡ not r → r ≡ true → first_of b o ≡ o
-  kept-newly b o r e t = kept-unnoted b o (newly_noted b r e t)
+  pub before-newly : (b : Option (Option X)) (o : Option X) (r : Bool) → is_some b ≡ not r → r ≡ true → first_of b o ≡ o
+  before-newly b o r e t = before-unnoted b o (newly_noted b r e t)
 
-  pub kept-still : (b : Option (Option X)) (o p : Option X) (r : Bool) → is_some b ≡ not r → r ≡ false → first_of b o ≡ first_of b p
-  kept-still b o p r e f = kept-noted b o p (still_noted b r e f)
+  pub before-still : (b : Option (Option X)) (o p : Option X) (r : Bool) → is_some b ≡ not r → r ≡ false → first_of b o ≡ first_of b p
+  before-still b o p r e f = before-noted b o p (still_noted b r e f)

@@ -68,12 +68,12 @@ module _ {X : Type 0} where
       abbrev pub StandOwn : Table X → Type 0
       StandOwn t = (k : List ℕ) (x : X) → table.get t k ≡ Some x → StandsOwn k x
 
-      -- each key of each row, as the rows are and as they were kept, is filed with the row's number; and what is
+      -- each key of each row, as the rows are and as they were before, is filed with the row's number; and what is
       -- filed is so of a row that has the key now and had it then, unless it is to be looked at again
       pub record IsIndex (s : Rows X) (filings touched : List Filing) : Type 0 where
         pub own : StandOwn s.rows
-        pub kept_own : StandOwn s.kept
+        pub own_before : StandOwn s.before
         pub complete : AreFiled filings s.rows
-        pub kept_complete : AreFiled filings s.kept
+        pub complete_before : AreFiled filings s.before
         pub exact : (key number : ℕ) → is_filed key number filings ≡ true → is_filed key number touched ≡ false
-            → (has_key key (table.get s.rows (number ∷ [])) ≡ true) × (has_key key (table.get s.kept (number ∷ [])) ≡ true)
+            → (has_key key (table.get s.rows (number ∷ [])) ≡ true) × (has_key key (table.get s.before (number ∷ [])) ≡ true)

@@ -1,4 +1,4 @@
--- The slots of a sheet: each key with the row that it has now, and with the one that it had where it has changed since the rows were last kept.
+-- The slots of a sheet: each key with the row that it has now, and with the one that it had before, where it has changed.
 use Rattle.std.specs.Prelude.{◌≡◌, ◌≢◌, ◌≤◌, ◌||◌, ℕ, zero, suc, Bool, true, List, [], ◌∷◌, Option, Some, None, is_some, map, sum_by, nat_eq, if◌then◌else◌}
 use Rattle.std.specs.List.{All}
 use Rattle.std.specs.FinMap as table
@@ -42,9 +42,9 @@ module _ {X : Type 0} where
   abbrev pub now_row : Held X → Option X
   now_row h = h.row
 
-  -- the row as last kept
-  abbrev pub kept_row : Held X → Option X
-  kept_row h = first_of h.before h.row
+  -- the row before the request
+  abbrev pub row_before : Held X → Option X
+  row_before h = first_of h.before h.row
 
   -- the rows that f tells of the slots
   abbrev pub rows_by : (Held X → Option X) → List (List ℕ × Held X) → List (List ℕ × X)
@@ -83,9 +83,9 @@ module _ {X : Type 0} where
   AreUsed es = All (λ e. is_used e.1 ≡ true) es
 
   -- no key stands twice, no slot is left over, the places of the changes are known, and so are the numbers of rows
-  pub record IsSound (es : List (List ℕ × Held X)) (changed : List ℕ) (rows kept : ℕ) : Type 0 where
+  pub record IsSound (es : List (List ℕ × Held X)) (changed : List ℕ) (rows rows_before : ℕ) : Type 0 where
     pub distinct : IsDistinct es
     pub used : AreUsed es
     pub places : ArePlaces changed es
     pub len : rows ≡ table.len (table_by now_row es)
-    pub kept_len : kept ≡ table.len (table_by kept_row es)
+    pub length_before : rows_before ≡ table.len (table_by row_before es)

@@ -1,9 +1,9 @@
 //! The numbers of the rows that have an index key.
 //!
-//! A filing is a key with the number of a row that has it. They are kept in order, those of one key side by side and
+//! A filing is a key with the number of a row that has it. They stand in order, those of one key side by side and
 //! in order of number. A look-up finds the first of a key and goes on from there.
 //!
-//! Whatever a row has now, and whatever it had when the rows were last kept, is filed. So a change only files more, and
+//! Whatever a row has now, and whatever it had before the request, is filed. So a change only files more, and
 //! neither `keep` nor `back` has to file anything. What is filed too much then is among `touched`: the filings that a
 //! change made, and those of the row that it put out of its place. `sweep` looks at each of these once more, and takes
 //! out what no row has any longer, which needs no memory.
@@ -120,9 +120,9 @@ impl Index {
         Err(AllocError)
     }
 
-    // Looks at what was touched once more, after the rows were kept or taken back, and takes out what no row has.
+    // Looks at what was touched once more, after `keep` or `back` of the rows, and takes out what no row has.
     fn sweep<R: Indexed>(&mut self, sheet: &Sheet<R>)
-        requires settled { now_of sheet.now ≡ sheet.now.kept }
+        requires settled { now_of sheet.now ≡ sheet.now.before }
         requires index { IsIndex R.index_keys R.key_of
             sheet.now self.old.filings.keys self.old.touched.items }
         ensures index { IsIndex R.index_keys R.key_of
@@ -145,7 +145,7 @@ impl Index {
         requires { IsIndex R.index_keys R.key_of
             sheet.old self.old.filings.keys self.old.touched.items }
         ensures rows { now_of sheet.new ≡ now_of sheet.old }
-        ensures kept { sheet.new.kept ≡ now_of sheet.old }
+        ensures before { sheet.new.before ≡ now_of sheet.old }
         ensures index { IsIndex R.index_keys R.key_of
             sheet.new self.new.filings.keys self.new.touched.items }
         ensures exact { IsExact R.index_keys self.new.filings.keys (now_of sheet.new) }
@@ -158,8 +158,8 @@ impl Index {
     pub(crate) fn back<R: Indexed>(&mut self, sheet: &mut Sheet<R>)
         requires { IsIndex R.index_keys R.key_of
             sheet.old self.old.filings.keys self.old.touched.items }
-        ensures rows { now_of sheet.new ≡ sheet.old.kept }
-        ensures kept { sheet.new.kept ≡ sheet.old.kept }
+        ensures rows { now_of sheet.new ≡ sheet.old.before }
+        ensures before { sheet.new.before ≡ sheet.old.before }
         ensures index { IsIndex R.index_keys R.key_of
             sheet.new self.new.filings.keys self.new.touched.items }
         ensures exact { IsExact R.index_keys self.new.filings.keys (now_of sheet.new) }

@@ -87,7 +87,7 @@ impl<R: Indexed> IndexedSheet<R> {
     /// A sheet with no rows, which takes no memory.
     pub fn new(alloc: Global) -> Self
         ensures rows { now_of result ≡ table.empty }
-        ensures kept { result.kept ≡ table.empty }
+        ensures before { result.before ≡ table.empty }
     {
         IndexedSheet {
             sheet: Sheet::new(alloc),
@@ -96,10 +96,10 @@ impl<R: Indexed> IndexedSheet<R> {
         }
     }
 
-    /// A sheet of these rows, put in their order, which are those that are kept. An error is one of memory.
+    /// A sheet of these rows, put in their order, now and before. An error is one of memory.
     pub fn filled(alloc: Global, rows: Vec<R>) -> Result<Self, AllocError>
         ensures rows { IfOk result (λ sheet. now_of sheet ≡ filled R.key_of rows.items) }
-        ensures kept { IfOk result (λ sheet. sheet.kept ≡ filled R.key_of rows.items) }
+        ensures before { IfOk result (λ sheet. sheet.before ≡ filled R.key_of rows.items) }
     {
         let mut sheet = IndexedSheet::new(alloc);
         for row in rows {
@@ -189,7 +189,7 @@ impl<R: Indexed> IndexedSheet<R> {
         ensures ok { OnOk result (now_of self.new
             ≡ table.insert (now_of self.old) (R.key_of row) row) }
         ensures err { OnErr result (self.new ≡ self.old) }
-        ensures kept { self.new.kept ≡ self.old.kept }
+        ensures before { self.new.before ≡ self.old.before }
     {
         let own_number = row.key(self.alloc)?;
         self.index.file::<R>(&row, own_number)?;
@@ -202,24 +202,24 @@ impl<R: Indexed> IndexedSheet<R> {
         ensures ok { OnOk result (now_of self.new
             ≡ table.remove (now_of self.old) (number ∷ [])) }
         ensures err { OnErr result (self.new ≡ self.old) }
-        ensures kept { self.new.kept ≡ self.old.kept }
+        ensures before { self.new.before ≡ self.old.before }
     {
         self.index.touch::<R>(&self.sheet, number)?;
         self.sheet.remove(&number)
     }
 
-    /// Makes the changes final. It takes no memory.
+    /// Makes the changes final: the rows now become the rows before. It takes no memory.
     pub fn keep(&mut self)
         ensures rows { now_of self.new ≡ now_of self.old }
-        ensures kept { self.new.kept ≡ now_of self.old }
+        ensures before { self.new.before ≡ now_of self.old }
     {
         self.index.keep::<R>(&mut self.sheet);
     }
 
-    /// Takes back each change since the rows were last kept. It takes no memory.
+    /// Takes the changes back: the rows are again those before. It takes no memory.
     pub fn back(&mut self)
-        ensures rows { now_of self.new ≡ self.old.kept }
-        ensures kept { self.new.kept ≡ self.old.kept }
+        ensures rows { now_of self.new ≡ self.old.before }
+        ensures before { self.new.before ≡ self.old.before }
     {
         self.index.back::<R>(&mut self.sheet);
     }

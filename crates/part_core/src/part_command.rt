@@ -1,7 +1,7 @@
 //! The commands of the catalogue, as a machine: one call that does any of them, and its laws.
 ghost use Rattle.std.specs.Prelude.{◌≡◌};
 ghost use Rattle.part_core.specs.Acts.{Acts};
-ghost use Rattle.part_core.specs.CatalogueView.{kept_register, register_of};
+ghost use Rattle.part_core.specs.CatalogueView.{register_before, register_of};
 ghost use Rattle.part_core.specs.PartMachine.{ChecksAreInOrder, EffectsAreSound, RowsStay, answer_of, checks, effect};
 
 use crate::part::NewPart;
@@ -28,12 +28,12 @@ pub fn act(
     counter: &mut Counter,
     command: &PartCommand,
 ) -> Result<Answer, CoreFault>
-    requires { kept_register catalogue.old counter.old ≡ register_of catalogue.old counter.old }
+    requires { register_before catalogue.old counter.old ≡ register_of catalogue.old counter.old }
     ensures acts { let r = register_of catalogue.old counter.old in
         Acts (checks command.now r) (effect command.now r, answer_of r (effect command.now r))
         r result (register_of catalogue.new counter.new) }
-    ensures kept { kept_register catalogue.new counter.new
-        ≡ kept_register catalogue.old counter.old }
+    ensures before { register_before catalogue.new counter.new
+        ≡ register_before catalogue.old counter.old }
 {
     match command {
         PartCommand::AddCategory { name, parent } => {

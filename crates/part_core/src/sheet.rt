@@ -1,7 +1,7 @@
 //! A table in memory, whose changes can be taken back.
 //!
 //! A sheet is a map from each key to a slot, which has the row now, or none, and, where the key was changed since the
-//! rows were last kept, what it had then: a row, or none. So the map holds both tables, and no key stands twice in it.
+//! request began, what it had before: a row, or none. So the map holds both tables, and no key stands twice in it.
 //! `changed` lists the places of the slots with such a note, each once. A change writes a slot, and the first one of
 //! its key notes what was there and lists the place. A removal leaves its slot, so that no slot moves and each listed
 //! place stays good until `keep` or `back`.
@@ -28,7 +28,8 @@ use indexmap::IndexMap;
 use std::alloc::{AllocError, Global};
 use std::marker::Model;
 
-/// The rows of a table, each under its key, with what was changed since they were last kept.
+/// The rows of a table, each under its key, with what was changed since the request began. A request begins with
+/// `keep`: the rows that there are then are the rows before.
 ///
 /// A look-up is by a hash of the key, and takes the same time however many rows there are. So do `put`, `remove` and
 /// `get_mut`; `pending`, `keep` and `back` take time for what was changed. `keep` and `back` never fail.
@@ -37,13 +38,13 @@ pub struct Sheet<R: Row> {
     slots: IndexMap<R::Key, Held<R>>,
     // The places of the slots that were changed, each once.
     changed: Vec<usize>,
-    // How many rows there are, and how many there were when they were last kept.
+    // How many rows there are, and how many there were before.
     len: usize,
-    kept_len: usize,
+    length_before: usize,
     alloc: Global,
 }
 
-/// A key whose row has changed since the rows were last kept, with its row now, or none.
+/// A key whose row has changed since the request began, with its row now, or none.
 #[derive(Drop)]
 pub struct Pending<'a, R: Row> {
     /// The key, as it was first put.
@@ -59,7 +60,7 @@ impl<R: Row> Drop for Sheet<R> {
             slots: _,
             changed: _,
             len: _,
-            kept_len: _,
+            length_before: _,
             alloc: _,
         } = self;
     }
@@ -67,7 +68,7 @@ impl<R: Row> Drop for Sheet<R> {
 
 impl<R: Row> Model for Sheet<R> {
     ghost use Rattle.part_core.specs.Sheet.{Rows, rows_code};
-    ghost use Rattle.part_core.specs.Slots.{IsSound, kept_row, now_row, slots_of, table_by};
+    ghost use Rattle.part_core.specs.Slots.{IsSound, now_row, row_before, slots_of, table_by};
 
     ghost Value = { Rows R };
 
@@ -75,11 +76,11 @@ impl<R: Row> Model for Sheet<R> {
 
     ghost view = { λ s. record {
       rows = table_by now_row (slots_of R.Key.digits s.slots.entries);
-      kept = table_by kept_row (slots_of R.Key.digits s.slots.entries);
+      before = table_by row_before (slots_of R.Key.digits s.slots.entries);
     } };
 
     ghost invariant = { λ s.
-        IsSound (slots_of R.Key.digits s.slots.entries) s.changed.items s.len s.kept_len };
+        IsSound (slots_of R.Key.digits s.slots.entries) s.changed.items s.len s.length_before };
 }
 
 impl<R: Row> Sheet<R> {
@@ -88,21 +89,21 @@ impl<R: Row> Sheet<R> {
     /// A sheet with no rows, which takes no memory.
     pub fn new(alloc: Global) -> Self
         ensures rows { now_of result ≡ table.empty }
-        ensures kept { result.kept ≡ table.empty }
+        ensures before { result.before ≡ table.empty }
     {
         Sheet {
             slots: IndexMap::new(alloc),
             changed: Vec::new(alloc),
             len: 0,
-            kept_len: 0,
+            length_before: 0,
             alloc,
         }
     }
 
-    /// A sheet of these rows, put in their order, which are those that are kept. An error is one of memory.
+    /// A sheet of these rows, put in their order, now and before. An error is one of memory.
     pub fn filled(alloc: Global, rows: Vec<R>) -> Result<Self, AllocError>
         ensures rows { IfOk result (λ sheet. now_of sheet ≡ filled R.key_of rows.items) }
-        ensures kept { IfOk result (λ sheet. sheet.kept ≡ filled R.key_of rows.items) }
+        ensures before { IfOk result (λ sheet. sheet.before ≡ filled R.key_of rows.items) }
     {
         let mut sheet = Sheet::new(alloc);
         for row in rows {
@@ -119,11 +120,11 @@ impl<R: Row> Sheet<R> {
         self.len
     }
 
-    /// How many rows there were when they were last kept.
-    pub fn kept_len(&self) -> usize
-        ensures { result ≡ table.len self.now.kept }
+    /// How many rows there were before the request.
+    pub fn length_before(&self) -> usize
+        ensures { result ≡ table.len self.now.before }
     {
-        self.kept_len
+        self.length_before
     }
 
     /// Whether there are no rows.
@@ -172,7 +173,7 @@ impl<R: Row> Sheet<R> {
 
     /// The row under the key, for writing.
     ///
-    /// A copy of it is made, for `back`, where it has not changed yet since the rows were kept. The row stays under this
+    /// A copy of it is made, for `back`, where it has not changed yet since the request began. The row stays under this
     /// key, whatever is written. An error is one of memory.
     pub fn get_mut(&mut self, key: R::Key) -> Result<&mut R, AllocError>
         requires { IsSome (table.get (now_of self.old) (R.Key.digits key)) }
@@ -194,7 +195,7 @@ impl<R: Row> Sheet<R> {
         ensures ok { OnOk result (now_of self.new
             ≡ table.insert (now_of self.old) (R.key_of row) row) }
         ensures err { OnErr result (self.new ≡ self.old) }
-        ensures kept { self.new.kept ≡ self.old.kept }
+        ensures before { self.new.before ≡ self.old.before }
     {
         let key = row.key(self.alloc)?;
         self.changed.reserve(1)?;
@@ -217,7 +218,7 @@ impl<R: Row> Sheet<R> {
         ensures ok { OnOk result (now_of self.new
             ≡ table.remove (now_of self.old) (R.Key.digits key.now)) }
         ensures err { OnErr result (self.new ≡ self.old) }
-        ensures kept { self.new.kept ≡ self.old.kept }
+        ensures before { self.new.before ≡ self.old.before }
     {
         self.changed.reserve(1)?;
         if let Some(i) = place::<R>(&self.slots, key) {
@@ -228,36 +229,36 @@ impl<R: Row> Sheet<R> {
         Ok(())
     }
 
-    /// The keys at which the rows differ from those last kept, in the order in which they were first changed.
+    /// The keys at which the rows differ from those before, in the order in which they were first changed.
     ///
-    /// A row that was changed back, or put and removed again, is not listed. This goes over the changes since the rows
-    /// were kept. An error is one of memory.
+    /// A row that was changed back, or put and removed again, is not listed. This goes over the changes since the
+    /// request began. An error is one of memory.
     pub fn pending(&self) -> Result<Vec<Pending<'_, R>>, AllocError>
         ensures once { IfOk result (λ pending.
             IsEachOnce (map (λ p. R.Key.digits p.key.now) pending.items)) }
         ensures exact { IfOk result (λ pending. IsDifference
-            (map (λ p. R.Key.digits p.key.now) pending.items) (now_of self.now) self.now.kept) }
+            (map (λ p. R.Key.digits p.key.now) pending.items) (now_of self.now) self.now.before) }
         ensures rows { IfOk result (λ pending. All (λ p. option_copied p.row
             ≡ table.get (now_of self.now) (R.Key.digits p.key.now)) pending.items) }
     {
         list_pending::<R>(self.alloc, &self.slots, self.changed.as_slice())
     }
 
-    /// Makes the changes final. It takes no memory.
+    /// Makes the changes final: the rows now become the rows before. It takes no memory.
     pub fn keep(&mut self)
         ensures rows { now_of self.new ≡ now_of self.old }
-        ensures kept { self.new.kept ≡ now_of self.old }
+        ensures before { self.new.before ≡ now_of self.old }
     {
         keep_all::<R>(&mut self.slots, &mut self.changed);
-        self.kept_len = self.len;
+        self.length_before = self.len;
     }
 
-    /// Takes back each change since the rows were last kept. It takes no memory.
+    /// Takes the changes back: the rows are again those before. It takes no memory.
     pub fn back(&mut self)
-        ensures rows { now_of self.new ≡ self.old.kept }
-        ensures kept { self.new.kept ≡ self.old.kept }
+        ensures rows { now_of self.new ≡ self.old.before }
+        ensures before { self.new.before ≡ self.old.before }
     {
         back_all::<R>(&mut self.slots, &mut self.changed);
-        self.len = self.kept_len;
+        self.len = self.length_before;
     }
 }

@@ -5,7 +5,7 @@ ghost use Rattle.std.specs.List.Sorted.{IsPermutation, IsSortedByKey};
 ghost use Rattle.std.specs.FinMap as table;
 ghost use Rattle.part_core.specs.Sheet.{key_cmp, HasKeyAt, IsDifference, IsDistinct, IsEachOnce, given};
 ghost use Rattle.part_core.specs.Select.{IsMeasure, IsTest};
-ghost use Rattle.part_core.specs.Slots.{ArePlaces, AreUsed, IsUnnoted, NoneFrom, kept_row, noted_at, now_row, row_found, rows_by, slots_of, table_by};
+ghost use Rattle.part_core.specs.Slots.{ArePlaces, AreUsed, IsUnnoted, NoneFrom, noted_at, now_row, row_before, row_found, rows_by, slots_of, table_by};
 
 use crate::row::{Row, RowKey};
 use crate::sheet::Pending;
@@ -16,9 +16,9 @@ use std::mem;
 // What stands under a key.
 #[derive(Drop)]
 pub(crate) struct Held<R> {
-    // The row, or none: then only what it had before is kept here.
+    // The row, or none: then only what it had before stands here.
     pub(crate) row: Option<R>,
-    // Where it has changed since the rows were last kept: the row that it had then, or none.
+    // Where it has changed since the request began: the row that it had before, or none.
     pub(crate) before: Option<Option<R>>,
 }
 
@@ -79,8 +79,8 @@ pub(crate) fn rewrite<R: Row>(
     ensures rows { (k : List ℕ) → HasKeyAt (slots_of R.Key.digits slots.old.entries) i k
         → table_by now_row (slots_of R.Key.digits slots.new.entries)
         ≡ given k row (table_by now_row (slots_of R.Key.digits slots.old.entries)) }
-    ensures kept { table_by kept_row (slots_of R.Key.digits slots.new.entries)
-        ≡ table_by kept_row (slots_of R.Key.digits slots.old.entries) }
+    ensures before { table_by row_before (slots_of R.Key.digits slots.new.entries)
+        ≡ table_by row_before (slots_of R.Key.digits slots.old.entries) }
     ensures few { length slots.old.entries < 2 ^ 63 }
     ensures had { (k : List ℕ) → HasKeyAt (slots_of R.Key.digits slots.old.entries) i k
         → result ≡ table.contains_key (table_by now_row (slots_of R.Key.digits slots.old.entries)) k }
@@ -116,8 +116,8 @@ pub(crate) fn add<R: Row>(
     ensures rows { OnOk result (table_by now_row (slots_of R.Key.digits slots.new.entries)
         ≡ table.insert
         (table_by now_row (slots_of R.Key.digits slots.old.entries)) (R.Key.digits key) row) }
-    ensures kept { table_by kept_row (slots_of R.Key.digits slots.new.entries)
-        ≡ table_by kept_row (slots_of R.Key.digits slots.old.entries) }
+    ensures before { table_by row_before (slots_of R.Key.digits slots.new.entries)
+        ≡ table_by row_before (slots_of R.Key.digits slots.old.entries) }
     ensures few { length slots.old.entries < 2 ^ 63 }
     ensures err { OnErr result (slots.new.entries ≡ slots.old.entries) }
 {
@@ -168,9 +168,9 @@ fn keep_at<R: Row>(slots: &mut IndexMap<R::Key, Held<R>>, i: usize)
     }
 }
 
-// Whether there was a row when the rows were last kept.
+// Whether there was a row before the request.
 fn had_row<R: Drop>(held: &Held<R>) -> bool
-    ensures { result ≡ is_some (kept_row held.now) }
+    ensures { result ≡ is_some (row_before held.now) }
 {
     match &held.before {
         None => held.row.is_some(),
@@ -178,9 +178,9 @@ fn had_row<R: Drop>(held: &Held<R>) -> bool
     }
 }
 
-// Gives the slot what it had when the rows were last kept.
+// Gives the slot what it had before the request.
 fn restore<R: Drop>(held: &mut Held<R>)
-    ensures now { now_row held.new ≡ kept_row held.old }
+    ensures now { now_row held.new ≡ row_before held.old }
     ensures before { held.new.before ≡ None }
 {
     if let Some(before) = held.before.take() {
@@ -198,8 +198,8 @@ fn back_at<R: Row>(slots: &mut IndexMap<R::Key, Held<R>>, i: usize)
     ensures used { AreUsed (slots_of R.Key.digits slots.new.entries) }
     ensures noted { IsUnnoted
         (slots_of R.Key.digits slots.old.entries) (slots_of R.Key.digits slots.new.entries) i }
-    ensures kept { table_by kept_row (slots_of R.Key.digits slots.new.entries)
-        ≡ table_by kept_row (slots_of R.Key.digits slots.old.entries) }
+    ensures before { table_by row_before (slots_of R.Key.digits slots.new.entries)
+        ≡ table_by row_before (slots_of R.Key.digits slots.old.entries) }
 {
     if had_row(&slots[i]) {
         restore(&mut slots[i]);
@@ -218,7 +218,7 @@ pub(crate) fn keep_all<R: Row>(slots: &mut IndexMap<R::Key, Held<R>>, changed: &
     ensures places { ArePlaces changed.new.items (slots_of R.Key.digits slots.new.entries) }
     ensures rows { table_by now_row (slots_of R.Key.digits slots.new.entries)
         ≡ table_by now_row (slots_of R.Key.digits slots.old.entries) }
-    ensures kept { table_by kept_row (slots_of R.Key.digits slots.new.entries)
+    ensures before { table_by row_before (slots_of R.Key.digits slots.new.entries)
         ≡ table_by now_row (slots_of R.Key.digits slots.old.entries) }
 {
     changed.sort_unstable();
@@ -236,9 +236,9 @@ pub(crate) fn back_all<R: Row>(slots: &mut IndexMap<R::Key, Held<R>>, changed: &
     ensures used { AreUsed (slots_of R.Key.digits slots.new.entries) }
     ensures places { ArePlaces changed.new.items (slots_of R.Key.digits slots.new.entries) }
     ensures rows { table_by now_row (slots_of R.Key.digits slots.new.entries)
-        ≡ table_by kept_row (slots_of R.Key.digits slots.old.entries) }
-    ensures kept { table_by kept_row (slots_of R.Key.digits slots.new.entries)
-        ≡ table_by kept_row (slots_of R.Key.digits slots.old.entries) }
+        ≡ table_by row_before (slots_of R.Key.digits slots.old.entries) }
+    ensures before { table_by row_before (slots_of R.Key.digits slots.new.entries)
+        ≡ table_by row_before (slots_of R.Key.digits slots.old.entries) }
 {
     changed.sort_unstable();
     while let Some(i) = changed.pop() {
@@ -257,9 +257,9 @@ fn is_same_row<R: Row>(row: &Option<R>, other: &Option<R>) -> bool
     }
 }
 
-// Whether the slot has what it had when the rows were last kept.
-pub(crate) fn is_as_kept<R: Row>(held: &Held<R>) -> bool
-    ensures { IsTrue result ↔ (now_row held.now ≡ kept_row held.now) }
+// Whether the slot has what it had before the request.
+pub(crate) fn is_as_before<R: Row>(held: &Held<R>) -> bool
+    ensures { IsTrue result ↔ (now_row held.now ≡ row_before held.now) }
 {
     match &held.before {
         None => true,
@@ -358,7 +358,7 @@ fn copy_row<R: Row>(alloc: Global, row: &Option<R>) -> Result<Option<R>, AllocEr
     }
 }
 
-// The keys at which the rows differ from those last kept, with their rows. An error is one of memory.
+// The keys at which the rows differ from those before, with their rows. An error is one of memory.
 pub(crate) fn list_pending<'a, R: Row>(
     alloc: Global,
     slots: &'a IndexMap<R::Key, Held<R>>,
@@ -371,7 +371,7 @@ pub(crate) fn list_pending<'a, R: Row>(
     ensures exact { IfOk result (λ pending.
         IsDifference (map (λ p. R.Key.digits p.key.now) pending.items)
         (table_by now_row (slots_of R.Key.digits slots.now.entries))
-        (table_by kept_row (slots_of R.Key.digits slots.now.entries))) }
+        (table_by row_before (slots_of R.Key.digits slots.now.entries))) }
     ensures rows { IfOk result (λ pending. All (λ p. option_copied p.row
         ≡ table.get (table_by now_row (slots_of R.Key.digits slots.now.entries)) (R.Key.digits p.key.now))
         pending.items) }
@@ -381,7 +381,7 @@ pub(crate) fn list_pending<'a, R: Row>(
         let Some((key, held)) = slots.get_index(*i) else {
             unreachable!()
         };
-        if !is_as_kept::<R>(held) {
+        if !is_as_before::<R>(held) {
             pending.push(Pending {
                 key,
                 row: held.row.as_ref(),
@@ -408,8 +408,8 @@ pub(crate) fn note<R: Row>(
     ensures places { ArePlaces changed.new.items (slots_of R.Key.digits slots.new.entries) }
     ensures rows { table_by now_row (slots_of R.Key.digits slots.new.entries)
         ≡ table_by now_row (slots_of R.Key.digits slots.old.entries) }
-    ensures kept { table_by kept_row (slots_of R.Key.digits slots.new.entries)
-        ≡ table_by kept_row (slots_of R.Key.digits slots.old.entries) }
+    ensures before { table_by row_before (slots_of R.Key.digits slots.new.entries)
+        ≡ table_by row_before (slots_of R.Key.digits slots.old.entries) }
     ensures in_range { IfOk result (λ i. i < length slots.new.entries) }
     ensures found { IfOk result (λ i.
         HasKeyAt (slots_of R.Key.digits slots.new.entries) i (R.Key.digits key.now)) }

@@ -3,7 +3,7 @@ ghost use Rattle.std.specs.Prelude.{◌≡◌, ◌≤◌, IfOk, IfSome, OnOk, le
 ghost use Rattle.part_core.specs.Catalogue.{is_trackable, part_in};
 ghost use Rattle.part_core.specs.CatalogueView.{parts_of};
 ghost use Rattle.forest.specs.Moves.{largest};
-ghost use Rattle.yard_core.specs.StockBooks.{stock_books_of, kept_stock_books};
+ghost use Rattle.yard_core.specs.StockBooks.{stock_books_of, stock_books_before};
 ghost use Rattle.yard_core.specs.Stock.{IsSound};
 ghost use Rattle.yard_core.specs.YardView.{stock_of};
 ghost use Rattle.stock_core.specs.Arrives.{HasRoom, IsArrival, count_of};
@@ -136,7 +136,7 @@ fn make_one(
     ensures ok { OnOk result (stock_books_of yard.new counter.new
         ≡ make_one arrival quantity batch.now serial day (stock_books_of yard.old counter.old)) }
     ensures sound { OnOk result (IsSound (stock_of yard.new)) }
-    ensures kept { kept_stock_books yard.new counter.new ≡ kept_stock_books yard.old counter.old }
+    ensures before { stock_books_before yard.new counter.new ≡ stock_books_before yard.old counter.old }
 {
     let item = new_item(alloc, counter.next(), arrival, quantity, batch, serial)?;
     yard.make(arrival.kind, item, day)?;
@@ -158,7 +158,7 @@ fn make_each(
     requires arrival { IsArrival arrival }
     ensures ok { OnOk result (stock_books_of yard.new counter.new
         ≡ make_each arrival batch.now serials.now day (stock_books_of yard.old counter.old)) }
-    ensures kept { kept_stock_books yard.new counter.new ≡ kept_stock_books yard.old counter.old }
+    ensures before { stock_books_before yard.new counter.new ≡ stock_books_before yard.old counter.old }
 {
     for serial in serials {
         let own = serial.copy(alloc)?;
@@ -181,7 +181,7 @@ pub fn make_new(
     requires quantity { (1 ≤ new.now.quantity) × (new.now.quantity ≤ largest) }
     ensures ok { OnOk result (stock_books_of yard.new counter.new
         ≡ make_new arrival new.now day (stock_books_of yard.old counter.old)) }
-    ensures kept { kept_stock_books yard.new counter.new ≡ kept_stock_books yard.old counter.old }
+    ensures before { stock_books_before yard.new counter.new ≡ stock_books_before yard.old counter.old }
 {
     match &new.serials {
         None => make_one(

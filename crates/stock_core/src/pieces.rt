@@ -1,6 +1,6 @@
 //! Pieces that are cut off items.
 ghost use Rattle.std.specs.Prelude.{◌≡◌, ◌+◌, ◌≤◌, true, IfOk, OnOk, None, length};
-ghost use Rattle.yard_core.specs.StockBooks.{stock_books_of, kept_stock_books};
+ghost use Rattle.yard_core.specs.StockBooks.{stock_books_of, stock_books_before};
 ghost use Rattle.yard_core.specs.Stock.{IsSound, next_entry};
 ghost use Rattle.yard_core.specs.YardView.{stock_of};
 ghost use Rattle.stock_core.specs.Arrives.{HasRoom};
@@ -27,7 +27,7 @@ pub fn cut_off(
         ≡ cut_off item quantity serial day (stock_books_of yard.old counter.old)) }
     ensures number { IfOk result (λ number. number ≡ counter.old.next) }
     ensures sound { OnOk result (IsSound (stock_of yard.new)) }
-    ensures kept { kept_stock_books yard.new counter.new ≡ kept_stock_books yard.old counter.old }
+    ensures before { stock_books_before yard.new counter.new ≡ stock_books_before yard.old counter.old }
 {
     yard.cut(item, quantity, counter.next(), serial, day)?;
     Ok(counter.draw())
@@ -46,7 +46,7 @@ pub fn cut_each(
     requires whole { IsWhole item (length serials.now) (stock_books_of yard.old counter.old) }
     ensures ok { OnOk result (stock_books_of yard.new counter.new
         ≡ cut_each item serials.now day (stock_books_of yard.old counter.old)) }
-    ensures kept { kept_stock_books yard.new counter.new ≡ kept_stock_books yard.old counter.old }
+    ensures before { stock_books_before yard.new counter.new ≡ stock_books_before yard.old counter.old }
 {
     for serial in serials {
         let own = serial.copy(alloc)?;
@@ -74,7 +74,7 @@ pub fn take(
     ensures loose { IfOk result (λ number. is_loose number (stock_of yard.new) ≡ true) }
     ensures entries { OnOk result (next_entry (stock_of yard.new)
         ≤ next_entry (stock_of yard.old) + 1) }
-    ensures kept { kept_stock_books yard.new counter.new ≡ kept_stock_books yard.old counter.old }
+    ensures before { stock_books_before yard.new counter.new ≡ stock_books_before yard.old counter.old }
 {
     if !has_more(yard, item, quantity) {
         return Ok(item);

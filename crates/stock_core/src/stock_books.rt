@@ -2,7 +2,7 @@
 ghost use Rattle.std.specs.Prelude.{◌≡◌, ◌+◌, ◌||◌, nat_lt, Err, IfOk, IsOk, OnErr};
 ghost use Rattle.part_core.specs.Counter.{lacks, numbering_of};
 ghost use Rattle.part_core.specs.declared.refusal.CoreFault.{CoreFault};
-ghost use Rattle.yard_core.specs.StockBooks.{answer_of, stock_books_of, entries_in, kept_stock_books};
+ghost use Rattle.yard_core.specs.StockBooks.{answer_of, stock_books_of, entries_in, stock_books_before};
 
 use part_core::{Answer, CoreFault, Counter};
 use std::alloc::{AllocError, Global};
@@ -18,7 +18,7 @@ pub fn lacks_room(yard: &Yard, counter: &Counter, numbers: u64, entries: u64) ->
     counter.lacks(numbers) || entries > most || yard.entries() > most - entries
 }
 
-/// Ends a command whose moves were tried: answers what they drew and wrote since the books were kept, or,
+/// Ends a command whose moves were tried: answers what they drew and wrote since the request began, or,
 /// where there was no memory for them or for the answer, takes everything back.
 pub fn conclude(
     alloc: Global,
@@ -30,12 +30,12 @@ pub fn conclude(
     ensures done { IfOk result (λ _.
         stock_books_of yard.new counter.new ≡ stock_books_of yard.old counter.old) }
     ensures told { IfOk result (λ answer.
-        answer ≡ answer_of (kept_stock_books yard.old counter.old) (stock_books_of yard.old counter.old)) }
+        answer ≡ answer_of (stock_books_before yard.old counter.old) (stock_books_of yard.old counter.old)) }
     ensures memory { OnErr result (result ≡ Err CoreFault.Memory) }
-    ensures back { OnErr result (stock_books_of yard.new counter.new ≡ kept_stock_books yard.old counter.old) }
-    ensures kept { kept_stock_books yard.new counter.new ≡ kept_stock_books yard.old counter.old }
+    ensures back { OnErr result (stock_books_of yard.new counter.new ≡ stock_books_before yard.old counter.old) }
+    ensures before { stock_books_before yard.new counter.new ≡ stock_books_before yard.old counter.old }
 {
-    let entries = yard.entries().saturating_sub(yard.kept_entries());
+    let entries = yard.entries().saturating_sub(yard.entries_before());
     let ids = match moved {
         Ok(()) => counter.pending(alloc),
         Err(error) => Err(error),

@@ -5,7 +5,7 @@ ghost use Rattle.part_core.specs.CatalogueView.{parts_of};
 ghost use Rattle.part_core.specs.Counter.{start};
 ghost use Rattle.part_core.specs.declared.limits.Limits.{Limits};
 ghost use Rattle.bom_core.specs.BomsView.{bills_of};
-ghost use Rattle.yard_core.specs.StockBooks.{Does, stock_books_of, kept_stock_books};
+ghost use Rattle.yard_core.specs.StockBooks.{Does, stock_books_of, stock_books_before};
 ghost use Rattle.yard_core.specs.Stock.{empty_stock};
 ghost use Rattle.alloc_core.specs.AllocationsView.{allocations_now};
 ghost use Rattle.stock_core.specs.Sound.{IsSoundStock, IsSoundStockSomehow, Owners};
@@ -109,14 +109,14 @@ pub fn act(
     day: Day,
     command: &StockCommand,
 ) -> Result<Answer, CoreFault>
-    requires nothing_pending { kept_stock_books yard.old counter.old ≡ stock_books_of yard.old counter.old }
+    requires nothing_pending { stock_books_before yard.old counter.old ≡ stock_books_of yard.old counter.old }
     requires sound { IsSoundStockSomehow (parts_of catalogue.now) (stock_books_of yard.old counter.old) }
     ensures does { let b = stock_books_of yard.old counter.old in
         Does (checks command.now day (parts_of catalogue.now) (bills_of boms.now)
         (allocations_now allocations.now) b)
         (effect command.now day b) b result
         (stock_books_of yard.new counter.new) }
-    ensures kept { kept_stock_books yard.new counter.new ≡ kept_stock_books yard.old counter.old }
+    ensures before { stock_books_before yard.new counter.new ≡ stock_books_before yard.old counter.old }
 {
     match command {
         StockCommand::Found {

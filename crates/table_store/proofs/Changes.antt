@@ -173,15 +173,15 @@ module _ {X : Type 0} (Is : List Row → Table X → Type 0) (columns : X → Li
 module _ {X : Type 0} (columns : X → List Column) (key_of : X → List ℕ) (digits : ℕ → List ℕ) (table : TableName) where
   -- ---- the changes of a sheet are such as the table takes
 
-  module _ (suits : Suits columns key_of digits table) (now kept : Table X) (own-now : StandUnderKeys key_of now) (own-kept : StandUnderKeys key_of kept) (small-now : AreSmall columns now) (small-kept : AreSmall columns kept) (stays : AreDropped table ⊎ StayThere kept now) where
-    small-key : (k : List ℕ) (x : X) → get kept k ≡ Some x → (n : ℕ) × (k ≡ n ∷ []) × (n < 2 ^ 63)
+  module _ (suits : Suits columns key_of digits table) (now before : Table X) (own-now : StandUnderKeys key_of now) (own-before : StandUnderKeys key_of before) (small-now : AreSmall columns now) (small-before : AreSmall columns before) (stays : AreDropped table ⊎ StayThere before now) where
+    small-key : (k : List ℕ) (x : X) → get before k ≡ Some x → (n : ℕ) × (k ≡ n ∷ []) × (n < 2 ^ 63)
     small-key k x e =
         let numbered = suits.numbered x in
-        let first = recursion_from_All IsSmall (Whole numbered.0 ∷ numbered.1) (subst (All IsSmall) numbered.2 (small-kept k x e)) in
-        (numbered.0, own-kept k x e ∙ numbered.3, first.0)
+        let first = recursion_from_All IsSmall (Whole numbered.0 ∷ numbered.1) (subst (All IsSmall) numbered.2 (small-before k x e)) in
+        (numbered.0, own-before k x e ∙ numbered.3, first.0)
 
-    dropped : (k : List ℕ) (x : X) → get kept k ≡ Some x → get now k ≡ None → AreDropped table
-    dropped k x e none = elim stays [ inl d ↦ d | inr there ↦ absurd (gone (get now k) none (there k (found (get kept k) e))) ]
+    dropped : (k : List ℕ) (x : X) → get before k ≡ Some x → get now k ≡ None → AreDropped table
+    dropped k x e none = elim stays [ inl d ↦ d | inr there ↦ absurd (gone (get now k) none (there k (found (get before k) e))) ]
       where
         gone : (o : Option X) → o ≡ None → IsSome o → ⊥
         gone None e some = cc
@@ -191,19 +191,19 @@ module _ {X : Type 0} (columns : X → List Column) (key_of : X → List ℕ) (d
         found None e = cc
         found (Some y) e = refl
 
-    takes-one : (keys : List (List ℕ)) → IsDifference keys now kept → (k : List ℕ) (o : Option X) → is_listed k keys ≡ true → o ≡ get now k → Takes columns key_of table k o
+    takes-one : (keys : List (List ℕ)) → IsDifference keys now before → (k : List ℕ) (o : Option X) → is_listed k keys ≡ true → o ≡ get now k → Takes columns key_of table k o
     takes-one keys exact k (Some x) listed is = (own-now k x (sym is), small-now k x (sym is))
-    takes-one keys exact k None listed is = go (get kept k) refl
+    takes-one keys exact k None listed is = go (get before k) refl
       where
-        go : (o : Option X) → get kept k ≡ o → AreDropped table × ((n : ℕ) × (k ≡ n ∷ []) × (n < 2 ^ 63))
+        go : (o : Option X) → get before k ≡ o → AreDropped table × ((n : ℕ) × (k ≡ n ∷ []) × (n < 2 ^ 63))
         go None e = let not : is_listed k keys ≡ false = (exact k).1 (sym is ∙ sym e) in cc
         go (Some x) e = (dropped k x e (sym is), small-key k x e)
 
-    pub takes-all : (ps : List (Pending X ℕ)) → IsDifference (map (λ p. digits p.key.now) ps) now kept → All (λ p. option_copied p.row ≡ get now (digits p.key.now)) ps
+    pub takes-all : (ps : List (Pending X ℕ)) → IsDifference (map (λ p. digits p.key.now) ps) now before → All (λ p. option_copied p.row ≡ get now (digits p.key.now)) ps
         → All (λ c. Takes columns key_of table c.0 c.1) (changes_of digits ps)
     takes-all ps exact is = all-listed digits now (Takes columns key_of table) ps (takes-one (map (key_in digits) ps) exact) is
 
-module _ {X K : Type 0} (digits : K → List ℕ) (now kept : Table X) where
+module _ {X K : Type 0} (digits : K → List ℕ) (now before : Table X) where
   keys-of : (ps : List (Pending X K)) → map (λ c. c.0) (changes_of digits ps) ≡ map (λ p. digits p.key.now) ps
   keys-of [] = refl
   keys-of (p ∷ ps) = ap (λ (ks : List (List ℕ)). digits p.key.now ∷ ks) (keys-of ps)
@@ -212,14 +212,14 @@ module _ {X K : Type 0} (digits : K → List ℕ) (now kept : Table X) where
   rows-of [] is = tt
   rows-of (p ∷ ps) is = (is.0, rows-of ps is.1)
 
-  -- what is pending makes the rows that were kept those that there are
-  pub pending-all : (ps : List (Pending X K)) → All (λ p. option_copied p.row ≡ get now (digits p.key.now)) ps → IsDifference (map (λ p. digits p.key.now) ps) now kept → given_all (changes_of digits ps) kept ≡ now
+  -- what is pending turns the rows before into those that there are
+  pub pending-all : (ps : List (Pending X K)) → All (λ p. option_copied p.row ≡ get now (digits p.key.now)) ps → IsDifference (map (λ p. digits p.key.now) ps) now before → given_all (changes_of digits ps) before ≡ now
   pending-all ps is exact =
-      given-difference now kept (changes_of digits ps) (rows-of ps (recursion_from_All (λ p. option_copied p.row ≡ get now (digits p.key.now)) ps is)) (subst (λ ks. IsDifference ks now kept) (sym (keys-of ps)) exact)
+      given-difference now before (changes_of digits ps) (rows-of ps (recursion_from_All (λ p. option_copied p.row ≡ get now (digits p.key.now)) ps is)) (subst (λ ks. IsDifference ks now before) (sym (keys-of ps)) exact)
 
   pub now-held : {E : Type 0} (Is : Table X → Type 0) (r : Result (Unit {0}) E) (ps given : List (Pending X K)) → given ≡ ps
-      → All (λ p. option_copied p.row ≡ get now (digits p.key.now)) ps → IsDifference (map (λ p. digits p.key.now) ps) now kept
-      → OnOk r (Is (given_all (changes_of digits given) kept)) → OnOk r (Is now)
+      → All (λ p. option_copied p.row ≡ get now (digits p.key.now)) ps → IsDifference (map (λ p. digits p.key.now) ps) now before
+      → OnOk r (Is (given_all (changes_of digits given) before)) → OnOk r (Is now)
   now-held Is (Ok u) ps given same is exact h =
-      subst Is (ap (λ (qs : List (Pending X K)). given_all (changes_of digits qs) kept) same ∙ pending-all ps is exact) h
+      subst Is (ap (λ (qs : List (Pending X K)). given_all (changes_of digits qs) before) same ∙ pending-all ps is exact) h
   now-held Is (Err e) ps given same is exact h = tt

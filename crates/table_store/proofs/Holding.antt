@@ -425,10 +425,10 @@ module _ {X : Type 0} where
       ∙ joined (key_eq k c.0) (is_listed k (map (λ c. c.0) cs)) (get now k) (get rows k)
       ∙ ap (λ b. cond (b || is_listed k (map (λ c. c.0) cs)) (get now k) (get rows k)) (sym (turned-key k c.0))
 
-  -- the changes make the rows that were kept those that there are
-  pub given-difference : (now kept : Table X) (cs : List (List ℕ × Option X)) → AllByRecursion (λ c. c.1 ≡ get now c.0) cs → IsDifference (map (λ c. c.0) cs) now kept → given_all cs kept ≡ now
-  given-difference now kept cs all exact = same_map keys_total keys_exact (given_all cs kept) now (λ k. given-get now cs kept all k ∙ go k (is_listed k (map (λ c. c.0) cs)) refl)
+  -- the changes turn the rows before into those that there are
+  pub given-difference : (now before : Table X) (cs : List (List ℕ × Option X)) → AllByRecursion (λ c. c.1 ≡ get now c.0) cs → IsDifference (map (λ c. c.0) cs) now before → given_all cs before ≡ now
+  given-difference now before cs all exact = same_map keys_total keys_exact (given_all cs before) now (λ k. given-get now cs before all k ∙ go k (is_listed k (map (λ c. c.0) cs)) refl)
     where
-      go : (k : List ℕ) (b : Bool) → is_listed k (map (λ c. c.0) cs) ≡ b → cond b (get now k) (get kept k) ≡ get now k
+      go : (k : List ℕ) (b : Bool) → is_listed k (map (λ c. c.0) cs) ≡ b → cond b (get now k) (get before k) ≡ get now k
       go k true p = refl
       go k false p = sym ((exact k).0 p)

@@ -83,26 +83,26 @@ module _ {X K : Type 0} (digits : K → List ℕ) where
       apart k h true e = let listed : is_listed (key_in digits p) (map (key_in digits) ps) ≡ true = subst (λ q. is_listed q (map (key_in digits) ps) ≡ true) (key_eq-true k (key_in digits p) e) h in cc
       apart k h false e = refl
 
-  module _ (now kept : Table X) (stay : StayAsTheyAre kept now) where
-    -- no row was kept under a key that has changed
-    none-kept : (keys : List (List ℕ)) → IsDifference keys now kept → (k : List ℕ) → is_listed k keys ≡ true → get kept k ≡ None
-    none-kept keys exact k listed = go (get kept k) refl
+  module _ (now before : Table X) (stay : StayAsTheyAre before now) where
+    -- there was no row before under a key that has changed
+    none-before : (keys : List (List ℕ)) → IsDifference keys now before → (k : List ℕ) → is_listed k keys ≡ true → get before k ≡ None
+    none-before keys exact k listed = go (get before k) refl
       where
-        go : (o : Option X) → get kept k ≡ o → o ≡ None
+        go : (o : Option X) → get before k ≡ o → o ≡ None
         go None e = refl
         go (Some x) e = let not : is_listed k keys ≡ false = (exact k).1 (stay k x e ∙ sym e) in cc
 
-    pub all-new : (ps : List (Pending X K)) → IsEachOnce (map (λ p. digits p.key.now) ps) → IsDifference (map (λ p. digits p.key.now) ps) now kept → AreNew (changes_of digits ps) kept
-    all-new ps once exact = each-new ps kept once (none-kept (map (key_in digits) ps) exact)
+    pub all-new : (ps : List (Pending X K)) → IsEachOnce (map (λ p. digits p.key.now) ps) → IsDifference (map (λ p. digits p.key.now) ps) now before → AreNew (changes_of digits ps) before
+    all-new ps once exact = each-new ps before once (none-before (map (key_in digits) ps) exact)
 
-    pub own-kept : (key_of : X → List ℕ) → StandUnderKeys key_of now → StandUnderKeys key_of kept
-    own-kept key_of own k x e = own k x (stay k x e)
+    pub own-before : (key_of : X → List ℕ) → StandUnderKeys key_of now → StandUnderKeys key_of before
+    own-before key_of own k x e = own k x (stay k x e)
 
     module _ (columns : X → List Column) (key_of : X → List ℕ) (own : StandUnderKeys key_of now) (small : AreSmall columns now) where
-      takes-one : (keys : List (List ℕ)) → IsDifference keys now kept → (k : List ℕ) (o : Option X) → is_listed k keys ≡ true → o ≡ get now k → KeptTakes columns key_of k o
+      takes-one : (keys : List (List ℕ)) → IsDifference keys now before → (k : List ℕ) (o : Option X) → is_listed k keys ≡ true → o ≡ get now k → KeptTakes columns key_of k o
       takes-one keys exact k (Some x) listed is = (own k x (sym is), small k x (sym is))
-      takes-one keys exact k None listed is = let not : is_listed k keys ≡ false = (exact k).1 (sym is ∙ sym (none-kept keys exact k listed)) in cc
+      takes-one keys exact k None listed is = let not : is_listed k keys ≡ false = (exact k).1 (sym is ∙ sym (none-before keys exact k listed)) in cc
 
-      pub kept-takes-all : (ps : List (Pending X K)) → IsDifference (map (λ p. digits p.key.now) ps) now kept → All (λ p. option_copied p.row ≡ get now (digits p.key.now)) ps
+      pub kept-takes-all : (ps : List (Pending X K)) → IsDifference (map (λ p. digits p.key.now) ps) now before → All (λ p. option_copied p.row ≡ get now (digits p.key.now)) ps
           → All (λ c. KeptTakes columns key_of c.0 c.1) (changes_of digits ps)
       kept-takes-all ps exact is = all-listed digits now (KeptTakes columns key_of) ps (takes-one (map (key_in digits) ps) exact) is

@@ -106,7 +106,7 @@ fn add_changes<S: Alter, R: Stored>(
     Ok(())
 }
 
-/// The rows of a sheet that are new since its rows were last kept go into the table `kept`, within the transaction that
+/// The rows of a sheet that are new since the request began go into the table `kept`, within the transaction that
 /// the caller began. It takes no row away and changes none, so none may have gone or changed. A fault leaves what one of
 /// `write_pending` does.
 pub fn write_kept<S: Alter, R: Stored>(
@@ -118,10 +118,10 @@ pub fn write_kept<S: Alter, R: Stored>(
     requires suits { SuitKept R.columns_of R.key_of }
     requires own { StandUnderKeys R.key_of (now_of sheet.now) }
     requires small { AreSmall R.columns_of (now_of sheet.now) }
-    requires added { StayAsTheyAre sheet.now.kept (now_of sheet.now) }
-    requires kept { HasCleanDisk (state S.Store conn.old)
+    requires added { StayAsTheyAre sheet.now.before (now_of sheet.now) }
+    requires before { HasCleanDisk (state S.Store conn.old)
         → IsTableOf R.row_from R.columns_of Kept (tree_of Kept (state S.Store conn.old))
-        sheet.now.kept }
+        sheet.now.before }
     ensures written { HasCleanDisk (state S.Store conn.new)
         → OnOk result (IsTableOf R.row_from R.columns_of Kept
         (tree_of Kept (state S.Store conn.new)) (now_of sheet.now)) }

@@ -164,7 +164,7 @@ fn write_changes<S: Alter, R: Stored + Row<Key = u64>>(
     Ok(())
 }
 
-/// The changes of a sheet since its rows were last kept go into its table, within the transaction that the caller
+/// The changes of a sheet since the request began go into its table, within the transaction that the caller
 /// began: each row that there is now is put, and each that there was is dropped.
 ///
 /// Each row is written before the next is made ready, so that the values of one row are held at a time. After `Memory`
@@ -179,13 +179,13 @@ pub fn write_pending<S: Alter, R: Stored + Row<Key = u64>>(
     requires ready { HasCleanDisk (state S.Store conn.old) → IsReady (state S.Store conn.old) }
     requires suits { Suits R.columns_of R.key_of number_digits table }
     requires own { StandUnderKeys R.key_of (now_of sheet.now)
-        × StandUnderKeys R.key_of sheet.now.kept }
+        × StandUnderKeys R.key_of sheet.now.before }
     requires small { AreSmall R.columns_of (now_of sheet.now)
-        × AreSmall R.columns_of sheet.now.kept }
-    requires stays { AreDropped table ⊎ StayThere sheet.now.kept (now_of sheet.now) }
-    requires kept { HasCleanDisk (state S.Store conn.old)
+        × AreSmall R.columns_of sheet.now.before }
+    requires stays { AreDropped table ⊎ StayThere sheet.now.before (now_of sheet.now) }
+    requires before { HasCleanDisk (state S.Store conn.old)
         → IsTableOf R.row_from R.columns_of table (tree_of table (state S.Store conn.old))
-        sheet.now.kept }
+        sheet.now.before }
     ensures written { HasCleanDisk (state S.Store conn.new)
         → OnOk result (IsTableOf R.row_from R.columns_of table
         (tree_of table (state S.Store conn.new)) (now_of sheet.now)) }

@@ -54,11 +54,11 @@ fn category(alloc: Global, number: u64, name: &str) -> Result<Category, Fail>
     })
 }
 
-/// Two categories, put and not kept.
+/// Two categories, put and still pending.
 fn categories(alloc: Global) -> Result<Sheet<Category>, Fail>
     ensures own { IfOk result (λ sheet. StandUnderKeys (λ row. row.number ∷ []) (now_of sheet)) }
     ensures small { IfOk result (λ sheet. AreSmall named_columns (now_of sheet)) }
-    ensures kept { IfOk result (λ sheet. sheet.kept ≡ empty) }
+    ensures before { IfOk result (λ sheet. sheet.before ≡ empty) }
 {
     let mut sheet = Sheet::new(alloc);
     let later = category(alloc, 20, "Screws")?;
@@ -75,15 +75,15 @@ fn renamed(alloc: Global, sheet: &mut Sheet<Category>) -> Result<(), Fail>
     ensures own { IfOk result (λ _. StandUnderKeys (λ row. row.number ∷ [])
         (now_of sheet.new)) }
     ensures small { IfOk result (λ _. AreSmall named_columns (now_of sheet.new)) }
-    ensures stays { IfOk result (λ _. StayThere sheet.new.kept (now_of sheet.new)) }
-    ensures kept { sheet.new.kept ≡ now_of sheet.old }
+    ensures stays { IfOk result (λ _. StayThere sheet.new.before (now_of sheet.new)) }
+    ensures before { sheet.new.before ≡ now_of sheet.old }
 {
     sheet.keep();
     let row = category(alloc, 20, "Bolts")?;
     Ok(sheet.put(row)?)
 }
 
-/// Writes the categories whose kept rows the table has.
+/// Writes the categories, where the table has their rows before.
 fn written<S: Alter>(
     alloc: Global,
     conn: &mut Connection<S>,
@@ -91,13 +91,13 @@ fn written<S: Alter>(
 ) -> Result<(), Fail>
     requires ready { HasCleanDisk (state S.Store conn.old) → IsReady (state S.Store conn.old) }
     requires own { StandUnderKeys (λ row. row.number ∷ []) (now_of sheet.now)
-        × StandUnderKeys (λ row. row.number ∷ []) sheet.now.kept }
+        × StandUnderKeys (λ row. row.number ∷ []) sheet.now.before }
     requires small { AreSmall named_columns (now_of sheet.now)
-        × AreSmall named_columns sheet.now.kept }
-    requires stays { StayThere sheet.now.kept (now_of sheet.now) }
-    requires kept { HasCleanDisk (state S.Store conn.old)
+        × AreSmall named_columns sheet.now.before }
+    requires stays { StayThere sheet.now.before (now_of sheet.now) }
+    requires before { HasCleanDisk (state S.Store conn.old)
         → IsTableOf named_from named_columns Categories
-        (tree_of Categories (state S.Store conn.old)) sheet.now.kept }
+        (tree_of Categories (state S.Store conn.old)) sheet.now.before }
     ensures ready { IfOk result (λ _. HasCleanDisk (state S.Store conn.new)
         → IsReady (state S.Store conn.new)) }
     ensures table { IfOk result (λ _. HasCleanDisk (state S.Store conn.new)

@@ -4,11 +4,11 @@ use Rattle.std.specs.Prelude.{ℕ, ◌-◌, ◌||◌, Bool, nat_lt, List, Result
 use Rattle.std.specs.FinMap as table
 use Rattle.part_core.specs.Acts.{Acts}
 use Rattle.part_core.specs.Checks.{Check}
-use Rattle.part_core.specs.Counter.{Counting, Numbering, drawn, kept_numbering, numbering_of, numbers_between, passes_limit}
+use Rattle.part_core.specs.Counter.{Counting, Numbering, drawn, numbering_before, numbering_of, numbers_between, passes_limit}
 use Rattle.part_core.specs.declared.answer.Answer.{Answer}
 use Rattle.part_core.specs.declared.refusal.CoreFault.{CoreFault}
 use Rattle.yard_core.specs.Stock.{Stock}
-use Rattle.yard_core.specs.YardView.{kept_of, stock_of}
+use Rattle.yard_core.specs.YardView.{stock_before, stock_of}
 use Rattle.yard_core.specs.declared.yard.Yard.{Yard}
 
 pub record StockBooks : Type 0 where
@@ -19,9 +19,9 @@ pub record StockBooks : Type 0 where
 abbrev pub stock_books_of : Yard → Counting → StockBooks
 stock_books_of yard counter = record { stock = stock_of yard; counter = numbering_of counter }
 
--- the stock books as last kept
-abbrev pub kept_stock_books : Yard → Counting → StockBooks
-kept_stock_books yard counter = record { stock = kept_of yard; counter = kept_numbering counter }
+-- the stock books before the request
+abbrev pub stock_books_before : Yard → Counting → StockBooks
+stock_books_before yard counter = record { stock = stock_before yard; counter = numbering_before counter }
 
 -- the stock books with other stock
 abbrev pub with_stock : Stock → StockBooks → StockBooks

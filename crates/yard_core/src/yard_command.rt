@@ -1,6 +1,6 @@
 //! The commands of the yard, as a machine: one call that does any of them, and its laws.
 ghost use Rattle.std.specs.Prelude.{◌≡◌};
-ghost use Rattle.yard_core.specs.StockBooks.{Does, stock_books_of, kept_stock_books};
+ghost use Rattle.yard_core.specs.StockBooks.{Does, stock_books_of, stock_books_before};
 ghost use Rattle.yard_core.specs.YardMachine.{ChecksAreInOrder, EffectsAreSound, RowsStay, checks, effect};
 
 use crate::yard::Yard;
@@ -23,11 +23,11 @@ pub fn act(
     counter: &mut Counter,
     command: &YardCommand,
 ) -> Result<Answer, CoreFault>
-    requires nothing_pending { kept_stock_books yard.old counter.old ≡ stock_books_of yard.old counter.old }
+    requires nothing_pending { stock_books_before yard.old counter.old ≡ stock_books_of yard.old counter.old }
     ensures does { let b = stock_books_of yard.old counter.old in
         Does (checks command.now b)
         (effect command.now b) b result (stock_books_of yard.new counter.new) }
-    ensures kept { kept_stock_books yard.new counter.new ≡ kept_stock_books yard.old counter.old }
+    ensures before { stock_books_before yard.new counter.new ≡ stock_books_before yard.old counter.old }
 {
     match command {
         YardCommand::AddLocation { name, parent } => {

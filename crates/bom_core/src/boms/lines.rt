@@ -5,7 +5,7 @@ ghost use Rattle.part_core.specs.CatalogueView.{parts_of};
 ghost use Rattle.part_core.specs.Rows.{IsThere};
 ghost use Rattle.part_core.specs.Sheet.{now_of};
 ghost use Rattle.part_core.specs.declared.refusal.Refusal.{Refusal};
-ghost use Rattle.bom_core.specs.BomsView.{bill_books, bills_of, kept_bill_books, kept_bills};
+ghost use Rattle.bom_core.specs.BomsView.{bill_books, bill_books_before, bills_before, bills_of};
 ghost use Rattle.bom_core.specs.Lines.{add_line, add_line_checks, drop_line_checks, removed_all, substitutes_of, with_line, without_line};
 ghost use Rattle.bom_core.specs.Sound.{IsSoundBill};
 ghost use Rattle.bom_core.specs.Walks.{contains_itself};
@@ -28,7 +28,7 @@ fn numbers_of(alloc: Global, substitutes: &[&Substitute]) -> Result<Vec<Id>, All
 fn remove_all(substitutes: &mut IndexedSheet<Substitute>, numbers: &[Id]) -> Result<(), AllocError>
     ensures removed { OnOk result (now_of substitutes.new
         ≡ removed_all numbers.now (now_of substitutes.old)) }
-    ensures kept { substitutes.new.kept ≡ substitutes.old.kept }
+    ensures before { substitutes.new.before ≡ substitutes.old.before }
 {
     for number in numbers {
         substitutes.remove(*number)?;
@@ -48,7 +48,7 @@ impl Boms {
             → result ≡ Err (CoreFault.Refused refusal) → (refusal ≡ Refusal.Cycle)
             × (contains_itself (parts_of catalogue.now) (with_line line (bills_of self.old))
             ≡ true) }
-        ensures kept { kept_bills self.new ≡ kept_bills self.old }
+        ensures before { bills_before self.new ≡ bills_before self.old }
     {
         let assembly = line.assembly;
         let inherited = line.flags.inherited;
@@ -71,13 +71,13 @@ impl Boms {
         open_parts: &[Id],
         new: NewLine,
     ) -> Result<Id, CoreFault>
-        requires nothing_pending { kept_bill_books self.old counter.old
+        requires nothing_pending { bill_books_before self.old counter.old
             ≡ bill_books self.old counter.old }
         requires sound { IsSoundBill (parts_of catalogue.now) (bills_of self.old) counter.old.next }
         ensures acts { let b = bill_books self.old counter.old in
             Acts (add_line_checks new open_parts.now (parts_of catalogue.now) b)
             (add_line new b, b.counter.next) b result (bill_books self.new counter.new) }
-        ensures kept { kept_bill_books self.new counter.new ≡ kept_bill_books self.old counter.old }
+        ensures before { bill_books_before self.new counter.new ≡ bill_books_before self.old counter.old }
     {
         let refusal = line_refusal(catalogue, open_parts, new);
         if let Some(refusal) = refusal {
@@ -106,7 +106,7 @@ impl Boms {
     fn take_line(&mut self, line: Id) -> Result<(), CoreFault>
         ensures taken { OnOk result (bills_of self.new ≡ without_line line (bills_of self.old)) }
         ensures refused { (refusal : Refusal) → result ≢ Err (CoreFault.Refused refusal) }
-        ensures kept { kept_bills self.new ≡ kept_bills self.old }
+        ensures before { bills_before self.new ≡ bills_before self.old }
     {
         let numbers = self.substitutes_of(line)?;
         self.lines.remove(line)?;
@@ -122,11 +122,11 @@ impl Boms {
         open_parts: &[Id],
         line: Id,
     ) -> Result<(), CoreFault>
-        requires { kept_bills self.old ≡ bills_of self.old }
+        requires { bills_before self.old ≡ bills_of self.old }
         ensures acts { let bills = bills_of self.old in
             Acts (drop_line_checks line open_parts.now (parts_of catalogue.now) bills)
             (without_line line bills, tt) bills result (bills_of self.new) }
-        ensures kept { kept_bills self.new ≡ kept_bills self.old }
+        ensures before { bills_before self.new ≡ bills_before self.old }
     {
         if !self.has_line(line) {
             return Err(CoreFault::Refused(Refusal::NoSuch));

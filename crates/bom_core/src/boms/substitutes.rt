@@ -5,7 +5,7 @@ ghost use Rattle.part_core.specs.CatalogueView.{parts_of};
 ghost use Rattle.part_core.specs.Checks.{first};
 ghost use Rattle.part_core.specs.Rows.{IsThere};
 ghost use Rattle.part_core.specs.declared.refusal.Refusal.{Refusal};
-ghost use Rattle.bom_core.specs.BomsView.{bill_books, bills_of, kept_bill_books, kept_bills};
+ghost use Rattle.bom_core.specs.BomsView.{bill_books, bill_books_before, bills_before, bills_of};
 ghost use Rattle.bom_core.specs.Changes.{has_row, is_line_open, row_is};
 ghost use Rattle.bom_core.specs.Sound.{IsSoundBill};
 ghost use Rattle.bom_core.specs.Substitutes.{add_substitute, add_substitute_checks, drop_substitute_checks, is_fitting, substitute_row_checks, with_substitute, without_substitute};
@@ -82,7 +82,7 @@ impl Boms {
         ensures refused { (refusal : Refusal) → result ≡ Err (CoreFault.Refused refusal)
             → (refusal ≡ Refusal.Cycle) × (contains_itself
             (parts_of catalogue.now) (with_substitute substitute (bills_of self.old)) ≡ true) }
-        ensures kept { kept_bills self.new ≡ kept_bills self.old }
+        ensures before { bills_before self.new ≡ bills_before self.old }
     {
         let of_line = substitute.line;
         self.substitutes.put(substitute)?;
@@ -107,14 +107,14 @@ impl Boms {
         line: Id,
         part: Id,
     ) -> Result<Id, CoreFault>
-        requires nothing_pending { kept_bill_books self.old counter.old
+        requires nothing_pending { bill_books_before self.old counter.old
             ≡ bill_books self.old counter.old }
         requires sound { IsSoundBill (parts_of catalogue.now) (bills_of self.old) counter.old.next }
         ensures acts { let b = bill_books self.old counter.old in
             Acts (add_substitute_checks line part open_parts.now (parts_of catalogue.now) b)
             (add_substitute line part b, b.counter.next)
             b result (bill_books self.new counter.new) }
-        ensures kept { kept_bill_books self.new counter.new ≡ kept_bill_books self.old counter.old }
+        ensures before { bill_books_before self.new counter.new ≡ bill_books_before self.old counter.old }
     {
         let refusal = self.substitute_refusal(catalogue, open_parts, line, part);
         if let Some(refusal) = refusal {
@@ -155,11 +155,11 @@ impl Boms {
         open_parts: &[Id],
         substitute: Id,
     ) -> Result<(), CoreFault>
-        requires { kept_bills self.old ≡ bills_of self.old }
+        requires { bills_before self.old ≡ bills_of self.old }
         ensures acts { let bills = bills_of self.old in
             Acts (drop_substitute_checks substitute open_parts.now (parts_of catalogue.now) bills)
             (without_substitute substitute bills, tt) bills result (bills_of self.new) }
-        ensures kept { kept_bills self.new ≡ kept_bills self.old }
+        ensures before { bills_before self.new ≡ bills_before self.old }
     {
         if !self.has_substitute(substitute) {
             return Err(CoreFault::Refused(Refusal::NoSuch));

@@ -3,14 +3,14 @@ ghost use Rattle.std.specs.Prelude.{◌≡◌, ◌+◌, ◌≤◌, ◌∷◌, []
 ghost use Rattle.std.specs.FinMap as table;
 ghost use Rattle.part_core.specs.CatalogueView.{parts_of};
 ghost use Rattle.part_core.specs.Checks.{first};
-ghost use Rattle.part_core.specs.Counter.{drawn, kept_numbering, lacks, numbering_of};
+ghost use Rattle.part_core.specs.Counter.{drawn, lacks, numbering_before, numbering_of};
 ghost use Rattle.bom_core.specs.BomsView.{bills_of};
-ghost use Rattle.alloc_core.specs.AllocationsView.{allocations_now, kept_allocations};
+ghost use Rattle.alloc_core.specs.AllocationsView.{allocations_before, allocations_now};
 ghost use Rattle.alloc_core.specs.Allotting.{new_allocation};
 ghost use Rattle.alloc_core.specs.declared.purpose.Purpose.TheVariants as purpose;
 ghost use Rattle.yard_core.specs.YardView.{stock_of};
 ghost use Rattle.build_core.specs.AllocateBuild.{allocate_build, allocate_build_checks, is_no_named, is_other_output, wanted};
-ghost use Rattle.build_core.specs.BuildBooks.{AreSoundSomehow, Does, build_books, kept_build_books};
+ghost use Rattle.build_core.specs.BuildBooks.{AreSoundSomehow, Does, build_books, build_books_before};
 
 use crate::build_books::finish;
 use crate::builds::Builds;
@@ -139,8 +139,8 @@ fn put_meant(
         ≡ table.insert (allocations_now allocations.old) (n ∷ [])
         (new_allocation n (purpose.Build build line output) item quantity)) }
     ensures counter { OnOk result (numbering_of counter.new ≡ drawn 1 (numbering_of counter.old)) }
-    ensures allocations_kept { kept_allocations allocations.new ≡ kept_allocations allocations.old }
-    ensures counter_kept { kept_numbering counter.new ≡ kept_numbering counter.old }
+    ensures allocations_before { allocations_before allocations.new ≡ allocations_before allocations.old }
+    ensures counter_before { numbering_before counter.new ≡ numbering_before counter.old }
 {
     let row = Allocation {
         number: counter.next(),
@@ -178,7 +178,7 @@ pub fn allocate_build(
     quantity: Quantity,
     output: Option<Id>,
 ) -> Result<Answer, CoreFault>
-    requires nothing_pending { kept_build_books builds.old allocations.old yard.old counter.old
+    requires nothing_pending { build_books_before builds.old allocations.old yard.old counter.old
         ≡ build_books builds.old allocations.old yard.old counter.old }
     requires sound { AreSoundSomehow (build_books builds.old allocations.old yard.old counter.old) }
     ensures does { let b = build_books builds.old allocations.old yard.old counter.old in
@@ -186,8 +186,8 @@ pub fn allocate_build(
         (parts_of catalogue.now) (bills_of boms.now) b)
         (allocate_build (wanted build line item quantity output) b) b result
         (build_books builds.new allocations.new yard.new counter.new) }
-    ensures kept { kept_build_books builds.new allocations.new yard.new counter.new
-        ≡ kept_build_books builds.old allocations.old yard.old counter.old }
+    ensures before { build_books_before builds.new allocations.new yard.new counter.new
+        ≡ build_books_before builds.old allocations.old yard.old counter.old }
 {
     let refusal = allocate_build_refusal(
         catalogue,

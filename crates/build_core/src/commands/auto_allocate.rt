@@ -2,18 +2,18 @@
 ghost use Rattle.std.specs.Prelude.{◌≡◌, ◌∷◌, [], Err, filter, IfOk, map, OnOk, None, false, true};
 ghost use Rattle.part_core.specs.CatalogueView.{parts_of};
 ghost use Rattle.part_core.specs.Checks.{first};
-ghost use Rattle.part_core.specs.Counter.{kept_numbering, numbering_of, passes_limit};
+ghost use Rattle.part_core.specs.Counter.{numbering_before, numbering_of, passes_limit};
 ghost use Rattle.part_core.specs.Filled.{StandUnderKeys};
 ghost use Rattle.bom_core.specs.BomsView.{bills_of};
 ghost use Rattle.bom_core.specs.Sound.{IsSoundBill};
-ghost use Rattle.alloc_core.specs.AllocationsView.{allocations_now, kept_allocations};
+ghost use Rattle.alloc_core.specs.AllocationsView.{allocations_before, allocations_now};
 ghost use Rattle.alloc_core.specs.Allotments.{allotments_of, for_line};
 ghost use Rattle.alloc_core.specs.Allotting.{allot_in_turn, allot_lines};
 ghost use Rattle.alloc_core.specs.Candidates.{candidate_numbers};
 ghost use Rattle.yard_core.specs.YardView.{stock_of};
 ghost use Rattle.build_core.specs.AutoAllocate.{auto_allocate, auto_allocate_asks, auto_allocate_checks};
 ghost use Rattle.build_core.specs.Builds.{is_no_build};
-ghost use Rattle.build_core.specs.BuildBooks.{AreSoundSomehow, Does, build_books, kept_build_books};
+ghost use Rattle.build_core.specs.BuildBooks.{AreSoundSomehow, Does, build_books, build_books_before};
 ghost use Rattle.build_core.specs.Lacks.{AreLines, is_served, missing_for, need_for, needs_of};
 ghost use Rattle.build_core.specs.Needs.{needs};
 ghost use Rattle.build_core.specs.declared.build_books.Halt.TheVariants as halts;
@@ -104,8 +104,8 @@ fn serve_line(
         (allot_in_turn (for_line build line.now.number) (candidate_numbers with_substitutes
         (parts_of catalogue.now) (bills_of boms.now) line.now (stock_of yard.now))
         missing (stock_of yard.now) (allotments_of allocations.old counter.old)).counter ≡ true }
-    ensures kept { kept_allocations allocations.new ≡ kept_allocations allocations.old }
-    ensures counter_kept { kept_numbering counter.new ≡ kept_numbering counter.old }
+    ensures before { allocations_before allocations.new ≡ allocations_before allocations.old }
+    ensures counter_before { numbering_before counter.new ≡ numbering_before counter.old }
 {
     let items = candidate_numbers(alloc, catalogue, boms, yard, line, with_substitutes)?;
     let given = allocations.allot(counter, yard, build, line.number, items.as_slice(), missing);
@@ -142,8 +142,8 @@ fn serve_each(
         (allot_lines with_substitutes (parts_of catalogue.now) (bills_of boms.now)
         (stock_of yard.now) build (needs_of lacks.now)
         (allotments_of allocations.old counter.old)).counter ≡ true }
-    ensures kept { kept_allocations allocations.new ≡ kept_allocations allocations.old }
-    ensures counter_kept { kept_numbering counter.new ≡ kept_numbering counter.old }
+    ensures before { allocations_before allocations.new ≡ allocations_before allocations.old }
+    ensures counter_before { numbering_before counter.new ≡ numbering_before counter.old }
 {
     for lack in lacks {
         let served = serve_line(
@@ -192,8 +192,8 @@ fn serve_build(
     ensures full { let b = build_books builds.now allocations.old yard.now counter.old in
         result ≡ Err halts.Full → passes_limit (auto_allocate build with_substitutes with_optional
         (parts_of catalogue.now) (bills_of boms.now) b).books.counter ≡ true }
-    ensures kept { kept_build_books builds.now allocations.new yard.now counter.new
-        ≡ kept_build_books builds.now allocations.old yard.now counter.old }
+    ensures before { build_books_before builds.now allocations.new yard.now counter.new
+        ≡ build_books_before builds.now allocations.old yard.now counter.old }
 {
     let Some(row) = builds.build(build) else {
         unreachable!()
@@ -261,7 +261,7 @@ pub fn auto_allocate(
     with_substitutes: bool,
     with_optional: bool,
 ) -> Result<Answer, CoreFault>
-    requires nothing_pending { kept_build_books builds.old allocations.old yard.old counter.old
+    requires nothing_pending { build_books_before builds.old allocations.old yard.old counter.old
         ≡ build_books builds.old allocations.old yard.old counter.old }
     requires sound { AreSoundSomehow (build_books builds.old allocations.old yard.old counter.old) }
     requires bill { IsSoundBill (parts_of catalogue.now) (bills_of boms.now) counter.old.next }
@@ -271,8 +271,8 @@ pub fn auto_allocate(
         (auto_allocate build with_substitutes with_optional
         (parts_of catalogue.now) (bills_of boms.now) b) b result
         (build_books builds.new allocations.new yard.new counter.new) }
-    ensures kept { kept_build_books builds.new allocations.new yard.new counter.new
-        ≡ kept_build_books builds.old allocations.old yard.old counter.old }
+    ensures before { build_books_before builds.new allocations.new yard.new counter.new
+        ≡ build_books_before builds.old allocations.old yard.old counter.old }
 {
     let refusal = auto_allocate_refusal(builds, allocations, yard, counter, build);
     if let Some(refusal) = refusal {

@@ -1,7 +1,7 @@
 //! A build is given up.
 ghost use Rattle.std.specs.Prelude.{◌≡◌, OnOk, None};
 ghost use Rattle.part_core.specs.Checks.{first};
-ghost use Rattle.build_core.specs.BuildBooks.{AreSoundSomehow, Does, build_books, kept_build_books};
+ghost use Rattle.build_core.specs.BuildBooks.{AreSoundSomehow, Does, build_books, build_books_before};
 ghost use Rattle.build_core.specs.CancelBuild.{cancel_build, cancel_build_checks};
 
 use crate::build_books::finish;
@@ -48,8 +48,8 @@ fn give_up(
     ensures ok { OnOk result (build_books builds.new allocations.new yard.new counter.now
         ≡ cancel_build build day
         (build_books builds.old allocations.old yard.old counter.now)) }
-    ensures kept { kept_build_books builds.new allocations.new yard.new counter.now
-        ≡ kept_build_books builds.old allocations.old yard.old counter.now }
+    ensures before { build_books_before builds.new allocations.new yard.new counter.now
+        ≡ build_books_before builds.old allocations.old yard.old counter.now }
 {
     change_state(
         builds,
@@ -79,14 +79,14 @@ pub fn cancel_build(
     day: Day,
     build: Id,
 ) -> Result<Answer, CoreFault>
-    requires nothing_pending { kept_build_books builds.old allocations.old yard.old counter.old
+    requires nothing_pending { build_books_before builds.old allocations.old yard.old counter.old
         ≡ build_books builds.old allocations.old yard.old counter.old }
     requires sound { AreSoundSomehow (build_books builds.old allocations.old yard.old counter.old) }
     ensures does { let b = build_books builds.old allocations.old yard.old counter.old in
         Does (cancel_build_checks build b) (cancel_build build day b) b result
         (build_books builds.new allocations.new yard.new counter.new) }
-    ensures kept { kept_build_books builds.new allocations.new yard.new counter.new
-        ≡ kept_build_books builds.old allocations.old yard.old counter.old }
+    ensures before { build_books_before builds.new allocations.new yard.new counter.new
+        ≡ build_books_before builds.old allocations.old yard.old counter.old }
 {
     let refusal = cancel_build_refusal(builds, allocations, yard, counter, build);
     if let Some(refusal) = refusal {

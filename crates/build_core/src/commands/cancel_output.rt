@@ -1,7 +1,7 @@
 //! An output is given up.
 ghost use Rattle.std.specs.Prelude.{◌≡◌, OnOk, None};
 ghost use Rattle.part_core.specs.Checks.{first};
-ghost use Rattle.build_core.specs.BuildBooks.{AreSoundSomehow, Does, build_books, kept_build_books};
+ghost use Rattle.build_core.specs.BuildBooks.{AreSoundSomehow, Does, build_books, build_books_before};
 ghost use Rattle.build_core.specs.CancelOutput.{cancel_output, cancel_output_checks};
 
 use crate::build_books::finish;
@@ -48,8 +48,8 @@ fn clear_away(
     ensures ok { OnOk result (build_books builds.now allocations.new yard.new counter.now
         ≡ cancel_output output day
         (build_books builds.now allocations.old yard.old counter.now)) }
-    ensures kept { kept_build_books builds.now allocations.new yard.new counter.now
-        ≡ kept_build_books builds.now allocations.old yard.old counter.now }
+    ensures before { build_books_before builds.now allocations.new yard.new counter.now
+        ≡ build_books_before builds.now allocations.old yard.old counter.now }
 {
     allocations.release_for(Owner::Output(output))?;
     yard.lift(output, Place::Gone, day)
@@ -67,14 +67,14 @@ pub fn cancel_output(
     day: Day,
     output: Id,
 ) -> Result<Answer, CoreFault>
-    requires nothing_pending { kept_build_books builds.old allocations.old yard.old counter.old
+    requires nothing_pending { build_books_before builds.old allocations.old yard.old counter.old
         ≡ build_books builds.old allocations.old yard.old counter.old }
     requires sound { AreSoundSomehow (build_books builds.old allocations.old yard.old counter.old) }
     ensures does { let b = build_books builds.old allocations.old yard.old counter.old in
         Does (cancel_output_checks output b) (cancel_output output day b) b result
         (build_books builds.new allocations.new yard.new counter.new) }
-    ensures kept { kept_build_books builds.new allocations.new yard.new counter.new
-        ≡ kept_build_books builds.old allocations.old yard.old counter.old }
+    ensures before { build_books_before builds.new allocations.new yard.new counter.new
+        ≡ build_books_before builds.old allocations.old yard.old counter.old }
 {
     let refusal = cancel_output_refusal(builds, allocations, yard, counter, output);
     if let Some(refusal) = refusal {

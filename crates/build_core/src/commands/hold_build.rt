@@ -1,7 +1,7 @@
 //! Work on a build stops for a while.
 ghost use Rattle.std.specs.Prelude.{◌≡◌};
 ghost use Rattle.part_core.specs.Checks.{first};
-ghost use Rattle.build_core.specs.BuildBooks.{AreSoundSomehow, Does, build_books, kept_build_books};
+ghost use Rattle.build_core.specs.BuildBooks.{AreSoundSomehow, Does, build_books, build_books_before};
 ghost use Rattle.build_core.specs.HoldBuild.{hold_build, hold_build_checks};
 
 use crate::build_books::finish;
@@ -43,14 +43,14 @@ pub fn hold_build(
     counter: &mut Counter,
     build: Id,
 ) -> Result<Answer, CoreFault>
-    requires nothing_pending { kept_build_books builds.old allocations.old yard.old counter.old
+    requires nothing_pending { build_books_before builds.old allocations.old yard.old counter.old
         ≡ build_books builds.old allocations.old yard.old counter.old }
     requires sound { AreSoundSomehow (build_books builds.old allocations.old yard.old counter.old) }
     ensures does { let b = build_books builds.old allocations.old yard.old counter.old in
         Does (hold_build_checks build b) (hold_build build b) b result
         (build_books builds.new allocations.new yard.new counter.new) }
-    ensures kept { kept_build_books builds.new allocations.new yard.new counter.new
-        ≡ kept_build_books builds.old allocations.old yard.old counter.old }
+    ensures before { build_books_before builds.new allocations.new yard.new counter.new
+        ≡ build_books_before builds.old allocations.old yard.old counter.old }
 {
     let refusal = hold_build_refusal(builds, allocations, yard, counter, build);
     if let Some(refusal) = refusal {

@@ -3,10 +3,10 @@ ghost use Rattle.std.specs.Prelude.{◌≡◌, OnOk, false};
 ghost use Rattle.part_core.specs.Catalogue.{is_flagged, part_in};
 ghost use Rattle.part_core.specs.CatalogueView.{parts_of};
 ghost use Rattle.part_core.specs.Checks.{first};
-ghost use Rattle.part_core.specs.Counter.{drawn, kept_numbering, lacks, numbering_of};
+ghost use Rattle.part_core.specs.Counter.{drawn, lacks, numbering_before, numbering_of};
 ghost use Rattle.build_core.specs.Builds.{put_build};
-ghost use Rattle.build_core.specs.BuildsView.{builds_now, kept_builds};
-ghost use Rattle.build_core.specs.BuildBooks.{AreSoundSomehow, Does, build_books, kept_build_books};
+ghost use Rattle.build_core.specs.BuildsView.{builds_before, builds_now};
+ghost use Rattle.build_core.specs.BuildBooks.{AreSoundSomehow, Does, build_books, build_books_before};
 ghost use Rattle.build_core.specs.NewBuild.{build_row, new_build, new_build_checks};
 
 use crate::build::Build;
@@ -71,8 +71,8 @@ fn put_build(
     ensures builds { OnOk result (builds_now builds.new
         ≡ put_build (build_row counter.old.next part quantity) (builds_now builds.old)) }
     ensures counter { OnOk result (numbering_of counter.new ≡ drawn 1 (numbering_of counter.old)) }
-    ensures builds_kept { kept_builds builds.new ≡ kept_builds builds.old }
-    ensures counter_kept { kept_numbering counter.new ≡ kept_numbering counter.old }
+    ensures builds_before { builds_before builds.new ≡ builds_before builds.old }
+    ensures counter_before { numbering_before counter.new ≡ numbering_before counter.old }
 {
     let row = Build {
         number: counter.next(),
@@ -99,15 +99,15 @@ pub fn new_build(
     part: Id,
     quantity: Quantity,
 ) -> Result<Answer, CoreFault>
-    requires nothing_pending { kept_build_books builds.old allocations.old yard.old counter.old
+    requires nothing_pending { build_books_before builds.old allocations.old yard.old counter.old
         ≡ build_books builds.old allocations.old yard.old counter.old }
     requires sound { AreSoundSomehow (build_books builds.old allocations.old yard.old counter.old) }
     ensures does { let b = build_books builds.old allocations.old yard.old counter.old in
         Does (new_build_checks part quantity (parts_of catalogue.now) b)
         (new_build part quantity b) b result
         (build_books builds.new allocations.new yard.new counter.new) }
-    ensures kept { kept_build_books builds.new allocations.new yard.new counter.new
-        ≡ kept_build_books builds.old allocations.old yard.old counter.old }
+    ensures before { build_books_before builds.new allocations.new yard.new counter.new
+        ≡ build_books_before builds.old allocations.old yard.old counter.old }
 {
     let refusal = new_build_refusal(
         catalogue,

@@ -4,9 +4,9 @@ ghost use Rattle.part_core.specs.CatalogueView.{parts_of};
 ghost use Rattle.part_core.specs.Checks.{first};
 ghost use Rattle.part_core.specs.Day.{CivilDay};
 ghost use Rattle.bom_core.specs.BomsView.{bills_of};
-ghost use Rattle.yard_core.specs.StockBooks.{stock_books_of, is_full, kept_stock_books};
+ghost use Rattle.yard_core.specs.StockBooks.{stock_books_of, is_full, stock_books_before};
 ghost use Rattle.stock_core.specs.Sound.{AreSoundItems};
-ghost use Rattle.build_core.specs.BuildBooks.{AreSoundSomehow, Does, build_books, kept_build_books};
+ghost use Rattle.build_core.specs.BuildBooks.{AreSoundSomehow, Does, build_books, build_books_before};
 ghost use Rattle.build_core.specs.NewOutputs.{new_outputs, new_outputs_checks};
 
 use crate::build_books::finish;
@@ -117,7 +117,7 @@ fn begin(
     ensures ok { OnOk result (build_books builds.now allocations.now yard.new counter.new
         ≡ new_outputs build new.now day
         (build_books builds.now allocations.now yard.old counter.old)) }
-    ensures kept { kept_stock_books yard.new counter.new ≡ kept_stock_books yard.old counter.old }
+    ensures before { stock_books_before yard.new counter.new ≡ stock_books_before yard.old counter.old }
 {
     let part = match builds.build(build) {
         Some(row) => row.part,
@@ -150,15 +150,15 @@ pub fn new_outputs(
     build: Id,
     new: &NewStock,
 ) -> Result<Answer, CoreFault>
-    requires nothing_pending { kept_build_books builds.old allocations.old yard.old counter.old
+    requires nothing_pending { build_books_before builds.old allocations.old yard.old counter.old
         ≡ build_books builds.old allocations.old yard.old counter.old }
     requires sound { AreSoundSomehow (build_books builds.old allocations.old yard.old counter.old) }
     ensures does { let b = build_books builds.old allocations.old yard.old counter.old in
         Does (new_outputs_checks build new.now day (parts_of catalogue.now) (bills_of boms.now) b)
         (new_outputs build new.now day b) b result
         (build_books builds.new allocations.new yard.new counter.new) }
-    ensures kept { kept_build_books builds.new allocations.new yard.new counter.new
-        ≡ kept_build_books builds.old allocations.old yard.old counter.old }
+    ensures before { build_books_before builds.new allocations.new yard.new counter.new
+        ≡ build_books_before builds.old allocations.old yard.old counter.old }
 {
     let refusal = new_outputs_refusal(
         catalogue,

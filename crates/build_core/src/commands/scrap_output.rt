@@ -5,7 +5,7 @@ ghost use Rattle.part_core.specs.Day.{CivilDay};
 ghost use Rattle.yard_core.specs.StockBooks.{is_full};
 ghost use Rattle.yard_core.specs.Stock.{IsThere};
 ghost use Rattle.yard_core.specs.YardView.{stock_of};
-ghost use Rattle.build_core.specs.BuildBooks.{AreSoundSomehow, Does, build_books, kept_build_books};
+ghost use Rattle.build_core.specs.BuildBooks.{AreSoundSomehow, Does, build_books, build_books_before};
 ghost use Rattle.build_core.specs.ScrapOutput.{scrap_output, scrap_output_checks};
 
 use crate::build_books::finish;
@@ -75,8 +75,8 @@ fn write_off(
     ensures ok { OnOk result (build_books builds.now allocations.new yard.new counter.now
         ≡ scrap_output output day
         (build_books builds.now allocations.old yard.old counter.now)) }
-    ensures kept { kept_build_books builds.now allocations.new yard.new counter.now
-        ≡ kept_build_books builds.now allocations.old yard.old counter.now }
+    ensures before { build_books_before builds.now allocations.new yard.new counter.now
+        ≡ build_books_before builds.now allocations.old yard.old counter.now }
 {
     allocations.release_for(Owner::Output(output))?;
     yard.lift(output, Place::Off(Reason::Scrapped), day)
@@ -94,14 +94,14 @@ pub fn scrap_output(
     day: Day,
     output: Id,
 ) -> Result<Answer, CoreFault>
-    requires nothing_pending { kept_build_books builds.old allocations.old yard.old counter.old
+    requires nothing_pending { build_books_before builds.old allocations.old yard.old counter.old
         ≡ build_books builds.old allocations.old yard.old counter.old }
     requires sound { AreSoundSomehow (build_books builds.old allocations.old yard.old counter.old) }
     ensures does { let b = build_books builds.old allocations.old yard.old counter.old in
         Does (scrap_output_checks output day b) (scrap_output output day b) b result
         (build_books builds.new allocations.new yard.new counter.new) }
-    ensures kept { kept_build_books builds.new allocations.new yard.new counter.new
-        ≡ kept_build_books builds.old allocations.old yard.old counter.old }
+    ensures before { build_books_before builds.new allocations.new yard.new counter.new
+        ≡ build_books_before builds.old allocations.old yard.old counter.old }
 {
     let refusal = scrap_output_refusal(builds, allocations, yard, counter, output)?;
     if let Some(refusal) = refusal {

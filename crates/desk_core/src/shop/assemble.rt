@@ -4,12 +4,12 @@
 //! state has a function in the crate that it speaks of, whose yes and no are proved, and none of them compares each row
 //! with each. So a file that no run could have left is refused, and each that a run left is taken.
 ghost use Rattle.std.specs.Prelude.{◌≡◌, ◌↔◌, ◌∷◌, [], IsTrue, IfErr, IfOk};
-ghost use Rattle.part_core.specs.Counter.{kept_numbering, numbering_of, resumed};
+ghost use Rattle.part_core.specs.Counter.{numbering_before, numbering_of, resumed};
 ghost use Rattle.part_core.specs.Filled.{StandUnderKeys, filled};
 ghost use Rattle.part_core.specs.Sheet.{now_of};
 ghost use Rattle.desk_core.specs.Assembled.{AreKeys, AreSoundTables, HasSoundBooks, HasSoundOwners, state_from};
 ghost use Rattle.desk_core.specs.Machine.{owners_in};
-ghost use Rattle.desk_core.specs.ShopView.{kept_state, state_of};
+ghost use Rattle.desk_core.specs.ShopView.{state_before, state_of};
 
 use crate::kept::Kept;
 use crate::laws::are_keys;
@@ -69,8 +69,8 @@ impl From<AllocError> for AssembleFault {
 fn answers_from(alloc: Global, rows: Vec<Kept>) -> Result<Sheet<Kept>, AllocError>
     ensures now { IfOk result (λ answers.
         now_of answers ≡ filled (λ row. row.word) rows.items) }
-    ensures kept { IfOk result (λ answers.
-        answers.kept ≡ filled (λ row. row.word) rows.items) }
+    ensures before { IfOk result (λ answers.
+        answers.before ≡ filled (λ row. row.word) rows.items) }
     ensures keys { AreKeys rows.items }
 {
     are_keys(rows.as_slice());
@@ -94,9 +94,9 @@ impl Shop {
     /// The shop of these rows. An error is one of memory.
     fn of_rows(alloc: Global, tables: Tables, counter: Counter) -> Result<Shop, AllocError>
         requires now { numbering_of counter ≡ resumed tables.limits tables.next }
-        requires kept { kept_numbering counter ≡ resumed tables.limits tables.next }
+        requires before { numbering_before counter ≡ resumed tables.limits tables.next }
         ensures now { IfOk result (λ shop. state_of shop ≡ state_from tables) }
-        ensures kept { IfOk result (λ shop. kept_state shop ≡ state_from tables) }
+        ensures before { IfOk result (λ shop. state_before shop ≡ state_from tables) }
         ensures keys { AreKeys tables.answers.items }
     {
         let answers = answers_from(alloc, tables.answers)?;
@@ -163,10 +163,10 @@ impl Shop {
         self.has_sound_owners()
     }
 
-    /// The shop of these rows, which are those that are kept, where they are the tables of a sound state.
+    /// The shop of these rows, now and before, where they are the tables of a sound state.
     pub fn assemble(alloc: Global, tables: Tables) -> Result<Shop, AssembleFault>
         ensures state { IfOk result (λ shop. state_of shop ≡ state_from tables) }
-        ensures kept { IfOk result (λ shop. kept_state shop ≡ state_from tables) }
+        ensures before { IfOk result (λ shop. state_before shop ≡ state_from tables) }
         ensures sound { IfOk result (λ _. AreSoundTables tables) }
         ensures unsound { IfErr result (λ fault. fault ≡ AssembleFault.Unsound
             → ¬ AreSoundTables tables) }

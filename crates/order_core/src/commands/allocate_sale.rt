@@ -2,12 +2,12 @@
 ghost use Rattle.std.specs.Prelude.{◌≡◌, ◌+◌, ◌∷◌, [], OnOk, false, nat_lt};
 ghost use Rattle.std.specs.FinMap as table;
 ghost use Rattle.part_core.specs.Checks.{first};
-ghost use Rattle.part_core.specs.Counter.{drawn, kept_numbering, lacks, numbering_of};
+ghost use Rattle.part_core.specs.Counter.{drawn, lacks, numbering_before, numbering_of};
 ghost use Rattle.part_core.specs.Sheet.{now_of};
-ghost use Rattle.alloc_core.specs.AllocationsView.{allocations_now, kept_allocations};
+ghost use Rattle.alloc_core.specs.AllocationsView.{allocations_before, allocations_now};
 ghost use Rattle.order_core.specs.AllocateSale.{allocate_sale, allocate_sale_checks, sale_row};
 ghost use Rattle.order_core.specs.Orders.{line_in};
-ghost use Rattle.order_core.specs.OrderBooks.{AreSoundSomehow, Does, kept_order_books, order_books};
+ghost use Rattle.order_core.specs.OrderBooks.{AreSoundSomehow, Does, order_books, order_books_before};
 
 use crate::order_books::finish;
 use crate::orders::Orders;
@@ -89,8 +89,8 @@ fn put_sale(
         ≡ table.insert (allocations_now allocations.old) (n ∷ [])
         (sale_row n (line_in line (now_of orders.now.lines)).order line item quantity)) }
     ensures counter { OnOk result (numbering_of counter.new ≡ drawn 1 (numbering_of counter.old)) }
-    ensures allocations_kept { kept_allocations allocations.new ≡ kept_allocations allocations.old }
-    ensures counter_kept { kept_numbering counter.new ≡ kept_numbering counter.old }
+    ensures allocations_before { allocations_before allocations.new ≡ allocations_before allocations.old }
+    ensures counter_before { numbering_before counter.new ≡ numbering_before counter.old }
 {
     let order = match orders.line(line) {
         Some(row) => row.order,
@@ -122,15 +122,15 @@ pub fn allocate_sale(
     item: Id,
     quantity: Quantity,
 ) -> Result<Answer, CoreFault>
-    requires nothing_pending { kept_order_books orders.old allocations.old yard.old counter.old
+    requires nothing_pending { order_books_before orders.old allocations.old yard.old counter.old
         ≡ order_books orders.old allocations.old yard.old counter.old }
     requires sound { AreSoundSomehow (order_books orders.old allocations.old yard.old counter.old) }
     ensures does { let b = order_books orders.old allocations.old yard.old counter.old in
         Does (allocate_sale_checks line item quantity b)
         (allocate_sale line item quantity b) b result
         (order_books orders.new allocations.new yard.new counter.new) }
-    ensures kept { kept_order_books orders.new allocations.new yard.new counter.new
-        ≡ kept_order_books orders.old allocations.old yard.old counter.old }
+    ensures before { order_books_before orders.new allocations.new yard.new counter.new
+        ≡ order_books_before orders.old allocations.old yard.old counter.old }
 {
     let refusal = allocate_sale_refusal(orders, allocations, yard, counter, line, item, quantity);
     if let Some(refusal) = refusal {

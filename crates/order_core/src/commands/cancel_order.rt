@@ -3,7 +3,7 @@ ghost use Rattle.std.specs.Prelude.{◌≡◌, OnOk, false};
 ghost use Rattle.part_core.specs.Checks.{first};
 ghost use Rattle.order_core.specs.CancelOrder.{cancel_order, cancel_order_checks};
 ghost use Rattle.order_core.specs.Orders.{is_no_order};
-ghost use Rattle.order_core.specs.OrderBooks.{AreSoundSomehow, Does, kept_order_books, order_books};
+ghost use Rattle.order_core.specs.OrderBooks.{AreSoundSomehow, Does, order_books, order_books_before};
 
 use crate::order_books::finish;
 use crate::orders::Orders;
@@ -47,8 +47,8 @@ fn cancel(
         (order_books orders.old allocations.old yard.now counter.now) ≡ false }
     ensures ok { OnOk result (order_books orders.new allocations.new yard.now counter.now
         ≡ cancel_order order (order_books orders.old allocations.old yard.now counter.now)) }
-    ensures kept { kept_order_books orders.new allocations.new yard.now counter.now
-        ≡ kept_order_books orders.old allocations.old yard.now counter.now }
+    ensures before { order_books_before orders.new allocations.new yard.now counter.now
+        ≡ order_books_before orders.old allocations.old yard.now counter.now }
 {
     change_state(
         orders,
@@ -71,14 +71,14 @@ pub fn cancel_order(
     counter: &mut Counter,
     order: Id,
 ) -> Result<Answer, CoreFault>
-    requires nothing_pending { kept_order_books orders.old allocations.old yard.old counter.old
+    requires nothing_pending { order_books_before orders.old allocations.old yard.old counter.old
         ≡ order_books orders.old allocations.old yard.old counter.old }
     requires sound { AreSoundSomehow (order_books orders.old allocations.old yard.old counter.old) }
     ensures does { let b = order_books orders.old allocations.old yard.old counter.old in
         Does (cancel_order_checks order b) (cancel_order order b) b result
         (order_books orders.new allocations.new yard.new counter.new) }
-    ensures kept { kept_order_books orders.new allocations.new yard.new counter.new
-        ≡ kept_order_books orders.old allocations.old yard.old counter.old }
+    ensures before { order_books_before orders.new allocations.new yard.new counter.new
+        ≡ order_books_before orders.old allocations.old yard.old counter.old }
 {
     let refusal = cancel_order_refusal(orders, allocations, yard, counter, order);
     if let Some(refusal) = refusal {

@@ -2,7 +2,7 @@
 ghost use Rattle.std.specs.Prelude.{◌≡◌};
 ghost use Rattle.part_core.specs.Checks.{first};
 ghost use Rattle.order_core.specs.CloseOrder.{close_order, close_order_checks};
-ghost use Rattle.order_core.specs.OrderBooks.{AreSoundSomehow, Does, kept_order_books, order_books};
+ghost use Rattle.order_core.specs.OrderBooks.{AreSoundSomehow, Does, order_books, order_books_before};
 
 use crate::order_books::finish;
 use crate::orders::Orders;
@@ -46,14 +46,14 @@ pub fn close_order(
     counter: &mut Counter,
     order: Id,
 ) -> Result<Answer, CoreFault>
-    requires nothing_pending { kept_order_books orders.old allocations.old yard.old counter.old
+    requires nothing_pending { order_books_before orders.old allocations.old yard.old counter.old
         ≡ order_books orders.old allocations.old yard.old counter.old }
     requires sound { AreSoundSomehow (order_books orders.old allocations.old yard.old counter.old) }
     ensures does { let b = order_books orders.old allocations.old yard.old counter.old in
         Does (close_order_checks order b) (close_order order b) b result
         (order_books orders.new allocations.new yard.new counter.new) }
-    ensures kept { kept_order_books orders.new allocations.new yard.new counter.new
-        ≡ kept_order_books orders.old allocations.old yard.old counter.old }
+    ensures before { order_books_before orders.new allocations.new yard.new counter.new
+        ≡ order_books_before orders.old allocations.old yard.old counter.old }
 {
     let refusal = close_order_refusal(orders, allocations, yard, counter, order);
     if let Some(refusal) = refusal {

@@ -3,10 +3,10 @@ ghost use Rattle.std.specs.Prelude.{◌≡◌, ◌∷◌, [], OnOk, false};
 ghost use Rattle.std.specs.FinMap as table;
 ghost use Rattle.part_core.specs.CatalogueView.{parts_of};
 ghost use Rattle.part_core.specs.Checks.{first};
-ghost use Rattle.part_core.specs.Counter.{drawn, kept_numbering, lacks, numbering_of};
+ghost use Rattle.part_core.specs.Counter.{drawn, lacks, numbering_before, numbering_of};
 ghost use Rattle.part_core.specs.Sheet.{now_of};
 ghost use Rattle.order_core.specs.NewLine.{is_suited, line_row, new_line, new_line_checks};
-ghost use Rattle.order_core.specs.OrderBooks.{AreSoundSomehow, Does, kept_order_books, order_books};
+ghost use Rattle.order_core.specs.OrderBooks.{AreSoundSomehow, Does, order_books, order_books_before};
 
 use crate::line::OrderLine;
 use crate::order_books::finish;
@@ -82,8 +82,8 @@ fn put_line(
         ≡ table.insert (now_of orders.old.lines) (n ∷ []) (line_row n order part quantity)) }
     ensures counter { OnOk result (numbering_of counter.new ≡ drawn 1 (numbering_of counter.old)) }
     ensures orders { orders.new.orders ≡ orders.old.orders }
-    ensures lines_kept { orders.new.lines.kept ≡ orders.old.lines.kept }
-    ensures counter_kept { kept_numbering counter.new ≡ kept_numbering counter.old }
+    ensures lines_before { orders.new.lines.before ≡ orders.old.lines.before }
+    ensures counter_before { numbering_before counter.new ≡ numbering_before counter.old }
 {
     let row = OrderLine {
         number: counter.next(),
@@ -112,15 +112,15 @@ pub fn new_line(
     part: Id,
     quantity: Quantity,
 ) -> Result<Answer, CoreFault>
-    requires nothing_pending { kept_order_books orders.old allocations.old yard.old counter.old
+    requires nothing_pending { order_books_before orders.old allocations.old yard.old counter.old
         ≡ order_books orders.old allocations.old yard.old counter.old }
     requires sound { AreSoundSomehow (order_books orders.old allocations.old yard.old counter.old) }
     ensures does { let b = order_books orders.old allocations.old yard.old counter.old in
         Does (new_line_checks order part quantity (parts_of catalogue.now) b)
         (new_line order part quantity b) b result
         (order_books orders.new allocations.new yard.new counter.new) }
-    ensures kept { kept_order_books orders.new allocations.new yard.new counter.new
-        ≡ kept_order_books orders.old allocations.old yard.old counter.old }
+    ensures before { order_books_before orders.new allocations.new yard.new counter.new
+        ≡ order_books_before orders.old allocations.old yard.old counter.old }
 {
     let refusal = new_line_refusal(
         catalogue,

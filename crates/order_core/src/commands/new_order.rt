@@ -1,10 +1,10 @@
 //! A new order, of a supplier or of a customer.
 ghost use Rattle.std.specs.Prelude.{◌≡◌, ◌∷◌, [], OnOk, false};
 ghost use Rattle.std.specs.FinMap as table;
-ghost use Rattle.part_core.specs.Counter.{drawn, kept_numbering, lacks, numbering_of};
+ghost use Rattle.part_core.specs.Counter.{drawn, lacks, numbering_before, numbering_of};
 ghost use Rattle.part_core.specs.Sheet.{now_of};
 ghost use Rattle.order_core.specs.NewOrder.{new_order, new_order_checks, order_row};
-ghost use Rattle.order_core.specs.OrderBooks.{AreSoundSomehow, Does, kept_order_books, order_books};
+ghost use Rattle.order_core.specs.OrderBooks.{AreSoundSomehow, Does, order_books, order_books_before};
 
 use crate::order::{Order, Partner};
 use crate::order_books::finish;
@@ -28,8 +28,8 @@ fn put_order(
         ≡ table.insert (now_of orders.old.orders) (n ∷ []) (order_row n side partner.now)) }
     ensures counter { OnOk result (numbering_of counter.new ≡ drawn 1 (numbering_of counter.old)) }
     ensures lines { orders.new.lines ≡ orders.old.lines }
-    ensures orders_kept { orders.new.orders.kept ≡ orders.old.orders.kept }
-    ensures counter_kept { kept_numbering counter.new ≡ kept_numbering counter.old }
+    ensures orders_before { orders.new.orders.before ≡ orders.old.orders.before }
+    ensures counter_before { numbering_before counter.new ≡ numbering_before counter.old }
 {
     let partner = partner.copy(alloc)?;
     let row = Order {
@@ -53,14 +53,14 @@ pub fn new_order(
     side: Side,
     partner: &Partner,
 ) -> Result<Answer, CoreFault>
-    requires nothing_pending { kept_order_books orders.old allocations.old yard.old counter.old
+    requires nothing_pending { order_books_before orders.old allocations.old yard.old counter.old
         ≡ order_books orders.old allocations.old yard.old counter.old }
     requires sound { AreSoundSomehow (order_books orders.old allocations.old yard.old counter.old) }
     ensures does { let b = order_books orders.old allocations.old yard.old counter.old in
         Does (new_order_checks side partner.now b) (new_order side partner.now b) b result
         (order_books orders.new allocations.new yard.new counter.new) }
-    ensures kept { kept_order_books orders.new allocations.new yard.new counter.new
-        ≡ kept_order_books orders.old allocations.old yard.old counter.old }
+    ensures before { order_books_before orders.new allocations.new yard.new counter.new
+        ≡ order_books_before orders.old allocations.old yard.old counter.old }
 {
     if counter.lacks(1) {
         return Err(CoreFault::Refused(Refusal::Full));

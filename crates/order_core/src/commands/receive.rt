@@ -7,7 +7,7 @@ ghost use Rattle.stock_core.specs.Sound.{AreSoundItems};
 ghost use Rattle.stock_core.specs.Steps.{make_new};
 ghost use Rattle.yard_core.specs.StockBooks.{stock_books_of, is_full};
 ghost use Rattle.order_core.specs.Receive.{arrival_at, receive, receive_checks};
-ghost use Rattle.order_core.specs.OrderBooks.{AreSoundSomehow, Does, kept_order_books, order_books};
+ghost use Rattle.order_core.specs.OrderBooks.{AreSoundSomehow, Does, order_books, order_books_before};
 
 use crate::order_books::finish;
 use crate::orders::Orders;
@@ -106,8 +106,8 @@ fn arrive(
     ensures ok { OnOk result (order_books orders.new allocations.now yard.new counter.new
         ≡ receive line location new.now day
         (order_books orders.old allocations.now yard.old counter.old)) }
-    ensures kept { kept_order_books orders.new allocations.now yard.new counter.new
-        ≡ kept_order_books orders.old allocations.now yard.old counter.old }
+    ensures before { order_books_before orders.new allocations.now yard.new counter.new
+        ≡ order_books_before orders.old allocations.now yard.old counter.old }
 {
     let part = match orders.line(line) {
         Some(row) => row.part,
@@ -141,15 +141,15 @@ pub fn receive(
     location: Id,
     new: &NewStock,
 ) -> Result<Answer, CoreFault>
-    requires nothing_pending { kept_order_books orders.old allocations.old yard.old counter.old
+    requires nothing_pending { order_books_before orders.old allocations.old yard.old counter.old
         ≡ order_books orders.old allocations.old yard.old counter.old }
     requires sound { AreSoundSomehow (order_books orders.old allocations.old yard.old counter.old) }
     ensures does { let b = order_books orders.old allocations.old yard.old counter.old in
         Does (receive_checks line location new.now day (parts_of catalogue.now) b)
         (receive line location new.now day b) b result
         (order_books orders.new allocations.new yard.new counter.new) }
-    ensures kept { kept_order_books orders.new allocations.new yard.new counter.new
-        ≡ kept_order_books orders.old allocations.old yard.old counter.old }
+    ensures before { order_books_before orders.new allocations.new yard.new counter.new
+        ≡ order_books_before orders.old allocations.old yard.old counter.old }
 {
     let refusal = receive_refusal(
         catalogue,

@@ -2,7 +2,7 @@
 ghost use Rattle.std.specs.Prelude.{◌≡◌};
 ghost use Rattle.part_core.specs.Acts.{Acts};
 ghost use Rattle.part_core.specs.AddCategory.{add_category, add_category_checks};
-ghost use Rattle.part_core.specs.CatalogueView.{kept_register, parts_of, register_of};
+ghost use Rattle.part_core.specs.CatalogueView.{parts_of, register_before, register_of};
 
 use crate::catalogue::Catalogue;
 use crate::{Category, CoreFault, Counter, Id, Name, Refusal, is_named};
@@ -16,12 +16,12 @@ impl Catalogue {
         name: &Name,
         parent: Option<Id>,
     ) -> Result<Id, CoreFault>
-        requires { kept_register self.old counter.old ≡ register_of self.old counter.old }
+        requires { register_before self.old counter.old ≡ register_of self.old counter.old }
         ensures acts { let r = register_of self.old counter.old in
             Acts (add_category_checks name.now parent r)
             (add_category name.now parent r, r.counter.next)
             r result (register_of self.new counter.new) }
-        ensures kept { kept_register self.new counter.new ≡ kept_register self.old counter.old }
+        ensures before { register_before self.new counter.new ≡ register_before self.old counter.old }
     {
         if self.is_category_missing(parent) {
             return Err(CoreFault::Refused(Refusal::NoSuch));

@@ -3,7 +3,7 @@ ghost use Rattle.std.specs.Prelude.{◌≡◌};
 ghost use Rattle.part_core.specs.Acts.{Acts};
 ghost use Rattle.part_core.specs.AddPart.{add_part, add_part_checks, is_no_template, is_part_named, is_template_retired, is_template_variant};
 ghost use Rattle.part_core.specs.Catalogue.{is_missing, part_in};
-ghost use Rattle.part_core.specs.CatalogueView.{kept_register, parts_of, register_of};
+ghost use Rattle.part_core.specs.CatalogueView.{parts_of, register_before, register_of};
 
 use crate::catalogue::Catalogue;
 use crate::part::{NewPart, Part, name_key};
@@ -64,11 +64,11 @@ impl Catalogue {
     /// template, where the part names one and is flagged so itself, and where `virtual` stands with a flag
     /// other than component; `Retired` where the template is; `Full` where there is no number left.
     pub fn add_part(&mut self, counter: &mut Counter, new: &NewPart) -> Result<Id, CoreFault>
-        requires { kept_register self.old counter.old ≡ register_of self.old counter.old }
+        requires { register_before self.old counter.old ≡ register_of self.old counter.old }
         ensures acts { let r = register_of self.old counter.old in
             Acts (add_part_checks new.now r)
             (add_part new.now r, r.counter.next) r result (register_of self.new counter.new) }
-        ensures kept { kept_register self.new counter.new ≡ kept_register self.old counter.old }
+        ensures before { register_before self.new counter.new ≡ register_before self.old counter.old }
     {
         if self.is_category_missing(new.category) || self.is_template_missing(new.template) {
             return Err(CoreFault::Refused(Refusal::NoSuch));

@@ -2,7 +2,7 @@
 ghost use Rattle.std.specs.Prelude.{◌≡◌, ◌∷◌, [], IfSome, IsSome, OnOk, OnErr};
 ghost use Rattle.std.specs.FinMap as table;
 ghost use Rattle.part_core.specs.Acts.{Acts};
-ghost use Rattle.part_core.specs.CatalogueView.{kept_parts, parts_of};
+ghost use Rattle.part_core.specs.CatalogueView.{parts_before, parts_of};
 ghost use Rattle.part_core.specs.RetirePart.{retire_part, retire_part_checks, retired_part};
 ghost use Rattle.part_core.specs.Sheet.{now_of};
 
@@ -19,7 +19,7 @@ fn set_retired(alloc: Global, parts: &mut IndexedSheet<Part>, number: Id) -> Res
         (λ part. now_of parts.new
         ≡ table.insert (now_of parts.old) (number ∷ []) (retired_part part))) }
     ensures err { OnErr result (now_of parts.new ≡ now_of parts.old) }
-    ensures kept { parts.new.kept ≡ parts.old.kept }
+    ensures before { parts.new.before ≡ parts.old.before }
 {
     let Some(part) = parts.get(number) else {
         unreachable!()
@@ -32,11 +32,11 @@ fn set_retired(alloc: Global, parts: &mut IndexedSheet<Part>, number: Id) -> Res
 impl Catalogue {
     /// Retires a part. `NoSuch` where there is no such part, `Retired` where it is retired already.
     pub fn retire(&mut self, part: Id) -> Result<(), CoreFault>
-        requires { kept_parts self.old ≡ parts_of self.old }
+        requires { parts_before self.old ≡ parts_of self.old }
         ensures acts { let parts = parts_of self.old in
             Acts (retire_part_checks part parts)
             (retire_part part parts, tt) parts result (parts_of self.new) }
-        ensures kept { kept_parts self.new ≡ kept_parts self.old }
+        ensures before { parts_before self.new ≡ parts_before self.old }
     {
         let Some(row) = self.part(part) else {
             return Err(CoreFault::Refused(Refusal::NoSuch));

@@ -4,7 +4,7 @@ ghost use Rattle.std.specs.List.{All};
 ghost use Rattle.part_core.specs.Filled.{StandUnderKeys};
 ghost use Rattle.yard_core.specs.SoundLocations.{AreSoundLocations, IsSoundLocation};
 ghost use Rattle.yard_core.specs.Stock.{IsSound};
-ghost use Rattle.yard_core.specs.YardView.{kept_of, stock_from, stock_of};
+ghost use Rattle.yard_core.specs.YardView.{stock_before, stock_from, stock_of};
 
 use crate::Location;
 use crate::opening::{are_sound_rows, rows_in_order};
@@ -14,7 +14,7 @@ use part_core::{Id, IndexedSheet, Sheet, has_parent};
 use std::alloc::{AllocError, Global};
 
 impl Yard {
-    /// The yard of these rows, which are those that are kept. An error is one of memory.
+    /// The yard of these rows, now and before. An error is one of memory.
     pub fn assemble(
         alloc: Global,
         locations: Vec<Location>,
@@ -23,8 +23,8 @@ impl Yard {
     ) -> Result<Self, AllocError>
         ensures now { IfOk result (λ yard.
             stock_of yard ≡ stock_from locations.items items.items history.items) }
-        ensures kept { IfOk result (λ yard.
-            kept_of yard ≡ stock_from locations.items items.items history.items) }
+        ensures before { IfOk result (λ yard.
+            stock_before yard ≡ stock_from locations.items items.items history.items) }
     {
         let locations = IndexedSheet::filled(alloc, locations)?;
         let items = IndexedSheet::filled(alloc, items)?;

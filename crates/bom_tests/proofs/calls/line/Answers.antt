@@ -19,8 +19,8 @@ returns c =
     let now = bill_books c.add_line.new.self c.add_line.new.counter in
     let sound : IsSoundBill parts now.bills now.counter.next = sound-line (new_line c.args.assembly c.args.component) [] parts old now _ c.requires.sound c.in_ok-number.ensures.acts in
     record {
-      parts_kept = same_register _ _ _ _ (ap (λ (r : Register). r.parts) c.requires.parts_kept) (c.keep-2.ensures.kept ∙ sym c.keep-2.ensures.now);
-      bills_kept = same_books _ _ _ _ (c.keep.ensures.kept ∙ sym c.keep.ensures.now) (c.keep-2.ensures.kept ∙ sym c.keep-2.ensures.now);
+      no_parts_pending = same_register _ _ _ _ (ap (λ (r : Register). r.parts) c.requires.no_parts_pending) (c.keep-2.ensures.before ∙ sym c.keep-2.ensures.now);
+      no_bills_pending = same_books _ _ _ _ (c.keep.ensures.before ∙ sym c.keep.ensures.now) (c.keep-2.ensures.before ∙ sym c.keep-2.ensures.now);
       sound = subst (λ b. IsSoundBill parts b c.keep-2.new.self.next) (sym c.keep.ensures.now)
           (subst (λ n. IsSoundBill parts now.bills n) (sym (ap (λ (n : Numbering). n.next) c.keep-2.ensures.now)) sound);
     }

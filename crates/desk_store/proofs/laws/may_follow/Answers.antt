@@ -1,12 +1,12 @@
-use Rattle.desk_core.specs.ShopView.{kept_state, state_of}
+use Rattle.desk_core.specs.ShopView.{state_before, state_of}
 use Rattle.desk_store.proofs.Kept.{small_meta}
 use Rattle.desk_store.proofs.laws.may_follow.Goals as goal
 
 pub returns : goal.returns
 returns c =
-    let old = kept_state c.args.shop.now in
+    let old = state_before c.args.shop.now in
     let new = state_of c.args.shop.now in
-    let before = c.numbers_are_small.ensures.kept in
+    let before = c.numbers_are_small.ensures.before in
     let after = c.numbers_are_small.ensures.now in
     record {
       before = c.requires.before;

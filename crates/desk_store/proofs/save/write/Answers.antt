@@ -2,7 +2,7 @@ use Rattle.std.proofs.Common.{◌≡◌, true, sym, subst, arith}
 use Rattle.sqlite.specs.Held.{state}
 use Rattle.sqlite.specs.State.{HasCleanDisk, KeepsCommit}
 use Rattle.sqlite.proofs.StateLemmas.{survives_then, survives_weaker}
-use Rattle.desk_core.specs.ShopView.{kept_state, state_of}
+use Rattle.desk_core.specs.ShopView.{state_before, state_of}
 use Rattle.desk_store.specs.StateTables.{TablesAre}
 use Rattle.desk_store.proofs.Midway.{all_of_them, begun, both_ok, committed, keeps_failed, keeps_later, keeps_shown, keeps_then, keeps_unless, when_err}
 use Rattle.desk_store.proofs.save.write.Goals as goal
@@ -15,7 +15,7 @@ write_tables-requires-clause-under_way g c clean =
     let d0 = state g.S.Store c.args.conn.now in
     let clean0 : HasCleanDisk d0 = omega (arith, clean, c.begin.ensures.crash.clean) in
     let holds = c.requires.books clean0 in
-    begun (kept_state c.args.shop.now) (state_of c.args.shop.now) d0 (state g.S.Store c.begin.new.conn) holds (c.in_ok-begin.ensures.begun clean) (c.in_ok-begin.ensures.tables clean holds.tables)
+    begun (state_before c.args.shop.now) (state_of c.args.shop.now) d0 (state g.S.Store c.begin.new.conn) holds (c.in_ok-begin.ensures.begun clean) (c.in_ok-begin.ensures.tables clean holds.tables)
 
 pub commit-requires : goal.commit-requires
 commit-requires g c clean = (c.in_ok-write_tables.ensures.under_way clean).ready.0.1
@@ -44,7 +44,7 @@ returns-clause-saved g c clean =
     let d3 = state g.S.Store c.commit.new.conn in
     let clean2 : HasCleanDisk d2 = omega (arith, clean, c.commit.ensures.crash.clean) in
     let way = c.in_ok-write_tables.ensures.under_way clean2 in
-    both_ok c.commit.result (λ shown tables. committed (kept_state c.args.shop.now) (state_of c.args.shop.now) d2 d3 (λ db up may. g.met.S.Store.settled c.commit.new.conn.store db up may) way shown tables)
+    both_ok c.commit.result (λ shown tables. committed (state_before c.args.shop.now) (state_of c.args.shop.now) d2 d3 (λ db up may. g.met.S.Store.settled c.commit.new.conn.store db up may) way shown tables)
     (c.commit.ensures.committed clean) (c.commit.ensures.tables clean way.ready.0.0)
 
 pub returns-clause-commit : goal.returns-clause-commit
@@ -69,4 +69,4 @@ returns-clause-crash g c =
     survives_then d0 d2 d3 (λ _. ⊥) (λ trees. trees ≡ d2.now.trees) (λ trees. TablesAre new trees) (λ _ db h. absurd h)
     (λ clean db same.
     let clean2 : HasCleanDisk d2 = omega (arith, clean, c.commit.ensures.crash.clean) in
-    subst (TablesAre new) (sym same) (all_of_them (kept_state c.args.shop.now) new d2.now.trees (c.in_ok-write_tables.ensures.under_way clean2).midway)) before c.commit.ensures.crash
+    subst (TablesAre new) (sym same) (all_of_them (state_before c.args.shop.now) new d2.now.trees (c.in_ok-write_tables.ensures.under_way clean2).midway)) before c.commit.ensures.crash

@@ -1,8 +1,8 @@
 use Rattle.std.proofs.Common.{arith}
 use Rattle.sqlite.specs.Held.{state}
 use Rattle.sqlite.specs.State.{HasCleanDisk}
-use Rattle.desk_core.specs.ShopView.{kept_state, state_of}
-use Rattle.desk_store.proofs.Kept.{kept_there, now_there, own_words, small_answers, stay_kept}
+use Rattle.desk_core.specs.ShopView.{state_before, state_of}
+use Rattle.desk_store.proofs.Kept.{answers_stay, before_there, now_there, own_words, small_answers}
 use Rattle.desk_store.proofs.Midway.{both_ok, one_written}
 use Rattle.desk_store.proofs.Suiting.{kept-suits}
 use Rattle.table_store.specs.Written.{tree_of}
@@ -22,15 +22,15 @@ pub write_kept-requires-clause-small : goal.write_kept-requires-clause-small
 write_kept-requires-clause-small g c = small_answers _
 
 pub write_kept-requires-clause-added : goal.write_kept-requires-clause-added
-write_kept-requires-clause-added g c = stay_kept c.answers.result.now c.args.shop.now.answers c.answers.ensures c.requires.follows.stays.answers
+write_kept-requires-clause-added g c = answers_stay c.answers.result.now c.args.shop.now.answers c.answers.ensures c.requires.follows.stays.answers
 
-pub write_kept-requires-clause-kept : goal.write_kept-requires-clause-kept
-write_kept-requires-clause-kept g c clean =
-    kept_there c.answers.result.now c.args.shop.now.answers c.answers.ensures (tree_of Kept (state g.S.Store c.args.conn.now)) ((c.requires.under_way clean).midway.left Kept (omega arith))
+pub write_kept-requires-clause-before : goal.write_kept-requires-clause-before
+write_kept-requires-clause-before g c clean =
+    before_there c.answers.result.now c.args.shop.now.answers c.answers.ensures (tree_of Kept (state g.S.Store c.args.conn.now)) ((c.requires.under_way clean).midway.left Kept (omega arith))
 
 pub returns : goal.returns
 returns g c =
-    let old = kept_state c.args.shop.now in
+    let old = state_before c.args.shop.now in
     let new = state_of c.args.shop.now in
     let d = state g.S.Store c.args.conn.now in
     let e = state g.S.Store c.write_kept.new.conn in

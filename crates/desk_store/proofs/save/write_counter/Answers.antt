@@ -3,7 +3,7 @@ use Rattle.std.specs.Prelude.{All}
 use Rattle.sqlite.specs.Held.{state}
 use Rattle.sqlite.specs.State.{HasCleanDisk}
 use Rattle.part_core.specs.Columns.{IsSmall}
-use Rattle.desk_core.specs.ShopView.{kept_state, state_of}
+use Rattle.desk_core.specs.ShopView.{state_before, state_of}
 use Rattle.desk_store.specs.MetaColumns.{meta_columns, meta_of, only}
 use Rattle.desk_store.specs.declared.meta.MetaRow.{MetaRow}
 use Rattle.desk_store.proofs.Kept.{meta_there, own_meta}
@@ -24,7 +24,7 @@ write_row-requires-clause-small g c = subst (λ (m : MetaRow). All IsSmall (meta
 
 pub returns : goal.returns
 returns g c =
-    let old = kept_state c.args.shop.now in
+    let old = state_before c.args.shop.now in
     let new = state_of c.args.shop.now in
     let d = state g.S.Store c.args.conn.now in
     let e = state g.S.Store c.write_row.new.conn in

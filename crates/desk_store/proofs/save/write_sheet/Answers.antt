@@ -1,7 +1,7 @@
 use Rattle.std.proofs.Common.{arith}
 use Rattle.sqlite.specs.Held.{state}
 use Rattle.sqlite.specs.State.{HasCleanDisk}
-use Rattle.desk_core.specs.ShopView.{kept_state, state_of}
+use Rattle.desk_core.specs.ShopView.{state_before, state_of}
 use Rattle.desk_store.proofs.Midway.{both_ok, one_written}
 use Rattle.table_store.specs.Written.{tree_of}
 use Rattle.desk_store.proofs.save.write_sheet.Goals as goal
@@ -21,13 +21,13 @@ write_pending-requires-clause-small g c = c.requires.sheet.small
 pub write_pending-requires-clause-stays : goal.write_pending-requires-clause-stays
 write_pending-requires-clause-stays g c = c.requires.sheet.stays
 
-pub write_pending-requires-clause-kept : goal.write_pending-requires-clause-kept
-write_pending-requires-clause-kept g c clean =
+pub write_pending-requires-clause-before : goal.write_pending-requires-clause-before
+write_pending-requires-clause-before g c clean =
     c.requires.sheet.was (tree_of c.args.table (state g.S.Store c.args.conn.now)) ((c.requires.under_way clean).midway.left c.args.table (omega arith))
 
 pub returns : goal.returns
 returns g c =
-    let old = kept_state c.args.shop.now in
+    let old = state_before c.args.shop.now in
     let new = state_of c.args.shop.now in
     let d = state g.S.Store c.args.conn.now in
     let e = state g.S.Store c.write_pending.new.conn in

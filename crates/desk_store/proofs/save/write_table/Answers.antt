@@ -1,6 +1,6 @@
 use Rattle.std.proofs.Common.{ap, ◌∙◌, ◌+◌, subst, sym}
 use Rattle.sqlite.specs.Held.{state}
-use Rattle.desk_core.specs.ShopView.{kept_state, state_of}
+use Rattle.desk_core.specs.ShopView.{state_before, state_of}
 use Rattle.desk_store.specs.Saving.{Goes, IsUnderWay}
 use Rattle.desk_store.proofs.Sheets.{allocation-sheet, at_table, build-sheet, category-sheet, entry-sheet, item-sheet, line-sheet, location-sheet, order-line-sheet, order-sheet, part-sheet, substitute-sheet}
 use Rattle.table_store.specs.Schema.{position}
@@ -43,16 +43,16 @@ write_sheet-requires-in-Allocations-clause-sheet g c = at_table c.args.table All
 
 pub write_counter-requires-clause-under_way : goal.write_counter-requires-clause-under_way
 write_counter-requires-clause-under_way g c clean =
-    subst (λ (t : TableName). IsUnderWay (kept_state c.args.shop.now) (state_of c.args.shop.now) (position t) (state g.S.Store c.args.conn.now)) c.in-Meta.is (c.requires.under_way clean)
+    subst (λ (t : TableName). IsUnderWay (state_before c.args.shop.now) (state_of c.args.shop.now) (position t) (state g.S.Store c.args.conn.now)) c.in-Meta.is (c.requires.under_way clean)
 
 pub returns-in-Meta : goal.returns-in-Meta
 returns-in-Meta g c =
-    subst (λ (t : TableName). Goes (kept_state c.args.shop.now) (state_of c.args.shop.now) (position t + 1) (state g.S.Store c.args.conn.now) (state g.S.Store c.write_counter.new.conn) c.write_counter.result) (sym c.in-Meta.is) c.write_counter.ensures
+    subst (λ (t : TableName). Goes (state_before c.args.shop.now) (state_of c.args.shop.now) (position t + 1) (state g.S.Store c.args.conn.now) (state g.S.Store c.write_counter.new.conn) c.write_counter.result) (sym c.in-Meta.is) c.write_counter.ensures
 
 pub write_answers-requires-clause-under_way : goal.write_answers-requires-clause-under_way
 write_answers-requires-clause-under_way g c clean =
-    subst (λ (t : TableName). IsUnderWay (kept_state c.args.shop.now) (state_of c.args.shop.now) (position t) (state g.S.Store c.args.conn.now)) c.in-Kept.is (c.requires.under_way clean)
+    subst (λ (t : TableName). IsUnderWay (state_before c.args.shop.now) (state_of c.args.shop.now) (position t) (state g.S.Store c.args.conn.now)) c.in-Kept.is (c.requires.under_way clean)
 
 pub returns-in-Kept : goal.returns-in-Kept
 returns-in-Kept g c =
-    subst (λ (t : TableName). Goes (kept_state c.args.shop.now) (state_of c.args.shop.now) (position t + 1) (state g.S.Store c.args.conn.now) (state g.S.Store c.write_answers.new.conn) c.write_answers.result) (sym c.in-Kept.is) c.write_answers.ensures
+    subst (λ (t : TableName). Goes (state_before c.args.shop.now) (state_of c.args.shop.now) (position t + 1) (state g.S.Store c.args.conn.now) (state g.S.Store c.write_answers.new.conn) c.write_answers.result) (sym c.in-Kept.is) c.write_answers.ensures

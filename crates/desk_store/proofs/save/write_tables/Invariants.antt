@@ -1,6 +1,6 @@
 use Rattle.sqlite.specs.Held.{state}
 use Rattle.sqlite.specs.State.{HasCleanDisk, KeepsCommit, Survives}
-use Rattle.desk_core.specs.ShopView.{kept_state, state_of}
+use Rattle.desk_core.specs.ShopView.{state_before, state_of}
 use Rattle.desk_store.specs.Saving.{IsUnderWay}
 use Rattle.desk_store.proofs.save.write_tables.Given as goal
 
@@ -12,5 +12,5 @@ invariant-loop-place g l =
     record {
       crash : Survives old now (λ _. ⊥);
       commit : HasCleanDisk now → KeepsCommit old now;
-      under_way : HasCleanDisk now → IsUnderWay (kept_state l.shop) (state_of l.shop) l.place now;
+      under_way : HasCleanDisk now → IsUnderWay (state_before l.shop) (state_of l.shop) l.place now;
     }

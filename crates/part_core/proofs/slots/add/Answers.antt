@@ -1,7 +1,7 @@
 use Rattle.std.proofs.Common.{Some, None, sym, ◌∙◌, refl}
 use Rattle.indexmap.proofs.CallerLemmas.{insert_entry-new}
 use Rattle.part_core.specs.declared.slots.Held.{Held}
-use Rattle.part_core.specs.Slots.{now_row, kept_row}
+use Rattle.part_core.specs.Slots.{now_row, row_before}
 use Rattle.part_core.proofs.Lookups.{find-lookup}
 use Rattle.part_core.proofs.Writes.{rows-added, rows-added_none, distinct-added, places-added, used-added}
 use Rattle.part_core.proofs.slots.add.Goals as goal
@@ -33,14 +33,14 @@ returns-clause-rows g c =
     let is = c.in_ok-insert.ensures.entries ∙ insert_entry-new _ c.args.slots.now c.args.key h none in
     rw is (rows-added digits es c.args.key h c.requires.distinct c.requires.absent now_row)
 
-pub returns-clause-kept : goal.returns-clause-kept
-returns-clause-kept g c =
+pub returns-clause-before : goal.returns-clause-before
+returns-clause-before g c =
     let digits = g.R.Key.RowKey.digits in
     let es = c.args.slots.now.entries in
     let h : Held g.row.R.Denot = record { row = Some c.args.row; before = Some None } in
     let none = sym (find-lookup digits _ g.met.R.Key.RowKey.exact es c.args.key) ∙ c.requires.absent in
     let is = c.in_ok-insert.ensures.entries ∙ insert_entry-new _ c.args.slots.now c.args.key h none in
-    rw is (rows-added_none digits es c.args.key h c.requires.distinct c.requires.absent kept_row refl)
+    rw is (rows-added_none digits es c.args.key h c.requires.distinct c.requires.absent row_before refl)
 
 pub returns-clause-used : goal.returns-clause-used
 returns-clause-used g c =

@@ -38,7 +38,7 @@ loop-i-preserved g c =
       used = c.back_at.ensures.used;
       places = ArePlaces-pop left c.in-Some.i es p (slots_of g.R.Key.RowKey.digits c.back_at.new.slots.entries) c.back_at.ensures.noted;
       up = places-rest left c.in-Some.i es p (subst IsNonDecreasing c.in-Some.ensures.items c.loop-i.invariant.up);
-      rows = c.back_at.ensures.kept ∙ c.loop-i.invariant.rows;
+      rows = c.back_at.ensures.before ∙ c.loop-i.invariant.rows;
     }
 
 pub returns-clause-rows : goal.returns-clause-rows

@@ -1,7 +1,7 @@
 use Rattle.std.proofs.Common.{◌≡◌, length}
 use Rattle.std.specs.List.Sorted.{IsNonDecreasing}
 use Rattle.part_core.specs.Sheet.{IsDistinct}
-use Rattle.part_core.specs.Slots.{ArePlaces, AreUsed, kept_row, slots_of, table_by}
+use Rattle.part_core.specs.Slots.{ArePlaces, AreUsed, row_before, slots_of, table_by}
 use Rattle.part_core.proofs.slots.back_all.Given as goal
 
 -- the places that are left rise
@@ -12,7 +12,7 @@ invariant-loop-i g l =
       used : AreUsed (slots_of g.R.Key.RowKey.digits l.slots.entries);
       places : ArePlaces l.changed.items (slots_of g.R.Key.RowKey.digits l.slots.entries);
       up : IsNonDecreasing l.changed.items;
-      rows : table_by kept_row (slots_of g.R.Key.RowKey.digits l.slots.entries) ≡ table_by kept_row (slots_of g.R.Key.RowKey.digits l.fn.slots.entries);
+      rows : table_by row_before (slots_of g.R.Key.RowKey.digits l.slots.entries) ≡ table_by row_before (slots_of g.R.Key.RowKey.digits l.fn.slots.entries);
     }
 
 abbrev pub decreases-loop-i : goal.decreases-loop-i

@@ -41,8 +41,8 @@ loop-i-preserved g c =
       rows = c.keep_at.ensures.rows ∙ c.loop-i.invariant.rows;
     }
 
-pub returns-clause-kept : goal.returns-clause-kept
-returns-clause-kept g c =
+pub returns-clause-before : goal.returns-clause-before
+returns-clause-before g c =
     let digits = g.R.Key.RowKey.digits in
     let none : (j : ℕ) → noted_at (slots_of digits c.loop-i.slots.entries) j ≡ 0 =
     λ j. sym (c.loop-i.invariant.places j) ∙ ap (times j) (c.in_default.ensures.items ∙ ap (λ l. l ++ []) (c.in_default.ensures.rest ∙ ap (λ n. take (n - 1) c.loop-i.changed.items) c.in_default.ensures.cases.0)) in

@@ -2,10 +2,10 @@ use Rattle.std.proofs.Common.{◌≡◌, Some, is_some, sym, ap, ◌∙◌, refl
 use Rattle.std.specs.Prelude.{not}
 use Rattle.indexmap.specs.Layout.{length-set_value_at}
 use Rattle.part_core.specs.declared.slots.Held.{Held}
-use Rattle.part_core.specs.Slots.{slots_of, now_row, kept_row}
+use Rattle.part_core.specs.Slots.{slots_of, now_row, row_before}
 use Rattle.part_core.proofs.SlotLemmas.{get-no_slot}
 use Rattle.part_core.proofs.Lookups.{slot_of_value, same_held, key-stays}
-use Rattle.part_core.proofs.Noted.{newly_noted, still_noted, kept-newly, noted_at-slot, used-noted}
+use Rattle.part_core.proofs.Noted.{newly_noted, still_noted, before-newly, noted_at-slot, used-noted}
 use Rattle.part_core.proofs.Writes.{distinct-written, noted-here, places-pushed, rows-same, used-written}
 use Rattle.part_core.proofs.slots.note.Goals as goal
 
@@ -47,8 +47,8 @@ returns-in_ok-reserve-clause-rows g c =
     let s = slot_of_value digits es i h c.index_mut-held.ensures.value in
     rows-same digits es i s.0 h w s.1 c.requires.distinct now_row refl
 
-pub returns-in_ok-reserve-clause-kept : goal.returns-in_ok-reserve-clause-kept
-returns-in_ok-reserve-clause-kept g c =
+pub returns-in_ok-reserve-clause-before : goal.returns-in_ok-reserve-clause-before
+returns-in_ok-reserve-clause-before g c =
     let digits = g.R.Key.RowKey.digits in
     let es = c.args.slots.now.entries in
     let i = c.in-Some.i in
@@ -57,8 +57,8 @@ returns-in_ok-reserve-clause-kept g c =
     let s = slot_of_value digits es i h c.index_mut-held.ensures.value in
     let same : c.index-held.result.now ≡ h = same_held _ _ (sym c.index-held.ensures ∙ c.index_mut-held.ensures.value) in
     let test = subst (λ (x : Held g.row.R.Denot). is_some x.before ≡ not c.is_none.result) same c.is_none.ensures in
-    rows-same digits es i s.0 h w s.1 c.requires.distinct kept_row
-    (c.in_ok-before.ensures ∙ ap (λ (x : Held g.row.R.Denot). x.row) same ∙ sym (kept-newly h.before h.row c.is_none.result test c.if-is_none.true))
+    rows-same digits es i s.0 h w s.1 c.requires.distinct row_before
+    (c.in_ok-before.ensures ∙ ap (λ (x : Held g.row.R.Denot). x.row) same ∙ sym (before-newly h.before h.row c.is_none.result test c.if-is_none.true))
 
 pub returns-in_ok-reserve-clause-in_range : goal.returns-in_ok-reserve-clause-in_range
 returns-in_ok-reserve-clause-in_range g c =

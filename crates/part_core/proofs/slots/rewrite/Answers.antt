@@ -1,11 +1,11 @@
 use Rattle.std.proofs.Common.{sym, ap, ◌∙◌, refl, is_some, Some}
 use Rattle.std.specs.Prelude.{not}
 use Rattle.part_core.specs.Sheet.{given}
-use Rattle.part_core.specs.Slots.{slots_of, now_row, kept_row, table_by}
+use Rattle.part_core.specs.Slots.{slots_of, now_row, row_before, table_by}
 use Rattle.part_core.proofs.SlotLemmas.{get-slot}
 use Rattle.part_core.proofs.Lookups.{slot_of_value, slot_of_key}
 use Rattle.part_core.proofs.Writes.{distinct-written, places-pushed, places-same, rows-written, rows-same, used-written}
-use Rattle.part_core.proofs.Noted.{newly_noted, kept-newly, kept-still, used-noted}
+use Rattle.part_core.proofs.Noted.{newly_noted, before-newly, before-still, used-noted}
 use Rattle.part_core.proofs.slots.rewrite.Goals as goal
 
 pub returns-then-is_none-clause-distinct : goal.returns-then-is_none-clause-distinct
@@ -30,13 +30,13 @@ returns-then-is_none-clause-rows g c k key =
     let at = slot_of_key digits es c.args.i k c.index_mut-held.result.now c.index_mut-held.ensures.value key in
     rows-written digits es c.args.i k c.index_mut-held.result.now _ at c.requires.distinct now_row ∙ ap (λ o. given k o (table_by now_row (slots_of digits es))) c.replace-before.ensures.after
 
-pub returns-then-is_none-clause-kept : goal.returns-then-is_none-clause-kept
-returns-then-is_none-clause-kept g c =
+pub returns-then-is_none-clause-before : goal.returns-then-is_none-clause-before
+returns-then-is_none-clause-before g c =
     let digits = g.R.Key.RowKey.digits in
     let es = c.args.slots.now.entries in
     let s = slot_of_value digits es c.args.i c.index_mut-held.result.now c.index_mut-held.ensures.value in
-    rows-same digits es c.args.i s.0 c.index_mut-held.result.now _ s.1 c.requires.distinct kept_row
-    (c.replace-before.ensures.value ∙ sym (kept-newly c.index_mut-held.result.now.before c.index_mut-held.result.now.row c.is_none.result c.is_none.ensures c.if-is_none.true))
+    rows-same digits es c.args.i s.0 c.index_mut-held.result.now _ s.1 c.requires.distinct row_before
+    (c.replace-before.ensures.value ∙ sym (before-newly c.index_mut-held.result.now.before c.index_mut-held.result.now.row c.is_none.result c.is_none.ensures c.if-is_none.true))
 
 pub returns-then-is_none-clause-had : goal.returns-then-is_none-clause-had
 returns-then-is_none-clause-had g c k key =
@@ -66,13 +66,13 @@ returns-else-is_none-clause-rows g c k key =
     let at = slot_of_key digits es c.args.i k c.index_mut-held.result.now c.index_mut-held.ensures.value key in
     rows-written digits es c.args.i k c.index_mut-held.result.now _ at c.requires.distinct now_row ∙ ap (λ o. given k o (table_by now_row (slots_of digits es))) c.replace-before.ensures.after
 
-pub returns-else-is_none-clause-kept : goal.returns-else-is_none-clause-kept
-returns-else-is_none-clause-kept g c =
+pub returns-else-is_none-clause-before : goal.returns-else-is_none-clause-before
+returns-else-is_none-clause-before g c =
     let digits = g.R.Key.RowKey.digits in
     let es = c.args.slots.now.entries in
     let s = slot_of_value digits es c.args.i c.index_mut-held.result.now c.index_mut-held.ensures.value in
-    rows-same digits es c.args.i s.0 c.index_mut-held.result.now _ s.1 c.requires.distinct kept_row
-    (kept-still c.index_mut-held.result.now.before _ _ c.is_none.result c.is_none.ensures c.if-is_none.false)
+    rows-same digits es c.args.i s.0 c.index_mut-held.result.now _ s.1 c.requires.distinct row_before
+    (before-still c.index_mut-held.result.now.before _ _ c.is_none.result c.is_none.ensures c.if-is_none.false)
 
 pub returns-else-is_none-clause-had : goal.returns-else-is_none-clause-had
 returns-else-is_none-clause-had g c k key =

@@ -19,5 +19,5 @@ loop-serial-preserved c =
           c.in_ok-make_one.ensures.sound c.in_ok-make_one.ensures.ok;
       rest = ap (make_each a c.args.batch.now rest c.args.day) c.in_ok-make_one.ensures.ok
           ∙ sym (ap (λ l. make_each a c.args.batch.now l c.args.day b) here) ∙ c.loop-serial.invariant.rest;
-      kept = c.in_ok-make_one.ensures.kept ∙ c.loop-serial.invariant.kept;
+      before = c.in_ok-make_one.ensures.before ∙ c.loop-serial.invariant.before;
     }

@@ -1,5 +1,5 @@
 use Rattle.std.proofs.Common.{◌≡◌, drop, length}
-use Rattle.yard_core.specs.StockBooks.{stock_books_of, kept_stock_books}
+use Rattle.yard_core.specs.StockBooks.{stock_books_of, stock_books_before}
 use Rattle.stock_core.specs.Arrives.{HasRoom}
 use Rattle.stock_core.specs.Steps.{make_each}
 use Rattle.stock_core.proofs.arrivals.make_each.Given as goal
@@ -9,5 +9,5 @@ invariant-loop-serial l =
     record {
       room : HasRoom (length (drop l.serial-index l.serials)) (stock_books_of l.yard l.counter);
       rest : make_each l.arrival l.batch (drop l.serial-index l.serials) l.day (stock_books_of l.yard l.counter) ≡ make_each l.arrival l.batch l.serials l.day (stock_books_of l.initial.yard l.initial.counter);
-      kept : kept_stock_books l.yard l.counter ≡ kept_stock_books l.initial.yard l.initial.counter;
+      before : stock_books_before l.yard l.counter ≡ stock_books_before l.initial.yard l.initial.counter;
     }

@@ -9,7 +9,7 @@ loop-serial-init c = record {
   room = c.requires.room;
   pieces = pieces-whole c.args.item c.args.serials.now (stock_books_of c.args.yard.now c.args.counter.now) c.requires.whole;
   rest = refl;
-  kept = refl;
+  before = refl;
 }
 
 pub cut_off-requires : goal.cut_off-requires
@@ -41,5 +41,5 @@ loop-serial-preserved c =
       room = room-cut n 1 (Some x) c.args.day (length rest) b new whole.there room c.in_ok-cut_off.ensures.sound c.in_ok-cut_off.ensures.ok;
       pieces = pieces-cut n (Some x) c.args.day rest b new room whole c.in_ok-cut_off.ensures.ok;
       rest = ap (cut_each n rest c.args.day) c.in_ok-cut_off.ensures.ok ∙ sym (ap (λ l. cut_each n l c.args.day b) here) ∙ c.loop-serial.invariant.rest;
-      kept = c.in_ok-cut_off.ensures.kept ∙ c.loop-serial.invariant.kept;
+      before = c.in_ok-cut_off.ensures.before ∙ c.loop-serial.invariant.before;
     }

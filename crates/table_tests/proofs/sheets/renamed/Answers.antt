@@ -17,7 +17,7 @@ key row = row.number ∷ []
 IsLow : Category → Type 0
 IsLow row = All IsSmall (named_columns row)
 
--- the rows are those that were kept, with one more row in its place
+-- the rows are those before, with one more row in its place
 is-put : (now mid old : Table Category) (row : Category) → now ≡ insert mid (row.number ∷ []) row → mid ≡ old → now ≡ insert old (row.number ∷ []) row
 is-put now mid old row put same = put ∙ ap (λ (t : Table Category). insert t (row.number ∷ []) row) same
 
@@ -37,5 +37,5 @@ returns-clause-small c =
 pub returns-clause-stays : goal.returns-clause-stays
 returns-clause-stays c =
     let old = now_of c.args.sheet.now in
-    subst (λ kept. StayThere kept (now_of c.put.new.self)) (sym (c.put.ensures.kept ∙ c.keep.ensures.kept))
+    subst (λ before. StayThere before (now_of c.put.new.self)) (sym (c.put.ensures.before ∙ c.keep.ensures.before))
     (subst (StayThere old) (sym (is-put (now_of c.put.new.self) (now_of c.keep.new.self) old c.in_ok-row.row c.in_ok-put.ensures.ok c.keep.ensures.rows)) (stay-insert old (c.in_ok-row.row.number ∷ []) c.in_ok-row.row))

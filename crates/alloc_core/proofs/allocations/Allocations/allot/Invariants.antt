@@ -1,7 +1,7 @@
 use Rattle.std.proofs.Common.{◌≡◌, drop}
-use Rattle.part_core.specs.Counter.{kept_numbering}
+use Rattle.part_core.specs.Counter.{numbering_before}
 use Rattle.yard_core.specs.YardView.{stock_of}
-use Rattle.alloc_core.specs.AllocationsView.{kept_allocations}
+use Rattle.alloc_core.specs.AllocationsView.{allocations_before}
 use Rattle.alloc_core.specs.Allotments.{allotments_of, for_line}
 use Rattle.alloc_core.specs.Allotting.{allot_in_turn}
 use Rattle.alloc_core.proofs.allocations.Allocations.allot.Given as goal
@@ -12,6 +12,6 @@ invariant-loop-item l =
     record {
       left : allot_in_turn (for_line l.build l.line) (drop l.item-index l.items) l.left (stock_of l.yard) (allotments_of l.self l.counter)
           ≡ allot_in_turn (for_line l.build l.line) l.items l.missing (stock_of l.yard) (allotments_of l.initial.self l.initial.counter);
-      kept : kept_allocations l.self ≡ kept_allocations l.initial.self;
-      counter_kept : kept_numbering l.counter ≡ kept_numbering l.initial.counter;
+      before : allocations_before l.self ≡ allocations_before l.initial.self;
+      counter_before : numbering_before l.counter ≡ numbering_before l.initial.counter;
     }

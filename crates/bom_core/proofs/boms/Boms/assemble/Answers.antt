@@ -8,5 +8,5 @@ pub invariant_of-result : goal.invariant_of-result
 invariant_of-result c =
     let own = filled-own (λ (l : Line). l.number ∷ []) c.args.lines.items in record {
       numbered = numbered-same _ _ own c.in_ok-lines.ensures.rows;
-      kept_numbered = numbered-same _ _ own c.in_ok-lines.ensures.kept;
+      numbered_before = numbered-same _ _ own c.in_ok-lines.ensures.before;
     }

@@ -10,7 +10,7 @@ pub invariant_of-self : goal.invariant_of-self
 invariant_of-self c =
     record {
       numbered = numbered-put c.put.result c.args.self.now.lines _ c.args.line c.put.ensures.ok c.put.ensures.err c.args.self.now.numbered;
-      kept_numbered = numbered-same c.args.self.now.lines.kept _ c.args.self.now.kept_numbered c.put.ensures.kept;
+      numbered_before = numbered-same c.args.self.now.lines.before _ c.args.self.now.numbered_before c.put.ensures.before;
     }
 
 pub returns-then-branch-clause-refused : goal.returns-then-branch-clause-refused

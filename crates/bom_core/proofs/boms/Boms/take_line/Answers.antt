@@ -6,5 +6,5 @@ pub invariant_of-self-2 : goal.invariant_of-self-2
 invariant_of-self-2 c =
     record {
       numbered = numbered-remove c.args.self.now.lines.rows _ (c.args.line ∷ []) c.args.self.now.numbered c.in_ok-remove.ensures.ok;
-      kept_numbered = numbered-same c.args.self.now.lines.kept _ c.args.self.now.kept_numbered c.in_ok-remove.ensures.kept;
+      numbered_before = numbered-same c.args.self.now.lines.before _ c.args.self.now.numbered_before c.in_ok-remove.ensures.before;
     }

@@ -7,5 +7,5 @@ abbrev pub invariant-loop-number : goal.invariant-loop-number
 invariant-loop-number l =
     record {
       removed : removed_all (drop l.number-index l.numbers) (now_of l.substitutes) ≡ removed_all l.numbers (now_of l.initial.substitutes);
-      kept : l.substitutes.kept ≡ l.initial.substitutes.kept;
+      before : l.substitutes.before ≡ l.initial.substitutes.before;
     }

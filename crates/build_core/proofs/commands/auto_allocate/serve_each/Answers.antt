@@ -25,6 +25,6 @@ loop-lack-preserved c =
       drawn = served-drawn c.args.with_substitutes (parts_of c.args.catalogue.now) (bills_of c.args.boms.now) (stock_of c.args.yard.now) sound.stock.items.stock c.args.counter.now.next sound.stock.items.rows
           c.requires.bill c.args.build c.args.lacks.now c.requires.lines c.loop-lack.lack-index old _ c.loop-lack.invariant.drawn
           c.loop-lack.invariant.left _ _ c.loop-lack-test.true refl new c.in_default.ensures.ok;
-      kept = c.serve_line-served.ensures.kept ∙ c.loop-lack.invariant.kept;
-      counter_kept = c.serve_line-served.ensures.counter_kept ∙ c.loop-lack.invariant.counter_kept;
+      before = c.serve_line-served.ensures.before ∙ c.loop-lack.invariant.before;
+      counter_before = c.serve_line-served.ensures.counter_before ∙ c.loop-lack.invariant.counter_before;
     }

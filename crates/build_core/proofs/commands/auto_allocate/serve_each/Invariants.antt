@@ -1,9 +1,9 @@
 use Rattle.std.proofs.Common.{◌≡◌, drop}
 use Rattle.part_core.specs.CatalogueView.{parts_of}
-use Rattle.part_core.specs.Counter.{kept_numbering}
+use Rattle.part_core.specs.Counter.{numbering_before}
 use Rattle.bom_core.specs.BomsView.{bills_of}
 use Rattle.yard_core.specs.YardView.{stock_of}
-use Rattle.alloc_core.specs.AllocationsView.{kept_allocations}
+use Rattle.alloc_core.specs.AllocationsView.{allocations_before}
 use Rattle.alloc_core.specs.Allotments.{allotments_of}
 use Rattle.alloc_core.specs.Allotting.{allot_lines}
 use Rattle.alloc_core.proofs.Allotted.{AreDrawn}
@@ -17,6 +17,6 @@ invariant-loop-lack l =
       left : allot_lines l.with_substitutes (parts_of l.catalogue) (bills_of l.boms) (stock_of l.yard) l.build (needs_of (drop l.lack-index l.lacks)) (allotments_of l.allocations l.counter)
           ≡ allot_lines l.with_substitutes (parts_of l.catalogue) (bills_of l.boms) (stock_of l.yard) l.build (needs_of l.lacks) (allotments_of l.initial.allocations l.initial.counter);
       drawn : AreDrawn (allotments_of l.allocations l.counter);
-      kept : kept_allocations l.allocations ≡ kept_allocations l.initial.allocations;
-      counter_kept : kept_numbering l.counter ≡ kept_numbering l.initial.counter;
+      before : allocations_before l.allocations ≡ allocations_before l.initial.allocations;
+      counter_before : numbering_before l.counter ≡ numbering_before l.initial.counter;
     }

@@ -18,7 +18,7 @@ loop-output-init c =
     let rows : c.deref-output-items.result.now ≡ outputs_of n b.books.stock = c.deref-output-items.ensures.value ∙ c.in_ok-outputs.ensures in
     record {
       left = subst (λ (xs : List ℕ). IsClearing n c.args.day xs xs b.books b.books) (sym rows) (clearing-all n c.args.day sound.0 sound.1 sound.2 b sound.3 c.requires.checked);
-      kept = refl;
+      before = refl;
     }
 
 pub lift-requires-clause-can : goal.lift-requires-clause-can
@@ -50,7 +50,7 @@ loop-output-preserved c =
       left = clearing-one c.args.build c.args.day xs (get_or xs i 0) (drop (i + 1) xs) old b
           (subst (λ (ys : List ℕ). IsClearing c.args.build c.args.day xs ys old b) (drop_more xs i 0 c.loop-output-test.true) c.loop-output.invariant.left)
           (stock_books_of c.lift.new.self c.args.counter.now) (ap (λ s. with_stock s b) c.in_ok-lift.ensures.ok);
-      kept = c.in_ok-lift.ensures.kept ∙ c.loop-output.invariant.kept;
+      before = c.in_ok-lift.ensures.before ∙ c.loop-output.invariant.before;
     }
 
 pub returns-clause-ok : goal.returns-clause-ok

@@ -24,7 +24,7 @@ loop-row-init c =
     record {
       left = subst (λ (xs : List Allocation). IsLeft (used_for n day) day (quiet_beside b.books) xs xs b.books b.books)
           (sym rows) (left-start n day sound.0 sound.1 sound.2 b sound.3 c.requires.there);
-      kept = refl;
+      before = refl;
     }
 
 pub use_up-used-requires-clause-can : goal.use_up-used-requires-clause-can
@@ -63,7 +63,7 @@ loop-row-preserved c =
     record {
       left = left-one go c.args.day (quiet_beside old) (seen rows) c.row-item.result.now (seen (drop (i + 1) rows)) old b left
           (stock_books_of c.use_up-used.new.yard c.use_up-used.new.counter) c.in_default.ensures.ok c.in_default.ensures.within;
-      kept = c.use_up-used.ensures.kept ∙ c.loop-row.invariant.kept;
+      before = c.use_up-used.ensures.before ∙ c.loop-row.invariant.before;
     }
 
 pub returns-clause-ok : goal.returns-clause-ok

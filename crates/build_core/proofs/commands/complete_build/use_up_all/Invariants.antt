@@ -1,5 +1,5 @@
 use Rattle.std.proofs.Common.{◌≡◌, drop}
-use Rattle.yard_core.specs.StockBooks.{stock_books_of, kept_stock_books}
+use Rattle.yard_core.specs.StockBooks.{stock_books_of, stock_books_before}
 use Rattle.yard_core.specs.Outputs.{LeavesOutputs}
 use Rattle.build_core.specs.CompleteBuild.{used_for}
 use Rattle.build_core.proofs.Served.{IsLeft, seen}
@@ -10,5 +10,5 @@ invariant-loop-row l =
     let old = stock_books_of l.initial.yard l.initial.counter in
     record {
       left : IsLeft (used_for l.build l.day) l.day (λ xs c. LeavesOutputs old.stock.items c.stock.items) (seen l.row-items) (seen (drop l.row-index l.row-items)) old (stock_books_of l.yard l.counter);
-      kept : kept_stock_books l.yard l.counter ≡ kept_stock_books l.initial.yard l.initial.counter;
+      before : stock_books_before l.yard l.counter ≡ stock_books_before l.initial.yard l.initial.counter;
     }

@@ -45,7 +45,7 @@ loop-row-preserved c =
             can = subst (CanDeliver xs) (sym lines) (can-rest a xs t can w.in-Sale.order w.in-Sale.line w.in-Sale.is);
             left = ap (mapped (delivered xs)) lines ∙ left-rest a xs t can w.in-Sale.order w.in-Sale.line w.in-Sale.is ∙ sym here ∙ c.loop-row.invariant.left;
             orders = ap (λ (o : Orders). o.orders) w.orders-is ∙ w.in_ok-add_done-in-Sale.ensures.orders ∙ c.loop-row.invariant.orders;
-            kept = ap (λ (o : Orders). o.lines.kept) w.orders-is ∙ w.in_ok-add_done-in-Sale.ensures.lines_kept ∙ c.loop-row.invariant.kept;
+            before = ap (λ (o : Orders). o.lines.before) w.orders-is ∙ w.in_ok-add_done-in-Sale.ensures.lines_before ∙ c.loop-row.invariant.before;
           }
       | in-Build w ↦ absurd (let sale = can.have.0.2 in let build = w.in-Build.is in cc)
     ]

@@ -35,7 +35,7 @@ loop-row-preserved c =
     let b = stock_books_of c.loop-row.yard c.loop-row.counter in (
       left-one c.args.order c.args.day (map (λ (r : Bor Allocation). r.now) rows) c.row-item.result.now (map (λ (r : Bor Allocation). r.now) (drop (i + 1) rows)) old b
           (left-from c.args.order c.args.day rows i c.row-item.result old b c.loop-row-test.true c.row-item.is c.loop-row.invariant.0) (stock_books_of c.send-sent.new.yard c.send-sent.new.counter) c.in_default.ensures.ok c.in_default.ensures.within,
-      c.send-sent.ensures.kept ∙ c.loop-row.invariant.1,
+      c.send-sent.ensures.before ∙ c.loop-row.invariant.1,
     )
 
 pub returns-clause-within : goal.returns-clause-within

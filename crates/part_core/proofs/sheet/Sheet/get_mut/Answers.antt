@@ -2,9 +2,9 @@ use Rattle.std.proofs.Common.{◌≡◌, Some, is_some, sym, ap, ◌∙◌, refl
 use Rattle.std.specs.FinMap as table
 use Rattle.part_core.specs.declared.slots.Held.{Held}
 use Rattle.part_core.specs.Sheet.{now_of}
-use Rattle.part_core.specs.Slots.{kept_row, noted, now_row, slots_of, table_by}
+use Rattle.part_core.specs.Slots.{noted, now_row, row_before, slots_of, table_by}
 use Rattle.part_core.proofs.Lookups.{slot_of_key}
-use Rattle.part_core.proofs.Noted.{kept-noted, noted_at-slot}
+use Rattle.part_core.proofs.Noted.{before-noted, noted_at-slot}
 use Rattle.part_core.proofs.SlotLemmas.{get-slot, len-put_same}
 use Rattle.part_core.proofs.Writes.{distinct-written, places-same, rows-same, rows-written, used-written}
 use Rattle.part_core.proofs.sheet.Sheet.get_mut.Goals as goal
@@ -38,7 +38,7 @@ invariant_of-self-lent g c x =
       used = used-written digits es i k h w at refl c.note.ensures.used;
       places = places-same digits es i k h w at c.note.new.changed.items c.note.ensures.places refl;
       len = c.self.invariant.len ∙ ap table.len (sym c.note.ensures.rows) ∙ sym (ap table.len (rows-written digits es i k h w at d now_row) ∙ len-put_same m k x _ some refl);
-      kept_len = c.self.invariant.kept_len ∙ ap table.len (sym c.note.ensures.kept) ∙ sym (ap table.len (rows-same digits es i k h w at d kept_row (kept-noted h.before (Some x) h.row one)));
+      length_before = c.self.invariant.length_before ∙ ap table.len (sym c.note.ensures.before) ∙ sym (ap table.len (rows-same digits es i k h w at d row_before (before-noted h.before (Some x) h.row one)));
     })
 
 pub returns : goal.returns
@@ -57,7 +57,7 @@ returns g c =
         refl,
         λ x _. record {
           now = rw c.in-Some.is (rows-written digits es i k h (put x) at d now_row ∙ ap (λ m. table.insert m k x) before);
-          kept = rw c.in-Some.is (rows-same digits es i k h (put x) at d kept_row (kept-noted h.before (Some x) h.row one) ∙ c.note.ensures.kept ∙ ap (λ s. s.kept) c.self.view_is);
+          before = rw c.in-Some.is (rows-same digits es i k h (put x) at d row_before (before-noted h.before (Some x) h.row one) ∙ c.note.ensures.before ∙ ap (λ s. s.before) c.self.view_is);
         },
         tt,
       ),

@@ -20,7 +20,7 @@ invariant_of-self-then-not-rewrite g c =
       places = c.rewrite.ensures.places;
       len = ap (λ n. n + 1) c.self.invariant.len
           ∙ sym (ap table.len (c.rewrite.ensures.rows k c.in-Some.ensures.found) ∙ len-put_new m k c.args.row c.rewrite.result (c.rewrite.ensures.had k c.in-Some.ensures.found) c.if-not-rewrite.true);
-      kept_len = c.self.invariant.kept_len ∙ ap table.len (sym c.rewrite.ensures.kept);
+      length_before = c.self.invariant.length_before ∙ ap table.len (sym c.rewrite.ensures.before);
     }
 
 pub invariant_of-self-else-not-rewrite : goal.invariant_of-self-else-not-rewrite
@@ -33,7 +33,7 @@ invariant_of-self-else-not-rewrite g c =
       places = c.rewrite.ensures.places;
       len = c.self.invariant.len
           ∙ sym (ap table.len (c.rewrite.ensures.rows k c.in-Some.ensures.found) ∙ len-put_same m k c.args.row c.rewrite.result (c.rewrite.ensures.had k c.in-Some.ensures.found) c.if-not-rewrite.false);
-      kept_len = c.self.invariant.kept_len ∙ ap table.len (sym c.rewrite.ensures.kept);
+      length_before = c.self.invariant.length_before ∙ ap table.len (sym c.rewrite.ensures.before);
     }
 
 pub overflow_add-self-in-None : goal.overflow_add-self-in-None
@@ -52,5 +52,5 @@ invariant_of-self-in-None g c =
       used = c.add.ensures.used;
       places = c.add.ensures.places;
       len = ap (λ n. n + 1) c.self.invariant.len ∙ sym (ap table.len c.in_ok-add-in-None.ensures.rows ∙ len-put_new m k c.args.row _ none refl);
-      kept_len = c.self.invariant.kept_len ∙ ap table.len (sym c.add.ensures.kept);
+      length_before = c.self.invariant.length_before ∙ ap table.len (sym c.add.ensures.before);
     }

@@ -22,7 +22,7 @@ invariant_of-self-then-rewrite g c =
       places = c.rewrite.ensures.places;
       len = ap (λ n. n - 1) c.self.invariant.len
           ∙ sym (ap table.len (c.rewrite.ensures.rows k c.in-Some.ensures.found) ∙ len-removed m k c.rewrite.result (c.rewrite.ensures.had k c.in-Some.ensures.found) c.if-rewrite.true);
-      kept_len = c.self.invariant.kept_len ∙ ap table.len (sym c.rewrite.ensures.kept);
+      length_before = c.self.invariant.length_before ∙ ap table.len (sym c.rewrite.ensures.before);
     }
 
 pub invariant_of-self-else-rewrite : goal.invariant_of-self-else-rewrite
@@ -35,7 +35,7 @@ invariant_of-self-else-rewrite g c =
       places = c.rewrite.ensures.places;
       len = c.self.invariant.len
           ∙ sym (ap table.len (c.rewrite.ensures.rows k c.in-Some.ensures.found) ∙ len-not_removed m k c.rewrite.result (c.rewrite.ensures.had k c.in-Some.ensures.found) c.if-rewrite.false);
-      kept_len = c.self.invariant.kept_len ∙ ap table.len (sym c.rewrite.ensures.kept);
+      length_before = c.self.invariant.length_before ∙ ap table.len (sym c.rewrite.ensures.before);
     }
 
 pub returns-in_default-clause-ok : goal.returns-in_default-clause-ok

@@ -1,5 +1,5 @@
 use Rattle.std.proofs.Common.{◌≡◌, ◌+◌, ◌<◌, ◌^◌, drop, length}
-use Rattle.yard_core.specs.StockBooks.{kept_stock_books}
+use Rattle.yard_core.specs.StockBooks.{stock_books_before}
 use Rattle.yard_core.specs.Stock.{IsSound, next_entry}
 use Rattle.yard_core.specs.YardView.{stock_of}
 use Rattle.stock_core.specs.Merge.{pour_each}
@@ -13,5 +13,5 @@ invariant-loop-item l =
       pours : ArePourable l.into (drop l.item-index l.items) (stock_of l.yard);
       room : next_entry (stock_of l.yard) + length (drop l.item-index l.items) < 2 ^ 64;
       rest : pour_each (drop l.item-index l.items) l.into l.day (stock_of l.yard) ≡ pour_each l.items l.into l.day (stock_of l.initial.yard);
-      kept : kept_stock_books l.yard l.counter ≡ kept_stock_books l.initial.yard l.counter;
+      before : stock_books_before l.yard l.counter ≡ stock_books_before l.initial.yard l.counter;
     }
