@@ -16,31 +16,38 @@ module _ (purpose : Purpose) (n quantity : ℕ) (b : Allotments) (new : IsNew b)
   abbrev row : Allocation
   row = new_allocation b.counter.next purpose n quantity
 
-  pub allocated-more : (k : ℕ) → allocated k (allocate purpose n quantity b).allocations ≡ (if n == k then quantity else 0) + allocated k b.allocations
+  pub allocated-more : (k : ℕ) → allocated k (allocate purpose n quantity b).allocations
+      ≡ (if n == k then quantity else 0) + allocated k b.allocations
   allocated-more k = sum-insert_new (amount_where (is_of_item k)) b.allocations (b.counter.next ∷ []) row new
 
-  pub where-more : (test : Purpose → Bool) → allocated_where test (allocate purpose n quantity b).allocations ≡ (if test purpose then quantity else 0) + allocated_where test b.allocations
+  pub where-more : (test : Purpose → Bool) → allocated_where test (allocate purpose n quantity b).allocations
+      ≡ (if test purpose then quantity else 0) + allocated_where test b.allocations
   where-more test = sum-insert_new (amount_where (λ a. test a.purpose)) b.allocations (b.counter.next ∷ []) row new
 
   -- an amount of 0 adds nothing
-  pub allocated-some : (k : ℕ) → allocated k (allocate_some purpose n quantity b).allocations ≡ (if n == k then quantity else 0) + allocated k b.allocations
+  pub allocated-some : (k : ℕ) → allocated k (allocate_some purpose n quantity b).allocations
+      ≡ (if n == k then quantity else 0) + allocated k b.allocations
   allocated-some k = go (quantity == 0) refl
     where
       none : (c : Bool) (q : ℕ) → q ≡ 0 → (if c then q else 0) ≡ 0
       none true q e = e
       none false q e = refl
 
-      go : (c : Bool) → (quantity == 0) ≡ c → allocated k (if c then b else allocate purpose n quantity b).allocations ≡ (if n == k then quantity else 0) + allocated k b.allocations
+      go : (c : Bool) → (quantity == 0) ≡ c → allocated k (if c then b else allocate purpose n quantity b).allocations
+          ≡ (if n == k then quantity else 0) + allocated k b.allocations
       go true e = omega (arith, none (n == k) quantity (eqb-true quantity 0 e))
       go false e = allocated-more k
 
-  pub where-some : (test : Purpose → Bool) → allocated_where test (allocate_some purpose n quantity b).allocations ≡ (if test purpose then quantity else 0) + allocated_where test b.allocations
+  pub where-some : (test : Purpose → Bool) → allocated_where test (allocate_some purpose n quantity b).allocations
+      ≡ (if test purpose then quantity else 0) + allocated_where test b.allocations
   where-some test = go (quantity == 0) refl
     where
       none : (c : Bool) (q : ℕ) → q ≡ 0 → (if c then q else 0) ≡ 0
       none true q e = e
       none false q e = refl
 
-      go : (c : Bool) → (quantity == 0) ≡ c → allocated_where test (if c then b else allocate purpose n quantity b).allocations ≡ (if test purpose then quantity else 0) + allocated_where test b.allocations
+      go : (c : Bool) → (quantity == 0) ≡ c
+          → allocated_where test (if c then b else allocate purpose n quantity b).allocations
+          ≡ (if test purpose then quantity else 0) + allocated_where test b.allocations
       go true e = omega (arith, none (test purpose) quantity (eqb-true quantity 0 e))
       go false e = where-more test

@@ -1,5 +1,6 @@
 -- In a sound state no item stands twice among the candidates for a line.
-use Rattle.std.proofs.Common.{◌≡◌, inl, inr, ℕ, Bool, true, false, ◌||◌, List, [], ◌∷◌, ◌++◌, map, Option, Some, None, refl, sym, ap, ◌∙◌, subst, eqb-true}
+use Rattle.std.proofs.Common.{◌≡◌, inl, inr, ℕ, Bool, true, false, ◌||◌, List, [], ◌∷◌, ◌++◌}
+use Rattle.std.proofs.Common.{map, Option, Some, None, refl, sym, ap, ◌∙◌, subst, eqb-true}
 use Rattle.std.specs.Prelude.{◌==◌, ◌&&◌, flat_map, if◌then◌else◌}
 use Rattle.std.specs.List.{list_any}
 use Rattle.std.specs.FinMap as table
@@ -19,7 +20,8 @@ use Rattle.bom_core.specs.declared.line.Line.{Line}
 use Rattle.bom_core.specs.declared.substitute.Substitute.{Substitute}
 use Rattle.yard_core.specs.Stock.{Stock}
 use Rattle.alloc_core.specs.Candidates.{candidate_numbers, group, is_candidate, is_variant_for, substitutes_on}
-use Rattle.alloc_core.proofs.Once.{AreApart, StandOnce, Stands-append, Stands-number, Stands-passes, absent, append-once, one-row, passing-once, rows-once}
+use Rattle.alloc_core.proofs.Once.{AreApart, StandOnce, Stands-append, Stands-number, Stands-passes}
+use Rattle.alloc_core.proofs.Once.{absent, append-once, one-row, passing-once, rows-once}
 use Rattle.part_core.proofs.Conditions.{or_none}
 
 abbrev numbers : List Item → List ℕ
@@ -29,7 +31,8 @@ numbers-append : (xs ys : List Item) → numbers (xs ++ ys) ≡ numbers xs ++ nu
 numbers-append [] ys = refl
 numbers-append (x ∷ xs) ys = ap (λ l. x.number ∷ l) (numbers-append xs ys)
 
-Stands-flat : (f : Substitute → List Item) (xs : List Substitute) (x : Item) → Stands x (flat_map f xs) → (y : Substitute) × Stands y xs × Stands x (f y)
+Stands-flat : (f : Substitute → List Item) (xs : List Substitute) (x : Item) → Stands x (flat_map f xs)
+    → (y : Substitute) × Stands y xs × Stands x (f y)
 Stands-flat f [] x s = absurd s
 Stands-flat f (y ∷ ys) x s = elim (Stands-append (f y) (flat_map f ys) x s) [
   | inl a ↦ (y, inl refl, a)
@@ -41,17 +44,22 @@ abbrev PartsOnce : List Substitute → Type 0
 PartsOnce [] = Unit {0}
 PartsOnce (x ∷ xs) = ((y : Substitute) → Stands y xs → x.part ≡ y.part → ⊥) × PartsOnce xs
 
-parts-once : (xs : List Substitute) → StandOnce (map (λ x. x.number) xs) → ((x y : Substitute) → Stands x xs → Stands y xs → x.part ≡ y.part → x.number ≡ y.number) → PartsOnce xs
+parts-once : (xs : List Substitute) → StandOnce (map (λ x. x.number) xs)
+    → ((x y : Substitute) → Stands x xs → Stands y xs → x.part ≡ y.part → x.number ≡ y.number) → PartsOnce xs
 parts-once [] once same = tt
 parts-once (x ∷ xs) once same =
-    let both = or_none _ _ once in
-    (λ y s e. absent (λ (z : Substitute). z.number) x.number xs y both.0 s (sym (same x y (inl refl) (inr s) e)), parts-once xs both.1 (λ y z s t. same y z (inr s) (inr t)))
+    let both = or_none _ _ once in (
+      λ y s e. absent (λ (z : Substitute). z.number) x.number xs y both.0 s (sym (same x y (inl refl) (inr s) e)),
+      parts-once xs both.1 (λ y z s t. same y z (inr s) (inr t)),
+    )
 
 any-stands : (p : Part → Bool) (xs : List Part) → list_any p xs ≡ true → (x : Part) × Stands x xs × (p x ≡ true)
 any-stands p [] e = cc
 any-stands p (x ∷ xs) e = go (p x) refl e (any-stands p xs)
   where
-    go : (b : Bool) → p x ≡ b → (b || list_any p xs) ≡ true → (list_any p xs ≡ true → (y : Part) × Stands y xs × (p y ≡ true)) → (y : Part) × Stands y (x ∷ xs) × (p y ≡ true)
+    go : (b : Bool) → p x ≡ b → (b || list_any p xs) ≡ true
+        → (list_any p xs ≡ true → (y : Part) × Stands y xs × (p y ≡ true))
+        → (y : Part) × Stands y (x ∷ xs) × (p y ≡ true)
     go true t e ih = (x, inl refl, t)
     go false t e ih = let h = ih e in (h.0, inr h.1, h.2)
 
@@ -71,7 +79,8 @@ module _ (parts : Parts) (next : ℕ) (sound : IsSoundCatalogue next parts) wher
       let names = is_number-some c x.template both.1 in
       let at = Stands-get parts.parts x found.1 in
       let right = sound.parts at.0 x at.1 in
-      let here : table.get parts.parts (c ∷ []) ≡ Some x = ap (λ k. table.get parts.parts k) (ap (λ m. m ∷ []) (sym own) ∙ sym right.own) ∙ at.1 in
+      let here : table.get parts.parts (c ∷ []) ≡ Some x =
+      ap (λ k. table.get parts.parts k) (ap (λ m. m ∷ []) (sym own) ∙ sym right.own) ∙ at.1 in
       let t = sound.templates at.0 x at.1 c names in
       let same : ◌≡◌ {A = Option Part} (Some x) (Some t.0) = sym here ∙ t.1 in
       let is : x ≡ t.0 = cc in
@@ -96,14 +105,16 @@ module _ (s : Stock) (next : ℕ) (right : StandRight (λ i. i.number) next s.it
       (both.0, (and_parts (is_at x.place && is_allocatable x.lot.status) (p x.part) both.1).1)
 
   -- two groups without a common part
-  apart-items : (p q : ℕ → Bool) → ((part : ℕ) → p part ≡ true → q part ≡ true → ⊥) → (x y : Item) → Stands x (group p s) → Stands y (group q s) → x.number ≡ y.number → ⊥
+  apart-items : (p q : ℕ → Bool) → ((part : ℕ) → p part ≡ true → q part ≡ true → ⊥) → (x y : Item)
+      → Stands x (group p s) → Stands y (group q s) → x.number ≡ y.number → ⊥
   apart-items p q other x y a b is =
       let one = in-group p x a in
       let two = in-group q y b in
       let same = one-row (λ (i : Item). i.number) (table.values s.items) x y items_once one.0 two.0 is in
       other y.part (ap (λ (i : Item). p i.part) (sym same) ∙ one.1) two.1
 
-  apart-groups : (p q : ℕ → Bool) → ((part : ℕ) → p part ≡ true → q part ≡ true → ⊥) → AreApart (numbers (group p s)) (numbers (group q s))
+  apart-groups : (p q : ℕ → Bool) → ((part : ℕ) → p part ≡ true → q part ≡ true → ⊥)
+      → AreApart (numbers (group p s)) (numbers (group q s))
   apart-groups p q other n a b =
       let x = Stands-number (λ (i : Item). i.number) (group p s) n a in
       let y = Stands-number (λ (i : Item). i.number) (group q s) n b in
@@ -116,7 +127,8 @@ module _ (s : Stock) (next : ℕ) (right : StandRight (λ i. i.number) next s.it
   of_substitutes subs = flat_map (λ x. group (λ p. p == x.part) s) subs
 
   -- a group none of whose parts is a substitute
-  apart-substitutes : (p : ℕ → Bool) (subs : List Substitute) → ((part : ℕ) (y : Substitute) → p part ≡ true → Stands y subs → (part == y.part) ≡ true → ⊥)
+  apart-substitutes : (p : ℕ → Bool) (subs : List Substitute)
+      → ((part : ℕ) (y : Substitute) → p part ≡ true → Stands y subs → (part == y.part) ≡ true → ⊥)
       → AreApart (numbers (group p s)) (numbers (of_substitutes subs))
   apart-substitutes p subs other n a b =
       let x = Stands-number (λ (i : Item). i.number) (group p s) n a in
@@ -128,18 +140,23 @@ module _ (s : Stock) (next : ℕ) (right : StandRight (λ i. i.number) next s.it
   substitutes-once [] h = refl
   substitutes-once (y ∷ ys) h =
       subst StandOnce (sym (numbers-append (of_substitute y) (of_substitutes ys)))
-      (append-once (numbers (of_substitute y)) (numbers (of_substitutes ys)) (group-once (λ p. p == y.part)) (substitutes-once ys h.1)
-      (apart-substitutes (λ p. p == y.part) ys (λ part z t s u. h.0 z s (sym (eqb-true part y.part t) ∙ eqb-true part z.part u))))
+      (append-once (numbers (of_substitute y)) (numbers (of_substitutes ys)) (group-once (λ p. p == y.part))
+      (substitutes-once ys h.1)
+      (apart-substitutes (λ p. p == y.part) ys
+      (λ part z t s u. h.0 z s (sym (eqb-true part y.part t) ∙ eqb-true part z.part u))))
 
 -- ---- the candidates
 
 -- in a sound state no item stands twice among them
-pub candidates-once : (with_substitutes : Bool) (parts : Parts) (bills : Bills) (l : Line) (s : Stock) (next : ℕ) → IsSoundBill parts bills next
-    → table.get bills.lines (l.number ∷ []) ≡ Some l → StandRight (λ i. i.number) next s.items → StandOnce (candidate_numbers with_substitutes parts bills l s)
+pub candidates-once : (with_substitutes : Bool) (parts : Parts) (bills : Bills) (l : Line) (s : Stock) (next : ℕ)
+    → IsSoundBill parts bills next
+    → table.get bills.lines (l.number ∷ []) ≡ Some l → StandRight (λ i. i.number) next s.items
+    → StandOnce (candidate_numbers with_substitutes parts bills l s)
 candidates-once with_substitutes parts bills l s next bill is_line right =
     subst StandOnce (sym joined)
     (append-once (numbers first) (numbers (second ++ third)) (group-once s next right is_component)
-    (subst StandOnce (sym (numbers-append second third)) (append-once (numbers second) (numbers third) (group-once s next right is_kind) third_once second_third))
+    (subst StandOnce (sym (numbers-append second third))
+    (append-once (numbers second) (numbers third) (group-once s next right is_kind) third_once second_third))
     first_rest)
   where
     is_component : ℕ → Bool
@@ -165,10 +182,13 @@ candidates-once with_substitutes parts bills l s next bill is_line right =
 
     -- a substitute of the line
     on_line : (y : Substitute) → Stands y subs → Stands y (substitute_rows bills) × (y.line ≡ l.number)
-    on_line y h = let both = Stands-passes (λ (x : Substitute). x.line == l.number) (substitute_rows bills) y h in (both.0, eqb-true y.line l.number both.1)
+    on_line y h =
+        let both = Stands-passes (λ (x : Substitute). x.line == l.number) (substitute_rows bills) y h in
+        (both.0, eqb-true y.line l.number both.1)
 
     -- the line doesn't fit its substitutes without them
-    needless : (y : Substitute) → Stands y subs → covers (part_rows parts) l.component l.flags.variants y.part ≡ true → ⊥
+    needless : (y : Substitute) → Stands y subs
+        → covers (part_rows parts) l.component l.flags.variants y.part ≡ true → ⊥
     needless y h e =
         let own = on_line y h in
         let at = Stands-get bills.substitutes y own.0 in
@@ -198,16 +218,23 @@ candidates-once with_substitutes parts bills l s next bill is_line right =
         go false = refl
 
     -- a group whose parts the line fits without substitutes
-    fits_apart : (p : ℕ → Bool) → ((part : ℕ) → p part ≡ true → covers (part_rows parts) l.component l.flags.variants part ≡ true) → AreApart (numbers (group p s)) (numbers third)
+    fits_apart : (p : ℕ → Bool)
+        → ((part : ℕ) → p part ≡ true → covers (part_rows parts) l.component l.flags.variants part ≡ true)
+        → AreApart (numbers (group p s)) (numbers third)
     fits_apart p fits = go with_substitutes
       where
         go : (b : Bool) → AreApart (numbers (group p s)) (numbers (if b then of_substitutes s next right subs else []))
-        go true = apart-substitutes s next right p subs (λ part y t h u. needless y h (ap (covers (part_rows parts) l.component l.flags.variants) (sym (eqb-true part y.part u)) ∙ fits part t))
+        go true =
+            apart-substitutes s next right p subs
+            (λ part y t h u. needless y h
+            (ap (covers (part_rows parts) l.component l.flags.variants) (sym (eqb-true part y.part u)) ∙ fits part t))
         go false = λ n a b. b
 
-    component_fits : (part : ℕ) → is_component part ≡ true → covers (part_rows parts) l.component l.flags.variants part ≡ true
+    component_fits : (part : ℕ) → is_component part ≡ true
+        → covers (part_rows parts) l.component l.flags.variants part ≡ true
     component_fits part e =
-        ap (λ b. b || (l.flags.variants && is_variant (part_rows parts) part l.component)) (eq-eqb l.component part (sym (eqb-true part l.component e)))
+        ap (λ b. b || (l.flags.variants && is_variant (part_rows parts) part l.component))
+        (eq-eqb l.component part (sym (eqb-true part l.component e)))
 
     kind_fits : (part : ℕ) → is_kind part ≡ true → covers (part_rows parts) l.component l.flags.variants part ≡ true
     kind_fits part e = ap (λ b. (l.component == part) || b) e ∙ or_true (l.component == part)
@@ -222,10 +249,12 @@ candidates-once with_substitutes parts bills l s next bill is_line right =
     no_both : (part : ℕ) → is_component part ≡ true → is_kind part ≡ true → ⊥
     no_both part a b =
         let own = (and_parts l.flags.variants (is_variant (part_rows parts) part l.component) b).1 in
-        no_own_variant parts next bill.catalogue l.component (ap (λ p. is_variant (part_rows parts) p l.component) (sym (eqb-true part l.component a)) ∙ own)
+        no_own_variant parts next bill.catalogue l.component
+        (ap (λ p. is_variant (part_rows parts) p l.component) (sym (eqb-true part l.component a)) ∙ own)
 
     first_rest : AreApart (numbers first) (numbers (second ++ third))
-    first_rest n a b = elim (Stands-append (numbers second) (numbers third) n (subst (Stands n) (numbers-append second third) b)) [
-      | inl k ↦ apart-groups s next right is_component is_kind no_both n a k
-      | inr k ↦ fits_apart is_component component_fits n a k
-    ]
+    first_rest n a b =
+        elim (Stands-append (numbers second) (numbers third) n (subst (Stands n) (numbers-append second third) b)) [
+          | inl k ↦ apart-groups s next right is_component is_kind no_both n a k
+          | inr k ↦ fits_apart is_component component_fits n a k
+        ]

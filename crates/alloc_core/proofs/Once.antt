@@ -1,5 +1,6 @@
 -- Rows of a table stand once, by their numbers, and so do those that pass a test.
-use Rattle.std.proofs.Common.{◌≡◌, ◌⊎◌, inl, inr, ℕ, Bool, true, false, cond, ◌||◌, List, [], ◌∷◌, ◌++◌, map, refl, sym, ap, ◌∙◌, subst, eqb-true}
+use Rattle.std.proofs.Common.{◌≡◌, ◌⊎◌, inl, inr, ℕ, Bool, true, false, cond, ◌||◌, List}
+use Rattle.std.proofs.Common.{[], ◌∷◌, ◌++◌, map, refl, sym, ap, ◌∙◌, subst, eqb-true}
 use Rattle.std.specs.Prelude.{◌==◌, filter, T}
 use Rattle.std.specs.List.{list_any}
 use Rattle.std.specs.FinMap as table
@@ -39,7 +40,8 @@ module _ {X : Type 0} where
   Stands-passes p [] x s = absurd s
   Stands-passes p (y ∷ ys) x s = go (p y) refl s (Stands-passes p ys x)
     where
-      go : (b : Bool) → p y ≡ b → Stands x (cond b (y ∷ filter p ys) (filter p ys)) → (Stands x (filter p ys) → Stands x ys × (p x ≡ true)) → ((y ≡ x) ⊎ Stands x ys) × (p x ≡ true)
+      go : (b : Bool) → p y ≡ b → Stands x (cond b (y ∷ filter p ys) (filter p ys))
+          → (Stands x (filter p ys) → Stands x ys × (p x ≡ true)) → ((y ≡ x) ⊎ Stands x ys) × (p x ≡ true)
       go true e (inl i) ih = (inl i, sym (ap p i) ∙ e)
       go true e (inr r) ih = let h = ih r in (inr h.0, h.1)
       go false e r ih = let h = ih r in (inr h.0, h.1)
@@ -63,7 +65,9 @@ module _ {X : Type 0} where
     later n m less = not_true (m == n) (λ e. clash (eqb-true m n e))
       where
         clash : m ≡ n → ⊥
-        clash same = let bad = sym less ∙ ap (λ k. key_cmp (n ∷ []) (k ∷ [])) same in let self = key_eq-self (n ∷ []) in cc
+        clash same =
+            let bad = sym less ∙ ap (λ k. key_cmp (n ∷ []) (k ∷ [])) same in
+            let self = key_eq-self (n ∷ []) in cc
 
     above : (n : ℕ) (xs : List X) → AreAbove (λ x. true) (n ∷ []) (keyed number xs) → HasNo n (map number xs)
     above n [] a = refl
@@ -74,7 +78,10 @@ module _ {X : Type 0} where
     rising (x ∷ xs) r = ap (λ b. b || stands_twice is_same (map number xs)) (above (number x) xs r.0) ∙ rising xs r.1
 
     pub rows-once : (t : Table X) → StandUnderKeys (λ x. number x ∷ []) t → StandOnce (map number (table.values t))
-    rows-once t own = rising (table.values t) (subst (Rises (λ x. true)) (own-keyed number t own) (Rises-from (λ x. true) (table.entries t) (sorted_is _ (table.entries_sorted t))))
+    rows-once t own =
+        rising (table.values t)
+        (subst (Rises (λ x. true)) (own-keyed number t own)
+        (Rises-from (λ x. true) (table.entries t) (sorted_is _ (table.entries_sorted t))))
       where
         sorted_is : (b : Bool) → T b → b ≡ true
         sorted_is true h = refl
@@ -86,15 +93,19 @@ module _ {X : Type 0} where
     none-passing p n [] e = refl
     none-passing p n (x ∷ xs) e = let both = or_none _ _ e in go (p x) both.0 (none-passing p n xs both.1)
       where
-        go : (b : Bool) → (number x == n) ≡ false → HasNo n (map number (filter p xs)) → HasNo n (map number (cond b (x ∷ filter p xs) (filter p xs)))
+        go : (b : Bool) → (number x == n) ≡ false → HasNo n (map number (filter p xs))
+            → HasNo n (map number (cond b (x ∷ filter p xs) (filter p xs)))
         go true e rest = ap (λ b. b || list_any (λ m. m == n) (map number (filter p xs))) e ∙ rest
         go false e rest = rest
 
     pub passing-once : (p : X → Bool) (xs : List X) → StandOnce (map number xs) → StandOnce (map number (filter p xs))
     passing-once p [] e = refl
-    passing-once p (x ∷ xs) e = let both = or_none _ _ e in go (p x) (none-passing p (number x) xs both.0) (passing-once p xs both.1)
+    passing-once p (x ∷ xs) e =
+        let both = or_none _ _ e in
+        go (p x) (none-passing p (number x) xs both.0) (passing-once p xs both.1)
       where
-        go : (b : Bool) → HasNo (number x) (map number (filter p xs)) → StandOnce (map number (filter p xs)) → StandOnce (map number (cond b (x ∷ filter p xs) (filter p xs)))
+        go : (b : Bool) → HasNo (number x) (map number (filter p xs)) → StandOnce (map number (filter p xs))
+            → StandOnce (map number (cond b (x ∷ filter p xs) (filter p xs)))
         go true none rest = ap (λ b. b || stands_twice is_same (map number (filter p xs))) none ∙ rest
         go false none rest = rest
 
@@ -107,7 +118,8 @@ module _ {X : Type 0} where
     ]
 
     -- rows of one number are one
-    pub one-row : (xs : List X) (x y : X) → StandOnce (map number xs) → Stands x xs → Stands y xs → number x ≡ number y → x ≡ y
+    pub one-row : (xs : List X) (x y : X) → StandOnce (map number xs) → Stands x xs → Stands y xs
+        → number x ≡ number y → x ≡ y
     one-row [] x y e s t is = absurd s
     one-row (z ∷ zs) x y e s t is = let both = or_none _ _ e in elim s [
       | inl i ↦ elim t [
@@ -126,7 +138,8 @@ module _ {X : Type 0} where
 pub has-none : (n : ℕ) (ns : List ℕ) → (Stands n ns → ⊥) → HasNo n ns
 has-none n [] h = refl
 has-none n (m ∷ ms) h =
-    ap (λ b. b || list_any (λ k. k == n) ms) (not_true (m == n) (λ e. h (inl (eqb-true m n e)))) ∙ has-none n ms (λ s. h (inr s))
+    ap (λ b. b || list_any (λ k. k == n) ms) (not_true (m == n) (λ e. h (inl (eqb-true m n e))))
+    ∙ has-none n ms (λ s. h (inr s))
 
 -- no number of one list stands in the other
 abbrev pub AreApart : List ℕ → List ℕ → Type 0
@@ -134,7 +147,9 @@ AreApart ms ns = (n : ℕ) → Stands n ms → Stands n ns → ⊥
 
 none-append : (n : ℕ) (ms ns : List ℕ) → HasNo n ms → HasNo n ns → HasNo n (ms ++ ns)
 none-append n [] ns e f = f
-none-append n (m ∷ ms) ns e f = let both = or_none _ _ e in ap (λ b. b || list_any (λ k. k == n) (ms ++ ns)) both.0 ∙ none-append n ms ns both.1 f
+none-append n (m ∷ ms) ns e f =
+    let both = or_none _ _ e in
+    ap (λ b. b || list_any (λ k. k == n) (ms ++ ns)) both.0 ∙ none-append n ms ns both.1 f
 
 pub append-once : (ms ns : List ℕ) → StandOnce ms → StandOnce ns → AreApart ms ns → StandOnce (ms ++ ns)
 append-once [] ns e f apart = f

@@ -1,5 +1,6 @@
 -- What tests of each row say of allocations.
-use Rattle.std.proofs.Common.{◌≡◌, ◌↔◌, ℕ, ◌≤◌, Bool, true, false, not, ◌||◌, ◌∷◌, [], Option, Some, None, refl, sym, ap, ◌∙◌, subst, arith, eqb-true}
+use Rattle.std.proofs.Common.{◌≡◌, ◌↔◌, ℕ, ◌≤◌, Bool, true, false, not, ◌||◌, ◌∷◌, []}
+use Rattle.std.proofs.Common.{Option, Some, None, refl, sym, ap, ◌∙◌, subst, arith, eqb-true}
 use Rattle.std.specs.Prelude.{◌==◌, nat_lt, unwrap_or}
 use Rattle.std.specs.FinMap as table
 use Rattle.std.proofs.lemmas.Bool.{eqb-false, ltb-true, ltb-false}
@@ -24,7 +25,8 @@ use Rattle.alloc_core.proofs.Covers.{AreSound, all-sound, sum-away}
 pub quantity-is : (q : ℕ) → (not (is_bad_quantity q) ≡ true) ↔ ((1 ≤ q) × (q ≤ largest))
 quantity-is q = go (q == 0) refl (nat_lt largest q) refl
   where
-    go : (a : Bool) → (q == 0) ≡ a → (b : Bool) → nat_lt largest q ≡ b → (not (a || b) ≡ true) ↔ ((1 ≤ q) × (q ≤ largest))
+    go : (a : Bool) → (q == 0) ≡ a → (b : Bool) → nat_lt largest q ≡ b
+        → (not (a || b) ≡ true) ↔ ((1 ≤ q) × (q ≤ largest))
     go true e b f = (λ h. cc, λ h. absurd (let none = eqb-true _ _ e in let some = h.0 in omega arith))
     go false e true f = (λ h. cc, λ h. absurd (let more = ltb-true _ _ f in let less = h.1 in omega arith))
     go false e false f = (λ h. ((let some = eqb-false _ _ e in omega arith), ltb-false _ _ f), λ h. refl)
@@ -45,7 +47,8 @@ covered-is t x = (λ e. grind (arith, nat_tests, e), λ h. grind (arith, nat_tes
 
 module _ (t : Table Allocation) (s : Stock) (own : StandUnderKeys (λ (x : Item). x.number ∷ []) s.items) where
   -- an item that isn't there has no allocations, where each allocation's item is loose
-  pub within-all : EachRow (IsSoundAllocation s) t → EachRow (λ x. allocated x.number t ≤ x.quantity) s.items → (n : ℕ) → allocated n t ≤ (item_at n s).quantity
+  pub within-all : EachRow (IsSoundAllocation s) t → EachRow (λ x. allocated x.number t ≤ x.quantity) s.items → (n : ℕ)
+      → allocated n t ≤ (item_at n s).quantity
   within-all each covered n = go (table.get s.items (n ∷ [])) refl
     where
       rows : AreSound s (table.values t)
@@ -61,14 +64,17 @@ module _ (t : Table Allocation) (s : Stock) (own : StandUnderKeys (λ (x : Item)
           omega (arith, none)
       go (Some x) e =
           let number : x.number ≡ n = same_digit _ _ (sym (own (n ∷ []) x e)) in
-          let here : allocated n t ≤ x.quantity = subst (λ m. allocated m t ≤ x.quantity) number (covered (n ∷ []) x e) in
+          let here : allocated n t ≤ x.quantity =
+          subst (λ m. allocated m t ≤ x.quantity) number (covered (n ∷ []) x e) in
           let is : (item_at n s).quantity ≡ x.quantity = ap (λ o. (item_of o).quantity) e in
           omega (arith, here, is)
 
-  pub covered-each : ((n : ℕ) → allocated n t ≤ (item_at n s).quantity) → EachRow (λ x. allocated x.number t ≤ x.quantity) s.items
+  pub covered-each : ((n : ℕ) → allocated n t ≤ (item_at n s).quantity)
+      → EachRow (λ x. allocated x.number t ≤ x.quantity) s.items
   covered-each within k x e =
       let key : k ≡ x.number ∷ [] = own k x e in
       let there : table.get s.items (x.number ∷ []) ≡ Some x = ap (table.get s.items) (sym key) ∙ e in
-      let is : (item_at x.number s).quantity ≡ x.quantity = ap (λ (o : Option Item). (unwrap_or o no_item).quantity) there in
+      let is : (item_at x.number s).quantity ≡ x.quantity =
+      ap (λ (o : Option Item). (unwrap_or o no_item).quantity) there in
       let here = within x.number in
       omega (arith, here, is)

@@ -6,7 +6,9 @@ use Rattle.part_core.specs.Columns.{◌>>=◌, has, must, number_at}
 use Rattle.part_core.specs.declared.column.Column.{Column}
 use Rattle.part_core.specs.declared.column.Column.TheVariants.{Whole}
 use Rattle.part_core.proofs.ColumnLemmas.{bound, found, has-is, number_at-is, same_columns}
-use Rattle.alloc_core.specs.AllocationColumns.{allocation_columns, allocation_from, output_number, output_of, purpose_at, purpose_line, purpose_of, purpose_output, purpose_owner, purpose_side, sale_of}
+use Rattle.alloc_core.specs.AllocationColumns.{allocation_columns, allocation_from, output_number}
+use Rattle.alloc_core.specs.AllocationColumns.{output_of, purpose_at, purpose_line, purpose_of}
+use Rattle.alloc_core.specs.AllocationColumns.{purpose_output, purpose_owner, purpose_side, sale_of}
 use Rattle.alloc_core.specs.declared.allocation.Allocation.{Allocation}
 use Rattle.alloc_core.specs.declared.purpose.Purpose.{Purpose}
 use Rattle.alloc_core.specs.declared.purpose.Purpose.TheVariants.{Sale, Build}
@@ -35,22 +37,27 @@ module _ (side owner line output : ℕ) where
   sale-is : (p : Purpose) → side ≡ 0 → sale_of owner line output ≡ Some p → AreOf side owner line output p
   sale-is p is = told (output == 0) refl
     where
-      told : (b : Bool) → (output == 0) ≡ b → (must b >>= λ _. Some (Sale owner line)) ≡ Some p → AreOf side owner line output p
+      told : (b : Bool) → (output == 0) ≡ b → (must b >>= λ _. Some (Sale owner line)) ≡ Some p
+          → AreOf side owner line output p
       told true zero e = kept (Sale owner line) p (is, refl, refl, eqb-true output 0 zero) e
       told false zero e = cc
 
-  build-is : (p : Purpose) → side ≡ 1 → Some (Build owner line (output_of output)) ≡ Some p → AreOf side owner line output p
+  build-is : (p : Purpose) → side ≡ 1 → Some (Build owner line (output_of output)) ≡ Some p
+      → AreOf side owner line output p
   build-is p is e = kept (Build owner line (output_of output)) p (is, refl, refl, output-is output) e
 
   purpose-is : (p : Purpose) → purpose_of side owner line output ≡ Some p → AreOf side owner line output p
   purpose-is p e = sale (side == 0) refl e
     where
-      build : (b : Bool) → (side == 1) ≡ b → (if b then Some (Build owner line (output_of output)) else None) ≡ Some p → AreOf side owner line output p
+      build : (b : Bool) → (side == 1) ≡ b → (if b then Some (Build owner line (output_of output)) else None) ≡ Some p
+          → AreOf side owner line output p
       build true one e = build-is p (eqb-true side 1 one) e
       build false one e = cc
 
       sale : (b : Bool) → (side == 0) ≡ b
-          → (if b then sale_of owner line output else (if side == 1 then Some (Build owner line (output_of output)) else None)) ≡ Some p
+          → (if b then sale_of owner line output
+          else (if side == 1 then Some (Build owner line (output_of output)) else None))
+          ≡ Some p
           → AreOf side owner line output p
       sale true zero e = sale-is p (eqb-true side 0 zero) e
       sale false zero e = build (side == 1) refl e
@@ -77,15 +84,19 @@ purpose_at-is cs p e =
     }
 
 pub allocation_told : (cs : List Column) (number item quantity : ℕ) (purpose : Purpose)
-    → has 7 cs ≡ Some tt → number_at 0 cs ≡ Some number → number_at 1 cs ≡ Some item → number_at 2 cs ≡ Some quantity → purpose_at cs ≡ Some purpose
+    → has 7 cs ≡ Some tt → number_at 0 cs ≡ Some number → number_at 1 cs ≡ Some item → number_at 2 cs ≡ Some quantity
+    → purpose_at cs ≡ Some purpose
     → allocation_columns (record { number = number; item = item; quantity = quantity; purpose = purpose }) ≡ cs
 allocation_told cs number item quantity purpose all c0 c1 c2 c3 =
     let one : Allocation = record { number = number; item = item; quantity = quantity; purpose = purpose } in
     let p = purpose_at-is cs purpose c3 in
-    same_columns cs (allocation_columns one) (has-is 7 cs tt all)
-    (number_at-is 0 cs number c0, (number_at-is 1 cs item c1, (number_at-is 2 cs quantity c2, (p.side, (p.owner, (p.line, (p.output, tt)))))))
+    same_columns cs (allocation_columns one) (has-is 7 cs tt all) (
+      number_at-is 0 cs number c0,
+      (number_at-is 1 cs item c1, (number_at-is 2 cs quantity c2, (p.side, (p.owner, (p.line, (p.output, tt)))))),
+    )
 
 pub allocation_read : (row : Allocation)
-    → purpose_of (purpose_side row.purpose) (purpose_owner row.purpose) (purpose_line row.purpose) (purpose_output row.purpose) ≡ Some row.purpose
+    → purpose_of (purpose_side row.purpose) (purpose_owner row.purpose) (purpose_line row.purpose)
+    (purpose_output row.purpose) ≡ Some row.purpose
     → allocation_from (allocation_columns row) ≡ Some row
 allocation_read row read = rw read refl

@@ -1,5 +1,6 @@
 -- What each gives by the closed form is what counting down gives, and none gives more than it has.
-use Rattle.std.proofs.Common.{◌≡◌, ℕ, suc, zero, ◌+◌, ◌-◌, ◌≤◌, List, [], ◌∷◌, get_or, length, map, min, take, refl, ap, ◌∙◌, arith}
+use Rattle.std.proofs.Common.{◌≡◌, ℕ, suc, zero, ◌+◌, ◌-◌, ◌≤◌, List, [], ◌∷◌}
+use Rattle.std.proofs.Common.{get_or, length, map, min, take, refl, ap, ◌∙◌, arith}
 use Rattle.std.specs.Prelude.{sum}
 use Rattle.std.specs.List.{range_with_len}
 use Rattle.std.proofs.lemmas.List.Sums.{sum_by-cons}
@@ -23,17 +24,20 @@ sum-cons f fs = sum_by-cons itself f fs
 abbrev share_after : ℕ → ℕ → List ℕ → ℕ → ℕ
 share_after missing before free k = min (get_or free k 0) (missing - (before + sum (take k free)))
 
-share_later : (missing before f : ℕ) (fs : List ℕ) (k : ℕ) → share_after missing before (f ∷ fs) (k + 1) ≡ share_after missing (before + f) fs k
+share_later : (missing before f : ℕ) (fs : List ℕ) (k : ℕ)
+    → share_after missing before (f ∷ fs) (k + 1) ≡ share_after missing (before + f) fs k
 share_later missing before f fs k =
     let next : k + 1 ≡ suc k = omega arith in
     let total = sum-cons f (take k fs) in
-    let left : missing - (before + sum (f ∷ take k fs)) ≡ missing - (before + f + sum (take k fs)) = omega (arith, total) in
+    let left : missing - (before + sum (f ∷ take k fs)) ≡ missing - (before + f + sum (take k fs)) =
+    omega (arith, total) in
     ap (λ j. share_after missing before (f ∷ fs) j) next ∙ ap (λ m. min (get_or fs k 0) m) left
 
 left_over : (missing before f : ℕ) → missing - (before + f) ≡ missing - before - min f (missing - before)
 left_over missing before f = omega arith
 
-shares-after : (missing before : ℕ) (fs : List ℕ) → map (share_after missing before fs) (range_with_len 0 (length fs)) ≡ counted_down (missing - before) fs
+shares-after : (missing before : ℕ) (fs : List ℕ)
+    → map (share_after missing before fs) (range_with_len 0 (length fs)) ≡ counted_down (missing - before) fs
 shares-after missing before [] = refl
 shares-after missing before (f ∷ fs) =
     let first : missing - (before + sum (take 0 (f ∷ fs))) ≡ missing - before = omega arith in
@@ -47,7 +51,8 @@ shares-after missing before (f ∷ fs) =
 pub shares-counted : (missing : ℕ) (free : List ℕ) → shares missing free ≡ counted_down missing free
 shares-counted missing free =
     map-alike (share missing free) (share_after missing 0 free) (range_with_len 0 (length free))
-    (λ k. ap (λ m. min (get_or free k 0) m) (let e : missing - sum (take k free) ≡ missing - (0 + sum (take k free)) = omega arith in e))
+    (λ k. ap (λ m. min (get_or free k 0) m)
+    (let e : missing - sum (take k free) ≡ missing - (0 + sum (take k free)) = omega arith in e))
     ∙ shares-after missing 0 free ∙ ap (λ m. counted_down m free) (let e : missing - 0 ≡ missing = omega arith in e)
 
 -- none gives more than is free of it, each at its place

@@ -61,7 +61,8 @@ purpose_at columns = do
 
 abbrev pub allocation_columns : Allocation → List Column
 allocation_columns row =
-    Whole row.number ∷ Whole row.item ∷ Whole row.quantity ∷ Whole (purpose_side row.purpose) ∷ Whole (purpose_owner row.purpose)
+    Whole row.number ∷ Whole row.item ∷ Whole row.quantity ∷ Whole (purpose_side row.purpose)
+    ∷ Whole (purpose_owner row.purpose)
     ∷ Whole (purpose_line row.purpose) ∷ Whole (purpose_output row.purpose) ∷ []
 
 abbrev pub allocation_from : List Column → Option Allocation

@@ -1,5 +1,6 @@
 -- Allocations: what they are for, and how much of an item, for a line or for an output they add up to.
-use Rattle.std.specs.Prelude.{ℕ, ◌-◌, ◌==◌, ◌&&◌, is_none, nat_lt, Bool, true, false, if◌then◌else◌, List, [], ◌∷◌, filter, sum_by, Option}
+use Rattle.std.specs.Prelude.{ℕ, ◌-◌, ◌==◌, ◌&&◌, is_none, nat_lt, Bool, true, false}
+use Rattle.std.specs.Prelude.{if◌then◌else◌, List, [], ◌∷◌, filter, sum_by, Option}
 use Rattle.std.specs.FinMap as table
 use Rattle.std.specs.List.{list_any}
 use Rattle.part_core.specs.Catalogue.{is_number}

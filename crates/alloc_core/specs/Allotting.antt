@@ -49,7 +49,8 @@ pub record Need : Type 0 where
 abbrev pub allot_line : Bool → Parts → Bills → Stock → ℕ → Need → Allotments → Allotments
 allot_line with_substitutes parts bills s build need b =
     let items = candidate_numbers with_substitutes parts bills need.line s in
-    allocate_each (Build build need.line.number None) items (shares need.missing (map (λ n. free n b.allocations s) items)) b
+    allocate_each (Build build need.line.number None) items
+    (shares need.missing (map (λ n. free n b.allocations s) items)) b
 
 -- each line in order, with what the lines before it left free
 abbrev pub allot_lines : Bool → Parts → Bills → Stock → ℕ → List Need → Allotments → Allotments
@@ -63,4 +64,5 @@ allot_lines with_substitutes parts bills s build (need ∷ needs) b =
 abbrev pub allot_in_turn : Purpose → List ℕ → ℕ → Stock → Allotments → Allotments
 allot_in_turn purpose [] missing s b = b
 allot_in_turn purpose (n ∷ ns) missing s b =
-    let amount = min (free n b.allocations s) missing in allot_in_turn purpose ns (missing - amount) s (allocate_some purpose n amount b)
+    let amount = min (free n b.allocations s) missing in
+    allot_in_turn purpose ns (missing - amount) s (allocate_some purpose n amount b)

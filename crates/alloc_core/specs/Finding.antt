@@ -29,4 +29,5 @@ numbers_by_part parts s = flat_map (λ p. part_numbers p s) parts
 
 -- those of the line's substitutes, where these are asked for
 abbrev pub substitute_numbers : Bool → ℕ → Bills → Stock → List ℕ
-substitute_numbers with_substitutes line bills s = if with_substitutes then numbers_by_part (map (λ x. x.part) (substitutes_on line bills)) s else []
+substitute_numbers with_substitutes line bills s =
+    if with_substitutes then numbers_by_part (map (λ x. x.part) (substitutes_on line bills)) s else []

@@ -3,7 +3,8 @@
 ghost use Rattle.std.specs.Prelude.{◌≡◌, codes};
 ghost use Rattle.part_core.specs.FormLaws.{rows_fill, rows_made};
 ghost use Rattle.part_core.specs.FormTables.{command_by, forms_by};
-ghost use Rattle.alloc_core.specs.AllocForms.{alloc_back, alloc_distinct, alloc_fields, alloc_forms, alloc_told, alloc_verb};
+ghost use Rattle.alloc_core.specs.AllocForms.{alloc_back, alloc_distinct, alloc_fields};
+ghost use Rattle.alloc_core.specs.AllocForms.{alloc_forms, alloc_told, alloc_verb};
 
 use crate::alloc_command::AllocCommand;
 use part_core::{Field, FieldKind, Fields, Form, Formed, form_in};

@@ -5,7 +5,8 @@ ghost use Rattle.bom_core.specs.Lines.{removed_all};
 ghost use Rattle.part_core.specs.Filled.{StandUnderKeys};
 ghost use Rattle.part_core.specs.Sheet.{now_of};
 ghost use Rattle.yard_core.specs.YardView.{stock_of};
-ghost use Rattle.alloc_core.specs.Allocations.{amount_where, is_for_build_line, is_for_line, is_for_sale_line, is_of_item};
+ghost use Rattle.alloc_core.specs.Allocations.{amount_where, is_for_build_line};
+ghost use Rattle.alloc_core.specs.Allocations.{is_for_line, is_for_sale_line, is_of_item};
 
 use crate::allocation::{Allocation, item_key};
 use crate::purpose::{Owner, build_key, build_line_key, order_key, output_key, sale_line_key};
@@ -91,7 +92,9 @@ impl Drop for Allocations {
 }
 
 impl Allocations {
-    ghost use Rattle.alloc_core.specs.Allocations.{allocated, allocated_for_build_line, allocated_for_line, allocated_for_sale_line, allocation_in, allocations_of, free, has_allocations, is_above_free, released_for};
+    ghost use Rattle.alloc_core.specs.Allocations.{allocated, allocated_for_build_line, allocated_for_line};
+    ghost use Rattle.alloc_core.specs.Allocations.{allocated_for_sale_line, allocation_in, allocations_of};
+    ghost use Rattle.alloc_core.specs.Allocations.{free, has_allocations, is_above_free, released_for};
     ghost use Rattle.alloc_core.specs.AllocationsView.{allocations_before, allocations_from, allocations_now};
     ghost use Rattle.alloc_core.specs.Release.{release};
 

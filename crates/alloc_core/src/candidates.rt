@@ -8,7 +8,8 @@ ghost use Rattle.bom_core.specs.Bills.{part_rows};
 ghost use Rattle.bom_core.specs.BomsView.{bills_of};
 ghost use Rattle.yard_core.specs.YardView.{stock_of};
 ghost use Rattle.alloc_core.specs.Candidates.{candidate_numbers, is_variant_for, substitutes_on};
-ghost use Rattle.alloc_core.specs.Finding.{group_numbers, is_among, may_serve, numbers_by_part, part_numbers, substitute_numbers};
+ghost use Rattle.alloc_core.specs.Finding.{group_numbers, is_among, may_serve};
+ghost use Rattle.alloc_core.specs.Finding.{numbers_by_part, part_numbers, substitute_numbers};
 
 use bom_core::{Boms, Line, Substitute};
 use part_core::{Catalogue, Id, Part};

@@ -1,9 +1,12 @@
 //! What allocations are for, and whose they are.
 ghost use Rattle.std.specs.Prelude.{◌≡◌, ◌≤◌, ◌↔◌, IsTrue, Some, slice_get};
 ghost use Rattle.part_core.specs.Columns.{Finds};
-ghost use Rattle.alloc_core.specs.AllocationColumns.{output_number, output_of, purpose_at, purpose_line, purpose_of, purpose_output, purpose_owner, purpose_side};
-ghost use Rattle.alloc_core.specs.AllocationKeys.{build_key, build_line_key, order_key, output_key, purpose_keys, sale_line_key};
-ghost use Rattle.alloc_core.specs.Allocations.{is_for_build, is_for_build_line, is_for_line, is_for_order, is_for_output, is_for_sale_line};
+ghost use Rattle.alloc_core.specs.AllocationColumns.{output_number, output_of, purpose_at, purpose_line};
+ghost use Rattle.alloc_core.specs.AllocationColumns.{purpose_of, purpose_output, purpose_owner, purpose_side};
+ghost use Rattle.alloc_core.specs.AllocationKeys.{build_key, build_line_key, order_key};
+ghost use Rattle.alloc_core.specs.AllocationKeys.{output_key, purpose_keys, sale_line_key};
+ghost use Rattle.alloc_core.specs.Allocations.{is_for_build, is_for_build_line, is_for_line};
+ghost use Rattle.alloc_core.specs.Allocations.{is_for_order, is_for_output, is_for_sale_line};
 ghost use Rattle.part_core.specs.Numbered.{is_same_number};
 
 use part_core::column::number_at;

@@ -6,7 +6,8 @@ use Rattle.part_core.specs.Columns.{has, is_bit, number_at}
 use Rattle.part_core.specs.declared.column.Column.{Column}
 use Rattle.part_core.specs.declared.column.Column.TheVariants.{Whole}
 use Rattle.part_core.proofs.ColumnLemmas.{below, bit-is, bound, found, has-is, number_at-is, same_columns, yes-small}
-use Rattle.bom_core.specs.BillColumns.{line_columns, line_flags_at, line_flags_number, line_flags_of, line_flags_of_bits, line_from, substitute_columns, substitute_from}
+use Rattle.bom_core.specs.BillColumns.{line_columns, line_flags_at, line_flags_number, line_flags_of}
+use Rattle.bom_core.specs.BillColumns.{line_flags_of_bits, line_from, substitute_columns, substitute_from}
 use Rattle.bom_core.specs.declared.line.Line.{Line}
 use Rattle.bom_core.specs.declared.line.LineFlags.{LineFlags}
 use Rattle.bom_core.specs.declared.substitute.Substitute.{Substitute}
@@ -15,9 +16,11 @@ use Rattle.bom_core.specs.declared.substitute.Substitute.{Substitute}
 flags-tell : (n : ℕ) (f : LineFlags) → line_flags_of n ≡ Some f → n ≡ line_flags_number f
 flags-tell n f = told (nat_lt n 16) refl
   where
-    told : (b : Bool) → nat_lt n 16 ≡ b → (if b then Some (line_flags_of_bits n) else None) ≡ Some f → n ≡ line_flags_number f
+    told : (b : Bool) → nat_lt n 16 ≡ b → (if b then Some (line_flags_of_bits n) else None) ≡ Some f
+        → n ≡ line_flags_number f
     told true less e =
-        sym (eqb-true (line_flags_number (line_flags_of_bits n)) n (below 16 (λ k. line_flags_number (line_flags_of_bits k) == k) refl n (ltb-true n 16 less)))
+        sym (eqb-true (line_flags_number (line_flags_of_bits n)) n
+        (below 16 (λ k. line_flags_number (line_flags_of_bits k) == k) refl n (ltb-true n 16 less)))
         ∙ sym (found line_flags_number (line_flags_of_bits n) f e)
     told false less e = cc
 
@@ -39,17 +42,21 @@ flags-read f =
     ∙ ap (λ b. Some (record f { inherited = b; variants = is_bit 8 n })) inherited
     ∙ ap (λ b. Some (record f { variants = b })) variants
 
-flags_at-is : (i : ℕ) (cs : List Column) (f : LineFlags) → line_flags_at i cs ≡ Some f → slice_get cs i ≡ Some (Whole (line_flags_number f))
+flags_at-is : (i : ℕ) (cs : List Column) (f : LineFlags) → line_flags_at i cs ≡ Some f
+    → slice_get cs i ≡ Some (Whole (line_flags_number f))
 flags_at-is i cs f e =
     let code = bound (number_at i cs) line_flags_of f e in
     number_at-is i cs code.0 code.1 ∙ ap (λ (n : ℕ). Some (Whole n)) (flags-tell code.0 f code.2)
 
 pub line_told : (cs : List Column) (number assembly component quantity : ℕ) (flags : LineFlags)
-    → has 5 cs ≡ Some tt → number_at 0 cs ≡ Some number → number_at 1 cs ≡ Some assembly → number_at 2 cs ≡ Some component
+    → has 5 cs ≡ Some tt → number_at 0 cs ≡ Some number → number_at 1 cs ≡ Some assembly
+    → number_at 2 cs ≡ Some component
     → number_at 3 cs ≡ Some quantity → line_flags_at 4 cs ≡ Some flags
-    → line_columns (record { number = number; assembly = assembly; component = component; quantity = quantity; flags = flags }) ≡ cs
+    → line_columns
+    (record { number = number; assembly = assembly; component = component; quantity = quantity; flags = flags }) ≡ cs
 line_told cs number assembly component quantity flags all c0 c1 c2 c3 c4 =
-    let one : Line = record { number = number; assembly = assembly; component = component; quantity = quantity; flags = flags } in
+    let one : Line =
+    record { number = number; assembly = assembly; component = component; quantity = quantity; flags = flags } in
     same_columns cs (line_columns one) (has-is 5 cs tt all) (
       number_at-is 0 cs number c0,
       (

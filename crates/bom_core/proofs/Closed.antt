@@ -1,5 +1,6 @@
 -- A search that expands each part that it has seen reaches all that there is.
-use Rattle.std.proofs.Common.{◌≡◌, ◌↔◌, ◌+◌, ◌<◌, ◌≤◌, ℕ, suc, zero, Bool, true, false, ◌||◌, ◌⊎◌, inl, inr, List, [], ◌∷◌, ◌++◌, length, get_or, refl, sym, ap, ◌∙◌, subst, arith, eqb-true, length-append}
+use Rattle.std.proofs.Common.{◌≡◌, ◌↔◌, ◌+◌, ◌<◌, ◌≤◌, ℕ, suc, zero, Bool, true, false, ◌||◌, ◌⊎◌, inl, inr, List, []}
+use Rattle.std.proofs.Common.{◌∷◌, ◌++◌, length, get_or, refl, sym, ap, ◌∙◌, subst, arith, eqb-true, length-append}
 use Rattle.std.specs.Prelude.{◌==◌}
 use Rattle.bom_core.specs.Search.{is_among, push_all}
 use Rattle.bom_core.specs.Walks.{StepsFrom}
@@ -48,12 +49,15 @@ module _ (step : ℕ → ℕ → Bool) (start : ℕ) (next : ℕ → List ℕ) (
       all : (p : ℕ) → is_among new p ≡ is_among (next start) p
       all p = ap (λ l. is_among l p) e ∙ among-push_all [] (next start) p
 
-  pub search-more : (seen new : List ℕ) (at part : ℕ) → IsSearch step start seen at → at < length seen → part ≡ get_or seen at 0 → new ≡ push_all seen (next part) → IsSearch step start new (at + 1)
+  pub search-more : (seen new : List ℕ) (at part : ℕ) → IsSearch step start seen at → at < length seen
+      → part ≡ get_or seen at 0 → new ≡ push_all seen (next part) → IsSearch step start new (at + 1)
   search-more seen new at part s lt here e = record {
     sound = λ p m. from (or_cases (is_among seen p) (is_among (next part) p) (sym (all p) ∙ m));
     first = λ p h. all p ∙ or_left (is_among seen p) _ (s.first p h);
     expanded = λ k p h t. older k p h t;
-    within = let l = length-append seen grown.0 in let m : length new ≡ length (seen ++ grown.0) = ap length (e ∙ grown.1) in omega arith;
+    within =
+        let l = length-append seen grown.0 in
+        let m : length new ≡ length (seen ++ grown.0) = ap length (e ∙ grown.1) in omega arith;
   }
     where
       grown : (rest : List ℕ) × (push_all seen (next part) ≡ seen ++ rest)
@@ -72,17 +76,24 @@ module _ (step : ℕ → ℕ → Bool) (start : ℕ) (next : ℕ → List ℕ) (
       same_place k h = ap (λ l. get_or l k 0) (e ∙ grown.1) ∙ get_or-front seen grown.0 k h
 
       here_or_before : (k : ℕ) → k < at + 1 → (k < at) ⊎ (k ≡ at)
-      here_or_before k h = elim (Rattle.std.proofs.lemmas.Bool.cases_lt k at) [ inl a ↦ inl a | inr b ↦ inr (omega arith) ]
+      here_or_before k h =
+          elim (Rattle.std.proofs.lemmas.Bool.cases_lt k at) [ inl a ↦ inl a | inr b ↦ inr (omega arith) ]
 
       older : (k p : ℕ) → k < at + 1 → step (get_or new k 0) p ≡ true → is_among new p ≡ true
       older k p h t = go (here_or_before k h)
         where
           go : (k < at) ⊎ (k ≡ at) → is_among new p ≡ true
-          go (inl b) = all p ∙ or_left (is_among seen p) _ (s.expanded k p b (ap (λ x. step x p) (sym (same_place k (omega arith))) ∙ t))
+          go (inl b) =
+              all p ∙ or_left (is_among seen p) _
+              (s.expanded k p b (ap (λ x. step x p) (sym (same_place k (omega arith))) ∙ t))
           go (inr b) =
-              all p ∙ or_right (is_among seen p) _ (is part p ∙ ap (λ x. step x p) (here ∙ ap (λ j. get_or seen j 0) (sym b) ∙ sym (same_place k (omega arith))) ∙ t)
+              all p ∙ or_right (is_among seen p) _
+              (is part p
+              ∙ ap (λ x. step x p) (here ∙ ap (λ j. get_or seen j 0) (sym b) ∙ sym (same_place k (omega arith)))
+              ∙ t)
 
-  pub search-done : (seen : List ℕ) (at : ℕ) → IsSearch step start seen at → length seen ≤ at → (p : ℕ) → (is_among seen p ≡ true) ↔ ((n : ℕ) × StepsFrom step n start p)
+  pub search-done : (seen : List ℕ) (at : ℕ) → IsSearch step start seen at → length seen ≤ at → (p : ℕ)
+      → (is_among seen p ≡ true) ↔ ((n : ℕ) × StepsFrom step n start p)
   search-done seen at s end p = (λ m. s.sound p m, λ w. reach w.0 p w.1)
     where
       reach : (n q : ℕ) → StepsFrom step n start q → is_among seen q ≡ true

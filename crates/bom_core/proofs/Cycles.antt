@@ -5,7 +5,8 @@ use Rattle.part_core.specs.declared.part.Part.{Part}
 use Rattle.part_core.specs.Catalogue.{Parts, is_number}
 use Rattle.bom_core.specs.declared.line.Line.{Line}
 use Rattle.bom_core.specs.declared.substitute.Substitute.{Substitute}
-use Rattle.bom_core.specs.Bills.{Bills, contains, is_variant, covers, is_effective, is_substitute, fits_line, part_rows, line_rows, substitute_rows}
+use Rattle.bom_core.specs.Bills.{Bills, contains, is_variant, covers, is_effective}
+use Rattle.bom_core.specs.Bills.{is_substitute, fits_line, part_rows, line_rows, substitute_rows}
 use Rattle.bom_core.specs.Walks.{StepsFrom, HasWalk, NamesParts, numbers_of, has_walk, contains_itself}
 use Rattle.part_core.proofs.Conditions.{or_cases, and_parts}
 use Rattle.part_core.proofs.Standing.{Stands}
@@ -32,29 +33,39 @@ variant-known : (parts : List Part) (p t : ℕ) → is_variant parts p t ≡ tru
 variant-known parts p t e =
     let f = any-found (λ (x : Part). (x.number == p) && is_number t x.template) parts e in
     let h = and_parts (f.0.number == p) _ f.2 in
-    subst (λ n. Stands n (map (λ x. x.number) parts)) (eqb-true _ _ h.0) (Stands-map (λ (x : Part). x.number) f.0 parts f.1)
+    subst (λ n. Stands n (map (λ x. x.number) parts)) (eqb-true _ _ h.0)
+    (Stands-map (λ (x : Part). x.number) f.0 parts f.1)
 
 module _ (parts : Parts) (bills : Bills) (names : NamesParts parts bills) where
-  fits-known : (l : Line) (p : ℕ) → Stands l (line_rows bills) → fits_line (part_rows parts) (substitute_rows bills) l p ≡ true → Stands p (numbers_of parts)
+  fits-known : (l : Line) (p : ℕ) → Stands l (line_rows bills)
+      → fits_line (part_rows parts) (substitute_rows bills) l p ≡ true → Stands p (numbers_of parts)
   fits-known l p s e = go (or_cases (covers (part_rows parts) l.component l.flags.variants p) _ e)
     where
       component : Stands l.component (numbers_of parts)
-      component = Contains-Stands (numbers_of parts) l.component (let g = Stands-get bills.lines l s in names.components g.0 l g.1)
+      component =
+          Contains-Stands (numbers_of parts) l.component
+          (let g = Stands-get bills.lines l s in names.components g.0 l g.1)
 
-      covering : (l.component == p ≡ true) ⊎ ((l.flags.variants && is_variant (part_rows parts) p l.component) ≡ true) → Stands p (numbers_of parts)
+      covering : (l.component == p ≡ true) ⊎ ((l.flags.variants && is_variant (part_rows parts) p l.component) ≡ true)
+          → Stands p (numbers_of parts)
       covering (inl h) = subst (λ n. Stands n (numbers_of parts)) (eqb-true _ _ h) component
       covering (inr h) = variant-known (part_rows parts) p l.component (and_parts l.flags.variants _ h).1
 
-      go : (covers (part_rows parts) l.component l.flags.variants p ≡ true) ⊎ (is_substitute (substitute_rows bills) l.number p ≡ true) → Stands p (numbers_of parts)
+      go : (covers (part_rows parts) l.component l.flags.variants p ≡ true)
+          ⊎ (is_substitute (substitute_rows bills) l.number p ≡ true) → Stands p (numbers_of parts)
       go (inl h) = covering (or_cases (l.component == p) _ h)
       go (inr h) =
           let f = any-found (λ (x : Substitute). (x.line == l.number) && (x.part == p)) (substitute_rows bills) h in
-          subst (λ n. Stands n (numbers_of parts)) (eqb-true _ _ (and_parts (f.0.line == l.number) _ f.2).1) (Contains-Stands (numbers_of parts) f.0.part (let g = Stands-get bills.substitutes f.0 f.1 in names.substitutes g.0 f.0 g.1))
+          subst (λ n. Stands n (numbers_of parts)) (eqb-true _ _ (and_parts (f.0.line == l.number) _ f.2).1)
+          (Contains-Stands (numbers_of parts) f.0.part
+          (let g = Stands-get bills.substitutes f.0 f.1 in names.substitutes g.0 f.0 g.1))
 
   -- what is contained is a part
   pub contains-known : (a c : ℕ) → contains parts bills a c ≡ true → Stands c (numbers_of parts)
   contains-known a c e =
-      let f = any-found (λ l. is_effective (part_rows parts) a l && fits_line (part_rows parts) (substitute_rows bills) l c) (line_rows bills) e in
+      let f =
+      any-found (λ l. is_effective (part_rows parts) a l && fits_line (part_rows parts) (substitute_rows bills) l c)
+      (line_rows bills) e in
       fits-known f.0 c f.1 (and_parts (is_effective (part_rows parts) a f.0) _ f.2).1
 
   pub has_walk_is : (a b : ℕ) → (has_walk parts bills (length (numbers_of parts)) a b ≡ true) ↔ HasWalk parts bills a b
@@ -62,6 +73,8 @@ module _ (parts : Parts) (bills : Bills) (names : NamesParts parts bills) where
 
   pub contains_itself_is : (contains_itself parts bills ≡ true) ↔ ((p : ℕ) × HasWalk parts bills p p)
   contains_itself_is = (
-    λ e. let f = any-found (λ p. has_walk parts bills (length (numbers_of parts)) p p) (numbers_of parts) e in (f.0, (has_walk_is f.0 f.0).0 f.2),
-    λ w. any-from (λ p. has_walk parts bills (length (numbers_of parts)) p p) (numbers_of parts) w.0 (end_stands (contains parts bills) (numbers_of parts) w.0 contains-known w.0 w.1) ((has_walk_is w.0 w.0).1 w.1),
+    λ e. let f = any-found (λ p. has_walk parts bills (length (numbers_of parts)) p p) (numbers_of parts) e in
+        (f.0, (has_walk_is f.0 f.0).0 f.2),
+    λ w. any-from (λ p. has_walk parts bills (length (numbers_of parts)) p p) (numbers_of parts) w.0
+        (end_stands (contains parts bills) (numbers_of parts) w.0 contains-known w.0 w.1) ((has_walk_is w.0 w.0).1 w.1),
   )

@@ -1,5 +1,6 @@
 -- What stands in a list, and tests over lists.
-use Rattle.std.proofs.Common.{◌≡◌, ◌≢◌, ℕ, Bool, true, false, ◌||◌, inl, inr, List, [], ◌∷◌, ◌++◌, map, refl, sym, ap, ◌∙◌, eqb, eqb-true}
+use Rattle.std.proofs.Common.{◌≡◌, ◌≢◌, ℕ, Bool, true, false, ◌||◌, inl, inr, List}
+use Rattle.std.proofs.Common.{[], ◌∷◌, ◌++◌, map, refl, sym, ap, ◌∙◌, eqb, eqb-true}
 use Rattle.std.specs.Prelude.{◌==◌}
 use Rattle.std.specs.List.{list_any}
 use Rattle.std.proofs.lemmas.List.Folds.{list_any-append}
@@ -67,7 +68,8 @@ module _ {X : Type 0} where
         | inr h ↦ inr (Stands-map f x xs h)
       ]
 
-  pub Stands-from_map : {Y : Type 0} (f : X → Y) (y : Y) (xs : List X) → Stands y (map f xs) → (x : X) × Stands x xs × (f x ≡ y)
+  pub Stands-from_map : {Y : Type 0} (f : X → Y) (y : Y) (xs : List X) → Stands y (map f xs)
+      → (x : X) × Stands x xs × (f x ≡ y)
   Stands-from_map f y [] s = absurd s
   Stands-from_map f y (z ∷ xs) s =
       elim s [
@@ -77,7 +79,10 @@ module _ {X : Type 0} where
 
 -- numbers
 pub eqb-other : (a b : ℕ) → a ≢ b → eqb a b ≡ false
-eqb-other a b other = elim (eqb a b) as (λ r. eqb a b ≡ r → r ≡ false) [ true ↦ λ e. absurd (other (eqb-true a b e)) | false ↦ λ e. refl ] refl
+eqb-other a b other = elim (eqb a b) as (λ r. eqb a b ≡ r → r ≡ false) [
+  | true ↦ λ e. absurd (other (eqb-true a b e))
+  | false ↦ λ e. refl
+] refl
 
 pub among-Stands : (xs : List ℕ) (p : ℕ) → is_among xs p ≡ true → Stands p xs
 among-Stands [] p e = cc

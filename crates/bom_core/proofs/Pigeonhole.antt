@@ -1,6 +1,7 @@
 -- Walks of as many steps as there are parts reach all that any walk reaches: what is reached within n steps grows with
 -- n until it is stable, and it can't grow more often than there are parts.
-use Rattle.std.proofs.Common.{◌≡◌, ◌↔◌, ◌+◌, ◌<◌, ◌≤◌, ℕ, suc, zero, Bool, true, false, cond, ◌⊎◌, inl, inr, List, [], ◌∷◌, length, refl, sym, ap, ◌∙◌, arith}
+use Rattle.std.proofs.Common.{◌≡◌, ◌↔◌, ◌+◌, ◌<◌, ◌≤◌, ℕ, suc, zero, Bool, true, false, cond}
+use Rattle.std.proofs.Common.{◌⊎◌, inl, inr, List, [], ◌∷◌, length, refl, sym, ap, ◌∙◌, arith}
 use Rattle.std.specs.Prelude.{◌&&◌}
 use Rattle.std.specs.List.{list_any}
 use Rattle.bom_core.specs.Walks.{StepsFrom, leads}
@@ -28,7 +29,8 @@ unfolding held
 held-full p [] h x s = absurd s
 held-full p (y ∷ ys) h x s = go (p y) refl h (held-most p ys) (held-full p ys) s
   where
-    go : (b : Bool) → p y ≡ b → length (y ∷ ys) ≤ cond b 1 0 + held p ys → held p ys ≤ length ys → (length ys ≤ held p ys → (x : ℕ) → Stands x ys → p x ≡ true) → (y ≡ x) ⊎ Stands x ys → p x ≡ true
+    go : (b : Bool) → p y ≡ b → length (y ∷ ys) ≤ cond b 1 0 + held p ys → held p ys ≤ length ys
+        → (length ys ≤ held p ys → (x : ℕ) → Stands x ys → p x ≡ true) → (y ≡ x) ⊎ Stands x ys → p x ≡ true
     go true e h m ih (inl i) = ap p (sym i) ∙ e
     go true e h m ih (inr s) = ih (omega arith) x s
     go false e h m ih s = absurd (omega arith)
@@ -39,7 +41,8 @@ module _ (p q : ℕ → Bool) (more : (x : ℕ) → p x ≡ true → q x ≡ tru
   held-le [] = omega arith
   held-le (x ∷ xs) = go (p x) (q x) (more x) (held-le xs)
     where
-      go : (a b : Bool) → (a ≡ true → b ≡ true) → held p xs ≤ held q xs → cond a 1 0 + held p xs ≤ cond b 1 0 + held q xs
+      go : (a b : Bool) → (a ≡ true → b ≡ true) → held p xs ≤ held q xs
+          → cond a 1 0 + held p xs ≤ cond b 1 0 + held q xs
       go true true f ih = omega arith
       go true false f ih = absurd (let e = f refl in cc)
       go false true f ih = omega arith
@@ -51,14 +54,17 @@ module _ (p q : ℕ → Bool) (more : (x : ℕ) → p x ≡ true → q x ≡ tru
   held-step [] = inr (λ x s e. absurd s)
   held-step (x ∷ xs) = go (p x) refl (q x) refl (held-step xs) (held-le xs)
     where
-      go : (a : Bool) → p x ≡ a → (b : Bool) → q x ≡ b → (held p xs < held q xs) ⊎ ((y : ℕ) → Stands y xs → q y ≡ true → p y ≡ true) → held p xs ≤ held q xs
-          → (cond a 1 0 + held p xs < cond b 1 0 + held q xs) ⊎ ((y : ℕ) → (x ≡ y) ⊎ Stands y xs → q y ≡ true → p y ≡ true)
+      go : (a : Bool) → p x ≡ a → (b : Bool) → q x ≡ b
+          → (held p xs < held q xs) ⊎ ((y : ℕ) → Stands y xs → q y ≡ true → p y ≡ true) → held p xs ≤ held q xs
+          → (cond a 1 0 + held p xs < cond b 1 0 + held q xs)
+          ⊎ ((y : ℕ) → (x ≡ y) ⊎ Stands y xs → q y ≡ true → p y ≡ true)
       go true e false f ih le = absurd (let h = more x e in cc)
       go false e true f ih le = inl (omega arith)
       go true e true f (inl h) le = inl (omega arith)
       go false e false f (inl h) le = inl (omega arith)
       go true e true f (inr h) le = inr (λ y s t. elim s [ inl i ↦ ap p (sym i) ∙ e | inr r ↦ h y r t ])
-      go false e false f (inr h) le = inr (λ y s t. elim s [ inl i ↦ (let u : q x ≡ true = ap q i ∙ t in cc) | inr r ↦ h y r t ])
+      go false e false f (inr h) le =
+          inr (λ y s t. elim s [ inl i ↦ (let u : q x ≡ true = ap q i ∙ t in cc) | inr r ↦ h y r t ])
 
 module _ (step : ℕ → ℕ → Bool) (by : List ℕ) (a : ℕ) where
   reach : ℕ → ℕ → Bool
@@ -72,7 +78,8 @@ module _ (step : ℕ → ℕ → Bool) (by : List ℕ) (a : ℕ) where
         | inr h ↦
             let f = any-found (λ c. leads step by n a c && step c b) by h in
             let t = and_parts (leads step by n a f.0) _ f.2 in
-            or_right (step a b) _ (any-from (λ c. leads step by (suc n) a c && step c b) by f.0 f.1 (and_both _ _ (leads-more n f.0 t.0) t.1))
+            or_right (step a b) _
+            (any-from (λ c. leads step by (suc n) a c && step c b) by f.0 f.1 (and_both _ _ (leads-more n f.0 t.0) t.1))
       ]
 
   -- a step more reaches no other part
@@ -82,24 +89,28 @@ module _ (step : ℕ → ℕ → Bool) (by : List ℕ) (a : ℕ) where
   stable-more : (n : ℕ) → Stable n → Stable (suc n)
   stable-more n s b here e = go (or_cases (step a b) _ e)
     where
-      go : (step a b ≡ true) ⊎ (list_any (λ c. leads step by (suc n) a c && step c b) by ≡ true) → leads step by (suc n) a b ≡ true
+      go : (step a b ≡ true) ⊎ (list_any (λ c. leads step by (suc n) a c && step c b) by ≡ true)
+          → leads step by (suc n) a b ≡ true
       go (inl h) = or_left _ _ h
       go (inr h) =
           let f = any-found (λ c. leads step by (suc n) a c && step c b) by h in
           let t = and_parts (leads step by (suc n) a f.0) _ f.2 in
-          or_right (step a b) _ (any-from (λ c. leads step by n a c && step c b) by f.0 f.1 (and_both _ _ (s f.0 f.1 t.0) t.1))
+          or_right (step a b) _
+          (any-from (λ c. leads step by n a c && step c b) by f.0 f.1 (and_both _ _ (s f.0 f.1 t.0) t.1))
 
   rise : (n : ℕ) → (n ≤ held (λ b. leads step by n a b) by) ⊎ Stable n
   rise zero = inl (omega arith)
   rise (suc n) = go (rise n)
     where
       next : n ≤ held (λ b. leads step by n a b) by
-          → (held (λ b. leads step by n a b) by < held (λ b. leads step by (suc n) a b) by) ⊎ ((b : ℕ) → Stands b by → leads step by (suc n) a b ≡ true → leads step by n a b ≡ true)
+          → (held (λ b. leads step by n a b) by < held (λ b. leads step by (suc n) a b) by)
+          ⊎ ((b : ℕ) → Stands b by → leads step by (suc n) a b ≡ true → leads step by n a b ≡ true)
           → (suc n ≤ held (λ b. leads step by (suc n) a b) by) ⊎ Stable (suc n)
       next h (inl lt) = inl (omega arith)
       next h (inr s) = inr (stable-more n s)
 
-      go : (n ≤ held (λ b. leads step by n a b) by) ⊎ Stable n → (suc n ≤ held (λ b. leads step by (suc n) a b) by) ⊎ Stable (suc n)
+      go : (n ≤ held (λ b. leads step by n a b) by) ⊎ Stable n
+          → (suc n ≤ held (λ b. leads step by (suc n) a b) by) ⊎ Stable (suc n)
       go (inl h) = next h (held-step (λ b. leads step by n a b) (λ b. leads step by (suc n) a b) (leads-more n) by)
       go (inr s) = inr (stable-more n s)
 
@@ -132,7 +143,9 @@ module _ (step : ℕ → ℕ → Bool) (by : List ℕ) (a : ℕ) where
               let f = any-found (λ c. leads step by n a c && step c b) by h in
               let t = and_parts (leads step by n a f.0) _ f.2 in
               stable_at_length b (known f.0 b t.1)
-              (or_right (step a b) _ (any-from (λ c. leads step by (length by) a c && step c b) by f.0 f.1 (and_both _ _ (settled n f.0 t.0) t.1)))
+              (or_right (step a b) _
+              (any-from (λ c. leads step by (length by) a c && step c b) by f.0 f.1
+              (and_both _ _ (settled n f.0 t.0) t.1)))
         ]
 
     ends : (n b : ℕ) → StepsFrom step n a b → Stands b by
@@ -142,7 +155,9 @@ module _ (step : ℕ → ℕ → Bool) (by : List ℕ) (a : ℕ) where
     walk-leads : (n b : ℕ) → StepsFrom step n a b → leads step by (suc n) a b ≡ true
     walk-leads zero b w = or_left (step a b) _ w
     walk-leads (suc n) b w =
-        or_right (step a b) _ (any-from (λ c. leads step by (suc n) a c && step c b) by w.0 (ends n w.0 w.1) (and_both _ _ (walk-leads n w.0 w.1) w.2))
+        or_right (step a b) _
+        (any-from (λ c. leads step by (suc n) a c && step c b) by w.0 (ends n w.0 w.1)
+        (and_both _ _ (walk-leads n w.0 w.1) w.2))
 
     pub leads_is_walk : (b : ℕ) → (leads step by (length by) a b ≡ true) ↔ ((n : ℕ) × StepsFrom step n a b)
     leads_is_walk b = (leads-walk (length by) b, λ w. settled (suc w.0) b (walk-leads w.0 b w.1))

@@ -11,10 +11,12 @@ use Rattle.bom_core.specs.declared.substitute.Substitute.{Substitute}
 
 -- flags as a number, each a bit of it
 abbrev pub line_flags_number : LineFlags → ℕ
-line_flags_number f = yes_number f.optional + 2 * yes_number f.consumable + 4 * yes_number f.inherited + 8 * yes_number f.variants
+line_flags_number f =
+    yes_number f.optional + 2 * yes_number f.consumable + 4 * yes_number f.inherited + 8 * yes_number f.variants
 
 abbrev pub line_flags_of_bits : ℕ → LineFlags
-line_flags_of_bits n = record { optional = is_bit 1 n; consumable = is_bit 2 n; inherited = is_bit 4 n; variants = is_bit 8 n }
+line_flags_of_bits n =
+    record { optional = is_bit 1 n; consumable = is_bit 2 n; inherited = is_bit 4 n; variants = is_bit 8 n }
 
 -- the flags of a number, where it is one of flags
 abbrev pub line_flags_of : ℕ → Option LineFlags
@@ -27,7 +29,8 @@ line_flags_at i columns = do
 
 abbrev pub line_columns : Line → List Column
 line_columns row =
-    Whole row.number ∷ Whole row.assembly ∷ Whole row.component ∷ Whole row.quantity ∷ Whole (line_flags_number row.flags) ∷ []
+    Whole row.number ∷ Whole row.assembly ∷ Whole row.component ∷ Whole row.quantity
+    ∷ Whole (line_flags_number row.flags) ∷ []
 
 abbrev pub line_from : List Column → Option Line
 line_from columns = do

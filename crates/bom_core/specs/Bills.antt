@@ -54,11 +54,13 @@ fits parts bills l p = fits_line (part_rows parts) (substitute_rows bills) l p
 -- the part may be installed in the assembly: a line that holds for that and isn't consumable fits it
 abbrev pub fits_in : Parts → Bills → ℕ → ℕ → Bool
 fits_in parts bills a p =
-    list_any (λ l. is_effective (part_rows parts) a l && not l.flags.consumable && fits parts bills l p) (line_rows bills)
+    list_any (λ l. is_effective (part_rows parts) a l && not l.flags.consumable && fits parts bills l p)
+    (line_rows bills)
 
 -- a line that holds for a fits c
 abbrev pub contains_by : List Part → List Line → List Substitute → ℕ → ℕ → Bool
-contains_by parts lines substitutes a c = list_any (λ l. is_effective parts a l && fits_line parts substitutes l c) lines
+contains_by parts lines substitutes a c =
+    list_any (λ l. is_effective parts a l && fits_line parts substitutes l c) lines
 
 abbrev pub contains : Parts → Bills → ℕ → ℕ → Bool
 contains parts bills a c = contains_by (part_rows parts) (line_rows bills) (substitute_rows bills) a c

@@ -14,7 +14,10 @@ bom_forms =
     record {
       form = record {
         verb = codes "add_line";
-        fields = (codes "assembly", Number) ∷ (codes "component", Number) ∷ (codes "quantity", Number) ∷ (codes "optional", Yes) ∷ (codes "consumable", Yes) ∷ (codes "inherited", Yes) ∷ (codes "variants", Yes) ∷ [];
+        fields =
+            (codes "assembly", Number) ∷ (codes "component", Number) ∷ (codes "quantity", Number)
+            ∷ (codes "optional", Yes) ∷ (codes "consumable", Yes) ∷ (codes "inherited", Yes)
+            ∷ (codes "variants", Yes) ∷ [];
       };
       make = λ assembly component quantity optional consumable inherited variants.
           AddLine (record {
@@ -46,7 +49,8 @@ bom_verb (DropSubstitute substitute) = codes "drop_substitute"
 
 abbrev pub bom_fields : BomCommand → List Field
 bom_fields (AddLine new) =
-    field.Number new.assembly ∷ field.Number new.component ∷ field.Number new.quantity ∷ field.Yes new.flags.optional ∷ field.Yes new.flags.consumable ∷ field.Yes new.flags.inherited ∷ field.Yes new.flags.variants ∷ []
+    field.Number new.assembly ∷ field.Number new.component ∷ field.Number new.quantity ∷ field.Yes new.flags.optional
+    ∷ field.Yes new.flags.consumable ∷ field.Yes new.flags.inherited ∷ field.Yes new.flags.variants ∷ []
 bom_fields (DropLine line) = field.Number line ∷ []
 bom_fields (AddSubstitute line part) = field.Number line ∷ field.Number part ∷ []
 bom_fields (DropSubstitute substitute) = field.Number substitute ∷ []

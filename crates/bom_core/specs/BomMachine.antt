@@ -7,7 +7,8 @@ use Rattle.part_core.specs.declared.answer.Answer.{Answer}
 use Rattle.bom_core.specs.Changes.{BillBooks}
 use Rattle.bom_core.specs.Lines.{add_line, add_line_checks, drop_line_checks, without_line}
 use Rattle.bom_core.specs.Sound.{IsSoundBill}
-use Rattle.bom_core.specs.Substitutes.{add_substitute, add_substitute_checks, drop_substitute_checks, without_substitute}
+use Rattle.bom_core.specs.Substitutes.{add_substitute, add_substitute_checks}
+use Rattle.bom_core.specs.Substitutes.{drop_substitute_checks, without_substitute}
 use Rattle.bom_core.specs.declared.bom_command.BomCommand.{BomCommand}
 use Rattle.bom_core.specs.declared.bom_command.BomCommand.TheVariants.{AddLine, DropLine, AddSubstitute, DropSubstitute}
 
@@ -31,10 +32,12 @@ answer_of old new = record { ids = numbers_between old.counter new.counter; entr
 
 -- the refusals of each command stand in the one order of checks
 abbrev pub ChecksAreInOrder : Type 0
-ChecksAreInOrder = (c : BomCommand) (open_parts : List ℕ) (parts : Parts) (b : BillBooks) → AreInOrder (checks c open_parts parts b)
+ChecksAreInOrder =
+    (c : BomCommand) (open_parts : List ℕ) (parts : Parts) (b : BillBooks) → AreInOrder (checks c open_parts parts b)
 
 -- what passes its checks leaves sound bills sound, and numbers drawn
 abbrev pub EffectsAreSound : Type 0
 EffectsAreSound =
-    (c : BomCommand) (open_parts : List ℕ) (parts : Parts) (b : BillBooks) → IsSoundBill parts b.bills b.counter.next → first (checks c open_parts parts b) ≡ None
+    (c : BomCommand) (open_parts : List ℕ) (parts : Parts) (b : BillBooks) → IsSoundBill parts b.bills b.counter.next
+    → first (checks c open_parts parts b) ≡ None
     → IsSoundBill parts (effect c b).bills (effect c b).counter.next × (b.counter.next ≤ (effect c b).counter.next)

@@ -17,7 +17,8 @@ bills_before b = record { lines = b.lines.before; substitutes = b.substitutes.be
 
 -- the tables of these rows
 abbrev pub bills_from : List Line → List Substitute → Bills
-bills_from lines substitutes = record { lines = filled (λ l. l.number ∷ []) lines; substitutes = filled (λ s. s.number ∷ []) substitutes }
+bills_from lines substitutes =
+    record { lines = filled (λ l. l.number ∷ []) lines; substitutes = filled (λ s. s.number ∷ []) substitutes }
 
 abbrev pub bill_books : Boms → Counting → BillBooks
 bill_books boms counter = record { bills = bills_of boms; counter = numbering_of counter }

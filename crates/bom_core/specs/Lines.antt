@@ -6,7 +6,8 @@ use Rattle.part_core.specs.Catalogue.{Parts, is_retired, part_in}
 use Rattle.part_core.specs.Checks.{Check}
 use Rattle.part_core.specs.Counter.{drawn, passes_limit}
 use Rattle.part_core.specs.Quantity.{is_bad_quantity}
-use Rattle.part_core.specs.declared.refusal.Refusal.TheVariants.{NoSuch, BadNumber, WrongFlag, Retired, InUse, Cycle, Full}
+use Rattle.part_core.specs.declared.refusal.Refusal.TheVariants.{NoSuch, BadNumber, WrongFlag}
+use Rattle.part_core.specs.declared.refusal.Refusal.TheVariants.{Retired, InUse, Cycle, Full}
 use Rattle.bom_core.specs.Bills.{Bills, substitute_rows}
 use Rattle.bom_core.specs.Changes.{BillBooks, has_row, is_assembly, is_component, is_line_open, is_open, is_virtual}
 use Rattle.bom_core.specs.Walks.{contains_itself}
@@ -17,7 +18,13 @@ use Rattle.bom_core.specs.declared.line.NewLine.{NewLine}
 
 -- the row of a new line
 abbrev pub new_line : ℕ → NewLine → Line
-new_line n new = record { number = n; assembly = new.assembly; component = new.component; quantity = new.quantity; flags = new.flags }
+new_line n new = record {
+  number = n;
+  assembly = new.assembly;
+  component = new.component;
+  quantity = new.quantity;
+  flags = new.flags;
+}
 
 -- the bills with the line
 abbrev pub with_line : Line → Bills → Bills
@@ -32,7 +39,11 @@ abbrev pub line_row_checks : NewLine → List ℕ → Parts → List Check
 line_row_checks new open_parts parts =
     (not (has_row parts.parts new.assembly && has_row parts.parts new.component), NoSuch)
     ∷ (is_bad_quantity new.quantity, BadNumber)
-    ∷ (not (is_assembly parts new.assembly) || (not (is_component parts new.component) || (is_virtual parts new.component && not new.flags.consumable)), WrongFlag)
+    ∷ (
+      not (is_assembly parts new.assembly)
+          || (not (is_component parts new.component) || (is_virtual parts new.component && not new.flags.consumable)),
+      WrongFlag,
+    )
     ∷ (is_retired (part_in new.assembly parts) || is_retired (part_in new.component parts), Retired)
     ∷ (is_open parts open_parts new.assembly, InUse)
     ∷ []
@@ -56,8 +67,12 @@ substitutes_of n bills = map (λ s. s.number) (filter (λ s. s.line == n) (subst
 
 -- the bills without the line and its substitutes
 abbrev pub without_line : ℕ → Bills → Bills
-without_line n bills = record { lines = table.remove bills.lines (n ∷ []); substitutes = removed_all (substitutes_of n bills) bills.substitutes }
+without_line n bills = record {
+  lines = table.remove bills.lines (n ∷ []);
+  substitutes = removed_all (substitutes_of n bills) bills.substitutes;
+}
 
 -- why it is refused, in the order of checks
 abbrev pub drop_line_checks : ℕ → List ℕ → Parts → Bills → List Check
-drop_line_checks n open_parts parts bills = (not (has_row bills.lines n), NoSuch) ∷ (is_line_open parts bills open_parts n, InUse) ∷ []
+drop_line_checks n open_parts parts bills =
+    (not (has_row bills.lines n), NoSuch) ∷ (is_line_open parts bills open_parts n, InUse) ∷ []

@@ -23,7 +23,8 @@ module _ (ranks : ℕ → Ranks) where
     where
       within : Option ℕ → Bool
       within None = true
-      within (Some t) = not (nat_lt (ranks x.number).rank (ranks t).low) && not (nat_lt (ranks t).high (ranks x.number).rank)
+      within (Some t) =
+          not (nat_lt (ranks x.number).rank (ranks t).low) && not (nat_lt (ranks t).high (ranks x.number).rank)
 
   -- no part that the line holds for has a smaller rank
   abbrev pub floor : Line → ℕ
@@ -31,7 +32,8 @@ module _ (ranks : ℕ → Ranks) where
 
   -- no part that fits the line without substitutes has a greater rank
   abbrev pub ceiling : Line → ℕ
-  ceiling l = if l.flags.variants then max (ranks l.component).high (ranks l.component).rank else (ranks l.component).rank
+  ceiling l =
+      if l.flags.variants then max (ranks l.component).high (ranks l.component).rank else (ranks l.component).rank
 
   -- ranks fall along the line
   abbrev pub is_falling : Line → Bool

@@ -39,7 +39,9 @@ AreNumbered m = (k : List ℕ) (l : Line) → table.get m k ≡ Some l → k ≡
 -- the line, and what `next` makes of the others from the first that has a higher number, below those with lower numbers
 abbrev pub placed : Line → (List Line → List Line) → List Line → List Line
 placed l next [] = l ∷ next []
-placed l next (m ∷ ms) = cond (nat_lt l.number m.number) (l ∷ next (m ∷ ms)) (cond (nat_lt m.number l.number) (m ∷ placed l next ms) (placed l next ms))
+placed l next (m ∷ ms) =
+    cond (nat_lt l.number m.number) (l ∷ next (m ∷ ms))
+    (cond (nat_lt m.number l.number) (m ∷ placed l next ms) (placed l next ms))
 
 -- two lists in order of number as one, where what stands in both stands once
 abbrev pub merged : List Line → List Line → List Line

@@ -15,7 +15,8 @@ has_quantity l = not (is_bad_quantity l.quantity)
 
 -- the substitute's line doesn't fit it without it
 abbrev pub is_needed : Parts → Bills → Substitute → Bool
-is_needed parts bills s = not (row_is (λ l. covers (part_rows parts) l.component l.flags.variants s.part) bills.lines s.line)
+is_needed parts bills s =
+    not (row_is (λ l. covers (part_rows parts) l.component l.flags.variants s.part) bills.lines s.line)
 
 -- a line and a part that is its substitute
 abbrev pub Pair : Type 0
@@ -31,4 +32,5 @@ is_number_found n found = passes (λ m. nat_eq m n) found
 -- for each line and part of these substitutes, the number of one of them that is that part on that line
 pub record AreNumbersOf {S : Type 0} (rows : List Substitute) (numbers : HashMap Pair ℕ S) : Type 0 where
   pub there : (s : Substitute) → Contains rows s → IsSome (get same_pair numbers (s.line, s.part))
-  pub found : (q : Pair) (n : ℕ) → get same_pair numbers q ≡ Some n → (s : Substitute) × Contains rows s × ((s.line, s.part) ≡ q) × (s.number ≡ n)
+  pub found : (q : Pair) (n : ℕ) → get same_pair numbers q ≡ Some n
+      → (s : Substitute) × Contains rows s × ((s.line, s.part) ≡ q) × (s.number ≡ n)

@@ -41,7 +41,9 @@ fitting parts substitutes l = covered parts l.component l.flags.variants ++ subs
 
 -- what a part contains
 abbrev pub contained : Parts → Bills → ℕ → List ℕ
-contained parts bills a = flat_map (fitting (part_rows parts) (substitute_rows bills)) (filter (is_effective (part_rows parts) a) (line_rows bills))
+contained parts bills a =
+    flat_map (fitting (part_rows parts) (substitute_rows bills))
+    (filter (is_effective (part_rows parts) a) (line_rows bills))
 
 -- the parts that a line holds for
 abbrev pub assemblies : List Part → Line → List ℕ
@@ -54,11 +56,14 @@ assemblies_of parts (Some l) = assemblies parts l
 
 -- the parts with a line whose component, or a variant that the line allows, is the part
 abbrev pub by_component : Parts → Bills → ℕ → List ℕ
-by_component parts bills p = flat_map (assemblies (part_rows parts)) (filter (is_covering Component (part_rows parts) p) (line_rows bills))
+by_component parts bills p =
+    flat_map (assemblies (part_rows parts)) (filter (is_covering Component (part_rows parts) p) (line_rows bills))
 
 -- the parts with a line that the part is a substitute of
 abbrev pub by_substitute : Parts → Bills → ℕ → List ℕ
-by_substitute parts bills p = flat_map (λ s. assemblies_of (part_rows parts) (table.get bills.lines (s.line ∷ []))) (filter (λ s. s.part == p) (substitute_rows bills))
+by_substitute parts bills p =
+    flat_map (λ s. assemblies_of (part_rows parts) (table.get bills.lines (s.line ∷ [])))
+    (filter (λ s. s.part == p) (substitute_rows bills))
 
 -- the parts that are one step away
 abbrev pub next_parts : Direction → Parts → Bills → ℕ → List ℕ

@@ -32,7 +32,10 @@ pub record IsSoundBill (parts : Parts) (bills : Bills) (next : ℕ) : Type 0 whe
   pub acyclic : IsAcyclic parts bills
   -- a line has no substitute twice, and none that it would fit without it
   pub once : IsOnceEach bills.substitutes
-  pub needed : EachRow (λ l. EachRow (λ s. s.line ≡ l.number → covers (part_rows parts) l.component l.flags.variants s.part ≡ false) bills.substitutes) bills.lines
+  pub needed : EachRow
+      (λ l. EachRow (λ s. s.line ≡ l.number → covers (part_rows parts) l.component l.flags.variants s.part ≡ false)
+      bills.substitutes)
+      bills.lines
 
 -- the catalogue with another row of a part
 abbrev pub with_row : Part → Parts → Parts
@@ -40,4 +43,5 @@ with_row x parts = record parts { parts = table.insert parts.parts (x.number ∷
 
 -- the template of a new part, where it has one, is there, and isn't itself a variant
 abbrev pub IsNewPart : Parts → Part → Type 0
-IsNewPart parts x = (t : ℕ) → x.template ≡ Some t → IsThere parts.parts t × ((u : ℕ) → is_variant (part_rows parts) t u ≡ false)
+IsNewPart parts x =
+    (t : ℕ) → x.template ≡ Some t → IsThere parts.parts t × ((u : ℕ) → is_variant (part_rows parts) t u ≡ false)

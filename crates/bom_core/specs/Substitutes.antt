@@ -22,7 +22,8 @@ with_substitute s bills = record bills { substitutes = table.insert bills.substi
 
 -- a substitute under the next number
 abbrev pub add_substitute : ℕ → ℕ → BillBooks → BillBooks
-add_substitute line part b = record { bills = with_substitute (new_substitute b.counter.next line part) b.bills; counter = drawn 1 b.counter }
+add_substitute line part b =
+    record { bills = with_substitute (new_substitute b.counter.next line part) b.bills; counter = drawn 1 b.counter }
 
 -- the line fits the part already
 abbrev pub is_fitting : Parts → Bills → ℕ → ℕ → Bool
@@ -41,7 +42,8 @@ substitute_row_checks line part open_parts parts bills =
 abbrev pub add_substitute_checks : ℕ → ℕ → List ℕ → Parts → BillBooks → List Check
 add_substitute_checks line part open_parts parts b =
     substitute_row_checks line part open_parts parts b.bills
-    ++ ((contains_itself parts (add_substitute line part b).bills, Cycle) ∷ (passes_limit (add_substitute line part b).counter, Full) ∷ [])
+    ++ ((contains_itself parts (add_substitute line part b).bills, Cycle)
+    ∷ (passes_limit (add_substitute line part b).counter, Full) ∷ [])
 
 -- ---- drop_substitute
 
@@ -52,4 +54,5 @@ without_substitute n bills = record bills { substitutes = table.remove bills.sub
 -- why it is refused, in the order of checks
 abbrev pub drop_substitute_checks : ℕ → List ℕ → Parts → Bills → List Check
 drop_substitute_checks n open_parts parts bills =
-    (not (has_row bills.substitutes n), NoSuch) ∷ (row_is (λ s. is_line_open parts bills open_parts s.line) bills.substitutes n, InUse) ∷ []
+    (not (has_row bills.substitutes n), NoSuch)
+    ∷ (row_is (λ s. is_line_open parts bills open_parts s.line) bills.substitutes n, InUse) ∷ []

@@ -44,9 +44,11 @@ contains_itself parts bills = list_any (λ p. has_walk parts bills (length (numb
 -- what the lines and the substitutes name as fitting is in the catalogue
 pub record NamesParts (parts : Parts) (bills : Bills) : Type 0 where
   pub components : (k : List ℕ) (l : Line) → table.get bills.lines k ≡ Some l → Contains (numbers_of parts) l.component
-  pub substitutes : (k : List ℕ) (s : Substitute) → table.get bills.substitutes k ≡ Some s → Contains (numbers_of parts) s.part
+  pub substitutes : (k : List ℕ) (s : Substitute) → table.get bills.substitutes k ≡ Some s
+      → Contains (numbers_of parts) s.part
 
 -- the rows are those of the parts with a walk to the part, in order of number
 abbrev pub IsWhereUsed : Parts → Bills → ℕ → List Part → Type 0
 IsWhereUsed parts bills part rows =
-    (uses : Part → Bool) × ((x : Part) → (uses x ≡ true) ↔ HasWalk parts bills x.number part) × (rows ≡ filter uses (part_rows parts))
+    (uses : Part → Bool) × ((x : Part) → (uses x ≡ true) ↔ HasWalk parts bills x.number part)
+    × (rows ≡ filter uses (part_rows parts))

@@ -5,7 +5,8 @@ ghost use Rattle.std.specs.FinMap as table;
 ghost use Rattle.part_core.specs.CatalogueView.{parts_of};
 ghost use Rattle.bom_core.specs.Bills.{part_rows, substitute_rows};
 ghost use Rattle.bom_core.specs.BomsView.{bills_of};
-ghost use Rattle.bom_core.specs.Search.{is_among, push_new, push_all, variants_in, covered, substitutes_in, fitting, contained, assemblies_of, by_component, by_substitute, next_parts, is_next};
+ghost use Rattle.bom_core.specs.Search.{is_among, push_new, push_all, variants_in, covered, substitutes_in, fitting};
+ghost use Rattle.bom_core.specs.Search.{contained, assemblies_of, by_component, by_substitute, next_parts, is_next};
 ghost use Rattle.bom_core.specs.Walks.{StepsFrom};
 
 use crate::boms::Boms;

@@ -1,5 +1,6 @@
 -- An output goes away, with its allocations: builds, allocations and stock stay sound.
-use Rattle.std.proofs.Common.{◌≡◌, ℕ, ◌≤◌, Bool, true, false, not, List, [], ◌∷◌, length, Option, Some, None, refl, sym, ap, ◌∙◌, arith, eqb-true}
+use Rattle.std.proofs.Common.{◌≡◌, ℕ, ◌≤◌, Bool, true, false, not, List, [], ◌∷◌, length}
+use Rattle.std.proofs.Common.{Option, Some, None, refl, sym, ap, ◌∙◌, arith, eqb-true}
 use Rattle.std.specs.Prelude.{◌==◌, filter, nat_lt}
 use Rattle.std.specs.FinMap as table
 use Rattle.std.proofs.lemmas.Bool.{ltb-false}
@@ -35,7 +36,8 @@ use Rattle.stock_core.specs.Sound.{IsSoundStock, Owners}
 use Rattle.stock_core.specs.StockMachine.{Grows}
 use Rattle.stock_core.proofs.Plain.{item_of, there-checked}
 use Rattle.stock_core.proofs.Upright.{Leads, Upright, sound-of, upright-of}
-use Rattle.build_core.specs.Builds.{BuildBooks, build_at, is_in_production, owners_beside, with_stock_books, without_allocations}
+use Rattle.build_core.specs.Builds.{BuildBooks, build_at, is_in_production}
+use Rattle.build_core.specs.Builds.{owners_beside, with_stock_books, without_allocations}
 use Rattle.build_core.specs.CancelOutput.{cancel_output, cancel_output_checks}
 use Rattle.build_core.specs.CompleteOutput.{build_of_output, is_no_output}
 use Rattle.build_core.specs.ScrapOutput.{scrap_output, scrap_output_checks}
@@ -45,8 +47,10 @@ use Rattle.build_core.proofs.Kept.{IsSameBuild, OutputStays, in-output}
 use Rattle.build_core.proofs.Lifts.{leads-gone, leads-scrapped}
 use Rattle.build_core.proofs.Rests.{MeantStay, OutputsStay, allocations-left, outputs-left}
 
-module _ (n : ℕ) (q : Place) (day : CivilDay) (is_order : ℕ → Bool) (parts : Parts) (bills : Bills) (b : BuildBooks) (sound : AreSoundBooks is_order parts bills b)
-    (there : table.get b.books.stock.items (n ∷ []) ≡ Some (item_at n b.books.stock)) (build : ℕ) (place : (item_at n b.books.stock).place ≡ Output build) (away : is_output q ≡ false)
+module _ (n : ℕ) (q : Place) (day : CivilDay) (is_order : ℕ → Bool) (parts : Parts) (bills : Bills) (b : BuildBooks)
+    (sound : AreSoundBooks is_order parts bills b)
+    (there : table.get b.books.stock.items (n ∷ []) ≡ Some (item_at n b.books.stock)) (build : ℕ)
+    (place : (item_at n b.books.stock).place ≡ Output build) (away : is_output q ≡ false)
     (leads : Leads (owners_beside is_order b.builds) parts b.books (with_stock (lift n q day b.books.stock) b.books))
     (within : entries_in (with_stock (lift n q day b.books.stock) b.books) ≤ b.books.counter.limits.entries) where
   abbrev s : Stock
@@ -90,15 +94,21 @@ module _ (n : ℕ) (q : Place) (day : CivilDay) (is_order : ℕ → Bool) (parts
     where
       go : (c : Bool) → (k == n) ≡ c → c ≡ false
       go false f = refl
-      go true f = let clash : true ≡ false = sym loose ∙ ap (λ j. is_at (item_at j s).place) (eqb-true k n f) ∙ ap is_at place in cc
+      go true f =
+          let clash : true ≡ false =
+          sym loose ∙ ap (λ j. is_at (item_at j s).place) (eqb-true k n f) ∙ ap is_at place in
+          cc
 
   covered : IsCovered s rest
-  covered = covered-others s (is_owned own) (table.values b.allocations) (covered-of b.allocations b.books sound.allocations)
+  covered =
+      covered-others s (is_owned own) (table.values b.allocations) (covered-of b.allocations b.books sound.allocations)
 
   covered_after : IsCovered after.books.stock rest
   covered_after = covered-moved s after.books.stock rest covered.each (λ k loose some.
-      let row = row_other k (other_item k loose) in
-      (ap (λ o. is_at (item_of o).place) row ∙ loose, (let has = ap (λ o. (item_of o).quantity) row in omega (arith, has, covered.within k))))
+      let row = row_other k (other_item k loose) in (
+        ap (λ o. is_at (item_of o).place) row ∙ loose,
+        (let has = ap (λ o. (item_of o).quantity) row in omega (arith, has, covered.within k)),
+      ))
 
   less-out : (k : ℕ) → amounts k after.books.stock.items ≤ amounts k s.items
   less-out k =
@@ -114,14 +124,19 @@ module _ (n : ℕ) (q : Place) (day : CivilDay) (is_order : ℕ → Bool) (parts
       go : (c : Bool) → (k == n) ≡ c → table.get s.items (k ∷ []) ≡ Some y
       go false g = sym (row_other k g) ∙ at
       go true g =
-          let here : table.get after.books.stock.items (k ∷ []) ≡ Some moved = ap (λ j. table.get after.books.stock.items (j ∷ [])) (eqb-true k n g) ∙ row_moved in
-          let clash : true ≡ false = sym (ap (λ o. is_output (item_of o).place) at ∙ ap is_output f) ∙ ap (λ o. is_output (item_of o).place) here ∙ away in
+          let here : table.get after.books.stock.items (k ∷ []) ≡ Some moved =
+          ap (λ j. table.get after.books.stock.items (j ∷ [])) (eqb-true k n g) ∙ row_moved in
+          let clash : true ≡ false =
+          sym (ap (λ o. is_output (item_of o).place) at ∙ ap is_output f)
+          ∙ ap (λ o. is_output (item_of o).place) here
+          ∙ away in
           cc
 
   meant-stay : MeantStay parts bills b after own
   meant-stay m line output a is not_own h = (same m, stays output is h)
     where
-      stays : (o : Option ℕ) → a.purpose ≡ For m line o → IsSoundFor parts bills b a.item m line o → OutputStays o s after.books.stock
+      stays : (o : Option ℕ) → a.purpose ≡ For m line o → IsSoundFor parts bills b a.item m line o
+          → OutputStays o s after.books.stock
       stays None is k = tt
       stays (Some o) is k = row_other o (ap (is_for_output n) (sym is) ∙ not_own)
 
@@ -129,12 +144,19 @@ module _ (n : ℕ) (q : Place) (day : CivilDay) (is_order : ℕ → Bool) (parts
   sound-away = (
     record {
       stock = stock;
-      allocations = sound-served own b.allocations b.books after.books sound.allocations leads.grows.numbers covered_after;
+      allocations =
+          sound-served own b.allocations b.books after.books sound.allocations leads.grows.numbers covered_after;
       builds = record {
         rows = sound.builds.rows;
-        each_build = λ k y at. let h = sound.builds.each_build k y at in record { part = h.part; some = h.some; fits = h.fits; within = omega (arith, h.within, less-out y.number) };
-        each_output = outputs-left parts bills b after after.books.counter.next stock.items.rows sound.builds.each_output outputs-stay;
-        each_allocation = allocations-left parts bills b after own refl sound.allocations leads.grows sound.builds.each_allocation meant-stay;
+        each_build =
+            λ k y at. let h = sound.builds.each_build k y at in
+            record { part = h.part; some = h.some; fits = h.fits; within = omega (arith, h.within, less-out y.number) };
+        each_output =
+            outputs-left parts bills b after after.books.counter.next stock.items.rows sound.builds.each_output
+            outputs-stay;
+        each_allocation =
+            allocations-left parts bills b after own refl sound.allocations leads.grows
+            sound.builds.each_allocation meant-stay;
       };
     },
     leads.grows,
@@ -142,12 +164,16 @@ module _ (n : ℕ) (q : Place) (day : CivilDay) (is_order : ℕ → Bool) (parts
 
 -- ---- the commands
 
-module _ (n : ℕ) (day : CivilDay) (is_order : ℕ → Bool) (parts : Parts) (bills : Bills) (b : BuildBooks) (sound : AreSoundBooks is_order parts bills b) (is_item : is_no_item n b.books.stock ≡ false) (output : is_no_output n b ≡ false) where
+module _ (n : ℕ) (day : CivilDay) (is_order : ℕ → Bool) (parts : Parts) (bills : Bills) (b : BuildBooks)
+    (sound : AreSoundBooks is_order parts bills b) (is_item : is_no_item n b.books.stock ≡ false)
+    (output : is_no_output n b ≡ false) where
   is_there : table.get b.books.stock.items (n ∷ []) ≡ Some (item_at n b.books.stock)
   is_there = there-checked (table.get b.books.stock.items (n ∷ [])) is_item
 
   at_output : (item_at n b.books.stock).place ≡ Output (build_of_output n b)
-  at_output = in-output b.books.counter.next b.builds sound.builds.rows (item_at n b.books.stock).place (not_false (is_in_production (build_at (build_of_output n b) b).state) output)
+  at_output =
+      in-output b.books.counter.next b.builds sound.builds.rows (item_at n b.books.stock).place
+      (not_false (is_in_production (build_at (build_of_output n b) b).state) output)
 
   upright : Upright (owners_beside is_order b.builds) parts b.books
   upright = upright-of (owners_beside is_order b.builds) parts b.books sound.stock
@@ -155,25 +181,39 @@ module _ (n : ℕ) (day : CivilDay) (is_order : ℕ → Bool) (parts : Parts) (b
   -- no entry is written
   none-written : entries_in (with_stock (lift n Gone day b.books.stock) b.books) ≡ entries_in b.books
   none-written =
-      let len = moved-len (row_of (lifted_root Gone (tree_of n b.books.stock)) ∷ []) (lift_notes n Gone b.books.stock) day b.books.stock upright.stock.history in
-      let none : length (lift_notes n Gone b.books.stock) ≡ 0 = ap (λ (p : Place). length (lift_entries p Gone (tree_of n b.books.stock))) at_output in
+      let len =
+      moved-len (row_of (lifted_root Gone (tree_of n b.books.stock)) ∷ []) (lift_notes n Gone b.books.stock) day
+      b.books.stock upright.stock.history in
+      let none : length (lift_notes n Gone b.books.stock) ≡ 0 =
+      ap (λ (p : Place). length (lift_entries p Gone (tree_of n b.books.stock))) at_output in
       omega (arith, len, none)
 
   cancelled : AreSoundBooks is_order parts bills (cancel_output n day b) × Grows b.books (cancel_output n day b).books
   cancelled = sound-away n Gone day is_order parts bills b sound is_there (build_of_output n b) at_output refl
-      (leads-gone (owners_beside is_order b.builds) parts b.books upright n is_there (build_of_output n b) at_output day) (omega (arith, none-written, sound.stock.items.within))
+      (leads-gone (owners_beside is_order b.builds) parts b.books upright n is_there (build_of_output n b) at_output
+      day)
+      (omega (arith, none-written, sound.stock.items.within))
 
-  scrapped : is_full (scrap_output n day b).books ≡ false → AreSoundBooks is_order parts bills (scrap_output n day b) × Grows b.books (scrap_output n day b).books
+  scrapped : is_full (scrap_output n day b).books ≡ false
+      → AreSoundBooks is_order parts bills (scrap_output n day b) × Grows b.books (scrap_output n day b).books
   scrapped fits =
       let books = (scrap_output n day b).books in
       sound-away n (Off Scrapped) day is_order parts bills b sound is_there (build_of_output n b) at_output refl
-      (leads-scrapped (owners_beside is_order b.builds) parts b.books upright n is_there (build_of_output n b) at_output Scrapped day)
-      (ltb-false books.counter.limits.entries (entries_in books) (or_none (passes_limit books.counter) (nat_lt books.counter.limits.entries (entries_in books)) fits).1)
+      (leads-scrapped (owners_beside is_order b.builds) parts b.books upright n is_there (build_of_output n b) at_output
+      Scrapped day)
+      (ltb-false books.counter.limits.entries (entries_in books)
+      (or_none (passes_limit books.counter) (nat_lt books.counter.limits.entries (entries_in books)) fits).1)
 
-pub sound-cancel_output : (n : ℕ) (day : CivilDay) (is_order : ℕ → Bool) (parts : Parts) (bills : Bills) (b : BuildBooks) → AreSoundBooks is_order parts bills b → first (cancel_output_checks n b) ≡ None
+pub sound-cancel_output : (n : ℕ) (day : CivilDay) (is_order : ℕ → Bool) (parts : Parts) (bills : Bills)
+    (b : BuildBooks) → AreSoundBooks is_order parts bills b → first (cancel_output_checks n b) ≡ None
     → AreSoundBooks is_order parts bills (cancel_output n day b) × Grows b.books (cancel_output n day b).books
-sound-cancel_output n day is_order parts bills b sound e = let holds = none-holds (cancel_output_checks n b) e in cancelled n day is_order parts bills b sound holds.0 holds.1.0
+sound-cancel_output n day is_order parts bills b sound e =
+    let holds = none-holds (cancel_output_checks n b) e in
+    cancelled n day is_order parts bills b sound holds.0 holds.1.0
 
-pub sound-scrap_output : (n : ℕ) (day : CivilDay) (is_order : ℕ → Bool) (parts : Parts) (bills : Bills) (b : BuildBooks) → AreSoundBooks is_order parts bills b → first (scrap_output_checks n day b) ≡ None
+pub sound-scrap_output : (n : ℕ) (day : CivilDay) (is_order : ℕ → Bool) (parts : Parts) (bills : Bills) (b : BuildBooks)
+    → AreSoundBooks is_order parts bills b → first (scrap_output_checks n day b) ≡ None
     → AreSoundBooks is_order parts bills (scrap_output n day b) × Grows b.books (scrap_output n day b).books
-sound-scrap_output n day is_order parts bills b sound e = let holds = none-holds (scrap_output_checks n day b) e in scrapped n day is_order parts bills b sound holds.0 holds.1.0 holds.1.1.0
+sound-scrap_output n day is_order parts bills b sound e =
+    let holds = none-holds (scrap_output_checks n day b) e in
+    scrapped n day is_order parts bills b sound holds.0 holds.1.0 holds.1.1.0

@@ -18,24 +18,29 @@ abbrev pub begun_at : ℕ → ℕ → Arrival
 begun_at build part = record { kind = kind.Found; place = Output build; part = part }
 
 module _ (build part : ℕ) where
-  uses-one : (quantity : ℕ) (batch serial : Option (List ℕ)) (day : CivilDay) (b : StockBooks) → IsHistory b.stock.history → Uses 1 0 b (make_one (begun_at build part) quantity batch serial day b)
+  uses-one : (quantity : ℕ) (batch serial : Option (List ℕ)) (day : CivilDay) (b : StockBooks)
+      → IsHistory b.stock.history → Uses 1 0 b (make_one (begun_at build part) quantity batch serial day b)
   uses-one quantity batch serial day b h =
       let item = new_item b.counter.next (begun_at build part) quantity batch serial in
       uses-change_drawn (make_change kind.Found (Output build) (node_of item)) day b h
 
-  uses-each : (batch : Option (List ℕ)) (serials : List (List ℕ)) (day : CivilDay) (b : StockBooks) → IsHistory b.stock.history
+  uses-each : (batch : Option (List ℕ)) (serials : List (List ℕ)) (day : CivilDay) (b : StockBooks)
+      → IsHistory b.stock.history
       → Uses (length serials) 0 b (make_each (begun_at build part) batch serials day b)
   uses-each batch [] day b h = uses-nothing b h
   uses-each batch (x ∷ xs) day b h =
       let next = make_one (begun_at build part) 1 batch (Some x) day b in
       let one = uses-one 1 batch (Some x) day b h in
       let rest = uses-each batch xs day next one.history in
-      uses-as (1 + length xs) (length (x ∷ xs)) (0 + 0) 0 b (make_each (begun_at build part) batch xs day next) (omega arith) refl
+      uses-as (1 + length xs) (length (x ∷ xs)) (0 + 0) 0 b (make_each (begun_at build part) batch xs day next)
+      (omega arith) refl
       (uses-both 1 0 (length xs) 0 b next (make_each (begun_at build part) batch xs day next) one rest)
 
-  pub uses-begun : (new : NewStock) (day : CivilDay) (b : StockBooks) → IsHistory b.stock.history → Uses (count_of new.serials) 0 b (make_new (begun_at build part) new day b)
+  pub uses-begun : (new : NewStock) (day : CivilDay) (b : StockBooks) → IsHistory b.stock.history
+      → Uses (count_of new.serials) 0 b (make_new (begun_at build part) new day b)
   uses-begun new day b h = go new.serials
     where
-      go : (o : Option (List (List ℕ))) → Uses (count_of o) 0 b (make_new (begun_at build part) (record { quantity = new.quantity; batch = new.batch; serials = o }) day b)
+      go : (o : Option (List (List ℕ))) → Uses (count_of o) 0 b
+          (make_new (begun_at build part) (record { quantity = new.quantity; batch = new.batch; serials = o }) day b)
       go None = uses-one new.quantity new.batch None day b h
       go (Some xs) = uses-each new.batch xs day b h

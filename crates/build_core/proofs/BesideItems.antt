@@ -17,7 +17,8 @@ use Rattle.build_core.specs.Sound.{AreSoundBuilds}
 use Rattle.build_core.specs.declared.build.Build.{Build}
 use Rattle.build_core.proofs.Kept.{IsSameBuild, OutputStays, for-kept, output-kept}
 
-module _ (parts : Parts) (bills : Bills) (b : BuildBooks) (books : StockBooks) (same : books.stock.items ≡ b.books.stock.items) (le : b.books.counter.next ≤ books.counter.next)
+module _ (parts : Parts) (bills : Bills) (b : BuildBooks) (books : StockBooks)
+    (same : books.stock.items ≡ b.books.stock.items) (le : b.books.counter.next ≤ books.counter.next)
     (sound : AreSoundBuilds parts bills b) where
   abbrev after : BuildBooks
   after = with_stock_books books b
@@ -32,13 +33,23 @@ module _ (parts : Parts) (bills : Bills) (b : BuildBooks) (books : StockBooks) (
   pub builds-items : AreSoundBuilds parts bills after
   builds-items = record {
     rows = right-later (λ (y : Build). y.number) b.books.counter.next books.counter.next b.builds le sound.rows;
-    each_build = λ k y at. let h = sound.each_build k y at in record { part = h.part; some = h.some; fits = h.fits; within = omega (arith, h.within, ap (amounts y.number) same) };
+    each_build =
+        λ k y at. let h = sound.each_build k y at in
+        record {
+          part = h.part;
+          some = h.some;
+          fits = h.fits;
+          within = omega (arith, h.within, ap (amounts y.number) same);
+        };
     each_output = λ k y at m f.
-        output-kept parts bills b after y m (as-was m) (sound.each_output k y (ap (λ (t : Table Item). table.get t k) (sym same) ∙ at) m f);
+        output-kept parts bills b after y m (as-was m)
+        (sound.each_output k y (ap (λ (t : Table Item). table.get t k) (sym same) ∙ at) m f);
     each_allocation = λ k a at m line output is.
-        for-kept parts bills b after a.item m line output (as-was m) (ap (λ (t : Table Item). (item_of (table.get t (a.item ∷ []))).part) same) (stays output) (omega arith)
+        for-kept parts bills b after a.item m line output (as-was m)
+        (ap (λ (t : Table Item). (item_of (table.get t (a.item ∷ []))).part) same) (stays output) (omega arith)
         (sound.each_allocation k a at m line output is);
   }
 
 pub sound-beside_yard : SoundBesideYard
-sound-beside_yard (AddLocation name parent) parts bills b sound = builds-items parts bills b (effect (AddLocation name parent) b.books) refl (omega arith) sound
+sound-beside_yard (AddLocation name parent) parts bills b sound =
+    builds-items parts bills b (effect (AddLocation name parent) b.books) refl (omega arith) sound

@@ -14,7 +14,8 @@ state_at-is : (i : ℕ) (cs : List Column) (state : BuildState)
     → state_at i cs ≡ Some state → slice_get cs i ≡ Some (Whole (state_code state))
 state_at-is i cs state e =
     let code = bound (number_at i cs) state_of state e in
-    number_at-is i cs code.0 code.1 ∙ ap (λ (n : ℕ). Some (Whole n)) (code-found state_code code.0 all_states state code.2)
+    number_at-is i cs code.0 code.1
+    ∙ ap (λ (n : ℕ). Some (Whole n)) (code-found state_code code.0 all_states state code.2)
 
 pub build_told : (cs : List Column) (number part quantity : ℕ) (state : BuildState) (done : ℕ)
     → has 5 cs ≡ Some tt → number_at 0 cs ≡ Some number → number_at 1 cs ≡ Some part → number_at 2 cs ≡ Some quantity

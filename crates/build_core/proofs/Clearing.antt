@@ -1,5 +1,6 @@
 -- Outputs that are given up, midway: some are still to go, which comes to what all came to at first.
-use Rattle.std.proofs.Common.{◌≡◌, ℕ, ◌≤◌, Bool, None, Some, List, [], ◌∷◌, inl, inr, length, refl, sym, ap, ◌∙◌, subst, arith}
+use Rattle.std.proofs.Common.{◌≡◌, ℕ, ◌≤◌, Bool, None, Some, List, [], ◌∷◌, inl}
+use Rattle.std.proofs.Common.{inr, length, refl, sym, ap, ◌∙◌, subst, arith}
 use Rattle.std.specs.FinMap as table
 use Rattle.part_core.specs.Catalogue.{Parts}
 use Rattle.part_core.specs.Checks.{first}
@@ -22,7 +23,8 @@ use Rattle.build_core.specs.Builds.{BuildBooks, owners_beside}
 use Rattle.build_core.specs.CancelBuild.{cancel_build_checks, lift_each}
 use Rattle.build_core.specs.Sound.{AreSoundBooks}
 use Rattle.build_core.specs.declared.build.Build.{Build}
-use Rattle.build_core.proofs.CancelBuildSound.{AreOutputs, none-written, outputs-are, outputs-once, row-other, unlike, upright}
+use Rattle.build_core.proofs.CancelBuildSound.{AreOutputs, none-written, outputs-are}
+use Rattle.build_core.proofs.CancelBuildSound.{outputs-once, row-other, unlike, upright}
 use Rattle.build_core.proofs.Lifts.{leads-gone}
 
 pub record IsClearing (build : ℕ) (day : CivilDay) (ns rest : List ℕ) (old new : StockBooks) : Type 0 where
@@ -35,7 +37,8 @@ pub record IsClearing (build : ℕ) (day : CivilDay) (ns rest : List ℕ) (old n
   pub entries : entries_in new ≤ new.counter.limits.entries
 
 -- all are still to go
-pub clearing-all : (n : ℕ) (day : CivilDay) (is_order : ℕ → Bool) (parts : Parts) (bills : Bills) (b : BuildBooks) (sound : AreSoundBooks is_order parts bills b) → first (cancel_build_checks n b) ≡ None
+pub clearing-all : (n : ℕ) (day : CivilDay) (is_order : ℕ → Bool) (parts : Parts) (bills : Bills) (b : BuildBooks)
+    (sound : AreSoundBooks is_order parts bills b) → first (cancel_build_checks n b) ≡ None
     → IsClearing n day (outputs_of n b.books.stock) (outputs_of n b.books.stock) b.books b.books
 clearing-all n day is_order parts bills b sound e = record {
   owners = owners_beside is_order b.builds;
@@ -47,7 +50,8 @@ clearing-all n day is_order parts bills b sound e = record {
   entries = sound.stock.items.within;
 }
 
-module _ (build : ℕ) (day : CivilDay) (ns : List ℕ) (n : ℕ) (rest : List ℕ) (old b : StockBooks) (left : IsClearing build day ns (n ∷ rest) old b) where
+module _ (build : ℕ) (day : CivilDay) (ns : List ℕ) (n : ℕ) (rest : List ℕ) (old b : StockBooks)
+    (left : IsClearing build day ns (n ∷ rest) old b) where
   here : (table.get b.stock.items (n ∷ []) ≡ Some (item_at n b.stock)) × ((item_at n b.stock).place ≡ Output build)
   here = left.outputs n (inl refl)
 
@@ -57,7 +61,8 @@ module _ (build : ℕ) (day : CivilDay) (ns : List ℕ) (n : ℕ) (rest : List �
 
   pub room-clear : b.counter.limits.entries ≤ 10000000000 → HasLiftRoom n Gone b.stock
   room-clear small =
-      let none : length (lift_notes n Gone b.stock) ≡ 0 = ap (λ (p : Place). length (lift_entries p Gone (tree_of n b.stock))) here.1 in
+      let none : length (lift_notes n Gone b.stock) ≡ 0 =
+      ap (λ (p : Place). length (lift_entries p Gone (tree_of n b.stock))) here.1 in
       omega (arith, none, small, left.entries)
 
   abbrev after : StockBooks
@@ -78,12 +83,15 @@ module _ (build : ℕ) (day : CivilDay) (ns : List ℕ) (n : ℕ) (rest : List �
             let was = left.outputs k (inr h) in
             (item-at k (item_at k b.stock) after.stock (row ∙ was.0), ap (λ o. (item_of o).place) row ∙ was.1);
         same = left.same;
-        entries = (let none = none-written left.owners left.parts build day n b left.upright here.0 here.1 in omega (arith, none, left.entries));
+        entries =
+            (let none = none-written left.owners left.parts build day n b left.upright here.0 here.1 in
+            omega (arith, none, left.entries));
       } in
       subst (IsClearing build day ns rest old) (sym is) gone
 
 -- ---- the books after that
 
 pub same-books : (builds new : Table Build) (t u : Table Allocation) (b c : StockBooks) → builds ≡ new → t ≡ u → b ≡ c
-    → ◌≡◌ {A = BuildBooks} (record { builds = builds; allocations = t; books = b }) (record { builds = new; allocations = u; books = c })
+    → ◌≡◌ {A = BuildBooks} (record { builds = builds; allocations = t; books = b })
+    (record { builds = new; allocations = u; books = c })
 same-books builds new t u b c e f g = cc

@@ -1,5 +1,6 @@
 -- A build that is done leaves builds, allocations and stock sound.
-use Rattle.std.proofs.Common.{◌≡◌, inl, inr, ℕ, Bool, true, false, not, List, [], ◌∷◌, ◌++◌, Option, Some, None, refl, sym, ap, ◌∙◌, arith, eqb-true, eq-eqb}
+use Rattle.std.proofs.Common.{◌≡◌, inl, inr, ℕ, Bool, true, false, not, List, [], ◌∷◌, ◌++◌}
+use Rattle.std.proofs.Common.{Option, Some, None, refl, sym, ap, ◌∙◌, arith, eqb-true, eq-eqb}
 use Rattle.std.specs.Prelude.{◌==◌, filter}
 use Rattle.std.specs.List.{list_any}
 use Rattle.std.specs.FinMap as table
@@ -48,19 +49,25 @@ use Rattle.build_core.proofs.Apart.{IsApart, taken-apart, turned}
 use Rattle.build_core.proofs.Kept.{OutputStays}
 use Rattle.build_core.proofs.Lifts.{leads-used}
 use Rattle.build_core.proofs.Served.{IsLeft}
-use Rattle.build_core.proofs.Rests.{MeantStay, OutputsStay, allocations-left, build-there, each-put, outputs-left, right-put, same-other, some-there}
+use Rattle.build_core.proofs.Rests.{MeantStay, OutputsStay, allocations-left, build-there}
+use Rattle.build_core.proofs.Rests.{each-put, outputs-left, right-put, same-other, some-there}
 
 -- an item at the build's output is told
-has-output : (n : ℕ) (xs : List Item) (y : Item) → Stands y xs → y.place ≡ Output n → list_any (λ x. is_output_of n x.place) xs ≡ false → ⊥
+has-output : (n : ℕ) (xs : List Item) (y : Item) → Stands y xs → y.place ≡ Output n
+    → list_any (λ x. is_output_of n x.place) xs ≡ false → ⊥
 has-output n [] y h e f = absurd h
 has-output n (x ∷ xs) y h e f =
     let both = or_none (is_output_of n x.place) _ f in
     elim h [
-      | inl same ↦ (let is : is_output_of n x.place ≡ true = ap (λ i. is_output_of n i.place) same ∙ ap (is_output_of n) e ∙ eq-eqb n n refl in let clash : true ≡ false = sym is ∙ both.0 in cc)
+      | inl same ↦
+          (let is : is_output_of n x.place ≡ true =
+          ap (λ i. is_output_of n i.place) same ∙ ap (is_output_of n) e ∙ eq-eqb n n refl in
+          let clash : true ≡ false = sym is ∙ both.0 in cc)
       | inr later ↦ has-output n xs y later e both.1
     ]
 
-module _ (n : ℕ) (day : CivilDay) (is_order : ℕ → Bool) (parts : Parts) (bills : Bills) (b : BuildBooks) (sound : AreSoundBooks is_order parts bills b)
+module _ (n : ℕ) (day : CivilDay) (is_order : ℕ → Bool) (parts : Parts) (bills : Bills) (b : BuildBooks)
+    (sound : AreSoundBooks is_order parts bills b)
     (known : is_no_build n b ≡ false) where
   abbrev pub s : Stock
   s = b.books.stock
@@ -97,7 +104,8 @@ module _ (n : ℕ) (day : CivilDay) (is_order : ℕ → Bool) (parts : Parts) (b
   abbrev pub Quiet : List Allocation → StockBooks → Type 0
   Quiet xs c = LeavesOutputs s.items c.stock.items
 
-  module _ (a : Allocation) (xs : List Allocation) (c : StockBooks) (upright : Upright owners parts c) (covered : IsCovered c.stock (a ∷ (xs ++ rest))) (quiet : Quiet (a ∷ xs) c) where
+  module _ (a : Allocation) (xs : List Allocation) (c : StockBooks) (upright : Upright owners parts c)
+      (covered : IsCovered c.stock (a ∷ (xs ++ rest))) (quiet : Quiet (a ∷ xs) c) where
     abbrev t : StockBooks × ℕ
     t = take a.item a.quantity day c
 
@@ -109,7 +117,12 @@ module _ (n : ℕ) (day : CivilDay) (is_order : ℕ → Bool) (parts : Parts) (b
 
     apart : IsApart a.item a.quantity c t
     apart = taken-apart owners parts a.item a.quantity day c upright covered.each.0.loose covered.each.0.some
-        (omega (arith, covered.within a.item, amount-in (is_of_item a.item) a (eq-eqb a.item a.item refl), sum-cons (is_of_item a.item) a (xs ++ rest)))
+        (omega (
+          arith,
+          covered.within a.item,
+          amount-in (is_of_item a.item) a (eq-eqb a.item a.item refl),
+          sum-cons (is_of_item a.item) a (xs ++ rest),
+        ))
 
     abbrev x : Item
     x = item_at t.1 u
@@ -131,7 +144,8 @@ module _ (n : ℕ) (day : CivilDay) (is_order : ℕ → Bool) (parts : Parts) (b
       },
       leaves-more s.items c.stock.items (serve (used_for n day) day a c).stock.items quiet
           (leaves-more c.stock.items u.items (serve (used_for n day) day a c).stock.items apart.quiet
-          (leaves-changed put u.items refl x taken.leads.upright.stock.items (ap (λ k. table.get u.items (k ∷ [])) own_number ∙ x_there) (at-quiet x.place taken.loose))),
+          (leaves-changed put u.items refl x taken.leads.upright.stock.items
+          (ap (λ k. table.get u.items (k ∷ [])) own_number ∙ x_there) (at-quiet x.place taken.loose))),
     )
 
   -- ---- all of them
@@ -170,7 +184,9 @@ module _ (n : ℕ) (day : CivilDay) (is_order : ℕ → Bool) (parts : Parts) (b
       where
         other : (c : Bool) → (m == n) ≡ c → table.get s.items (k ∷ []) ≡ Some y → c ≡ false
         other false g was = refl
-        other true g was = absurd (has-output n (table.values s.items) y (get-Stands s.items (k ∷ []) y was) (f ∙ ap (λ j. Output j) (eqb-true m n g)) none_begun)
+        other true g was =
+            absurd (has-output n (table.values s.items) y (get-Stands s.items (k ∷ []) y was)
+            (f ∙ ap (λ j. Output j) (eqb-true m n g)) none_begun)
 
     meant-stay : MeantStay parts bills b after own
     meant-stay m line output a is not_own h =
@@ -185,22 +201,43 @@ module _ (n : ℕ) (day : CivilDay) (is_order : ℕ → Bool) (parts : Parts) (b
     sound-used = (
       record {
         stock = sound-owned owners (owners_beside is_order after.builds) parts after.books
-            (record { orders = λ k h. h; builds = λ k h. stay-insert b.builds (done.number ∷ []) done (k ∷ []) h }) both.0;
-        allocations = sound-served own b.allocations b.books after.books sound.allocations both.1.numbers uses.0.covered;
+            (record { orders = λ k h. h; builds = λ k h. stay-insert b.builds (done.number ∷ []) done (k ∷ []) h })
+            both.0;
+        allocations =
+            sound-served own b.allocations b.books after.books sound.allocations both.1.numbers uses.0.covered;
         builds = record {
           rows = right-put b sound.builds.rows n there done refl after.books.counter.next both.1.numbers;
-          each_build = each-put b sound.builds.rows n there done refl (IsSoundBuild parts s) (IsSoundBuild parts after.books.stock) sound.builds.each_build
-              (λ z h. record { part = h.part; some = h.some; fits = h.fits; within = omega (arith, h.within, uses.1.sums z.number) })
-              (let h = sound.builds.each_build (n ∷ []) old there in record { part = h.part; some = h.some; fits = h.fits; within = omega (arith, h.within, uses.1.sums old.number) });
-          each_output = outputs-left parts bills b after after.books.counter.next both.0.items.rows sound.builds.each_output outputs-stay;
-          each_allocation = allocations-left parts bills b after own refl sound.allocations both.1 sound.builds.each_allocation meant-stay;
+          each_build =
+              each-put b sound.builds.rows n there done refl (IsSoundBuild parts s)
+              (IsSoundBuild parts after.books.stock) sound.builds.each_build
+              (λ z h. record {
+                part = h.part;
+                some = h.some;
+                fits = h.fits;
+                within = omega (arith, h.within, uses.1.sums z.number);
+              })
+              (let h = sound.builds.each_build (n ∷ []) old there in
+              record {
+                part = h.part;
+                some = h.some;
+                fits = h.fits;
+                within = omega (arith, h.within, uses.1.sums old.number);
+              });
+          each_output =
+              outputs-left parts bills b after after.books.counter.next both.0.items.rows sound.builds.each_output
+              outputs-stay;
+          each_allocation =
+              allocations-left parts bills b after own refl sound.allocations both.1
+              sound.builds.each_allocation meant-stay;
         };
       },
       both.1,
     )
 
-pub sound-complete_build : (n : ℕ) (day : CivilDay) (is_order : ℕ → Bool) (parts : Parts) (bills : Bills) (b : BuildBooks) → AreSoundBooks is_order parts bills b
-    → first (complete_build_checks n day parts bills b) ≡ None → AreSoundBooks is_order parts bills (complete_build n day b) × Grows b.books (complete_build n day b).books
+pub sound-complete_build : (n : ℕ) (day : CivilDay) (is_order : ℕ → Bool) (parts : Parts) (bills : Bills)
+    (b : BuildBooks) → AreSoundBooks is_order parts bills b
+    → first (complete_build_checks n day parts bills b) ≡ None
+    → AreSoundBooks is_order parts bills (complete_build n day b) × Grows b.books (complete_build n day b).books
 sound-complete_build n day is_order parts bills b sound e =
     let holds = none-holds (complete_build_checks n day parts bills b) e in
     sound-used n day is_order parts bills b sound holds.0 holds.1.1.0 holds.1.1.1.1.0

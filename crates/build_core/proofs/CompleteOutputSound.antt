@@ -1,5 +1,6 @@
 -- An output that is done leaves builds, allocations and stock sound.
-use Rattle.std.proofs.Common.{◌≡◌, inl, inr, ℕ, ◌+◌, ◌≤◌, Bool, true, false, not, List, [], ◌∷◌, ◌++◌, Option, Some, None, refl, sym, ap, ◌∙◌, subst, arith, eqb-true, eq-eqb, is_some}
+use Rattle.std.proofs.Common.{◌≡◌, inl, inr, ℕ, ◌+◌, ◌≤◌, Bool, true, false, not, List, [], ◌∷◌, ◌++◌, Option}
+use Rattle.std.proofs.Common.{Some, None, refl, sym, ap, ◌∙◌, subst, arith, eqb-true, eq-eqb, is_some}
 use Rattle.std.specs.Prelude.{◌==◌, IsSome, filter, if◌then◌else◌, nat_lt, unwrap_or}
 use Rattle.std.specs.FinMap as table
 use Rattle.std.proofs.lemmas.Bool.{eqb-false, ltb-false}
@@ -8,7 +9,8 @@ use Rattle.part_core.specs.Checks.{first}
 use Rattle.part_core.specs.Day.{CivilDay}
 use Rattle.part_core.specs.Rows.{EachRow, IsThere, StandRight}
 use Rattle.part_core.proofs.Conditions.{none-holds, not_false, or_none}
-use Rattle.part_core.proofs.RowLemmas.{get-insert_cases, get-insert_new, get-insert_other, right-changed, right-later, right-number, same_digit, stay-insert}
+use Rattle.part_core.proofs.RowLemmas.{get-insert_cases, get-insert_new, get-insert_other, right-changed}
+use Rattle.part_core.proofs.RowLemmas.{right-later, right-number, same_digit, stay-insert}
 use Rattle.part_core.proofs.Standing.{Stands, Stands-get}
 use Rattle.bom_core.specs.Bills.{Bills}
 use Rattle.forest.specs.declared.item.Item.{Item}
@@ -45,8 +47,10 @@ use Rattle.stock_core.proofs.Plain.{item_of, there-checked}
 use Rattle.stock_core.proofs.Serving.{IsServed}
 use Rattle.stock_core.proofs.Taking.{there-loose}
 use Rattle.stock_core.proofs.Upright.{Leads, Upright, leads-more, upright-of}
-use Rattle.build_core.specs.Builds.{BuildBooks, build_at, build_of, is_in_production, is_open, no_build, owners_beside, with_done}
-use Rattle.build_core.specs.CompleteOutput.{brought, build_of_output, complete_output, complete_output_checks, is_one_deep, output_rows}
+use Rattle.build_core.specs.Builds.{BuildBooks, build_at, build_of, is_in_production}
+use Rattle.build_core.specs.Builds.{is_open, no_build, owners_beside, with_done}
+use Rattle.build_core.specs.CompleteOutput.{brought, build_of_output, complete_output}
+use Rattle.build_core.specs.CompleteOutput.{complete_output_checks, is_one_deep, output_rows}
 use Rattle.build_core.specs.Fits.{IsReady}
 use Rattle.build_core.specs.Needs.{has_tracked}
 use Rattle.build_core.specs.Sound.{AreSoundBooks, IsRightMeant, IsRightPlaced, IsSoundBuild, IsSoundFor}
@@ -59,18 +63,22 @@ use Rattle.build_core.proofs.Roots.{same-height, tree-lift}
 use Rattle.build_core.proofs.Served.{IsLeft, full-grows}
 
 -- an allocation that names an output is for a build
-named-output : (n : ℕ) (p : Purpose) → is_for_output n p ≡ true → (build : ℕ) × (line : ℕ) × (p ≡ For build line (Some n))
+named-output : (n : ℕ) (p : Purpose) → is_for_output n p ≡ true
+    → (build : ℕ) × (line : ℕ) × (p ≡ For build line (Some n))
 named-output n (Sale order line) e = cc
 named-output n (For build line None) e = cc
 named-output n (For build line (Some o)) e = (build, line, ap (λ k. For build line (Some k)) (eqb-true o n e))
 
 -- none of these stands too deep
-not-deep : (rows : List Allocation) (s : Stock) → is_one_deep rows s ≡ false → (a : Allocation) → Stands a rows → height_at a.item s ≤ 15
+not-deep : (rows : List Allocation) (s : Stock) → is_one_deep rows s ≡ false → (a : Allocation) → Stands a rows
+    → height_at a.item s ≤ 15
 not-deep [] s e a h = absurd h
 not-deep (x ∷ xs) s e a h =
     let both = or_none (nat_lt 16 (1 + height_at x.item s)) (is_one_deep xs s) e in
     elim h [
-      | inl same ↦ subst (λ (y : Allocation). height_at y.item s ≤ 15) same (let le = ltb-false 16 (1 + height_at x.item s) both.0 in omega (arith, le))
+      | inl same ↦
+          subst (λ (y : Allocation). height_at y.item s ≤ 15) same
+          (let le = ltb-false 16 (1 + height_at x.item s) both.0 in omega (arith, le))
       | inr later ↦ not-deep xs s both.1 a later
     ]
 
@@ -80,7 +88,8 @@ build_row o = unwrap_or o no_build
 same_output : (m n : ℕ) → Output m ≡ Output n → m ≡ n
 same_output m n e = ap build_of e
 
-module _ (n l : ℕ) (day : CivilDay) (is_order : ℕ → Bool) (parts : Parts) (bills : Bills) (b : BuildBooks) (sound : AreSoundBooks is_order parts bills b)
+module _ (n l : ℕ) (day : CivilDay) (is_order : ℕ → Bool) (parts : Parts) (bills : Bills) (b : BuildBooks)
+    (sound : AreSoundBooks is_order parts bills b)
     (begun : IsReady n l b) where
   abbrev pub s : Stock
   s = b.books.stock
@@ -159,18 +168,22 @@ module _ (n l : ℕ) (day : CivilDay) (is_order : ℕ → Bool) (parts : Parts) 
     where
       go : (c : Bool) → (k == n) ≡ c → c ≡ false
       go false f = refl
-      go true f = let clash : true ≡ false = sym loose ∙ ap (λ j. is_at (item_at j s).place) (eqb-true k n f) ∙ not_loose in cc
+      go true f =
+          let clash : true ≡ false = sym loose ∙ ap (λ j. is_at (item_at j s).place) (eqb-true k n f) ∙ not_loose in cc
 
   covered : IsCovered s (mine ++ rest)
   covered = covered-split s (is_owned own) all (covered-of b.allocations b.books sound.allocations)
 
   pub covered_start : IsCovered start.stock (mine ++ rest)
   covered_start = covered-moved s start.stock (mine ++ rest) covered.each (λ k loose some.
-      let row = row_other k (other_item k loose) in
-      (ap (λ o. is_at (item_of o).place) row ∙ loose, (let has = ap (λ o. (item_of o).quantity) row in omega (arith, has, covered.within k))))
+      let row = row_other k (other_item k loose) in (
+        ap (λ o. is_at (item_of o).place) row ∙ loose,
+        (let has = ap (λ o. (item_of o).quantity) row in omega (arith, has, covered.within k)),
+      ))
 
   -- an allocation for the output: a row of the table, of a loose item
-  of_mine : (a : Allocation) → Stands a mine → (k : List ℕ) × (table.get b.allocations k ≡ Some a) × (is_for_output n a.purpose ≡ true)
+  of_mine : (a : Allocation) → Stands a mine
+      → (k : List ℕ) × (table.get b.allocations k ≡ Some a) × (is_for_output n a.purpose ≡ true)
   of_mine a h =
       let both = Stands-passes (is_owned own) all a h in
       let at = Stands-get b.allocations a both.0 in
@@ -194,8 +207,11 @@ module _ (n l : ℕ) (day : CivilDay) (is_order : ℕ → Bool) (parts : Parts) 
   shallow a h =
       let loose = loose_mine a h in
       let other = other_item a.item loose in
-      let can : CanLiftItem n (At l) s = record { there = there; in_table = subst (λ (p : Place). CanLift p (At l)) (sym place) tt } in
-      let tree = tree-lift s up.stock a.item (there-loose a.item s loose) (outside (item_at a.item s).place loose) n (At l) day can (turned a.item n other) (row_other a.item other) in
+      let can : CanLiftItem n (At l) s =
+      record { there = there; in_table = subst (λ (p : Place). CanLift p (At l)) (sym place) tt } in
+      let tree =
+      tree-lift s up.stock a.item (there-loose a.item s loose) (outside (item_at a.item s).place loose) n (At l) day can
+      (turned a.item n other) (row_other a.item other) in
       omega (arith, same-height a.item s start.stock tree, not-deep mine s begun.shallow a h)
 
   pub ready : Ready start.stock n mine start
@@ -216,7 +232,8 @@ module _ (n l : ℕ) (day : CivilDay) (is_order : ℕ → Bool) (parts : Parts) 
   leads = leads-more owners parts b.books start after.books leads_start fits.0.leads
 
   -- one allocation after another, while the limits leave room
-  pub left-start : entries_in start ≤ start.counter.limits.entries → IsLeft (put_in n day) day (Ready start.stock n) mine mine start start
+  pub left-start : entries_in start ≤ start.counter.limits.entries
+      → IsLeft (put_in n day) day (Ready start.stock n) mine mine start start
   left-start within = record {
     owners = owners;
     parts = parts;
@@ -239,19 +256,24 @@ module _ (n l : ℕ) (day : CivilDay) (is_order : ℕ → Bool) (parts : Parts) 
 
     stock : IsSoundStock (owners_beside is_order after.builds) parts after.books
     stock = sound-owned owners (owners_beside is_order after.builds) parts after.books
-        (record { orders = λ k h. h; builds = λ k h. stay-insert b.builds (old.number ∷ []) (with_done x.quantity old) (k ∷ []) h }) both.0
+        (record {
+          orders = λ k h. h;
+          builds = λ k h. stay-insert b.builds (old.number ∷ []) (with_done x.quantity old) (k ∷ []) h;
+        }) both.0
 
     -- ---- builds
 
     build_there : table.get b.builds (build ∷ []) ≡ Some old
     build_there = go (table.get b.builds (build ∷ [])) refl in_production
       where
-        go : (o : Option Build) → table.get b.builds (build ∷ []) ≡ o → is_in_production (build_row o).state ≡ true → o ≡ Some (build_row o)
+        go : (o : Option Build) → table.get b.builds (build ∷ []) ≡ o → is_in_production (build_row o).state ≡ true
+            → o ≡ Some (build_row o)
         go None f h = cc
         go (Some y) f h = refl
 
     build_number : old.number ≡ build
-    build_number = right-number (λ (y : Build). y.number) b.books.counter.next build old b.builds sound.builds.rows build_there
+    build_number =
+        right-number (λ (y : Build). y.number) b.books.counter.next build old b.builds sound.builds.rows build_there
 
     builds_are : after.builds ≡ table.insert b.builds (build ∷ []) (with_done x.quantity old)
     builds_are = ap (λ k. table.insert b.builds (k ∷ []) (with_done x.quantity old)) build_number
@@ -264,7 +286,8 @@ module _ (n l : ℕ) (day : CivilDay) (is_order : ℕ → Bool) (parts : Parts) 
         go true f =
             let same = eqb-true k build f in
             let row : table.get after.builds (k ∷ []) ≡ Some (with_done x.quantity old) =
-            ap (λ t. table.get t (k ∷ [])) builds_are ∙ ap (λ j. table.get (table.insert b.builds (build ∷ []) (with_done x.quantity old)) (j ∷ [])) same
+            ap (λ t. table.get t (k ∷ [])) builds_are
+            ∙ ap (λ j. table.get (table.insert b.builds (build ∷ []) (with_done x.quantity old)) (j ∷ [])) same
             ∙ get-insert_new b.builds (build ∷ []) (with_done x.quantity old) in
             let now = ap build_row row in
             record {
@@ -274,9 +297,14 @@ module _ (n l : ℕ) (day : CivilDay) (is_order : ℕ → Bool) (parts : Parts) 
             }
         go false f =
             let row : table.get after.builds (k ∷ []) ≡ table.get b.builds (k ∷ []) =
-            ap (λ t. table.get t (k ∷ [])) builds_are ∙ get-insert_other b.builds (build ∷ []) (with_done x.quantity old) (k ∷ []) (λ same. eqb-false k build f (same_digit k build same)) in
+            ap (λ t. table.get t (k ∷ [])) builds_are ∙ get-insert_other b.builds (build ∷ [])
+            (with_done x.quantity old) (k ∷ []) (λ same. eqb-false k build f (same_digit k build same)) in
             let now = ap build_row row in
-            record { still_open = λ h. ap (λ y. is_open y.state) now ∙ h; part = ap (λ y. y.part) now; quantity = ap (λ y. y.quantity) now }
+            record {
+              still_open = λ h. ap (λ y. is_open y.state) now ∙ h;
+              part = ap (λ y. y.part) now;
+              quantity = ap (λ y. y.quantity) now;
+            }
 
     -- what was at the output of the build is no longer
     less-out : (k : ℕ) → amounts k after.books.stock.items + amount_out k x ≡ amounts k s.items
@@ -285,56 +313,77 @@ module _ (n l : ℕ) (day : CivilDay) (is_order : ℕ → Bool) (parts : Parts) 
         omega (arith, changed, none-out k moved refl, fits.1.quiet.sums k)
 
     own-out : amount_out build x ≡ x.quantity
-    own-out = ap (λ q. if is_output_of build q then x.quantity else 0) place ∙ ap (λ c. if c then x.quantity else 0) (eq-eqb build build refl)
+    own-out =
+        ap (λ q. if is_output_of build q then x.quantity else 0) place
+        ∙ ap (λ c. if c then x.quantity else 0) (eq-eqb build build refl)
 
     each-build : EachRow (IsSoundBuild parts after.books.stock) after.builds
-    each-build k y at = elim (get-insert_cases b.builds (build ∷ []) (with_done x.quantity old) k y (ap (λ t. table.get t k) (sym builds_are) ∙ at)) [
-      | inl i ↦
-          let h = sound.builds.each_build (build ∷ []) old build_there in
-          let now : IsSoundBuild parts after.books.stock (with_done x.quantity old) = record {
-            part = h.part;
-            some = h.some;
-            fits = h.fits;
-            within = (let out = less-out old.number in let mine_out : amount_out old.number x ≡ x.quantity = ap (λ j. amount_out j x) build_number ∙ own-out in omega (arith, h.within, out, mine_out));
-          } in
-          subst (IsSoundBuild parts after.books.stock) i.1 now
-      | inr i ↦
-          let h = sound.builds.each_build k y i in
-          record { part = h.part; some = h.some; fits = h.fits; within = (let out = less-out y.number in omega (arith, h.within, out)) }
-    ]
+    each-build k y at =
+        elim (get-insert_cases b.builds (build ∷ []) (with_done x.quantity old) k y
+        (ap (λ t. table.get t k) (sym builds_are) ∙ at)) [
+          | inl i ↦
+              let h = sound.builds.each_build (build ∷ []) old build_there in
+              let now : IsSoundBuild parts after.books.stock (with_done x.quantity old) = record {
+                part = h.part;
+                some = h.some;
+                fits = h.fits;
+                within =
+                    (let out = less-out old.number in
+                    let mine_out : amount_out old.number x ≡ x.quantity =
+                    ap (λ j. amount_out j x) build_number ∙ own-out in
+                    omega (arith, h.within, out, mine_out));
+              } in
+              subst (IsSoundBuild parts after.books.stock) i.1 now
+          | inr i ↦
+              let h = sound.builds.each_build k y i in
+              record {
+                part = h.part;
+                some = h.some;
+                fits = h.fits;
+                within = (let out = less-out y.number in omega (arith, h.within, out));
+              }
+        ]
 
     -- ---- outputs
 
     -- an output that is left was one, and another
-    row_output : (k : ℕ) (m : ℕ) → (item_at k after.books.stock).place ≡ Output m → ((k == n) ≡ false) × (table.get after.books.stock.items (k ∷ []) ≡ table.get s.items (k ∷ []))
+    row_output : (k : ℕ) (m : ℕ) → (item_at k after.books.stock).place ≡ Output m
+        → ((k == n) ≡ false) × (table.get after.books.stock.items (k ∷ []) ≡ table.get s.items (k ∷ []))
     row_output k m f = go (k == n) refl
       where
         same : table.get after.books.stock.items (k ∷ []) ≡ table.get start.stock.items (k ∷ [])
         same = fits.1.quiet.was k m f
 
-        go : (c : Bool) → (k == n) ≡ c → (c ≡ false) × (table.get after.books.stock.items (k ∷ []) ≡ table.get s.items (k ∷ []))
+        go : (c : Bool) → (k == n) ≡ c
+            → (c ≡ false) × (table.get after.books.stock.items (k ∷ []) ≡ table.get s.items (k ∷ []))
         go false g = (refl, same ∙ row_other k g)
         go true g =
-            let here : table.get after.books.stock.items (k ∷ []) ≡ Some moved = same ∙ ap (λ j. table.get start.stock.items (j ∷ [])) (eqb-true k n g) ∙ row_moved in
+            let here : table.get after.books.stock.items (k ∷ []) ≡ Some moved =
+            same ∙ ap (λ j. table.get start.stock.items (j ∷ [])) (eqb-true k n g) ∙ row_moved in
             let clash : false ≡ true = sym (ap is_at f) ∙ ap (λ o. is_at (item_of o).place) here in
             cc
 
     each-output : EachRow (IsRightPlaced parts bills after) after.books.stock.items
     each-output k y at m f =
         let right = both.0.items.rows k y at in
-        let here : table.get after.books.stock.items (y.number ∷ []) ≡ Some y = ap (λ j. table.get after.books.stock.items j) (sym right.own) ∙ at in
+        let here : table.get after.books.stock.items (y.number ∷ []) ≡ Some y =
+        ap (λ j. table.get after.books.stock.items j) (sym right.own) ∙ at in
         let row = row_output y.number m (ap (λ o. (item_of o).place) here ∙ f) in
         let was : table.get s.items (y.number ∷ []) ≡ Some y = sym row.1 ∙ here in
         output-kept parts bills b after y m (same_build m) (sound.builds.each_output (y.number ∷ []) y was m f)
 
     -- ---- allocations
 
-    less-for : (m line : ℕ) (output : Option ℕ) → allocated_for_line m line output after.allocations ≤ allocated_for_line m line output b.allocations
+    less-for : (m line : ℕ) (output : Option ℕ)
+        → allocated_for_line m line output after.allocations ≤ allocated_for_line m line output b.allocations
     less-for m line output =
         let test = λ (a : Allocation). is_for_line m line output a.purpose in
-        omega (arith, ap (sum_where test) (values-without (is_owned own) b.allocations), sum-split test (is_owned own) all)
+        omega
+        (arith, ap (sum_where test) (values-without (is_owned own) b.allocations), sum-split test (is_owned own) all)
 
-    output-stays : (m line : ℕ) (output : Option ℕ) (a : Allocation) → a.purpose ≡ For m line output → is_owned own a ≡ false → IsSoundFor parts bills b a.item m line output → OutputStays output s after.books.stock
+    output-stays : (m line : ℕ) (output : Option ℕ) (a : Allocation) → a.purpose ≡ For m line output
+        → is_owned own a ≡ false → IsSoundFor parts bills b a.item m line output
+        → OutputStays output s after.books.stock
     output-stays m line None a is not_own h = tt
     output-stays m line (Some o) a is not_own h =
         let other : (o == n) ≡ false = ap (is_for_output n) (sym is) ∙ not_own in
@@ -346,17 +395,21 @@ module _ (n l : ℕ) (day : CivilDay) (is_order : ℕ → Bool) (parts : Parts) 
         let h = sound.builds.each_allocation k a was.0 m line output is in
         let loose = (sound.allocations.each k a was.0).loose in
         let row = both.1.items a.item (item_at a.item s) (there-loose a.item s loose) in
-        for-kept parts bills b after a.item m line output (same_build m) (ap (λ o. (item_of o).part) row.1 ∙ row.2) (output-stays m line output a is was.1 h) (less-for m line output) h
+        for-kept parts bills b after a.item m line output (same_build m) (ap (λ o. (item_of o).part) row.1 ∙ row.2)
+        (output-stays m line output a is was.1 h) (less-for m line output) h
 
     pub sound-ready : AreSoundBooks is_order parts bills after × Grows b.books after.books
     sound-ready = (
       record {
         stock = stock;
-        allocations = sound-served own b.allocations b.books after.books sound.allocations both.1.numbers fits.0.covered;
+        allocations =
+            sound-served own b.allocations b.books after.books sound.allocations both.1.numbers fits.0.covered;
         builds = record {
           rows = subst (λ t. StandRight (λ (y : Build). y.number) after.books.counter.next t) (sym builds_are)
-              (right-later (λ (y : Build). y.number) b.books.counter.next after.books.counter.next (table.insert b.builds (build ∷ []) (with_done x.quantity old)) both.1.numbers
-              (right-changed (λ (y : Build). y.number) b.books.counter.next build (with_done x.quantity old) old b.builds build_there refl sound.builds.rows));
+              (right-later (λ (y : Build). y.number) b.books.counter.next after.books.counter.next
+              (table.insert b.builds (build ∷ []) (with_done x.quantity old)) both.1.numbers
+              (right-changed (λ (y : Build). y.number) b.books.counter.next build (with_done x.quantity old) old
+              b.builds build_there refl sound.builds.rows));
           each_build = each-build;
           each_output = each-output;
           each_allocation = each-allocation;
@@ -365,11 +418,13 @@ module _ (n l : ℕ) (day : CivilDay) (is_order : ℕ → Bool) (parts : Parts) 
       both.1,
     )
 
-pub sound-complete_output : (n l : ℕ) (day : CivilDay) (is_order : ℕ → Bool) (parts : Parts) (bills : Bills) (b : BuildBooks) → AreSoundBooks is_order parts bills b
+pub sound-complete_output : (n l : ℕ) (day : CivilDay) (is_order : ℕ → Bool) (parts : Parts) (bills : Bills)
+    (b : BuildBooks) → AreSoundBooks is_order parts bills b
     → first (complete_output_checks n l day parts bills b) ≡ None
     → AreSoundBooks is_order parts bills (complete_output n l day b) × Grows b.books (complete_output n l day b).books
 sound-complete_output n l day is_order parts bills b sound e =
     let holds = none-holds (complete_output_checks n l day parts bills b) e in
     let both = or_none (is_no_item n b.books.stock) (is_no_location l b.books.stock) holds.0 in
-    let begun : IsReady n l b = record { there = both.0; location_there = both.1; begun = holds.1.0; shallow = holds.1.1.1.0 } in
+    let begun : IsReady n l b =
+    record { there = both.0; location_there = both.1; begun = holds.1.0; shallow = holds.1.1.1.0 } in
     sound-ready n l day is_order parts bills b sound begun holds.1.1.1.1.0

@@ -1,5 +1,6 @@
 -- Lines served one after another: midway some are still to come, and the whole is what is left of it.
-use Rattle.std.proofs.Common.{◌≡◌, inl, inr, ℕ, suc, zero, ◌+◌, ◌<◌, ◌≤◌, Bool, true, List, [], ◌∷◌, ◌++◌, map, drop, length, get_or, Some, Bor, refl, sym, ap, ◌∙◌, subst, arith}
+use Rattle.std.proofs.Common.{◌≡◌, inl, inr, ℕ, suc, zero, ◌+◌, ◌<◌, ◌≤◌, Bool, true, List, [], ◌∷◌, ◌++◌}
+use Rattle.std.proofs.Common.{map, drop, length, get_or, Some, Bor, refl, sym, ap, ◌∙◌, subst, arith}
 use Rattle.std.specs.Prelude.{filter, unwrap_or, Option}
 use Rattle.std.specs.FinMap as table
 use Rattle.std.proofs.lemmas.List.{append-nil, at_drop_all, at_drop_more}
@@ -28,12 +29,15 @@ use Rattle.build_core.specs.declared.commands.auto_allocate.Lack.{Lack}
 
 -- ---- the lines are rows of the bills
 
-rows-lines : (bills : Bills) (build : Build) (t : Table Allocation) (s : Stock) (ls : List Line) → ((l : Line) → Stands l ls → line_in l.number bills ≡ Some l) → AreLines bills (map (need_for build t s) ls)
+rows-lines : (bills : Bills) (build : Build) (t : Table Allocation) (s : Stock) (ls : List Line)
+    → ((l : Line) → Stands l ls → line_in l.number bills ≡ Some l) → AreLines bills (map (need_for build t s) ls)
 rows-lines bills build t s [] h = tt
 rows-lines bills build t s (l ∷ ls) h = (h l (inl refl), rows-lines bills build t s ls (λ k i. h k (inr i)))
 
-pub needs-lines : (with_optional : Bool) (parts : Parts) (bills : Bills) (next : ℕ) → IsSoundBill parts bills next → (build : Build) (t : Table Allocation) (s : Stock)
-    → AreLines bills (map (need_for build t s) (filter (is_served with_optional parts) (effective parts bills build.part)))
+pub needs-lines : (with_optional : Bool) (parts : Parts) (bills : Bills) (next : ℕ) → IsSoundBill parts bills next
+    → (build : Build) (t : Table Allocation) (s : Stock)
+    → AreLines bills
+    (map (need_for build t s) (filter (is_served with_optional parts) (effective parts bills build.part)))
 needs-lines with_optional parts bills next bill build t s =
     rows-lines bills build t s (filter (is_served with_optional parts) (effective parts bills build.part))
     (λ l h.
@@ -51,36 +55,54 @@ lines-at bills (k ∷ ks) (suc i) d lines lt = lines-at bills ks i d lines.1 (om
 -- ---- which lines lack what
 
 -- a loop over lines, which has noted those before a place
-module _ (p : Line → Bool) (f : Line → Need) (lines : List (Bor Line)) (i : ℕ) (lacks : List Lack) (whole : List Need) where
+module _ (p : Line → Bool) (f : Line → Need) (lines : List (Bor Line)) (i : ℕ) (lacks : List Lack)
+    (whole : List Need) where
   abbrev rest : List (Bor Line) → List Need
   rest ls = map f (filter p (map (λ l. l.now) ls))
 
   module _ (so_far : needs_of lacks ++ rest (drop i lines) ≡ whole) where
     pub lines-passed : length lines ≤ i → needs_of lacks ≡ whole
-    lines-passed end = sym (append-nil (needs_of lacks)) ∙ ap (λ ns. needs_of lacks ++ ns) (sym (at_drop_all rest lines i end)) ∙ so_far
+    lines-passed end =
+        sym (append-nil (needs_of lacks))
+        ∙ ap (λ ns. needs_of lacks ++ ns) (sym (at_drop_all rest lines i end))
+        ∙ so_far
 
 -- ---- a loop over the lines that are served
 
-module _ (with_substitutes : Bool) (parts : Parts) (bills : Bills) (s : Stock) (sound : IsSound s) (next : ℕ) (right : StandRight (λ i. i.number) next s.items)
-    (bill : IsSoundBill parts bills next) (build : ℕ) (lacks : List Lack) (lines : AreLines bills (needs_of lacks)) (i : ℕ) (now whole : Allotments) (drawn : AreDrawn now)
-    (so_far : allot_lines with_substitutes parts bills s build (needs_of (drop i lacks)) now ≡ whole) (k d : Lack) (here : i < length lacks) (is : k ≡ get_or lacks i d) where
+module _ (with_substitutes : Bool) (parts : Parts) (bills : Bills) (s : Stock) (sound : IsSound s) (next : ℕ)
+    (right : StandRight (λ i. i.number) next s.items)
+    (bill : IsSoundBill parts bills next) (build : ℕ) (lacks : List Lack) (lines : AreLines bills (needs_of lacks))
+    (i : ℕ) (now whole : Allotments) (drawn : AreDrawn now)
+    (so_far : allot_lines with_substitutes parts bills s build (needs_of (drop i lacks)) now ≡ whole) (k d : Lack)
+    (here : i < length lacks) (is : k ≡ get_or lacks i d) where
   abbrev turn : Allotments
-  turn = allot_in_turn (for_line build k.line.now.number) (candidate_numbers with_substitutes parts bills k.line.now s) k.missing s now
+  turn =
+      allot_in_turn (for_line build k.line.now.number) (candidate_numbers with_substitutes parts bills k.line.now s)
+      k.missing s now
 
   is-line : line_in k.line.now.number bills ≡ Some k.line.now
-  is-line = subst (λ (j : Lack). line_in j.line.now.number bills ≡ Some j.line.now) (sym is) (lines-at bills lacks i d lines here)
+  is-line =
+      subst (λ (j : Lack). line_in j.line.now.number bills ≡ Some j.line.now) (sym is)
+      (lines-at bills lacks i d lines here)
 
   left : allot_lines with_substitutes parts bills s build (needs_of (drop (i + 1) lacks)) turn ≡ whole
   left =
-      ap (allot_lines with_substitutes parts bills s build (needs_of (drop (i + 1) lacks))) (sym (line-in_turn s sound next right with_substitutes parts bills bill build (need_of k) now is-line drawn))
+      ap (allot_lines with_substitutes parts bills s build (needs_of (drop (i + 1) lacks)))
+      (sym (line-in_turn s sound next right with_substitutes parts bills bill build (need_of k) now is-line drawn))
       ∙ ap (λ (j : Lack). allot_lines with_substitutes parts bills s build (needs_of (j ∷ drop (i + 1) lacks)) now) is
-      ∙ sym (at_drop_more (λ (ks : List Lack). allot_lines with_substitutes parts bills s build (needs_of ks) now) lacks i d here) ∙ so_far
+      ∙ sym (at_drop_more (λ (ks : List Lack). allot_lines with_substitutes parts bills s build (needs_of ks) now) lacks
+      i d here)
+      ∙ so_far
 
-  pub served-more : (new : Allotments) → new ≡ turn → allot_lines with_substitutes parts bills s build (needs_of (drop (i + 1) lacks)) new ≡ whole
+  pub served-more : (new : Allotments) → new ≡ turn
+      → allot_lines with_substitutes parts bills s build (needs_of (drop (i + 1) lacks)) new ≡ whole
   served-more new e = ap (allot_lines with_substitutes parts bills s build (needs_of (drop (i + 1) lacks))) e ∙ left
 
   pub served-drawn : (new : Allotments) → new ≡ turn → AreDrawn new
-  served-drawn new e = subst AreDrawn (sym e) (turn-drawn (for_line build k.line.now.number) s (candidate_numbers with_substitutes parts bills k.line.now s) k.missing now drawn)
+  served-drawn new e =
+      subst AreDrawn (sym e)
+      (turn-drawn (for_line build k.line.now.number) s (candidate_numbers with_substitutes parts bills k.line.now s)
+      k.missing now drawn)
 
   -- no number is left for one of them, so there is none for all
   pub served-past : passes_limit turn.counter ≡ true → passes_limit whole.counter ≡ true
@@ -92,10 +114,14 @@ module _ (with_substitutes : Bool) (parts : Parts) (bills : Bills) (s : Stock) (
 -- ---- a build's lines
 
 -- what is lent of the effective lines is noted as they are
-pub needs-told : (with_optional : Bool) (parts : Parts) (bills : Bills) (build : Build) (t : Table Allocation) (s : Stock) (lacks : List Lack) (lines : List (Bor Line))
-    → needs_of lacks ≡ map (need_for build t s) (filter (is_served with_optional parts) (map (λ l. l.now) lines)) → map (λ l. l.now) lines ≡ effective parts bills build.part
-    → needs_of lacks ≡ map (need_for build t s) (filter (is_served with_optional parts) (effective parts bills build.part))
-needs-told with_optional parts bills build t s lacks lines noted is = noted ∙ ap (λ (ls : List Line). map (need_for build t s) (filter (is_served with_optional parts) ls)) is
+pub needs-told : (with_optional : Bool) (parts : Parts) (bills : Bills) (build : Build) (t : Table Allocation)
+    (s : Stock) (lacks : List Lack) (lines : List (Bor Line))
+    → needs_of lacks ≡ map (need_for build t s) (filter (is_served with_optional parts) (map (λ l. l.now) lines))
+    → map (λ l. l.now) lines ≡ effective parts bills build.part
+    → needs_of lacks
+    ≡ map (need_for build t s) (filter (is_served with_optional parts) (effective parts bills build.part))
+needs-told with_optional parts bills build t s lacks lines noted is =
+    noted ∙ ap (λ (ls : List Line). map (need_for build t s) (filter (is_served with_optional parts) ls)) is
 
 -- a row that is found is the build of that number
 pub row-here : (n : ℕ) (b : BuildBooks) (row : Build) → Some row ≡ table.get b.builds (n ∷ []) → row ≡ build_at n b

@@ -8,7 +8,8 @@ use Rattle.forest.specs.declared.item.Item.{Item}
 use Rattle.yard_core.specs.Stock.{Stock}
 use Rattle.build_core.specs.AllocateBuild.{is_no_named}
 
-pub named-some : (next : ℕ) (output : Option ℕ) (s : Stock) → StandRight (λ i. i.number) next s.items → is_no_named output s ≡ false → IfSome output (λ n. 1 ≤ n)
+pub named-some : (next : ℕ) (output : Option ℕ) (s : Stock) → StandRight (λ i. i.number) next s.items
+    → is_no_named output s ≡ false → IfSome output (λ n. 1 ≤ n)
 named-some next None s right there = tt
 named-some next (Some o) s right there = go (table.get s.items (o ∷ [])) refl there
   where

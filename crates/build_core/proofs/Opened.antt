@@ -1,5 +1,6 @@
 -- What tests of each row say of builds.
-use Rattle.std.proofs.Common.{◌≡◌, ◌↔◌, ℕ, ◌≤◌, Bool, true, false, Option, Some, None, refl, ap, ◌∙◌, subst, arith, eqb-true, eq-eqb, is_some}
+use Rattle.std.proofs.Common.{◌≡◌, ◌↔◌, ℕ, ◌≤◌, Bool, true, false, Option, Some, None}
+use Rattle.std.proofs.Common.{refl, ap, ◌∙◌, subst, arith, eqb-true, eq-eqb, is_some}
 use Rattle.std.specs.Prelude.{◌||◌, ◌==◌, nat_le, not}
 use Rattle.std.proofs.lemmas.Bool.Decides.{nat_tests}
 use Rattle.part_core.specs.Catalogue.{Parts, part_in}
@@ -21,7 +22,8 @@ use Rattle.stock_core.specs.ItemTests.{part_at}
 use Rattle.build_core.specs.AllocateBuild.{is_other_output}
 use Rattle.build_core.specs.Builds.{BuildBooks, build_at, is_open}
 use Rattle.build_core.specs.Needs.{has_tracked, is_suited, line_in}
-use Rattle.build_core.specs.RowTests.{is_right_at, is_right_meant, is_right_placed, is_right_purpose, is_sound_build, is_sound_for, is_sound_output, is_within_line}
+use Rattle.build_core.specs.RowTests.{is_right_at, is_right_meant, is_right_placed, is_right_purpose}
+use Rattle.build_core.specs.RowTests.{is_sound_build, is_sound_for, is_sound_output, is_within_line}
 use Rattle.build_core.specs.Sound.{IsOutputOf, IsRightMeant, IsRightPlaced, IsSoundBuild, IsSoundFor, IsSoundOutput}
 use Rattle.build_core.specs.declared.build.Build.{Build}
 
@@ -30,7 +32,8 @@ le-is a b = (λ e. grind (arith, nat_tests, e), λ h. grind (arith, nat_tests, h
 
 -- ---- builds
 
-pub sound_build-is : (parts : Parts) (s : Stock) (x : Build) → (is_sound_build parts s x ≡ true) ↔ IsSoundBuild parts s x
+pub sound_build-is : (parts : Parts) (s : Stock) (x : Build)
+    → (is_sound_build parts s x ≡ true) ↔ IsSoundBuild parts s x
 sound_build-is parts s x = (
   λ e.
       let first = and_parts (is_some (part_in x.part parts)) _ e in
@@ -49,7 +52,8 @@ either-is false true = (λ e f. cc, λ h. h refl)
 either-is false false = (λ e f. cc, λ h. refl)
 
 module _ (parts : Parts) (bills : Bills) (b : BuildBooks) where
-  sound_output-is : (x : Item) (n : ℕ) → (is_sound_output parts bills b.builds x n ≡ true) ↔ IsSoundOutput parts bills b x n
+  sound_output-is : (x : Item) (n : ℕ)
+      → (is_sound_output parts bills b.builds x n ≡ true) ↔ IsSoundOutput parts bills b x n
   sound_output-is x n =
       let either = either-is (is_some x.lot.serial) (has_tracked parts bills x.part) in (
         λ e.
@@ -134,7 +138,8 @@ module _ (parts : Parts) (bills : Bills) (b : BuildBooks) where
 
   right_purpose-is : (item : ℕ) (p : Purpose)
       → (is_right_purpose parts bills b.builds b.allocations b.books.stock item p ≡ true)
-      ↔ ((build line : ℕ) (output : Option ℕ) → p ≡ For build line output → IsSoundFor parts bills b item build line output)
+      ↔ ((build line : ℕ) (output : Option ℕ) → p ≡ For build line output
+      → IsSoundFor parts bills b item build line output)
   right_purpose-is item (Sale order l) = (λ e build line output same. cc, λ all. refl)
   right_purpose-is item (For n l o) = (
     λ e build line output same.
@@ -143,7 +148,8 @@ module _ (parts : Parts) (bills : Bills) (b : BuildBooks) where
         let lines : l ≡ line = cc in
         let outputs : o ≡ output = cc in
         subst (λ m. IsSoundFor parts bills b item m line output) builds
-        (subst (λ m. IsSoundFor parts bills b item n m output) lines (subst (IsSoundFor parts bills b item n l) outputs h)),
+        (subst (λ m. IsSoundFor parts bills b item n m output) lines
+        (subst (IsSoundFor parts bills b item n l) outputs h)),
     λ all. (sound_for-is item n l o).1 (all n l o refl),
   )
 

@@ -1,12 +1,14 @@
 -- Builds, outputs and allocations that are left are sound, where one build changed and others stay.
-use Rattle.std.proofs.Common.{◌≡◌, inl, inr, ℕ, ◌≤◌, true, false, [], ◌∷◌, Option, Some, None, refl, sym, ap, ◌∙◌, subst, arith, is_some, is_none}
+use Rattle.std.proofs.Common.{◌≡◌, inl, inr, ℕ, ◌≤◌, true, false, [], ◌∷◌, Option, Some}
+use Rattle.std.proofs.Common.{None, refl, sym, ap, ◌∙◌, subst, arith, is_some, is_none}
 use Rattle.std.specs.Prelude.{◌==◌, unwrap_or}
 use Rattle.std.specs.FinMap as table
 use Rattle.std.proofs.lemmas.Bool.{eqb-false}
 use Rattle.part_core.specs.Catalogue.{Parts}
 use Rattle.part_core.specs.Rows.{EachRow, StandRight}
 use Rattle.part_core.specs.Sheet.{Table}
-use Rattle.part_core.proofs.RowLemmas.{get-insert_cases, get-insert_new, get-insert_other, right-changed, right-later, right-number, same_digit}
+use Rattle.part_core.proofs.RowLemmas.{get-insert_cases, get-insert_new, get-insert_other}
+use Rattle.part_core.proofs.RowLemmas.{right-changed, right-later, right-number, same_digit}
 use Rattle.bom_core.specs.Bills.{Bills}
 use Rattle.forest.specs.declared.item.Item.{Item}
 use Rattle.forest.specs.declared.place.Place.TheVariants.{Output}
@@ -33,7 +35,8 @@ pub some-there : {X : Type 0} (o : Option X) → is_none o ≡ false → is_some
 some-there None e = cc
 some-there (Some x) e = refl
 
-pub build-there : (n : ℕ) (b : BuildBooks) → is_none (table.get b.builds (n ∷ [])) ≡ false → table.get b.builds (n ∷ []) ≡ Some (build_at n b)
+pub build-there : (n : ℕ) (b : BuildBooks) → is_none (table.get b.builds (n ∷ [])) ≡ false
+    → table.get b.builds (n ∷ []) ≡ Some (build_at n b)
 build-there n b e = go (table.get b.builds (n ∷ [])) e
   where
     go : (o : Option Build) → is_none o ≡ false → o ≡ Some (build_row o)
@@ -42,7 +45,8 @@ build-there n b e = go (table.get b.builds (n ∷ [])) e
 
 -- ---- another row of a build
 
-module _ (b : BuildBooks) (right : StandRight (λ x. x.number) b.books.counter.next b.builds) (n : ℕ) (there : table.get b.builds (n ∷ []) ≡ Some (build_at n b))
+module _ (b : BuildBooks) (right : StandRight (λ x. x.number) b.books.counter.next b.builds) (n : ℕ)
+    (there : table.get b.builds (n ∷ []) ≡ Some (build_at n b))
     (y : Build) (own : y.number ≡ (build_at n b).number) where
   number_is : y.number ≡ n
   number_is = own ∙ right-number (λ (z : Build). z.number) b.books.counter.next n (build_at n b) b.builds right there
@@ -57,19 +61,26 @@ module _ (b : BuildBooks) (right : StandRight (λ x. x.number) b.books.counter.n
   put-own = ap (λ t. table.get t (n ∷ [])) new_is ∙ get-insert_new b.builds (n ∷ []) y
 
   pub put-other : (k : ℕ) → (k == n) ≡ false → table.get new (k ∷ []) ≡ table.get b.builds (k ∷ [])
-  put-other k other = ap (λ t. table.get t (k ∷ [])) new_is ∙ get-insert_other b.builds (n ∷ []) y (k ∷ []) (λ same. eqb-false k n other (same_digit k n same))
+  put-other k other =
+      ap (λ t. table.get t (k ∷ [])) new_is
+      ∙ get-insert_other b.builds (n ∷ []) y (k ∷ []) (λ same. eqb-false k n other (same_digit k n same))
 
   -- another build is as it was
   pub same-other : (c : BuildBooks) → c.builds ≡ new → (k : ℕ) → (k == n) ≡ false → IsSameBuild b c k
   same-other c is k other =
       let now = ap build_row (ap (λ t. table.get t (k ∷ [])) is ∙ put-other k other) in
-      record { still_open = λ h. ap (λ z. is_open z.state) now ∙ h; part = ap (λ z. z.part) now; quantity = ap (λ z. z.quantity) now }
+      record {
+        still_open = λ h. ap (λ z. is_open z.state) now ∙ h;
+        part = ap (λ z. z.part) now;
+        quantity = ap (λ z. z.quantity) now;
+      }
 
   pub each-put : (P Q : Build → Type 0) → EachRow P b.builds → ((z : Build) → P z → Q z) → Q y → EachRow Q new
-  each-put P Q each so here k z at = elim (get-insert_cases b.builds (n ∷ []) y k z (ap (λ t. table.get t k) (sym new_is) ∙ at)) [
-    | inl i ↦ subst Q i.1 here
-    | inr i ↦ so z (each k z i)
-  ]
+  each-put P Q each so here k z at =
+      elim (get-insert_cases b.builds (n ∷ []) y k z (ap (λ t. table.get t k) (sym new_is) ∙ at)) [
+        | inl i ↦ subst Q i.1 here
+        | inr i ↦ so z (each k z i)
+      ]
 
   pub right-put : (next : ℕ) → b.books.counter.next ≤ next → StandRight (λ x. x.number) next new
   right-put next le =
@@ -82,29 +93,42 @@ module _ (b : BuildBooks) (right : StandRight (λ x. x.number) b.books.counter.n
 -- each item at an output was there, and its build is as it was
 abbrev pub OutputsStay : BuildBooks → BuildBooks → Type 0
 OutputsStay b c =
-    (k m : ℕ) (y : Item) → table.get c.books.stock.items (k ∷ []) ≡ Some y → y.place ≡ Output m → IsSameBuild b c m × (table.get b.books.stock.items (k ∷ []) ≡ Some y)
+    (k m : ℕ) (y : Item) → table.get c.books.stock.items (k ∷ []) ≡ Some y → y.place ≡ Output m
+    → IsSameBuild b c m × (table.get b.books.stock.items (k ∷ []) ≡ Some y)
 
 module _ (parts : Parts) (bills : Bills) (b c : BuildBooks) where
-  pub outputs-left : (next : ℕ) → StandRight (λ i. i.number) next c.books.stock.items → EachRow (IsRightPlaced parts bills b) b.books.stock.items → OutputsStay b c
+  pub outputs-left : (next : ℕ) → StandRight (λ i. i.number) next c.books.stock.items
+      → EachRow (IsRightPlaced parts bills b) b.books.stock.items → OutputsStay b c
       → EachRow (IsRightPlaced parts bills c) c.books.stock.items
   outputs-left next right each stay k y at m f =
-      let here : table.get c.books.stock.items (y.number ∷ []) ≡ Some y = ap (λ j. table.get c.books.stock.items j) (sym (right k y at).own) ∙ at in
+      let here : table.get c.books.stock.items (y.number ∷ []) ≡ Some y =
+      ap (λ j. table.get c.books.stock.items j) (sym (right k y at).own) ∙ at in
       let was = stay y.number m y here f in
       output-kept parts bills b c y m was.0 (each (y.number ∷ []) y was.1 m f)
 
   -- for each allocation that isn't the owner's, its build and its output are as they were
   abbrev pub MeantStay : Owner → Type 0
   MeantStay own =
-      (m line : ℕ) (output : Option ℕ) (a : Allocation) → a.purpose ≡ For m line output → is_owned own a ≡ false → IsSoundFor parts bills b a.item m line output
+      (m line : ℕ) (output : Option ℕ) (a : Allocation) → a.purpose ≡ For m line output → is_owned own a ≡ false
+      → IsSoundFor parts bills b a.item m line output
       → IsSameBuild b c m × OutputStays output b.books.stock c.books.stock
 
-  less-for : (own : Owner) → c.allocations ≡ released_for own b.allocations → (m line : ℕ) (output : Option ℕ) → allocated_for_line m line output c.allocations ≤ allocated_for_line m line output b.allocations
+  less-for : (own : Owner) → c.allocations ≡ released_for own b.allocations → (m line : ℕ) (output : Option ℕ)
+      → allocated_for_line m line output c.allocations ≤ allocated_for_line m line output b.allocations
   less-for own is m line output =
       let test = λ (a : Allocation). is_for_line m line output a.purpose in
-      let same : allocated_for_line m line output c.allocations ≡ allocated_for_line m line output (released_for own b.allocations) = ap (allocated_for_line m line output) is in
-      omega (arith, same, ap (sum_where test) (values-without (is_owned own) b.allocations), sum-split test (is_owned own) (table.values b.allocations))
+      let same : allocated_for_line m line output c.allocations
+      ≡ allocated_for_line m line output (released_for own b.allocations) = ap (allocated_for_line m line output) is in
+      omega (
+        arith,
+        same,
+        ap (sum_where test) (values-without (is_owned own) b.allocations),
+        sum-split test (is_owned own) (table.values b.allocations),
+      )
 
-  pub allocations-left : (own : Owner) → c.allocations ≡ released_for own b.allocations → AreSoundAllocations b.allocations b.books → Grows b.books c.books → EachRow (IsRightMeant parts bills b) b.allocations → MeantStay own
+  pub allocations-left : (own : Owner) → c.allocations ≡ released_for own b.allocations
+      → AreSoundAllocations b.allocations b.books → Grows b.books c.books
+      → EachRow (IsRightMeant parts bills b) b.allocations → MeantStay own
       → EachRow (IsRightMeant parts bills c) c.allocations
   allocations-left own same sound grows each stay k a at m line output is =
       let was = get-without (is_owned own) b.allocations k a (ap (λ t. table.get t k) (sym same) ∙ at) in
@@ -112,4 +136,5 @@ module _ (parts : Parts) (bills : Bills) (b c : BuildBooks) where
       let loose = (sound.each k a was.0).loose in
       let row = grows.items a.item (item_at a.item b.books.stock) (there-loose a.item b.books.stock loose) in
       let both = stay m line output a is was.1 h in
-      for-kept parts bills b c a.item m line output both.0 (ap (λ o. (item_of o).part) row.1 ∙ row.2) both.1 (less-for own same m line output) h
+      for-kept parts bills b c a.item m line output both.0 (ap (λ o. (item_of o).part) row.1 ∙ row.2) both.1
+      (less-for own same m line output) h

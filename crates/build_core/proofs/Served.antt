@@ -1,6 +1,7 @@
 -- Allocations that are served while the limits leave room for it: what one of them uses, what is left midway, and that
 -- where there is no room for one there is none for all.
-use Rattle.std.proofs.Common.{◌≡◌, ℕ, ◌+◌, ◌<◌, ◌≤◌, Bool, true, false, ◌||◌, inl, inr, List, ◌∷◌, ◌++◌, map, drop, length, get_or, None, refl, sym, ap, ◌∙◌, subst, arith}
+use Rattle.std.proofs.Common.{◌≡◌, ℕ, ◌+◌, ◌<◌, ◌≤◌, Bool, true, false, ◌||◌, inl, inr, List, ◌∷◌}
+use Rattle.std.proofs.Common.{◌++◌, map, drop, length, get_or, None, refl, sym, ap, ◌∙◌, subst, arith}
 use Rattle.std.specs.Prelude.{nat_lt}
 use Rattle.std.specs.Borrow.{Bor}
 use Rattle.std.proofs.lemmas.Bool.{ltb-false, ltb-true}
@@ -47,19 +48,26 @@ or_true false = refl
 -- ---- what one of them uses
 
 -- what was taken goes on, with so many entries
-module _ (go : StockBooks × ℕ → StockBooks) (entries : StockBooks × ℕ → ℕ) (uses : (t : StockBooks × ℕ) → IsHistory t.0.stock.history → Uses 0 (entries t) t.0 (go t)) where
-  pub full-go : (t : StockBooks × ℕ) → IsHistory t.0.stock.history → (lacks 0 t.0.counter || nat_lt t.0.counter.limits.entries (entries_in t.0 + entries t)) ≡ true → is_full (go t) ≡ true
+module _ (go : StockBooks × ℕ → StockBooks) (entries : StockBooks × ℕ → ℕ)
+    (uses : (t : StockBooks × ℕ) → IsHistory t.0.stock.history → Uses 0 (entries t) t.0 (go t)) where
+  pub full-go : (t : StockBooks × ℕ) → IsHistory t.0.stock.history
+      → (lacks 0 t.0.counter || nat_lt t.0.counter.limits.entries (entries_in t.0 + entries t)) ≡ true
+      → is_full (go t) ≡ true
   full-go t h full = sym (full-used 0 (entries t) t.0 (go t) (uses t h)) ∙ full
 
-  pub within-go : (t : StockBooks × ℕ) → IsHistory t.0.stock.history → (lacks 0 t.0.counter || nat_lt t.0.counter.limits.entries (entries_in t.0 + entries t)) ≡ false
+  pub within-go : (t : StockBooks × ℕ) → IsHistory t.0.stock.history
+      → (lacks 0 t.0.counter || nat_lt t.0.counter.limits.entries (entries_in t.0 + entries t)) ≡ false
       → entries_in (go t) ≤ t.0.counter.limits.entries
   within-go t h room =
-      let few = ltb-false t.0.counter.limits.entries (entries_in t.0 + entries t) (or_none (lacks 0 t.0.counter) (nat_lt t.0.counter.limits.entries (entries_in t.0 + entries t)) room).1 in
+      let few =
+      ltb-false t.0.counter.limits.entries (entries_in t.0 + entries t)
+      (or_none (lacks 0 t.0.counter) (nat_lt t.0.counter.limits.entries (entries_in t.0 + entries t)) room).1 in
       omega (arith, few, (uses t h).len)
 
   -- there is no room for the cut
   pub full-cut : (n q : ℕ) (day : CivilDay) (b : StockBooks) → IsHistory b.stock.history → has_more n q b.stock ≡ true
-      → (lacks 1 b.counter || nat_lt b.counter.limits.entries (entries_in b + 1)) ≡ true → is_full (go (take n q day b)) ≡ true
+      → (lacks 1 b.counter || nat_lt b.counter.limits.entries (entries_in b + 1)) ≡ true
+      → is_full (go (take n q day b)) ≡ true
   full-cut n q day b h more full =
       let cut = cut_off n q None day b in
       let t : StockBooks × ℕ = (cut, b.counter.next) in
@@ -71,17 +79,21 @@ module _ (go : StockBooks × ℕ → StockBooks) (entries : StockBooks × ℕ �
         | inl l ↦ ap (λ c. c || nat_lt b.counter.limits.entries (entries_in b + (1 + entries t))) l
         | inr r ↦
             let lt = ltb-true b.counter.limits.entries (entries_in b + 1) r in
-            ap (λ c. lacks 1 b.counter || c) (lt-ltb b.counter.limits.entries (entries_in b + (1 + entries t)) (omega (arith, lt))) ∙ or_true (lacks 1 b.counter)
+            ap (λ c. lacks 1 b.counter || c)
+            (lt-ltb b.counter.limits.entries (entries_in b + (1 + entries t)) (omega (arith, lt)))
+            ∙ or_true (lacks 1 b.counter)
       ]
 
 -- ---- what is left midway
 
 -- some are still to be served, which comes to what all came to at first
-pub record IsLeft (go : StockBooks × ℕ → StockBooks) (day : CivilDay) (Ready : List Allocation → StockBooks → Type 0) (rows rest : List Allocation) (old new : StockBooks) : Type 0 where
+pub record IsLeft (go : StockBooks × ℕ → StockBooks) (day : CivilDay) (Ready : List Allocation → StockBooks → Type 0)
+    (rows rest : List Allocation) (old new : StockBooks) : Type 0 where
   pub owners : Owners
   pub parts : Parts
   pub others : List Allocation
-  pub one : (a : Allocation) (xs : List Allocation) (c : StockBooks) → Upright owners parts c → IsCovered c.stock (a ∷ (xs ++ others)) → Ready (a ∷ xs) c
+  pub one : (a : Allocation) (xs : List Allocation) (c : StockBooks) → Upright owners parts c
+      → IsCovered c.stock (a ∷ (xs ++ others)) → Ready (a ∷ xs) c
       → GoesOn owners parts (take a.item a.quantity day c) (serve go day a c) × Ready xs (serve go day a c)
   pub upright : Upright owners parts new
   pub covered : IsCovered new.stock (rest ++ others)
@@ -94,15 +106,20 @@ pub full-grows : (b c : StockBooks) → Grows b c → is_full b ≡ true → is_
 full-grows b c g full = elim (or_cases (passes_limit b.counter) (nat_lt b.counter.limits.entries (entries_in b)) full) [
   | inl l ↦
       let lt = ltb-true (b.counter.limits.numbers + 1) b.counter.next l in
-      let more : passes_limit c.counter ≡ true = lt-ltb (c.counter.limits.numbers + 1) c.counter.next (omega (arith, lt, g.numbers, ap (λ (k : Limits). k.numbers) g.limits)) in
+      let more : passes_limit c.counter ≡ true =
+      lt-ltb (c.counter.limits.numbers + 1) c.counter.next
+      (omega (arith, lt, g.numbers, ap (λ (k : Limits). k.numbers) g.limits)) in
       ap (λ d. d || nat_lt c.counter.limits.entries (entries_in c)) more
   | inr r ↦
       let lt = ltb-true b.counter.limits.entries (entries_in b) r in
-      let more : nat_lt c.counter.limits.entries (entries_in c) ≡ true = lt-ltb c.counter.limits.entries (entries_in c) (omega (arith, lt, g.entries, ap (λ (k : Limits). k.entries) g.limits)) in
+      let more : nat_lt c.counter.limits.entries (entries_in c) ≡ true =
+      lt-ltb c.counter.limits.entries (entries_in c)
+      (omega (arith, lt, g.entries, ap (λ (k : Limits). k.entries) g.limits)) in
       ap (λ d. passes_limit c.counter || d) more ∙ or_true (passes_limit c.counter)
 ]
 
-module _ (go : StockBooks × ℕ → StockBooks) (day : CivilDay) (Ready : List Allocation → StockBooks → Type 0) (rows : List Allocation) (a : Allocation) (xs : List Allocation) (old b : StockBooks)
+module _ (go : StockBooks × ℕ → StockBooks) (day : CivilDay) (Ready : List Allocation → StockBooks → Type 0)
+    (rows : List Allocation) (a : Allocation) (xs : List Allocation) (old b : StockBooks)
     (left : IsLeft go day Ready rows (a ∷ xs) old b) where
   step : GoesOn left.owners left.parts (take a.item a.quantity day b) (serve go day a b) × Ready xs (serve go day a b)
   step = left.one a xs b left.upright left.covered left.ready
@@ -111,7 +128,8 @@ module _ (go : StockBooks × ℕ → StockBooks) (day : CivilDay) (Ready : List 
   first-done = served-one left.owners left.parts day go a (xs ++ left.others) b left.upright left.covered step.0
 
   -- the first of them was served
-  pub left-one : (new : StockBooks) → new ≡ serve go day a b → entries_in new ≤ new.counter.limits.entries → IsLeft go day Ready rows xs old new
+  pub left-one : (new : StockBooks) → new ≡ serve go day a b → entries_in new ≤ new.counter.limits.entries
+      → IsLeft go day Ready rows xs old new
   left-one new is within = record {
     owners = left.owners;
     parts = left.parts;
@@ -128,20 +146,26 @@ module _ (go : StockBooks × ℕ → StockBooks) (day : CivilDay) (Ready : List 
   pub left-full : is_full (serve go day a b) ≡ true → is_full (serve_each go day rows old) ≡ true
   left-full full =
       let after = serve go day a b in
-      let more = served-all left.owners left.parts day go left.others Ready left.one xs after first-done.leads.upright first-done.covered step.1 in
+      let more =
+      served-all left.owners left.parts day go left.others Ready left.one xs after first-done.leads.upright
+      first-done.covered step.1 in
       subst (λ c. is_full c ≡ true) left.served (full-grows after (serve_each go day xs after) more.0.leads.grows full)
 
   -- less than the whole of its item can be cut off
-  pub left-cut : has_more a.item a.quantity b.stock ≡ true → lacks 1 b.counter ≡ false → b.counter.limits.entries ≤ 10000000000 → CanCut a.item a.quantity None b
+  pub left-cut : has_more a.item a.quantity b.stock ≡ true → lacks 1 b.counter ≡ false
+      → b.counter.limits.entries ≤ 10000000000 → CanCut a.item a.quantity None b
   left-cut more room small =
       let loose = left.covered.each.0.loose in
       let there = there-loose a.item b.stock loose in
       let some = left.covered.each.0.some in
       let less = ltb-true a.quantity (item_at a.item b.stock).quantity more in
-      let plain = serial-one a.item b.stock left.upright.stock there loose (λ single. omega (arith, single, less, some)) in
+      let plain =
+      serial-one a.item b.stock left.upright.stock there loose (λ single. omega (arith, single, less, some)) in
       record {
         stock = left.upright.stock;
-        item = can-cut left.owners left.parts b left.upright a.item there (record { there = there; loose = loose; plain = plain }) a.quantity None some (omega (arith, less)) tt;
+        item =
+            can-cut left.owners left.parts b left.upright a.item there
+            (record { there = there; loose = loose; plain = plain }) a.quantity None some (omega (arith, less)) tt;
         number = room;
         entry = omega (arith, left.within, small);
       }
@@ -152,16 +176,23 @@ abbrev pub seen : List (Bor Allocation) → List Allocation
 seen rows = map (λ (r : Bor Allocation). r.now) rows
 
 -- what is seen of the rows from a place on
-pub seen-more : (rows : List (Bor Allocation)) (i : ℕ) (d : Bor Allocation) → i < length rows → d ≡ get_or rows i d → seen (drop i rows) ≡ d.now ∷ seen (drop (i + 1) rows)
-seen-more rows i d lt is = ap seen (drop_more rows i d lt) ∙ ap (λ (q : Bor Allocation). q.now ∷ seen (drop (i + 1) rows)) (sym is)
+pub seen-more : (rows : List (Bor Allocation)) (i : ℕ) (d : Bor Allocation) → i < length rows → d ≡ get_or rows i d
+    → seen (drop i rows) ≡ d.now ∷ seen (drop (i + 1) rows)
+seen-more rows i d lt is =
+    ap seen (drop_more rows i d lt) ∙ ap (λ (q : Bor Allocation). q.now ∷ seen (drop (i + 1) rows)) (sym is)
 
 -- the row at that place is the first of what is left
-pub left-from : (go : StockBooks × ℕ → StockBooks) (day : CivilDay) (Ready : List Allocation → StockBooks → Type 0) (rows : List (Bor Allocation)) (i : ℕ) (d : Bor Allocation) (old b : StockBooks)
-    → i < length rows → d ≡ get_or rows i d → IsLeft go day Ready (seen rows) (seen (drop i rows)) old b → IsLeft go day Ready (seen rows) (d.now ∷ seen (drop (i + 1) rows)) old b
-left-from go day Ready rows i d old b lt is left = subst (λ xs. IsLeft go day Ready (seen rows) xs old b) (seen-more rows i d lt is) left
+pub left-from : (go : StockBooks × ℕ → StockBooks) (day : CivilDay) (Ready : List Allocation → StockBooks → Type 0)
+    (rows : List (Bor Allocation)) (i : ℕ) (d : Bor Allocation) (old b : StockBooks)
+    → i < length rows → d ≡ get_or rows i d → IsLeft go day Ready (seen rows) (seen (drop i rows)) old b
+    → IsLeft go day Ready (seen rows) (d.now ∷ seen (drop (i + 1) rows)) old b
+left-from go day Ready rows i d old b lt is left =
+    subst (λ xs. IsLeft go day Ready (seen rows) xs old b) (seen-more rows i d lt is) left
 
 -- no number and no entry is past the limits
-pub within-limits : (b : StockBooks) → b.counter.next ≤ b.counter.limits.numbers + 1 → entries_in b ≤ b.counter.limits.entries → is_full b ≡ false
+pub within-limits : (b : StockBooks) → b.counter.next ≤ b.counter.limits.numbers + 1
+    → entries_in b ≤ b.counter.limits.entries → is_full b ≡ false
 within-limits b numbers entries =
-    ap (λ c. c || nat_lt b.counter.limits.entries (entries_in b)) (not_less (b.counter.limits.numbers + 1) b.counter.next numbers)
+    ap (λ c. c || nat_lt b.counter.limits.entries (entries_in b))
+    (not_less (b.counter.limits.numbers + 1) b.counter.next numbers)
     ∙ not_less b.counter.limits.entries (entries_in b) entries

@@ -14,7 +14,8 @@ use Rattle.build_core.specs.Needs.{needs}
 abbrev pub auto_allocate : ℕ → Bool → Bool → Parts → Bills → BuildBooks → BuildBooks
 auto_allocate n with_substitutes with_optional parts bills b =
     with_allotments b
-    (allot_lines with_substitutes parts bills b.books.stock n (needs with_optional parts bills (build_at n b) b) (allotments_in b))
+    (allot_lines with_substitutes parts bills b.books.stock n (needs with_optional parts bills (build_at n b) b)
+    (allotments_in b))
 
 -- why it is refused whatever the limits are, in the order of checks
 abbrev pub auto_allocate_asks : ℕ → BuildBooks → List Check
@@ -23,4 +24,5 @@ auto_allocate_asks n b = (is_no_build n b, NoSuch) ∷ (not (may_prepare (build_
 -- why it is refused
 abbrev pub auto_allocate_checks : ℕ → Bool → Bool → Parts → Bills → BuildBooks → List Check
 auto_allocate_checks n with_substitutes with_optional parts bills b =
-    auto_allocate_asks n b ++ (passes_limit (auto_allocate n with_substitutes with_optional parts bills b).books.counter, Full) ∷ []
+    auto_allocate_asks n b
+    ++ (passes_limit (auto_allocate n with_substitutes with_optional parts bills b).books.counter, Full) ∷ []

@@ -1,4 +1,5 @@
--- What the commands of other crates owe to builds, and those on builds to orders: each leaves sound what stands beside it.
+-- What the commands of other crates owe to builds, and those on builds to orders: each leaves sound what stands beside
+-- it.
 use Rattle.std.specs.Prelude.{◌≡◌, ℕ, Bool, None}
 use Rattle.part_core.specs.Catalogue.{Parts, Register}
 use Rattle.part_core.specs.Checks.{first}
@@ -39,7 +40,11 @@ abbrev pub bill_books_in : Bills → BuildBooks → BillBooks
 bill_books_in bills b = record { bills = bills; counter = b.books.counter }
 
 abbrev pub with_counter : Numbering → BuildBooks → BuildBooks
-with_counter counter b = record { builds = b.builds; allocations = b.allocations; books = record { stock = b.books.stock; counter = counter } }
+with_counter counter b = record {
+  builds = b.builds;
+  allocations = b.allocations;
+  books = record { stock = b.books.stock; counter = counter };
+}
 
 abbrev pub with_allocations : Table Allocation → BuildBooks → BuildBooks
 with_allocations allocations b = record { builds = b.builds; allocations = allocations; books = b.books }
@@ -49,7 +54,8 @@ with_allocations allocations b = record { builds = b.builds; allocations = alloc
 -- whatever a command on builds is asked of, no allocation for a sale comes, and no more is allocated for any
 abbrev pub NoneComesForSales : Type 0
 NoneComesForSales =
-    (c : BuildCommand) (day : CivilDay) (parts : Parts) (bills : Bills) (b : BuildBooks) → StandRight (λ a. a.number) b.books.counter.next b.allocations
+    (c : BuildCommand) (day : CivilDay) (parts : Parts) (bills : Bills) (b : BuildBooks)
+    → StandRight (λ a. a.number) b.books.counter.next b.allocations
     → NoneComes is_for_sale b.allocations (effect c day parts bills b).allocations
 
 -- ---- what is owed to builds
@@ -57,7 +63,8 @@ NoneComesForSales =
 -- builds stay sound beside what the commands of the catalogue do
 abbrev pub SoundBesideParts : Type 0
 SoundBesideParts =
-    (c : PartCommand) (is_order : ℕ → Bool) (parts : Parts) (bills : Bills) (b : BuildBooks) → IsSoundBill parts bills b.books.counter.next → AreSoundBooks is_order parts bills b
+    (c : PartCommand) (is_order : ℕ → Bool) (parts : Parts) (bills : Bills) (b : BuildBooks)
+    → IsSoundBill parts bills b.books.counter.next → AreSoundBooks is_order parts bills b
     → first (part.checks c (register_in parts b)) ≡ None
     → let after = part.effect c (register_in parts b) in AreSoundBuilds after.parts bills (with_counter after.counter b)
 
@@ -68,25 +75,31 @@ BillsOfOpenBuildsStay = (c : BomCommand) → OpenBillsStay c
 -- and so builds stay sound beside what those commands do, where they ask for the parts with an open build
 abbrev pub SoundBesideBills : Type 0
 SoundBesideBills =
-    (c : BomCommand) (parts : Parts) (bills : Bills) (b : BuildBooks) → IsSoundBill parts bills b.books.counter.next → AreSoundBuilds parts bills b
+    (c : BomCommand) (parts : Parts) (bills : Bills) (b : BuildBooks) → IsSoundBill parts bills b.books.counter.next
+    → AreSoundBuilds parts bills b
     → first (bom.checks c (open_parts b.builds) parts (bill_books_in bills b)) ≡ None
-    → let after = bom.effect c (bill_books_in bills b) in AreSoundBuilds parts after.bills (with_counter after.counter b)
+    → let after = bom.effect c (bill_books_in bills b) in
+    AreSoundBuilds parts after.bills (with_counter after.counter b)
 
 -- builds stay sound beside what the commands of the yard do
 abbrev pub SoundBesideYard : Type 0
 SoundBesideYard =
-    (c : YardCommand) (parts : Parts) (bills : Bills) (b : BuildBooks) → AreSoundBuilds parts bills b → AreSoundBuilds parts bills (with_stock_books (yard.effect c b.books) b)
+    (c : YardCommand) (parts : Parts) (bills : Bills) (b : BuildBooks) → AreSoundBuilds parts bills b
+    → AreSoundBuilds parts bills (with_stock_books (yard.effect c b.books) b)
 
 -- builds stay sound where the command on allocations takes one away
 abbrev pub SoundBesideReleases : Type 0
 SoundBesideReleases =
-    (c : AllocCommand) (is_order : ℕ → Bool) (parts : Parts) (bills : Bills) (b : BuildBooks) → AreSoundBooks is_order parts bills b
+    (c : AllocCommand) (is_order : ℕ → Bool) (parts : Parts) (bills : Bills) (b : BuildBooks)
+    → AreSoundBooks is_order parts bills b
     → AreSoundBuilds parts bills (with_allocations (alloc.effect c b.allocations) b)
 
 -- builds stay sound beside what leaves outputs alone, brings no allocation for a build, and only adds to numbers and
 -- history, as the commands on stock, which leave allocations as they are, and those on orders
 abbrev pub SoundWhereOutputsStay : Type 0
 SoundWhereOutputsStay =
-    (is_order : ℕ → Bool) (parts : Parts) (bills : Bills) (b : BuildBooks) (allocations : Table Allocation) (books : StockBooks) → AreSoundBooks is_order parts bills b
-    → Grows b.books books → LeavesOutputs b.books.stock.items books.stock.items → AreSoundItems books → NoneComes is_for_some_build b.allocations allocations
+    (is_order : ℕ → Bool) (parts : Parts) (bills : Bills) (b : BuildBooks) (allocations : Table Allocation)
+    (books : StockBooks) → AreSoundBooks is_order parts bills b
+    → Grows b.books books → LeavesOutputs b.books.stock.items books.stock.items → AreSoundItems books
+    → NoneComes is_for_some_build b.allocations allocations
     → AreSoundBuilds parts bills (record { builds = b.builds; allocations = allocations; books = books })

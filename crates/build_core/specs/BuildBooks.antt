@@ -25,7 +25,8 @@ abbrev pub build_books : Builds → Allocations → Yard → Counting → BuildB
 build_books b a y c = record { builds = builds_now b; allocations = allocations_now a; books = stock_books_of y c }
 
 abbrev pub build_books_before : Builds → Allocations → Yard → Counting → BuildBooks
-build_books_before b a y c = record { builds = builds_before b; allocations = allocations_before a; books = stock_books_before y c }
+build_books_before b a y c =
+    record { builds = builds_before b; allocations = allocations_before a; books = stock_books_before y c }
 
 -- a command does this to the books and answers what that drew and wrote; or it is refused by the first
 -- check that applies, or runs out of memory, and nothing has changed

@@ -6,7 +6,10 @@ use Rattle.part_core.specs.declared.field.FieldKind.TheVariants.{Number, MaybeNu
 use Rattle.part_core.specs.Forms.{have_distinct}
 use Rattle.part_core.specs.FormTables.{AllTell, FormRow, command_by, forms_by}
 use Rattle.build_core.specs.declared.build_command.BuildCommand.{BuildCommand}
-use Rattle.build_core.specs.declared.build_command.BuildCommand.TheVariants.{NewBuild, IssueBuild, HoldBuild, CancelBuild, NewOutputs, CompleteOutput, CancelOutput, ScrapOutput, AllocateBuild, AutoAllocate, CompleteBuild}
+use Rattle.build_core.specs.declared.build_command.BuildCommand.TheVariants.{NewBuild, IssueBuild, HoldBuild}
+use Rattle.build_core.specs.declared.build_command.BuildCommand.TheVariants.{CancelBuild, NewOutputs, CompleteOutput}
+use Rattle.build_core.specs.declared.build_command.BuildCommand.TheVariants.{CancelOutput, ScrapOutput, AllocateBuild}
+use Rattle.build_core.specs.declared.build_command.BuildCommand.TheVariants.{AutoAllocate, CompleteBuild}
 
 -- shut, so that no proof above meets the whole table
 unfoldable pub build_forms : List (FormRow BuildCommand)

@@ -87,15 +87,18 @@ in_state state x = record { number = x.number; part = x.part; quantity = x.quant
 
 -- so many more are built
 abbrev pub with_done : ℕ → Build → Build
-with_done quantity x = record { number = x.number; part = x.part; quantity = x.quantity; state = x.state; done = x.done + quantity }
+with_done quantity x =
+    record { number = x.number; part = x.part; quantity = x.quantity; state = x.state; done = x.done + quantity }
 
 -- the build goes to another state
 abbrev pub set_state : BuildState → ℕ → BuildBooks → BuildBooks
-set_state state n b = record { builds = put_build (in_state state (build_at n b)) b.builds; allocations = b.allocations; books = b.books }
+set_state state n b =
+    record { builds = put_build (in_state state (build_at n b)) b.builds; allocations = b.allocations; books = b.books }
 
 -- the owner's allocations go
 abbrev pub without_allocations : Owner → BuildBooks → BuildBooks
-without_allocations owner b = record { builds = b.builds; allocations = released_for owner b.allocations; books = b.books }
+without_allocations owner b =
+    record { builds = b.builds; allocations = released_for owner b.allocations; books = b.books }
 
 -- other stock books
 abbrev pub with_stock_books : StockBooks → BuildBooks → BuildBooks

@@ -9,7 +9,8 @@ use Rattle.alloc_core.specs.declared.purpose.Owner.TheVariants as owner
 use Rattle.yard_core.specs.StockBooks.{with_stock}
 use Rattle.yard_core.specs.Outputs.{outputs_of}
 use Rattle.yard_core.specs.Stock.{Stock, lift}
-use Rattle.build_core.specs.Builds.{BuildBooks, build_at, is_no_build, is_open, set_state, with_stock_books, without_allocations}
+use Rattle.build_core.specs.Builds.{BuildBooks, build_at, is_no_build, is_open}
+use Rattle.build_core.specs.Builds.{set_state, with_stock_books, without_allocations}
 use Rattle.build_core.specs.declared.state.BuildState.TheVariants.{Cancelled}
 
 -- items go to a place, one after another, each with all that lies in it

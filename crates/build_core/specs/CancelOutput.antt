@@ -13,7 +13,8 @@ use Rattle.build_core.specs.CompleteOutput.{is_no_output}
 
 -- its allocations go, and it is gone, without an entry
 abbrev pub cancel_output : ℕ → CivilDay → BuildBooks → BuildBooks
-cancel_output n day b = with_stock_books (with_stock (lift n Gone day b.books.stock) b.books) (without_allocations (owner.Output n) b)
+cancel_output n day b =
+    with_stock_books (with_stock (lift n Gone day b.books.stock) b.books) (without_allocations (owner.Output n) b)
 
 -- why it is refused, in the order of checks
 abbrev pub cancel_output_checks : ℕ → BuildBooks → List Check

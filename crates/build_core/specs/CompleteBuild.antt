@@ -13,7 +13,8 @@ use Rattle.yard_core.specs.StockBooks.{StockBooks, is_full, with_stock}
 use Rattle.yard_core.specs.Outputs.{has_output}
 use Rattle.yard_core.specs.Stock.{lift}
 use Rattle.stock_core.specs.Serving.{serve_each}
-use Rattle.build_core.specs.Builds.{BuildBooks, build_at, is_in_production, is_no_build, set_state, with_stock_books, without_allocations}
+use Rattle.build_core.specs.Builds.{BuildBooks, build_at, is_in_production, is_no_build}
+use Rattle.build_core.specs.Builds.{set_state, with_stock_books, without_allocations}
 use Rattle.build_core.specs.Needs.{lacks_for_build}
 use Rattle.build_core.specs.declared.state.BuildState.TheVariants.{Complete}
 
@@ -28,7 +29,8 @@ used_for build day t = with_stock (lift t.1 (Used build) day t.0.stock) t.0
 -- what each of its allocations holds is used up, and those go
 abbrev pub complete_build : ℕ → CivilDay → BuildBooks → BuildBooks
 complete_build n day b =
-    with_stock_books (serve_each (used_for n day) day (build_rows n b) b.books) (without_allocations (owner.Build n) (set_state Complete n b))
+    with_stock_books (serve_each (used_for n day) day (build_rows n b) b.books)
+    (without_allocations (owner.Build n) (set_state Complete n b))
 
 -- why it is refused whatever the limits are, in the order of checks
 abbrev pub complete_build_asks : ℕ → Parts → Bills → BuildBooks → List Check
@@ -42,4 +44,5 @@ complete_build_asks n parts bills b =
 
 -- why it is refused
 abbrev pub complete_build_checks : ℕ → CivilDay → Parts → Bills → BuildBooks → List Check
-complete_build_checks n day parts bills b = complete_build_asks n parts bills b ++ (is_full (complete_build n day b).books, Full) ∷ []
+complete_build_checks n day parts bills b =
+    complete_build_asks n parts bills b ++ (is_full (complete_build n day b).books, Full) ∷ []

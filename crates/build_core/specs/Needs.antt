@@ -1,5 +1,6 @@
 -- What the lines of a build's bill need, and what is missing for them.
-use Rattle.std.specs.Prelude.{ℕ, ◌*◌, ◌-◌, ◌&&◌, ◌||◌, not, nat_lt, Bool, List, [], ◌∷◌, filter, map, Option, Some, None}
+use Rattle.std.specs.Prelude.{ℕ, ◌*◌, ◌-◌, ◌&&◌, ◌||◌, not, nat_lt, Bool}
+use Rattle.std.specs.Prelude.{List, [], ◌∷◌, filter, map, Option, Some, None}
 use Rattle.std.specs.List.{list_any}
 use Rattle.std.specs.FinMap as table
 use Rattle.part_core.specs.Catalogue.{Parts, is_trackable, part_in}
@@ -45,24 +46,32 @@ required_of _ _ output s = 0
 
 -- less is allocated for the line than it needs
 abbrev pub is_below_need : Line → Build → Option ℕ → Table Allocation → Stock → Bool
-is_below_need l build output t s = nat_lt (allocated_for_line build.number l.number output t) (required l build output s)
+is_below_need l build output t s =
+    nat_lt (allocated_for_line build.number l.number output t) (required l build output s)
 
 -- a tracked line that isn't optional is allocated below its need for the output
 abbrev pub lacks_for_output : Parts → Bills → Build → ℕ → BuildBooks → Bool
 lacks_for_output parts bills build output b =
-    list_any (λ l. is_tracked parts l && not l.flags.optional && is_below_need l build (Some output) b.allocations b.books.stock) (effective parts bills build.part)
+    list_any
+    (λ l. is_tracked parts l && not l.flags.optional && is_below_need l build (Some output) b.allocations b.books.stock)
+    (effective parts bills build.part)
 
 -- an untracked line that isn't optional is allocated below its need
 abbrev pub lacks_for_build : Parts → Bills → Build → BuildBooks → Bool
 lacks_for_build parts bills build b =
-    list_any (λ l. is_untracked parts l && not l.flags.optional && is_below_need l build None b.allocations b.books.stock) (effective parts bills build.part)
+    list_any
+    (λ l. is_untracked parts l && not l.flags.optional && is_below_need l build None b.allocations b.books.stock)
+    (effective parts bills build.part)
 
 -- ---- what is missing
 
 -- the untracked lines in order of number, optional ones where they are asked for, each with what is missing for it
 abbrev pub needs : Bool → Parts → Bills → Build → BuildBooks → List Need
 needs with_optional parts bills build b =
-    map (λ l. record { line = l; missing = required l build None b.books.stock - allocated_for_line build.number l.number None b.allocations })
+    map (λ l. record {
+      line = l;
+      missing = required l build None b.books.stock - allocated_for_line build.number l.number None b.allocations;
+    })
     (filter (λ l. is_untracked parts l && (with_optional || not l.flags.optional)) (effective parts bills build.part))
 
 -- ---- whether an item may be allocated for a line
@@ -75,4 +84,5 @@ is_named_right parts l (Some output) = is_tracked parts l
 -- the line is the part's, is counted, names an output exactly where it is tracked, and fits the item's part
 abbrev pub is_suited : Parts → Bills → ℕ → Option ℕ → ℕ → Line → Bool
 is_suited parts bills part output item_part l =
-    is_effective (part_rows parts) part l && not l.flags.consumable && is_named_right parts l output && fits parts bills l item_part
+    is_effective (part_rows parts) part l && not l.flags.consumable && is_named_right parts l output
+    && fits parts bills l item_part

@@ -15,7 +15,11 @@ build_row n part quantity = record { number = n; part = part; quantity = quantit
 -- a build under the next number, of which nothing is done
 abbrev pub new_build : ℕ → ℕ → BuildBooks → BuildBooks
 new_build part quantity b =
-    record { builds = put_build (build_row b.books.counter.next part quantity) b.builds; allocations = b.allocations; books = one_drawn b.books }
+    record {
+      builds = put_build (build_row b.books.counter.next part quantity) b.builds;
+      allocations = b.allocations;
+      books = one_drawn b.books;
+    }
 
 -- why it is refused, in the order of checks
 abbrev pub new_build_checks : ℕ → ℕ → Parts → BuildBooks → List Check

@@ -4,7 +4,9 @@ use Rattle.part_core.specs.Catalogue.{Parts, is_trackable, part_in}
 use Rattle.part_core.specs.Checks.{Check}
 use Rattle.part_core.specs.Day.{CivilDay}
 use Rattle.part_core.specs.Quantity.{is_bad_quantity}
-use Rattle.part_core.specs.declared.refusal.Refusal.TheVariants.{NoSuch, BadNumber, WrongFlag, WrongState, NotSerialised, OverNeed, SerialCount, SerialTaken, Full}
+use Rattle.part_core.specs.declared.refusal.Refusal.TheVariants.{NoSuch, BadNumber, WrongFlag}
+use Rattle.part_core.specs.declared.refusal.Refusal.TheVariants.{WrongState, NotSerialised, OverNeed}
+use Rattle.part_core.specs.declared.refusal.Refusal.TheVariants.{SerialCount, SerialTaken, Full}
 use Rattle.bom_core.specs.Bills.{Bills}
 use Rattle.forest.specs.declared.entry.Kind.TheVariants as kind
 use Rattle.forest.specs.declared.place.Place.TheVariants.{Output}
@@ -19,7 +21,8 @@ use Rattle.build_core.specs.Needs.{has_tracked}
 -- the new items are made at the build's output, without an entry
 abbrev pub new_outputs : ℕ → NewStock → CivilDay → BuildBooks → BuildBooks
 new_outputs n new day b =
-    with_stock_books (make_new (record { kind = kind.Found; place = Output n; part = (build_at n b).part }) new day b.books) b
+    with_stock_books
+    (make_new (record { kind = kind.Found; place = Output n; part = (build_at n b).part }) new day b.books) b
 
 -- why it is refused, in the order of checks
 abbrev pub new_outputs_checks : ℕ → NewStock → CivilDay → Parts → Bills → BuildBooks → List Check

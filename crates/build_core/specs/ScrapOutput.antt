@@ -14,9 +14,12 @@ use Rattle.build_core.specs.CompleteOutput.{is_no_output}
 
 -- its allocations go, and it is off the books
 abbrev pub scrap_output : ℕ → CivilDay → BuildBooks → BuildBooks
-scrap_output n day b = with_stock_books (with_stock (lift n (Off Scrapped) day b.books.stock) b.books) (without_allocations (owner.Output n) b)
+scrap_output n day b =
+    with_stock_books (with_stock (lift n (Off Scrapped) day b.books.stock) b.books)
+    (without_allocations (owner.Output n) b)
 
 -- why it is refused, in the order of checks
 abbrev pub scrap_output_checks : ℕ → CivilDay → BuildBooks → List Check
 scrap_output_checks n day b =
-    (is_no_item n b.books.stock, NoSuch) ∷ (is_no_output n b, WrongState) ∷ (is_full (scrap_output n day b).books, Full) ∷ []
+    (is_no_item n b.books.stock, NoSuch) ∷ (is_no_output n b, WrongState)
+    ∷ (is_full (scrap_output n day b).books, Full) ∷ []

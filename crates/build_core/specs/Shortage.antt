@@ -20,12 +20,20 @@ abbrev pub shortage_of : Parts → Build → Table Allocation → Line → Short
 shortage_of parts build t l =
     let required = required_still parts l build in
     let allocated = allocated_for_build_line build.number l.number t in
-    record { line = l.number; component = l.component; required = required; allocated = allocated; missing = required - allocated }
+    record {
+      line = l.number;
+      component = l.component;
+      required = required;
+      allocated = allocated;
+      missing = required - allocated;
+    }
 
 -- the lines in order of number
 abbrev pub shortages_of : Parts → Bills → Build → Table Allocation → List Shortage
-shortages_of parts bills build t = map (shortage_of parts build t) (filter (λ l. not l.flags.consumable) (effective parts bills build.part))
+shortages_of parts bills build t =
+    map (shortage_of parts build t) (filter (λ l. not l.flags.consumable) (effective parts bills build.part))
 
 -- nothing for a build that isn't open
 abbrev pub shortages : ℕ → Parts → Bills → Table Build → Table Allocation → List Shortage
-shortages n parts bills builds t = if is_open (build_in n builds).state then shortages_of parts bills (build_in n builds) t else []
+shortages n parts bills builds t =
+    if is_open (build_in n builds).state then shortages_of parts bills (build_in n builds) t else []

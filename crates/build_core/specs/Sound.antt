@@ -43,7 +43,8 @@ IsOutputOf build (Some output) s = (item_at output s).place ≡ Output build
 
 -- an allocation is of an open build and of a line of its part that is counted; the line fits the item's part, an output
 -- of the build is named exactly where the line is tracked, and no more is allocated than is needed
-pub record IsSoundFor (parts : Parts) (bills : Bills) (b : BuildBooks) (item build line : ℕ) (output : Option ℕ) : Type 0 where
+pub record IsSoundFor (parts : Parts) (bills : Bills) (b : BuildBooks) (item build line : ℕ)
+    (output : Option ℕ) : Type 0 where
   pub still_open : is_open (build_at build b).state ≡ true
   pub row : Line
   pub there : line_in line bills ≡ Some row
@@ -54,7 +55,8 @@ pub record IsSoundFor (parts : Parts) (bills : Bills) (b : BuildBooks) (item bui
 -- what is asked of an allocation for a build; those for sales are the matter of orders
 abbrev pub IsRightMeant : Parts → Bills → BuildBooks → Allocation → Type 0
 IsRightMeant parts bills b a =
-    (build line : ℕ) (output : Option ℕ) → a.purpose ≡ For build line output → IsSoundFor parts bills b a.item build line output
+    (build line : ℕ) (output : Option ℕ) → a.purpose ≡ For build line output
+    → IsSoundFor parts bills b a.item build line output
 
 pub record AreSoundBuilds (parts : Parts) (bills : Bills) (b : BuildBooks) : Type 0 where
   -- each under its own number, which was drawn

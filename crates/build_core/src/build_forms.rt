@@ -3,7 +3,8 @@
 ghost use Rattle.std.specs.Prelude.{◌≡◌, codes};
 ghost use Rattle.part_core.specs.FormLaws.{rows_fill, rows_made};
 ghost use Rattle.part_core.specs.FormTables.{command_by, forms_by};
-ghost use Rattle.build_core.specs.BuildForms.{build_back, build_distinct, build_fields, build_forms, build_told, build_verb};
+ghost use Rattle.build_core.specs.BuildForms.{build_back, build_distinct, build_fields};
+ghost use Rattle.build_core.specs.BuildForms.{build_forms, build_told, build_verb};
 
 use crate::build_command::BuildCommand;
 use part_core::{Field, FieldKind, Fields, Form, Formed, form_in};

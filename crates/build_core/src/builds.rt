@@ -1,5 +1,6 @@
 //! All builds.
-ghost use Rattle.std.specs.Prelude.{◌≡◌, ◌+◌, ◌<◌, ◌^◌, ◌∷◌, [], filter, IfOk, is_some, map, OnErr, OnOk, option_copied};
+ghost use Rattle.std.specs.Prelude.{◌≡◌, ◌+◌, ◌<◌, ◌^◌, ◌∷◌, [], filter, IfOk};
+ghost use Rattle.std.specs.Prelude.{is_some, map, OnErr, OnOk, option_copied};
 ghost use Rattle.std.specs.FinMap as table;
 ghost use Rattle.part_core.specs.Filled.{StandUnderKeys};
 ghost use Rattle.part_core.specs.Rows.{IsThere};

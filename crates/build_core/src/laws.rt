@@ -1,5 +1,6 @@
 //! The laws of the commands on builds, and of what changes beside builds.
-ghost use Rattle.build_core.specs.Beside.{BillsOfOpenBuildsStay, NoneComesForSales, SoundBesideBills, SoundBesideParts, SoundBesideReleases, SoundBesideYard, SoundWhereOutputsStay};
+ghost use Rattle.build_core.specs.Beside.{BillsOfOpenBuildsStay, NoneComesForSales, SoundBesideBills, SoundBesideParts};
+ghost use Rattle.build_core.specs.Beside.{SoundBesideReleases, SoundBesideYard, SoundWhereOutputsStay};
 ghost use Rattle.build_core.specs.BuildMachine.{ChecksAreInOrder, EffectsAreSound, RowsStay};
 
 /// The law that the refusals of each command are checked in the one order of checks.

@@ -9,7 +9,9 @@ ghost use Rattle.alloc_core.specs.AllocationsView.{allocations_now};
 ghost use Rattle.yard_core.specs.YardView.{stock_of};
 ghost use Rattle.build_core.specs.BuildsView.{builds_now};
 ghost use Rattle.build_core.specs.BuildBooks.{build_books};
-ghost use Rattle.build_core.specs.Needs.{has_tracked, is_below_need, is_named_right, is_suited, is_tracked, is_untracked, lacks_for_build, lacks_for_output, line_in, required, required_of};
+ghost use Rattle.build_core.specs.Needs.{has_tracked, is_below_need, is_named_right};
+ghost use Rattle.build_core.specs.Needs.{is_suited, is_tracked, is_untracked, lacks_for_build};
+ghost use Rattle.build_core.specs.Needs.{lacks_for_output, line_in, required, required_of};
 
 use crate::build::Build;
 use crate::builds::Builds;

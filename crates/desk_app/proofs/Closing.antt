@@ -13,12 +13,15 @@ use Rattle.desk_store.specs.StateTables.{HoldsBooks, TablesAre}
 use Rattle.desk_app.specs.Closed.{KeepAlone}
 
 -- the last commit that was copied is the books that the database held
-pub kept_alone : {D : Type 0} {g : Ghosts D} (s : State) (c : Held (FileStore D g)) (files : Files D) → (HasCleanDisk (file_state c) → HoldsBooks s (file_state c)) → IsCopied c files
+pub kept_alone : {D : Type 0} {g : Ghosts D} (s : State) (c : Held (FileStore D g)) (files : Files D)
+    → (HasCleanDisk (file_state c) → HoldsBooks s (file_state c)) → IsCopied c files
     → KeepAlone g s files
 kept_alone {D} {g} s c files books copied =
     let held = books copied.was_clean in
-    let tables : TablesAre s (file_state c).committed.trees = subst (λ (d : Database). TablesAre s d.trees) (sym held.rest.saved) held.books in
+    let tables : TablesAre s (file_state c).committed.trees =
+    subst (λ (d : Database). TablesAre s d.trees) (sym held.rest.saved) held.books in
     record {
       seen = record { trees = (file_state c).committed.trees; tables = tables; held = copied.seen };
-      left = λ image may. record { trees = (file_state c).committed.trees; tables = tables; held = copied.left image may };
+      left =
+          λ image may. record { trees = (file_state c).committed.trees; tables = tables; held = copied.left image may };
     }

@@ -10,7 +10,8 @@ use Rattle.clap.specs.declared.builder.value_parser.ValueParser.TheVariants.{Nam
 use Rattle.clap.proofs.SimpleLemmas.{plain_fields}
 use Rattle.desk_app.specs.Words.{among}
 
-pub rule_added : (old : Command) (a : Arg) (new : Command) (app : App) (rule : Rule) → AddsArg old a new → a.global ≡ false
+pub rule_added : (old : Command) (a : Arg) (new : Command) (app : App) (rule : Rule) → AddsArg old a new
+    → a.global ≡ false
     → app_of old ≡ app → rule_of a ≡ rule → app_of new ≡ with_rule app rule
 rule_added old a new app rule added local before given = added.shape local ∙ ap₂ with_rule before given
 
@@ -20,7 +21,9 @@ line_added old sub new app line added plain before given =
     let is_plain = ap (λ (a : App). a.top.is_plain) given ∙ plain in
     added.shape (plain_fields sub is_plain).globals ∙ ap₂ with_subcommand before (ap (λ (a : App). a.top) given)
 
-pub rule_among : (a b : Arg) (names : Bor (List (Bor Text))) (rule : Rule) → b ≡ record a { value_parser = b.value_parser }
+pub rule_among : (a b : Arg) (names : Bor (List (Bor Text))) (rule : Rule)
+    → b ≡ record a { value_parser = b.value_parser }
     → (q : ValueParser) → b.value_parser ≡ Some q → q ≡ Names names → rule_of a ≡ rule → rule_of b ≡ among names rule
 rule_among a b names rule others q given is before =
-    ap rule_of others ∙ ap₂ (λ (r : Rule) (p : Option ValueParser). record r { parser = p }) before (given ∙ ap (λ (v : ValueParser). Some v) is)
+    ap rule_of others ∙ ap₂ (λ (r : Rule) (p : Option ValueParser). record r { parser = p }) before
+    (given ∙ ap (λ (v : ValueParser). Some v) is)

@@ -12,12 +12,14 @@ outcome_state : (p : State × Outcome) → (by_outcome p).0 ≡ p.0
 outcome_state (s, Ok answer) = refl
 outcome_state (s, Err refusal) = refl
 
-state_after : (s : State) (line : List ℕ) (r : Request) → reading.request line ≡ Ok r → (run_line s line).0 ≡ (step s r).0
+state_after : (s : State) (line : List ℕ) (r : Request) → reading.request line ≡ Ok r
+    → (run_line s line).0 ≡ (step s r).0
 unfolding run_line
 state_after s line r is = ap (λ q. (by_request s q).0) is ∙ outcome_state (step s r)
 
 -- what a crash leaves of a request, it leaves of its line
-pub left_by_line : (s : State) (line : List ℕ) (r : Request) (trees : Trees) → reading.request line ≡ Ok r → TablesAre s trees ⊎ TablesAre (step s r).0 trees
+pub left_by_line : (s : State) (line : List ℕ) (r : Request) (trees : Trees) → reading.request line ≡ Ok r
+    → TablesAre s trees ⊎ TablesAre (step s r).0 trees
     → TablesAre s trees ⊎ TablesAre (run_line s line).0 trees
 left_by_line s line r trees is (inl h) = inl h
 left_by_line s line r trees is (inr h) = inr (subst (λ t. TablesAre t trees) (sym (state_after s line r is)) h)

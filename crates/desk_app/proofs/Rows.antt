@@ -1,5 +1,6 @@
 -- A run over the rows of a file, row by row.
-use Rattle.std.proofs.Common.{◌≡◌, ◌+◌, ◌<◌, ℕ, Bool, true, false, ◌&&◌, List, [], ◌∷◌, ◌++◌, take, drop, length, get_or, ap, sym, refl, ◌∙◌, subst, append_assoc, take-append-drop, ◌⊎◌, inl, inr}
+use Rattle.std.proofs.Common.{◌≡◌, ◌+◌, ◌<◌, ℕ, Bool, true, false, ◌&&◌, List, [], ◌∷◌, ◌++◌, take, drop, length}
+use Rattle.std.proofs.Common.{get_or, ap, sym, refl, ◌∙◌, subst, append_assoc, take-append-drop, ◌⊎◌, inl, inr}
 use Rattle.std.specs.Prelude.{Option, None, Ok, Err}
 use Rattle.std.specs.Io.KnownBytes.{Appends}
 use Rattle.std.proofs.lemmas.List.{take_more, drop_more}
@@ -12,7 +13,8 @@ use Rattle.desk_app.specs.declared.run.Told.{Told}
 use Rattle.desk_app.specs.declared.end.Stop.{Stop}
 use Rattle.desk_app.specs.declared.end.Stop.TheVariants.{ReadFailed, WriteFailed, Memory, Store}
 use Rattle.desk_app.specs.Runs.{by_outcome, CutRequest, IsOfBooks, StaysOpen}
-use Rattle.desk_app.specs.ImportRuns.{are_answers, import_told, rows_after, rows_out, rows_outcomes, AreLeftByRows, ImportStopped, IsLeftByImport, RanFront, Reading}
+use Rattle.desk_app.specs.ImportRuns.{are_answers, import_told, rows_after, rows_out, rows_outcomes}
+use Rattle.desk_app.specs.ImportRuns.{AreLeftByRows, ImportStopped, IsLeftByImport, RanFront, Reading}
 
 -- the first `at` rows were run from s to s', and this is the text of theirs
 pub record RowsRunning (rows : List ImportRow) (at : ℕ) (s s' : State) (text : List ℕ) (fine : Bool) : Type 0 where
@@ -37,27 +39,36 @@ told_fine (s, Err refusal) os = refl
 
 -- ---- the next row
 
-rows_after-push : (s : State) (rows : List ImportRow) (row : ImportRow) → rows_after s (rows ++ row ∷ []) ≡ (step (rows_after s rows) row.request).0
+rows_after-push : (s : State) (rows : List ImportRow) (row : ImportRow)
+    → rows_after s (rows ++ row ∷ []) ≡ (step (rows_after s rows) row.request).0
 rows_after-push s [] row = refl
 rows_after-push s (r ∷ rs) row = rows_after-push (step s r.request).0 rs row
 
-taken : (rows : List ImportRow) (i : ℕ) (row : ImportRow) → i < length rows → row ≡ get_or rows i row → take (i + 1) rows ≡ take i rows ++ row ∷ []
+taken : (rows : List ImportRow) (i : ℕ) (row : ImportRow) → i < length rows → row ≡ get_or rows i row
+    → take (i + 1) rows ≡ take i rows ++ row ∷ []
 taken rows i row h is = take_more rows i row h ∙ ap (λ r. take i rows ++ r ∷ []) (sym is)
 
-dropped : (rows : List ImportRow) (i : ℕ) (row : ImportRow) → i < length rows → row ≡ get_or rows i row → drop i rows ≡ row ∷ drop (i + 1) rows
+dropped : (rows : List ImportRow) (i : ℕ) (row : ImportRow) → i < length rows → row ≡ get_or rows i row
+    → drop i rows ≡ row ∷ drop (i + 1) rows
 dropped rows i row h is = drop_more rows i row h ∙ ap (λ r. r ∷ drop (i + 1) rows) (sym is)
 
-next_state : (rows : List ImportRow) (i : ℕ) (row : ImportRow) (s s' s'' : State) → i < length rows → row ≡ get_or rows i row → s' ≡ rows_after s (take i rows)
+next_state : (rows : List ImportRow) (i : ℕ) (row : ImportRow) (s s' s'' : State) → i < length rows
+    → row ≡ get_or rows i row → s' ≡ rows_after s (take i rows)
     → s'' ≡ (step s' row.request).0 → s'' ≡ rows_after s (take (i + 1) rows)
 next_state rows i row s s' s'' h is before now =
-    now ∙ ap (λ v. (step v row.request).0) before ∙ sym (rows_after-push s (take i rows) row) ∙ ap (rows_after s) (sym (taken rows i row h is))
+    now
+    ∙ ap (λ v. (step v row.request).0) before
+    ∙ sym (rows_after-push s (take i rows) row)
+    ∙ ap (rows_after s) (sym (taken rows i row h is))
 
 and_assoc : (a b c : Bool) → (a && (b && c)) ≡ ((a && b) && c)
 and_assoc true b c = refl
 and_assoc false b c = refl
 
-pub rows_next : (rows : List ImportRow) (i : ℕ) (row : ImportRow) (s s' s'' : State) (text text' line : List ℕ) (fine fine' f : Bool) → i < length rows → row ≡ get_or rows i row
-    → RowsRunning rows i s s' text fine → by_outcome (step s' row.request) ≡ (s'', line, f) → text' ≡ text ++ report_line row.number line → fine' ≡ (fine && f)
+pub rows_next : (rows : List ImportRow) (i : ℕ) (row : ImportRow) (s s' s'' : State) (text text' line : List ℕ)
+    (fine fine' f : Bool) → i < length rows → row ≡ get_or rows i row
+    → RowsRunning rows i s s' text fine → by_outcome (step s' row.request) ≡ (s'', line, f)
+    → text' ≡ text ++ report_line row.number line → fine' ≡ (fine && f)
     → RowsRunning rows (i + 1) s s'' text' fine'
 rows_next rows i row s s' s'' text text' line fine fine' f h is run stepped told all =
     let p = step s' row.request in
@@ -66,49 +77,72 @@ rows_next rows i row s s' s'' text text' line fine fine' f h is run stepped told
     let state : p.0 ≡ s'' = sym (told_state p) ∙ ap (λ v. v.0) stepped in
     let line_is : outcome_text p.1 ≡ line = sym (told_line p) ∙ ap (λ v. v.1) stepped in
     let answer : rows_out s' (row ∷ rest) ≡ report_line row.number line ++ rows_out s'' rest =
-    ap (λ v. report_line row.number v ++ rows_out p.0 rest) line_is ∙ ap (λ v. report_line row.number line ++ rows_out v rest) state in
+    ap (λ v. report_line row.number v ++ rows_out p.0 rest) line_is
+    ∙ ap (λ v. report_line row.number line ++ rows_out v rest) state in
     let answered : are_answers (rows_outcomes s' (row ∷ rest)) ≡ (f && are_answers (rows_outcomes s'' rest)) =
-    told_fine p (rows_outcomes p.0 rest) ∙ ap (λ v. v.2 && are_answers (rows_outcomes p.0 rest)) stepped ∙ ap (λ v. f && are_answers (rows_outcomes v rest)) state in
+    told_fine p (rows_outcomes p.0 rest)
+    ∙ ap (λ v. v.2 && are_answers (rows_outcomes p.0 rest)) stepped
+    ∙ ap (λ v. f && are_answers (rows_outcomes v rest)) state in
     record {
       state = next_state rows i row s s' s'' h is run.state (sym state);
       after = run.after ∙ ap (rows_after s') here ∙ ap (λ v. rows_after v rest) state;
-      told = run.told ∙ ap (λ v. text ++ rows_out s' v) here ∙ ap (λ v. text ++ v) answer ∙ sym (append_assoc text (report_line row.number line) (rows_out s'' rest)) ∙ ap (λ v. v ++ rows_out s'' rest) (sym told);
-      all = run.all ∙ ap (λ v. fine && are_answers (rows_outcomes s' v)) here ∙ ap (λ v. fine && v) answered ∙ and_assoc fine f (are_answers (rows_outcomes s'' rest))
+      told =
+          run.told
+          ∙ ap (λ v. text ++ rows_out s' v) here
+          ∙ ap (λ v. text ++ v) answer
+          ∙ sym (append_assoc text (report_line row.number line) (rows_out s'' rest))
+          ∙ ap (λ v. v ++ rows_out s'' rest) (sym told);
+      all =
+          run.all
+          ∙ ap (λ v. fine && are_answers (rows_outcomes s' v)) here
+          ∙ ap (λ v. fine && v) answered
+          ∙ and_assoc fine f (are_answers (rows_outcomes s'' rest))
           ∙ ap (λ v. v && are_answers (rows_outcomes s'' rest)) (sym all);
     }
 
 -- ---- how it stops
 
 front : (rows : List ImportRow) (i : ℕ) (s s' : State) → s' ≡ rows_after s (take i rows) → RanFront rows s s'
-front rows i s s' state = record { done = take i rows; rest = drop i rows; split = sym (take-append-drop i rows); state = state }
+front rows i s s' state =
+    record { done = take i rows; rest = drop i rows; split = sym (take-append-drop i rows); state = state }
 
 -- the row was run, and its line wasn't told
-pub untold_front : (rows : List ImportRow) (i : ℕ) (row : ImportRow) (s s' s'' : State) (text line : List ℕ) (fine f : Bool) → i < length rows → row ≡ get_or rows i row
+pub untold_front : (rows : List ImportRow) (i : ℕ) (row : ImportRow) (s s' s'' : State) (text line : List ℕ)
+    (fine f : Bool) → i < length rows → row ≡ get_or rows i row
     → RowsRunning rows i s s' text fine → by_outcome (step s' row.request) ≡ (s'', line, f) → RanFront rows s s''
 untold_front rows i row s s' s'' text line fine f h is run stepped =
-    front rows (i + 1) s s'' (next_state rows i row s s' s'' h is run.state (sym (sym (told_state (step s' row.request)) ∙ ap (λ v. v.0) stepped)))
+    front rows (i + 1) s s''
+    (next_state rows i row s s' s'' h is run.state
+    (sym (sym (told_state (step s' row.request)) ∙ ap (λ v. v.0) stepped)))
 
 -- the row wasn't answered
-pub cut_front : (stop : Stop) (rows : List ImportRow) (i : ℕ) (row : ImportRow) (s s' s'' : State) (text : List ℕ) (fine : Bool) → i < length rows → row ≡ get_or rows i row
+pub cut_front : (stop : Stop) (rows : List ImportRow) (i : ℕ) (row : ImportRow) (s s' s'' : State) (text : List ℕ)
+    (fine : Bool) → i < length rows → row ≡ get_or rows i row
     → RowsRunning rows i s s' text fine → CutRequest stop s' s'' row.request → IsOfBooks stop × RanFront rows s s''
 cut_front ReadFailed rows i row s s' s'' text fine h is run cut = absurd cut
 cut_front WriteFailed rows i row s s' s'' text fine h is run cut = absurd cut
 cut_front Memory rows i row s s' s'' text fine h is run (inl same) = (tt, front rows i s s'' (same ∙ run.state))
-cut_front Memory rows i row s s' s'' text fine h is run (inr now) = (tt, front rows (i + 1) s s'' (next_state rows i row s s' s'' h is run.state now))
+cut_front Memory rows i row s s' s'' text fine h is run (inr now) =
+    (tt, front rows (i + 1) s s'' (next_state rows i row s s' s'' h is run.state now))
 cut_front Store rows i row s s' s'' text fine h is run same = (tt, front rows i s s'' (same ∙ run.state))
 
-pub memory_front : (stop : Stop) (rows : List ImportRow) (s s' : State) → stop ≡ Memory → RanFront rows s s' → IsOfBooks stop × RanFront rows s s'
+pub memory_front : (stop : Stop) (rows : List ImportRow) (s s' : State) → stop ≡ Memory → RanFront rows s s'
+    → IsOfBooks stop × RanFront rows s s'
 memory_front stop rows s s' e h = (subst IsOfBooks (sym e) tt, h)
 
 -- ---- what a crash leaves
 
 -- books that stay open leave the tables of their state; those that the database closed, also the ones after the row
-pub left_by_rows : {F : Type 0} (stop : Stop) (rows : List ImportRow) (i : ℕ) (row : ImportRow) (s s' s'' : State) (text : List ℕ) (fine : Bool) (trees : Trees) (old new : Option F)
-    → i < length rows → row ≡ get_or rows i row → RowsRunning rows i s s' text fine → CutRequest stop s' s'' row.request → StaysOpen {F = F} {X = Told} old new (Err stop) → old ≡ None
-    → (new ≡ None → TablesAre s'' trees) → TablesAre s'' trees ⊎ TablesAre (step s'' row.request).0 trees → AreLeftByRows rows s s'' trees
+pub left_by_rows : {F : Type 0} (stop : Stop) (rows : List ImportRow) (i : ℕ) (row : ImportRow) (s s' s'' : State)
+    (text : List ℕ) (fine : Bool) (trees : Trees) (old new : Option F)
+    → i < length rows → row ≡ get_or rows i row → RowsRunning rows i s s' text fine → CutRequest stop s' s'' row.request
+    → StaysOpen {F = F} {X = Told} old new (Err stop) → old ≡ None
+    → (new ≡ None → TablesAre s'' trees) → TablesAre s'' trees ⊎ TablesAre (step s'' row.request).0 trees
+    → AreLeftByRows rows s s'' trees
 left_by_rows ReadFailed rows i row s s' s'' text fine trees old new h is run cut stays was shown at = absurd cut
 left_by_rows WriteFailed rows i row s s' s'' text fine trees old new h is run cut stays was shown at = absurd cut
-left_by_rows Memory rows i row s s' s'' text fine trees old new h is run cut stays was shown at = inl (shown (stays was))
+left_by_rows Memory rows i row s s' s'' text fine trees old new h is run cut stays was shown at =
+    inl (shown (stays was))
 left_by_rows Store rows i row s s' s'' text fine trees old new h is run same stays was shown (inl tables) = inl tables
 left_by_rows Store rows i row s s' s'' text fine trees old new h is run same stays was shown (inr tables) =
     let state : s'' ≡ rows_after s (take i rows) = same ∙ run.state in
@@ -126,11 +160,18 @@ left_by_rows Store rows i row s s' s'' text fine trees old new h is run same sta
 -- ---- an import
 
 -- it ended as its report was written
-pub import_written : (stop : Stop) (reading : Reading) (w w' : Option (List ℕ)) (s s' : State) (text : List ℕ) (f : Bool) (k : ℕ) → stop ≡ WriteFailed → import_told s reading ≡ (s', text, f)
+pub import_written : (stop : Stop) (reading : Reading) (w w' : Option (List ℕ)) (s s' : State) (text : List ℕ)
+    (f : Bool) (k : ℕ) → stop ≡ WriteFailed → import_told s reading ≡ (s', text, f)
     → Appends w w' (take k text) → ImportStopped stop reading w w' s s'
 import_written stop reading w w' s s' text f k e told wrote =
     subst (λ v. ImportStopped v reading w w' s s') (sym e)
-    (record { front = take k text; more = drop k text; state = sym (ap (λ p. p.0) told); told = ap (λ p. p.1) told ∙ sym (take-append-drop k text); written = wrote })
+    (record {
+      front = take k text;
+      more = drop k text;
+      state = sym (ap (λ p. p.0) told);
+      told = ap (λ p. p.1) told ∙ sym (take-append-drop k text);
+      written = wrote;
+    })
 
 -- what a crash leaves where nothing was run is left by any import
 pub left_alone : (reading : Reading) (s : State) (trees : Trees) → TablesAre s trees → IsLeftByImport reading s s trees

@@ -1,5 +1,6 @@
 -- A file that is sent again.
-use Rattle.std.proofs.Common.{◌≡◌, ◌+◌, ◌==◌, ℕ, true, List, [], ◌∷◌, ◌++◌, length, nat_le, map, ap, sym, refl, ◌∙◌, subst, append_assoc}
+use Rattle.std.proofs.Common.{◌≡◌, ◌+◌, ◌==◌, ℕ, true, List, [], ◌∷◌, ◌++◌, length}
+use Rattle.std.proofs.Common.{nat_le, map, ap, sym, refl, ◌∙◌, subst, append_assoc}
 use Rattle.std.specs.Prelude.{Some, Result, Ok, Err}
 use Rattle.std.specs.Cmp.Lexicographic.{pointwise}
 use Rattle.std.specs.Str.{bytes_eq}
@@ -20,7 +21,8 @@ use Rattle.desk_wire.specs.declared.fault.What.TheVariants.{Csv, Header, TooLong
 use Rattle.desk_wire.specs.declared.fault.WireFault.{WireFault}
 use Rattle.desk_wire.specs.declared.kind.ImportKind.{ImportKind}
 use Rattle.desk_wire.specs.declared.row.ImportRow.{ImportRow}
-use Rattle.desk_app.specs.ImportRuns.{are_answers, import_told, numbers_of, requests_of, rows_out, rows_outcomes, rows_told}
+use Rattle.desk_app.specs.ImportRuns.{are_answers, import_told, numbers_of}
+use Rattle.desk_app.specs.ImportRuns.{requests_of, rows_out, rows_outcomes, rows_told}
 use Rattle.desk_app.specs.SentAgain.{FilesSentAgainChangeNothing}
 
 -- ---- what a file says of its rows, whatever the document and the day
@@ -29,18 +31,21 @@ abbrev Part : Type 0
 Part = ℕ × Command
 
 abbrev row_on : ImportKind → List ℕ → CivilDay → Part → ImportRow
-row_on kind document day p = record { number = p.0; request = record { key = Some (key_of kind document p.0); day = day; command = p.1 } }
+row_on kind document day p =
+    record { number = p.0; request = record { key = Some (key_of kind document p.0); day = day; command = p.1 } }
 
 abbrev map_ok : {A B E : Type 0} → (A → B) → Result A E → Result B E
 map_ok h (Ok x) = Ok (h x)
 map_ok h (Err e) = Err e
 
 -- a step of a reading, on either side
-bind_map : {A B C E : Type 0} (h : B → C) (r : Result A E) (f : A → Result B E) (g : A → Result C E) → ((x : A) → g x ≡ map_ok h (f x)) → (r >>= g) ≡ map_ok h (r >>= f)
+bind_map : {A B C E : Type 0} (h : B → C) (r : Result A E) (f : A → Result B E) (g : A → Result C E)
+    → ((x : A) → g x ≡ map_ok h (f x)) → (r >>= g) ≡ map_ok h (r >>= f)
 bind_map h (Ok x) f g e = e x
 bind_map h (Err d) f g e = refl
 
-map_bind : {A A' B C E : Type 0} (h : A → A') (k : B → C) (r : Result A E) (f : A → Result B E) (g : A' → Result C E) → ((x : A) → g (h x) ≡ map_ok k (f x)) → (map_ok h r >>= g) ≡ map_ok k (r >>= f)
+map_bind : {A A' B C E : Type 0} (h : A → A') (k : B → C) (r : Result A E) (f : A → Result B E) (g : A' → Result C E)
+    → ((x : A) → g (h x) ≡ map_ok k (f x)) → (map_ok h r >>= g) ≡ map_ok k (r >>= f)
 map_bind h k (Ok x) f g e = e x
 map_bind h k (Err d) f g e = refl
 
@@ -56,13 +61,15 @@ part_of kind fields = do
   command ← command_of kind fields
   Ok (number, command)
 
-row_parts : (kind : ImportKind) (document : List ℕ) (day : CivilDay) (fields : Fields) → row_of kind document day fields ≡ map_ok (row_on kind document day) (part_of kind fields)
+row_parts : (kind : ImportKind) (document : List ℕ) (day : CivilDay) (fields : Fields)
+    → row_of kind document day fields ≡ map_ok (row_on kind document day) (part_of kind fields)
 unfolding row_of part_of
 row_parts kind document day fields =
     bind_map _ (must Csv (length fields == length (names_of kind))) _ _ (λ _.
     bind_map _ (must Csv (are_texts fields)) _ _ (λ _.
     bind_map _ (or_fault WrongType (row_number_in (field 0 fields))) _ _ (λ number.
-    bind_map (row_on kind document day) (command_of kind fields) (λ command. Ok (number, command)) _ (λ command. refl))))
+    bind_map (row_on kind document day) (command_of kind fields) (λ command. Ok (number, command)) _
+    (λ command. refl))))
 
 abbrev with_parts : ImportKind → ℕ → List Part → List Fields → Result (List Part) WireFault
 with_parts kind number parts [] = Ok parts
@@ -75,14 +82,19 @@ map_push h [] x = refl
 map_push h (y ∷ ys) x = ap (λ v. h y ∷ v) (map_push h ys x)
 
 all_parts : (kind : ImportKind) (document : List ℕ) (day : CivilDay) (number : ℕ) (parts : List Part) (rs : List Fields)
-    → with_rows kind document day number (map (row_on kind document day) parts) rs ≡ map_ok (map (row_on kind document day)) (with_parts kind number parts rs)
+    → with_rows kind document day number (map (row_on kind document day) parts) rs
+    ≡ map_ok (map (row_on kind document day)) (with_parts kind number parts rs)
 all_parts kind document day number parts [] = refl
 all_parts kind document day number parts (r ∷ rs) =
     let on = row_on kind document day in
-    ap (λ v. at number v >>= (λ row. with_rows kind document day (number + 1) (map on parts ++ row ∷ []) rs)) (row_parts kind document day r)
-    ∙ ap (λ v. v >>= (λ row. with_rows kind document day (number + 1) (map on parts ++ row ∷ []) rs)) (at_map on number (part_of kind r))
-    ∙ map_bind on (map on) (at number (part_of kind r)) (λ part. with_parts kind (number + 1) (parts ++ part ∷ []) rs) (λ row. with_rows kind document day (number + 1) (map on parts ++ row ∷ []) rs)
-    (λ part. ap (λ v. with_rows kind document day (number + 1) v rs) (sym (map_push on parts part)) ∙ all_parts kind document day (number + 1) (parts ++ part ∷ []) rs)
+    ap (λ v. at number v >>= (λ row. with_rows kind document day (number + 1) (map on parts ++ row ∷ []) rs))
+    (row_parts kind document day r)
+    ∙ ap (λ v. v >>= (λ row. with_rows kind document day (number + 1) (map on parts ++ row ∷ []) rs))
+    (at_map on number (part_of kind r))
+    ∙ map_bind on (map on) (at number (part_of kind r)) (λ part. with_parts kind (number + 1) (parts ++ part ∷ []) rs)
+    (λ row. with_rows kind document day (number + 1) (map on parts ++ row ∷ []) rs)
+    (λ part. ap (λ v. with_rows kind document day (number + 1) v rs) (sym (map_push on parts part))
+    ∙ all_parts kind document day (number + 1) (parts ++ part ∷ []) rs)
 
 abbrev parts_in : ImportKind → List Fields → Result (List Part) WireFault
 parts_in kind [] = at 1 (Err Header)
@@ -90,35 +102,44 @@ parts_in kind (r ∷ rs) = do
   header ← at 1 (must Header (pointwise bytes_eq (names_of kind) r))
   with_parts kind 2 [] rs
 
-header_parts : (kind : ImportKind) (document : List ℕ) (day : CivilDay) (rs : List Fields) → rows_in kind document day rs ≡ map_ok (map (row_on kind document day)) (parts_in kind rs)
+header_parts : (kind : ImportKind) (document : List ℕ) (day : CivilDay) (rs : List Fields)
+    → rows_in kind document day rs ≡ map_ok (map (row_on kind document day)) (parts_in kind rs)
 header_parts kind document day [] = refl
 header_parts kind document day (r ∷ rs) =
-    bind_map (map (row_on kind document day)) (at 1 (must Header (pointwise bytes_eq (names_of kind) r))) _ _ (λ _. all_parts kind document day 2 [] rs)
+    bind_map (map (row_on kind document day)) (at 1 (must Header (pointwise bytes_eq (names_of kind) r))) _ _
+    (λ _. all_parts kind document day 2 [] rs)
 
 abbrev parts_of : ImportKind → List ℕ → Result (List Part) WireFault
 parts_of kind bytes = do
   fits ← at 0 (must TooLong (nat_le (length bytes) 16777216))
   parts_in kind (records default_config (strip_bom bytes))
 
-import_parts : (kind : ImportKind) (document : List ℕ) (day : CivilDay) (bytes : List ℕ) → import kind document day bytes ≡ map_ok (map (row_on kind document day)) (parts_of kind bytes)
+import_parts : (kind : ImportKind) (document : List ℕ) (day : CivilDay) (bytes : List ℕ)
+    → import kind document day bytes ≡ map_ok (map (row_on kind document day)) (parts_of kind bytes)
 import_parts kind document day bytes =
-    bind_map (map (row_on kind document day)) (at 0 (must TooLong (nat_le (length bytes) 16777216))) _ _ (λ _. header_parts kind document day (records default_config (strip_bom bytes)))
+    bind_map (map (row_on kind document day)) (at 0 (must TooLong (nat_le (length bytes) 16777216))) _ _
+    (λ _. header_parts kind document day (records default_config (strip_bom bytes)))
 
 -- ---- rows that are run again
 
-run_push : (s : State) (before : List Request) (r : Request) → (run s (before ++ r ∷ [])).0 ≡ (step (run s before).0 r).0
+run_push : (s : State) (before : List Request) (r : Request)
+    → (run s (before ++ r ∷ [])).0 ≡ (step (run s before).0 r).0
 run_push s [] r = refl
 run_push s (x ∷ xs) r = run_push (step s x).0 xs r
 
-answer_first : (o : Outcome) (os : List Outcome) → are_answers (o ∷ os) ≡ true → (a : Answer) × (o ≡ Ok a) × (are_answers os ≡ true)
+answer_first : (o : Outcome) (os : List Outcome) → are_answers (o ∷ os) ≡ true
+    → (a : Answer) × (o ≡ Ok a) × (are_answers os ≡ true)
 answer_first (Ok a) os h = (a, refl, h)
 answer_first (Err x) os h = absurd (cc)
 
 -- the outcomes of a later run of requests, of which the first changes nothing
-run_same : (s : State) (r : Request) (rs : List Request) (a : Answer) (os : List Outcome) → step s r ≡ (s, Ok a) → run s rs ≡ (s, os) → run s (r ∷ rs) ≡ (s, Ok a ∷ os)
-run_same s r rs a os same rest = (λ i. ((run (same i).0 rs).0, (same i).1 ∷ (run (same i).0 rs).1)) ∙ (λ i. ((rest i).0, Ok a ∷ (rest i).1))
+run_same : (s : State) (r : Request) (rs : List Request) (a : Answer) (os : List Outcome) → step s r ≡ (s, Ok a)
+    → run s rs ≡ (s, os) → run s (r ∷ rs) ≡ (s, Ok a ∷ os)
+run_same s r rs a os same rest =
+    (λ i. ((run (same i).0 rs).0, (same i).1 ∷ (run (same i).0 rs).1)) ∙ (λ i. ((rest i).0, Ok a ∷ (rest i).1))
 
-module _ (law : LaterRepeatsChangeNothing) (kind : ImportKind) (document : List ℕ) (day later : CivilDay) (s : State) (between : List Request) where
+module _ (law : LaterRepeatsChangeNothing) (kind : ImportKind) (document : List ℕ) (day later : CivilDay) (s : State)
+    (between : List Request) where
   abbrev first : List Part → List ImportRow
   first ps = map (row_on kind document day) ps
 
@@ -137,12 +158,19 @@ module _ (law : LaterRepeatsChangeNothing) (kind : ImportKind) (document : List 
       let next = (step now r).0 in
       let head = answer_first (step now r).1 (rows_outcomes next (first ps)) h in
       let pushed = run_push s before r in
-      let same = law s before (requests_of (first ps) ++ between) r (row_on kind document later p).request head.0 refl (record { key = refl; command = refl }) head.1 in
-      let rest = rows_again (before ++ r ∷ []) ps (ap (λ v. are_answers (rows_outcomes v (first ps))) pushed ∙ head.2) in
-      let place : there (before ++ r ∷ []) ps ≡ there before (p ∷ ps) = ap (λ v. (run s v).0) (append_assoc before (r ∷ []) (requests_of (first ps) ++ between)) in
-      let on : run (there before (p ∷ ps)) (requests_of (again ps)) ≡ (there before (p ∷ ps), rows_outcomes next (first ps)) =
-      subst (λ v. run v (requests_of (again ps)) ≡ (v, rows_outcomes next (first ps))) place (rest ∙ ap (λ v. (there (before ++ r ∷ []) ps, rows_outcomes v (first ps))) pushed) in
-      run_same (there before (p ∷ ps)) (row_on kind document later p).request (requests_of (again ps)) head.0 (rows_outcomes next (first ps)) same on
+      let same =
+      law s before (requests_of (first ps) ++ between) r (row_on kind document later p).request head.0 refl
+      (record { key = refl; command = refl }) head.1 in
+      let rest =
+      rows_again (before ++ r ∷ []) ps (ap (λ v. are_answers (rows_outcomes v (first ps))) pushed ∙ head.2) in
+      let place : there (before ++ r ∷ []) ps ≡ there before (p ∷ ps) =
+      ap (λ v. (run s v).0) (append_assoc before (r ∷ []) (requests_of (first ps) ++ between)) in
+      let on : run (there before (p ∷ ps)) (requests_of (again ps))
+      ≡ (there before (p ∷ ps), rows_outcomes next (first ps)) =
+      subst (λ v. run v (requests_of (again ps)) ≡ (v, rows_outcomes next (first ps))) place
+      (rest ∙ ap (λ v. (there (before ++ r ∷ []) ps, rows_outcomes v (first ps))) pushed) in
+      run_same (there before (p ∷ ps)) (row_on kind document later p).request (requests_of (again ps)) head.0
+      (rows_outcomes next (first ps)) same on
       ∙ ap (λ v. (there before (p ∷ ps), v ∷ rows_outcomes next (first ps))) (sym head.1)
 
   numbers_again : (ps : List Part) → numbers_of (again ps) ≡ numbers_of (first ps)
@@ -152,18 +180,26 @@ module _ (law : LaterRepeatsChangeNothing) (kind : ImportKind) (document : List 
   told_again : (ps : List Part) → are_answers (rows_outcomes s (first ps)) ≡ true
       → rows_told (there [] ps) (again ps) ≡ (there [] ps, rows_out s (first ps), true)
   told_again ps h =
-      (λ i. ((rows_again [] ps h i).0, import_text (numbers_again ps i) (rows_again [] ps h i).1, are_answers (rows_again [] ps h i).1))
+      (λ i. (
+        (rows_again [] ps h i).0,
+        import_text (numbers_again ps i) (rows_again [] ps h i).1,
+        are_answers (rows_again [] ps h i).1,
+      ))
       ∙ ap (λ v. (there [] ps, rows_out s (first ps), v)) h
 
-  of_parts : (reading : Result (List Part) WireFault) (rows : List ImportRow) → map_ok first reading ≡ Ok rows → are_answers (rows_outcomes s rows) ≡ true
-      → import_told (run s (requests_of rows ++ between)).0 (map_ok again reading) ≡ ((run s (requests_of rows ++ between)).0, rows_out s rows, true)
+  of_parts : (reading : Result (List Part) WireFault) (rows : List ImportRow) → map_ok first reading ≡ Ok rows
+      → are_answers (rows_outcomes s rows) ≡ true
+      → import_told (run s (requests_of rows ++ between)).0 (map_ok again reading)
+      ≡ ((run s (requests_of rows ++ between)).0, rows_out s rows, true)
   of_parts (Ok ps) rows e h =
       let is : first ps ≡ rows = cc in
-      subst (λ (v : List ImportRow). are_answers (rows_outcomes s v) ≡ true → rows_told (run s (requests_of v ++ between)).0 (again ps) ≡ ((run s (requests_of v ++ between)).0, rows_out s v, true))
+      subst (λ (v : List ImportRow). are_answers (rows_outcomes s v) ≡ true → rows_told
+      (run s (requests_of v ++ between)).0 (again ps) ≡ ((run s (requests_of v ++ between)).0, rows_out s v, true))
       is (told_again ps) h
   of_parts (Err fault) rows e h = absurd (cc)
 
 pub sent_again : LaterRepeatsChangeNothing → FilesSentAgainChangeNothing
 sent_again law s kind document day later bytes rows between is answered =
     ap (λ v. import_told (run s (requests_of rows ++ between)).0 v) (import_parts kind document later bytes)
-    ∙ of_parts law kind document day later s between (parts_of kind bytes) rows (sym (import_parts kind document day bytes) ∙ is) answered
+    ∙ of_parts law kind document day later s between (parts_of kind bytes) rows
+    (sym (import_parts kind document day bytes) ∙ is) answered

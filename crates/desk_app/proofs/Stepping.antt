@@ -1,5 +1,6 @@
 -- A line, of which as much is here as is held.
-use Rattle.std.proofs.Common.{◌≡◌, ◌+◌, ◌≤◌, ℕ, Bool, true, false, List, [], ◌∷◌, length, nat_le, arith, ap, sym, subst, refl, ◌∙◌, length-take, take, ◌⊎◌, inl, inr}
+use Rattle.std.proofs.Common.{◌≡◌, ◌+◌, ◌≤◌, ℕ, Bool, true, false, List, [], ◌∷◌, length, nat_le}
+use Rattle.std.proofs.Common.{arith, ap, sym, subst, refl, ◌∙◌, length-take, take, ◌⊎◌, inl, inr}
 use Rattle.std.specs.Prelude.{Ok, Err}
 use Rattle.sqlite.specs.Tree.{Trees}
 use Rattle.desk_core.specs.Machine.{State, Outcome, step}
@@ -54,19 +55,23 @@ outcome_state : (p : State × Outcome) → (by_outcome p).0 ≡ p.0
 outcome_state (s, Ok answer) = refl
 outcome_state (s, Err refusal) = refl
 
-request_step : (s : State) (n : ℕ) (l : List ℕ) (r : Req) → is_blank l ≡ false → line l ≡ Ok (Request r) → line_step s n l ≡ by_outcome (step s r)
+request_step : (s : State) (n : ℕ) (l : List ℕ) (r : Req) → is_blank l ≡ false → line l ≡ Ok (Request r)
+    → line_step s n l ≡ by_outcome (step s r)
 unfolding line_step
 request_step s n l r filled is = rw (filled, is) refl
 
-pub request_after : (s : State) (n : ℕ) (l : List ℕ) (r : Req) → is_blank l ≡ false → line l ≡ Ok (Request r) → line_after s n l ≡ (step s r).0
+pub request_after : (s : State) (n : ℕ) (l : List ℕ) (r : Req) → is_blank l ≡ false → line l ≡ Ok (Request r)
+    → line_after s n l ≡ (step s r).0
 request_after s n l r filled is = ap (λ t. t.0) (request_step s n l r filled is) ∙ outcome_state (step s r)
 
-pub cut_line : (stop : Stop) (s s' : State) (n : ℕ) (l : List ℕ) (r : Req) → line_after s n l ≡ (step s r).0 → CutRequest stop s s' r → CutLine stop s s' n l
+pub cut_line : (stop : Stop) (s s' : State) (n : ℕ) (l : List ℕ) (r : Req) → line_after s n l ≡ (step s r).0
+    → CutRequest stop s s' r → CutLine stop s s' n l
 cut_line ReadFailed s s' n l r e h = absurd h
 cut_line WriteFailed s s' n l r e h = absurd h
 cut_line Memory s s' n l r e h = elim h [ inl same ↦ inl same | inr after ↦ inr (after ∙ sym e) ]
 cut_line Store s s' n l r e h = h
 
-pub left_of_line : (s : State) (n : ℕ) (l : List ℕ) (r : Req) (trees : Trees) → line_after s n l ≡ (step s r).0 → TablesAre s trees ⊎ TablesAre (step s r).0 trees → IsLeftAt s n l trees
+pub left_of_line : (s : State) (n : ℕ) (l : List ℕ) (r : Req) (trees : Trees) → line_after s n l ≡ (step s r).0
+    → TablesAre s trees ⊎ TablesAre (step s r).0 trees → IsLeftAt s n l trees
 left_of_line s n l r trees e (inl h) = inl h
 left_of_line s n l r trees e (inr h) = inr (subst (λ t. TablesAre t trees) (sym e) h)

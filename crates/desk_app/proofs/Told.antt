@@ -3,10 +3,13 @@ use Rattle.std.proofs.Common.{◌≡◌, ◌∙◌, List, [], sym, refl, inr}
 use Rattle.std.specs.Prelude.{Option, Some, None, option_map}
 use Rattle.clap.specs.Words.{Text}
 use Rattle.desk_app.specs.declared.words.Task.{Task}
-use Rattle.desk_app.specs.declared.words.Task.TheVariants.{Run, Report, Export, Import, Serve, Help, Wrong, Unreadable, Memory}
-use Rattle.desk_app.specs.Words.{Places, DeskTask, run, report, export, import, serve, desk_task, faults, Tells, AnswersAt, Runs, RunsOn}
+use Rattle.desk_app.specs.declared.words.Task.TheVariants.{Run, Report, Export, Import, Serve}
+use Rattle.desk_app.specs.declared.words.Task.TheVariants.{Help, Wrong, Unreadable, Memory}
+use Rattle.desk_app.specs.Words.{Places, DeskTask, run, report, export, import, serve}
+use Rattle.desk_app.specs.Words.{desk_task, faults, Tells, AnswersAt, Runs, RunsOn}
 
-pub told_answers : (places : Places) (words : List Text) (w : Option DeskTask) (task : Task) → faults places words ≡ [] → w ≡ desk_task places words
+pub told_answers : (places : Places) (words : List Text) (w : Option DeskTask) (task : Task) → faults places words ≡ []
+    → w ≡ desk_task places words
     → Tells w task → AnswersAt places words task
 told_answers places words w (Run file) free same t = (free, sym same ∙ t)
 told_answers places words w (Report file name number) free same t = (free, sym same ∙ t)
@@ -23,22 +26,35 @@ no_file f None e = refl
 no_file f (Some x) e = absurd (cc)
 
 pub told_runs : (w : Option DeskTask) (task : Task) → w ≡ Some (run None) → Tells w task → Runs task
-told_runs w (Run file) e t = let f : Some (run None) ≡ Some (run (option_map (λ path. path.now) file)) = sym e ∙ t in no_file (λ path. path.now) file (cc)
-told_runs w (Report file name number) e t = let f : Some (run None) ≡ Some (report file.now name number) = sym e ∙ t in absurd (cc)
+told_runs w (Run file) e t =
+    let f : Some (run None) ≡ Some (run (option_map (λ path. path.now) file)) = sym e ∙ t in
+    no_file (λ path. path.now) file (cc)
+told_runs w (Report file name number) e t =
+    let f : Some (run None) ≡ Some (report file.now name number) = sym e ∙ t in
+    absurd (cc)
 told_runs w (Export file table) e t = let f : Some (run None) ≡ Some (export file.now table) = sym e ∙ t in absurd (cc)
-told_runs w (Import file kind document day path) e t = let f : Some (run None) ≡ Some (import file.now kind document day path.now) = sym e ∙ t in absurd (cc)
-told_runs w (Serve file port count) e t = let f : Some (run None) ≡ Some (serve (option_map (λ path. path.now) file) port count) = sym e ∙ t in absurd (cc)
+told_runs w (Import file kind document day path) e t =
+    let f : Some (run None) ≡ Some (import file.now kind document day path.now) = sym e ∙ t in absurd (cc)
+told_runs w (Serve file port count) e t =
+    let f : Some (run None) ≡ Some (serve (option_map (λ path. path.now) file) port count) = sym e ∙ t in absurd (cc)
 told_runs w (Help error) e t = absurd t
 told_runs w (Wrong error) e t = let f = t.0 in absurd (cc)
 told_runs w Unreadable e t = absurd t
 told_runs w Memory e t = tt
 
-pub told_runs_on : (path : Text) (w : Option DeskTask) (task : Task) → w ≡ Some (run (Some path)) → Tells w task → RunsOn path task
-told_runs_on path w (Run file) e t = let f : Some (run (Some path)) ≡ Some (run (option_map (λ given. given.now) file)) = sym e ∙ t in cc
-told_runs_on path w (Report file name number) e t = let f : Some (run (Some path)) ≡ Some (report file.now name number) = sym e ∙ t in absurd (cc)
-told_runs_on path w (Export file table) e t = let f : Some (run (Some path)) ≡ Some (export file.now table) = sym e ∙ t in absurd (cc)
-told_runs_on path w (Import file kind document day from) e t = let f : Some (run (Some path)) ≡ Some (import file.now kind document day from.now) = sym e ∙ t in absurd (cc)
-told_runs_on path w (Serve file port count) e t = let f : Some (run (Some path)) ≡ Some (serve (option_map (λ given. given.now) file) port count) = sym e ∙ t in absurd (cc)
+pub told_runs_on : (path : Text) (w : Option DeskTask) (task : Task) → w ≡ Some (run (Some path)) → Tells w task
+    → RunsOn path task
+told_runs_on path w (Run file) e t =
+    let f : Some (run (Some path)) ≡ Some (run (option_map (λ given. given.now) file)) = sym e ∙ t in cc
+told_runs_on path w (Report file name number) e t =
+    let f : Some (run (Some path)) ≡ Some (report file.now name number) = sym e ∙ t in absurd (cc)
+told_runs_on path w (Export file table) e t =
+    let f : Some (run (Some path)) ≡ Some (export file.now table) = sym e ∙ t in absurd (cc)
+told_runs_on path w (Import file kind document day from) e t =
+    let f : Some (run (Some path)) ≡ Some (import file.now kind document day from.now) = sym e ∙ t in absurd (cc)
+told_runs_on path w (Serve file port count) e t =
+    let f : Some (run (Some path)) ≡ Some (serve (option_map (λ given. given.now) file) port count) = sym e ∙ t in
+    absurd (cc)
 told_runs_on path w (Help error) e t = absurd t
 told_runs_on path w (Wrong error) e t = let f = t.0 in absurd (cc)
 told_runs_on path w Unreadable e t = absurd t

@@ -12,7 +12,9 @@ use Rattle.desk_store.specs.Opening.{open_fault_text, WhyNot}
 use Rattle.desk_store.specs.declared.fault.OpenFault.{OpenFault}
 use Rattle.desk_store.specs.declared.fault.OpenFault.TheVariants as open_fault
 use Rattle.desk_app.specs.declared.database.FileFault.{FileFault}
-use Rattle.desk_app.specs.declared.database.FileFault.TheVariants.{Memory, NoFile, NoFolder, NotAllowed, Device, InUse, NoDatabase, Database, OtherTables, OtherVersion, Desk}
+use Rattle.desk_app.specs.declared.database.FileFault.TheVariants.{Memory, NoFile, NoFolder, NotAllowed}
+use Rattle.desk_app.specs.declared.database.FileFault.TheVariants.{Device, InUse, NoDatabase, Database}
+use Rattle.desk_app.specs.declared.database.FileFault.TheVariants.{OtherTables, OtherVersion, Desk}
 use Rattle.desk_app.specs.declared.database.FaultyFile.{FaultyFile}
 use Rattle.desk_app.specs.Empty.{IsEmpty}
 

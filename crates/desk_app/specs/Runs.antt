@@ -1,5 +1,6 @@
 -- A run over the lines of a text.
-use Rattle.std.specs.Prelude.{◌≡◌, ◌≤◌, ℕ, length, ◌+◌, ◌==◌, ◌&&◌, Bool, true, false, List, [], ◌∷◌, ◌++◌, if◌then◌else◌, ◌⊎◌, Option, Some, None, IsSome, Result, Ok, Err}
+use Rattle.std.specs.Prelude.{◌≡◌, ◌≤◌, ℕ, length, ◌+◌, ◌==◌, ◌&&◌, Bool, true, false, List, [], ◌∷◌}
+use Rattle.std.specs.Prelude.{◌++◌, if◌then◌else◌, ◌⊎◌, Option, Some, None, IsSome, Result, Ok, Err}
 use Rattle.std.specs.Io.KnownBytes.{Appends, Keeps}
 use Rattle.part_core.specs.declared.refusal.Refusal.TheVariants.{NoSuch}
 use Rattle.desk_core.specs.Machine.{State, Outcome, step}
@@ -204,8 +205,9 @@ pub record HasNext (lines : List (List ℕ)) (s s' : State) (trees : Trees) : Ty
   pub state : s' ≡ run_after s 1 done
   pub tables : TablesAre (run_after s 1 (done ++ next ∷ [])) trees
 
--- what a crash leaves of books that a run over these bytes left in this state: its tables or, where the database failed,
--- those after the line that came next; of unknown bytes, after some line
+-- what a crash leaves of books that a run over these bytes left in this state: its tables or, where the database
+-- failed, those after the line that came next; of unknown bytes, after some line
 abbrev pub IsLeft : Option (List ℕ) → State → State → Trees → Type 0
-IsLeft None s s' trees = TablesAre s' trees ⊎ ((number : ℕ) × (line : List ℕ) × TablesAre (line_after s' number line) trees)
+IsLeft None s s' trees =
+    TablesAre s' trees ⊎ ((number : ℕ) × (line : List ℕ) × TablesAre (line_after s' number line) trees)
 IsLeft (Some text) s s' trees = TablesAre s' trees ⊎ HasNext (lines_of text) s s' trees

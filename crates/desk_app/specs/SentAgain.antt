@@ -12,7 +12,9 @@ use Rattle.desk_app.specs.ImportRuns.{are_answers, import_told, requests_of, row
 -- nothing: on whatever day, and whatever was run in between
 abbrev pub FilesSentAgainChangeNothing : Type 0
 FilesSentAgainChangeNothing =
-    (s : State) (kind : ImportKind) (document : List ℕ) (day later : CivilDay) (bytes : List ℕ) (rows : List ImportRow) (between : List Request)
+    (s : State) (kind : ImportKind) (document : List ℕ) (day later : CivilDay) (bytes : List ℕ) (rows : List ImportRow)
+    (between : List Request)
     → import kind document day bytes ≡ Ok rows
     → are_answers (rows_outcomes s rows) ≡ true
-    → (let then_ = (run s (requests_of rows ++ between)).0 in import_told then_ (import kind document later bytes) ≡ (then_, rows_out s rows, true))
+    → (let then_ = (run s (requests_of rows ++ between)).0 in
+    import_told then_ (import kind document later bytes) ≡ (then_, rows_out s rows, true))

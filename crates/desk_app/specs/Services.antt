@@ -101,10 +101,12 @@ StaysOpenBy old new (Some Untold) = old ≡ None → new ≡ None
 -- failed
 abbrev pub IsLeftByOperation : Operation → State → State → Trees → Type 0
 IsLeftByOperation (RunLine line) s s' trees = TablesAre s' trees ⊎ TablesAre (run_line s' line).0 trees
-IsLeftByOperation (ImportFile kind document day rows) s s' trees = IsLeftByImport (import (import_kind kind) document day rows) s s' trees
+IsLeftByOperation (ImportFile kind document day rows) s s' trees =
+    IsLeftByImport (import (import_kind kind) document day rows) s s' trees
 IsLeftByOperation (ShowReport name number) s s' trees = TablesAre s' trees
 
 -- of books with these faults of the database before and after, of which a crash may leave these tables
-abbrev pub Relates : {F : Type 0} → Option F → Option F → (Trees → Type 0) → State → State → Operation → Option NoReply → Type 0
+abbrev pub Relates : {F : Type 0} → Option F → Option F → (Trees → Type 0) → State → State → Operation
+    → Option NoReply → Type 0
 Relates old new may_leave s s' o why =
     StaysOpenBy old new why × (old ≡ None → (trees : Trees) → may_leave trees → IsLeftByOperation o s s' trees)

@@ -1,14 +1,17 @@
 -- What the words ask for, of which the first is the program's name.
-use Rattle.std.specs.Prelude.{◌≡◌, ◌≢◌, ◌⊎◌, ◌||◌, ◌&&◌, ◌==◌, not, nat_lt, nat_le, ℕ, Bool, true, false, List, [], ◌∷◌, ◌++◌, codes, Option, Some, None, option_map, option_and_then, Result, IfOk, if◌then◌else◌}
+use Rattle.std.specs.Prelude.{◌≡◌, ◌≢◌, ◌⊎◌, ◌||◌, ◌&&◌, ◌==◌, not, nat_lt, nat_le, ℕ, Bool, true, false, List, [], ◌∷◌}
+use Rattle.std.specs.Prelude.{◌++◌, codes, Option, Some, None, option_map, option_and_then, Result, IfOk, if◌then◌else◌}
 use Rattle.std.specs.Borrow.{Bor}
 use Rattle.std.specs.Str.{bytes_eq}
-use Rattle.clap.specs.Words.{App, Rule, Row, Text, new_app, new_rule, with_rule, with_subcommand, fault_of, Kinds, IsAmong, FailsBy, kind_of, first_of, found_of, rows_of, subcommand_of, subcommand_rows_of}
+use Rattle.clap.specs.Words.{App, Rule, Row, Text, new_app, new_rule, with_rule, with_subcommand, fault_of, Kinds}
+use Rattle.clap.specs.Words.{IsAmong, FailsBy, kind_of, first_of, found_of, rows_of, subcommand_of, subcommand_rows_of}
 use Rattle.clap.specs.Simple.{on_top}
 use Rattle.clap.specs.Walk.{texts}
 use Rattle.clap.specs.declared.builder.action.ArgAction.TheVariants.{Set}
 use Rattle.clap.specs.declared.builder.value_parser.ValueParser.TheVariants.{Names}
 use Rattle.clap.specs.declared.error.Error.{Error}
-use Rattle.clap.specs.declared.error.kind.ErrorKind.TheVariants.{DisplayHelp, DisplayVersion, OutOfMemory, ValueValidation}
+use Rattle.clap.specs.declared.error.kind.ErrorKind.TheVariants.{DisplayHelp, DisplayVersion}
+use Rattle.clap.specs.declared.error.kind.ErrorKind.TheVariants.{OutOfMemory, ValueValidation}
 use Rattle.clap.specs.declared.error.kind.ErrorKind.{ErrorKind}
 use Rattle.clap.specs.declared.parser.matches.ArgMatches.{ArgMatches}
 use Rattle.part_core.specs.Day.{CivilDay, day_of}
@@ -21,7 +24,8 @@ use Rattle.desk_wire.specs.Kinds.{import_kind_named}
 use Rattle.desk_wire.specs.Numbers.{number_in}
 use Rattle.desk_wire.specs.declared.kind.ImportKind.{ImportKind}
 use Rattle.desk_app.specs.declared.words.Task.{Task}
-use Rattle.desk_app.specs.declared.words.Task.TheVariants.{Run, Report, Export, Import, Serve, Help, Wrong, Unreadable, Memory}
+use Rattle.desk_app.specs.declared.words.Task.TheVariants.{Run, Report, Export, Import, Serve}
+use Rattle.desk_app.specs.declared.words.Task.TheVariants.{Help, Wrong, Unreadable, Memory}
 
 -- no more words, or `run`
 abbrev pub asks_run : List (List ℕ) → Bool
@@ -59,7 +63,8 @@ is_path (first ∷ rest) = not (first == 45)
 
 -- the names that `report`, `export` and `import` take
 abbrev pub report_names : List Text
-report_names = codes "ledger" ∷ codes "stock" ∷ codes "where_used" ∷ codes "history" ∷ codes "content" ∷ codes "shortage" ∷ []
+report_names =
+    codes "ledger" ∷ codes "stock" ∷ codes "where_used" ∷ codes "history" ∷ codes "content" ∷ codes "shortage" ∷ []
 
 abbrev pub table_names : List Text
 table_names =
@@ -103,7 +108,8 @@ run_line = with_rule (new_app (codes "run")) file_rule
 
 abbrev pub report_line : Listing report_names → App
 report_line names =
-    with_rule (with_rule (with_rule (new_app (codes "report")) (needed file_rule)) (among names.at (word_rule (codes "name"))))
+    with_rule
+    (with_rule (with_rule (new_app (codes "report")) (needed file_rule)) (among names.at (word_rule (codes "name"))))
     (word_rule (codes "number"))
 
 abbrev pub export_line : Listing table_names → App
@@ -116,15 +122,18 @@ kind_rule names = among names.at (option_rule (codes "kind"))
 
 abbrev pub import_line : Listing kind_names → App
 import_line names =
-    with_rule (with_rule (with_rule (with_rule (with_rule (new_app (codes "import")) (needed file_rule)) (kind_rule names))
+    with_rule
+    (with_rule (with_rule (with_rule (with_rule (new_app (codes "import")) (needed file_rule)) (kind_rule names))
     (option_rule (codes "document"))) (option_rule (codes "day"))) (word_rule (codes "path"))
 
 abbrev pub serve_line : App
 serve_line =
-    with_rule (with_rule (with_rule (new_app (codes "serve")) file_rule) (option_rule (codes "port"))) (option_rule (codes "count"))
+    with_rule (with_rule (with_rule (new_app (codes "serve")) file_rule) (option_rule (codes "port")))
+    (option_rule (codes "count"))
 
 abbrev pub top_line : App
-top_line = on_top (λ shape. record shape { disable_help_subcommand = true; has_version = true }) (new_app (codes "invdesk"))
+top_line =
+    on_top (λ shape. record shape { disable_help_subcommand = true; has_version = true }) (new_app (codes "invdesk"))
 
 -- the program's command line, as `clap` sees it: it has a version, and five subcommands, none of them of help
 abbrev pub command_line : Places → App
@@ -301,7 +310,8 @@ abbrev pub AnswersAt : Places → List Text → Task → Type 0
 AnswersAt places words (Run file) = (faults places words ≡ []) × (desk_task places words ≡ desk_task_of (Run file))
 AnswersAt places words (Report file name number) =
     (faults places words ≡ []) × (desk_task places words ≡ desk_task_of (Report file name number))
-AnswersAt places words (Export file table) = (faults places words ≡ []) × (desk_task places words ≡ desk_task_of (Export file table))
+AnswersAt places words (Export file table) =
+    (faults places words ≡ []) × (desk_task places words ≡ desk_task_of (Export file table))
 AnswersAt places words (Import file kind document day path) =
     (faults places words ≡ []) × (desk_task places words ≡ desk_task_of (Import file kind document day path))
 AnswersAt places words (Serve file port count) =

@@ -8,7 +8,8 @@ ghost use Rattle.desk_wire.specs.Imports.{import};
 ghost use Rattle.desk_app.specs.declared.end.Stop.{Stop};
 ghost use Rattle.desk_app.specs.Ends.{end_of};
 ghost use Rattle.desk_app.specs.Runs.{IsOfBooks, StaysOpen};
-ghost use Rattle.desk_app.specs.ImportRuns.{import_told, rows_told, AreLeftByRows, ImportStopped, ImportedWhole, IsLeftByImport, RanFront, RanSome};
+ghost use Rattle.desk_app.specs.ImportRuns.{import_told, rows_told, AreLeftByRows, ImportStopped};
+ghost use Rattle.desk_app.specs.ImportRuns.{ImportedWhole, IsLeftByImport, RanFront, RanSome};
 
 use crate::books::Books;
 use crate::end::{RunEnd, Stop};

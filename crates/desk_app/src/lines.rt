@@ -2,7 +2,8 @@
 //! reader still has, is the text that is left; each line that is taken is the next of that text. Of a
 //! long line no more is held than shows that it is too long. There is a bound on the reads, and each
 //! counts, an interrupted one too; past it every read is refused.
-ghost use Rattle.std.specs.Prelude.{◌≡◌, ◌⊎◌, ◌≤◌, ◌<◌, ◌+◌, ◌++◌, [], ◌∷◌, length, take, drop, vec_len, IfOk, OnOk, OnErr, IfErr, Err, true, false, IsTrue};
+ghost use Rattle.std.specs.Prelude.{◌≡◌, ◌⊎◌, ◌≤◌, ◌<◌, ◌+◌, ◌++◌, [], ◌∷◌, length, take, drop};
+ghost use Rattle.std.specs.Prelude.{vec_len, IfOk, OnOk, OnErr, IfErr, Err, true, false, IsTrue};
 
 use crate::end::Stop;
 use crate::pieces::{end_of, hold, hold_up_to};

@@ -3,7 +3,8 @@
 //! is written: where the writer fails that line is run, and a front of its answer is written. No line
 //! is run after a failure. Where a database has failed, the books are closed, and its tables are those
 //! before that line or after it.
-ghost use Rattle.std.specs.Prelude.{◌≡◌, ◌≢◌, ◌⊎◌, ◌≤◌, ℕ, List, Bool, None, false, length, true, IfOk, OnOk, IfErr, OnErr, Err, IsSome};
+ghost use Rattle.std.specs.Prelude.{◌≡◌, ◌≢◌, ◌⊎◌, ◌≤◌, ℕ, List, Bool, None, false};
+ghost use Rattle.std.specs.Prelude.{length, true, IfOk, OnOk, IfErr, OnErr, Err, IsSome};
 ghost use Rattle.std.specs.String.{string_bytes};
 ghost use Rattle.std.specs.Io.KnownBytes.{Appends};
 ghost use Rattle.sqlite.specs.Tree.{Trees};
@@ -13,7 +14,9 @@ ghost use Rattle.desk_store.specs.StateTables.{TablesAre};
 ghost use Rattle.desk_app.specs.declared.end.Stop.{Stop};
 ghost use Rattle.desk_app.specs.Ends.{end_of};
 ghost use Rattle.report_core.specs.Reports.{report_lines};
-ghost use Rattle.desk_app.specs.Runs.{by_outcome, by_report, is_blank, line_step, line_after, line_out, is_fine, CutLine, CutRequest, CutShort, Finished, IsLeft, IsLeftAt, IsOfBooks, StaysOpen, Stopped};
+ghost use Rattle.desk_app.specs.Runs.{by_outcome, by_report, is_blank, line_step, line_after};
+ghost use Rattle.desk_app.specs.Runs.{line_out, is_fine, CutLine, CutRequest, CutShort};
+ghost use Rattle.desk_app.specs.Runs.{Finished, IsLeft, IsLeftAt, IsOfBooks, StaysOpen, Stopped};
 
 use crate::books::Books;
 use crate::end::{RunEnd, Stop};

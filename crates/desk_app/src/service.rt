@@ -6,9 +6,11 @@ ghost use Rattle.desk_core.specs.ShopView.{state_of};
 ghost use Rattle.desk_store.specs.StateTables.{TablesAre};
 ghost use Rattle.desk_wire.specs.Imports.{import};
 ghost use Rattle.desk_http.specs.Services.{RunLine, ImportFile, ShowReport, Stops, reply_view, why_none};
-ghost use Rattle.desk_wire.specs.Writing.{answer_text as text_of_answer, refused_text as text_of_refusal, fault_text as text_of_fault};
+ghost use Rattle.desk_wire.specs.Writing.{answer_text as text_of_answer};
+ghost use Rattle.desk_wire.specs.Writing.{refused_text as text_of_refusal, fault_text as text_of_fault};
 ghost use Rattle.desk_app.specs.ImportRuns.{AreLeftByRows, IsLeftByImport, RanFront};
-ghost use Rattle.desk_app.specs.Services.{by_outcome, by_reading, run_line, import_file, show_report, desk_machine, leaves, IsFailed, IsFailedRequest};
+ghost use Rattle.desk_app.specs.Services.{by_outcome, by_reading, run_line, import_file, show_report};
+ghost use Rattle.desk_app.specs.Services.{desk_machine, leaves, IsFailed, IsFailedRequest};
 ghost use Rattle.desk_app.specs.Services.{import_kind, report_name, Relates, StaysOpenBy, IsLeftByOperation};
 
 use crate::books::Books;

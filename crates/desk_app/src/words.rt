@@ -1,5 +1,6 @@
 //! The words that the program is called with.
-ghost use Rattle.std.specs.Prelude.{◌≡◌, ◌≤◌, ℕ, List, map, option_map, option_and_then, codes, true, false, IfOk, IfSome};
+ghost use Rattle.std.specs.Prelude.{◌≡◌, ◌≤◌, ℕ, List, map, option_map};
+ghost use Rattle.std.specs.Prelude.{option_and_then, codes, true, false, IfOk, IfSome};
 ghost use Rattle.clap.specs.Words.{app_of, kind_of, rule_of, subcommand_rows_of};
 ghost use Rattle.part_core.specs.Day.{day_of};
 ghost use Rattle.report_core.specs.Names.{report_named};
@@ -7,9 +8,11 @@ ghost use Rattle.desk_wire.specs.Numbers.{number_in};
 ghost use Rattle.desk_wire.specs.Kinds.{import_kind_named};
 ghost use Rattle.desk_app.specs.Words.{file_rule, option_rule, word_rule, run_line, serve_line, IsKindRule};
 ghost use Rattle.desk_app.specs.Words.{IsReportLine, IsExportLine, IsImportLine, IsCommandLine};
-ghost use Rattle.desk_app.specs.Words.{document_named, number_up_to, table_named, report_in, export_in, import_in, serve_in, desk_task_met};
+ghost use Rattle.desk_app.specs.Words.{document_named, number_up_to, table_named, report_in};
+ghost use Rattle.desk_app.specs.Words.{export_in, import_in, serve_in, desk_task_met};
 ghost use Rattle.desk_app.specs.Words.{given_in, rows_in, AsksFor, Tells, Parses, file_of};
-ghost use Rattle.desk_app.specs.Words.{asks_run, asks_help, asks_version, run_on, run_with, is_path, Answers, Runs, RunsOn, HelpsBy};
+ghost use Rattle.desk_app.specs.Words.{asks_run, asks_help, asks_version, run_on};
+ghost use Rattle.desk_app.specs.Words.{run_with, is_path, Answers, Runs, RunsOn, HelpsBy};
 
 use clap::error::ErrorKind;
 use clap::{Arg, ArgAction, ArgMatches, Command, Error};

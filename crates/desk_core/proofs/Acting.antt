@@ -21,13 +21,16 @@ none-told s t =
     let entries : entries_in s - entries_in s ≡ 0 = omega arith in
     λ i. record { ids = range_with_len s.counter.next (numbers i); entries = entries i }
 
-pub alloc_acts : (s : State) (day : CivilDay) (c : AllocCommand) (result : Result Answer CoreFault) (t : Table Allocation)
+pub alloc_acts :
+    (s : State) (day : CivilDay) (c : AllocCommand) (result : Result Answer CoreFault) (t : Table Allocation)
     → Acts (alloc.checks c s.allocations) (alloc.effect c s.allocations, alloc.answer) s.allocations result t
-    → Acts (checks s day (command.Alloc c)) (effect s day (command.Alloc c), answer_of s (effect s day (command.Alloc c))) s result (with_allocations s t)
+    → Acts (checks s day (command.Alloc c))
+    (effect s day (command.Alloc c), answer_of s (effect s day (command.Alloc c))) s result (with_allocations s t)
 alloc_acts s day c (Ok answer) t h = (
   h.0,
   (
-      ap (λ (told : Answer). (with_allocations s (alloc.effect c s.allocations), told)) (none-told s (alloc.effect c s.allocations))
+      ap (λ (told : Answer). (with_allocations s (alloc.effect c s.allocations), told))
+      (none-told s (alloc.effect c s.allocations))
       ∙ ap (λ (p : Table Allocation × Answer). (with_allocations s p.0, p.1)) h.1
       ),
 )

@@ -1,5 +1,6 @@
 -- A row of kept answers stays for good, so a repeat finds it.
-use Rattle.std.proofs.Common.{◌≡◌, ℕ, Bool, true, false, List, [], ◌∷◌, ◌++◌, Option, Some, None, refl, sym, ap, ◌∙◌, subst}
+use Rattle.std.proofs.Common.{◌≡◌, ℕ, Bool, true, false, List, [], ◌∷◌, ◌++◌}
+use Rattle.std.proofs.Common.{Option, Some, None, refl, sym, ap, ◌∙◌, subst}
 use Rattle.std.specs.Prelude.{Ok, Err, not, if◌then◌else◌, option_and_then, IsSome}
 use Rattle.std.specs.FinMap as table
 use Rattle.std.specs.Str.{bytes_eq}
@@ -10,7 +11,8 @@ use Rattle.part_core.proofs.RowLemmas.{get-insert_new, get-insert_other}
 use Rattle.desk_core.specs.declared.command.Request.{Request}
 use Rattle.desk_core.specs.declared.kept.Kept.{Kept}
 use Rattle.desk_core.specs.CommandText.{command_text}
-use Rattle.desk_core.specs.Machine.{State, Outcome, answer_of, answer_of_same, by_check, by_repeat, check, effect, is_other, kept_for, repeated, run, step, step_anew, with_answer}
+use Rattle.desk_core.specs.Machine.{State, Outcome, answer_of, answer_of_same, by_check, by_repeat, check}
+use Rattle.desk_core.specs.Machine.{effect, is_other, kept_for, repeated, run, step, step_anew, with_answer}
 use Rattle.desk_core.specs.Repeats.{AreAccepted, LaterRepeatsChangeNothing, RepeatsChangeNothing, SendingAgainEndsAlike}
 use Rattle.desk_core.proofs.Steps.{effect-answers, passes_key, step-repeated}
 
@@ -38,22 +40,31 @@ pub record KeptRow (s : State) (key text : List ℕ) (answer : Answer) : Type 0 
   pub told : row.answer ≡ answer
 
 -- a row stays beside an answer that is kept under another key
-beside : (s after : State) (key : List ℕ) (row : Kept) (own : Option (List ℕ)) (text : List ℕ) (a : Answer) → after.answers ≡ s.answers
-    → option_and_then (λ k. table.get s.answers k) own ≡ None → table.get s.answers key ≡ Some row → table.get (with_answer own text a after).answers key ≡ Some row
+beside : (s after : State) (key : List ℕ) (row : Kept) (own : Option (List ℕ)) (text : List ℕ) (a : Answer)
+    → after.answers ≡ s.answers
+    → option_and_then (λ k. table.get s.answers k) own ≡ None → table.get s.answers key ≡ Some row
+    → table.get (with_answer own text a after).answers key ≡ Some row
 beside s after key row None text a same none is = ap (λ t. table.get t key) same ∙ is
 beside s after key row (Some q) text a same none is =
-    get-insert_other after.answers q (record { word = q; command = text; answer = a }) key (λ e. other e) ∙ ap (λ t. table.get t key) same ∙ is
+    get-insert_other after.answers q (record { word = q; command = text; answer = a }) key (λ e. other e)
+    ∙ ap (λ t. table.get t key) same
+    ∙ is
   where
     other : key ≡ q → ⊥
-    other e = absurd (let there : ◌≡◌ {A = Option Kept} None (Some row) = sym none ∙ ap (λ k. table.get s.answers k) (sym e) ∙ is in cc)
+    other e =
+        absurd
+        (let there : ◌≡◌ {A = Option Kept} None (Some row) = sym none ∙ ap (λ k. table.get s.answers k) (sym e) ∙ is in
+        cc)
 
-pub step-keeps : (s : State) (r : Request) (key : List ℕ) (row : Kept) → table.get s.answers key ≡ Some row → table.get (step s r).0.answers key ≡ Some row
+pub step-keeps : (s : State) (r : Request) (key : List ℕ) (row : Kept) → table.get s.answers key ≡ Some row
+    → table.get (step s r).0.answers key ≡ Some row
 step-keeps s r key row is = again (repeated r s) refl
   where
     after : State
     after = effect s r.day r.command
 
-    anew : (o : Option Refusal) → check s r ≡ o → repeated r s ≡ None → table.get (by_check o s r after).0.answers key ≡ Some row
+    anew : (o : Option Refusal) → check s r ≡ o → repeated r s ≡ None
+        → table.get (by_check o s r after).0.answers key ≡ Some row
     anew (Some x) e f = is
     anew None e f =
         beside s after key row r.key (command_text r.command) (answer_of s after) (effect-answers s r.day r.command)
@@ -63,22 +74,26 @@ step-keeps s r key row is = again (repeated r s) refl
     again (Some a) e = is
     again None e = anew (check s r) refl e
 
-run-keeps : (s : State) (rs : List Request) (key : List ℕ) (row : Kept) → table.get s.answers key ≡ Some row → table.get (run s rs).0.answers key ≡ Some row
+run-keeps : (s : State) (rs : List Request) (key : List ℕ) (row : Kept) → table.get s.answers key ≡ Some row
+    → table.get (run s rs).0.answers key ≡ Some row
 run-keeps s [] key row is = is
 run-keeps s (r ∷ rs) key row is = run-keeps (step s r).0 rs key row (step-keeps s r key row is)
 
 -- ---- an accepted request is kept
 
 -- where an answer is repeated, it is that of a row with the command
-repeated-row : (o : Option Kept) (text : List ℕ) (a : Answer) → answer_of_same text o ≡ Some a → (row : Kept) × (o ≡ Some row) × (row.command ≡ text) × (row.answer ≡ a)
+repeated-row : (o : Option Kept) (text : List ℕ) (a : Answer) → answer_of_same text o ≡ Some a
+    → (row : Kept) × (o ≡ Some row) × (row.command ≡ text) × (row.answer ≡ a)
 repeated-row None text a e = cc
 repeated-row (Some row) text a e = go (bytes_eq row.command text) refl e
   where
-    go : (b : Bool) → bytes_eq row.command text ≡ b → (if b then Some row.answer else None) ≡ Some a → (r : Kept) × (Some row ≡ Some r) × (r.command ≡ text) × (r.answer ≡ a)
+    go : (b : Bool) → bytes_eq row.command text ≡ b → (if b then Some row.answer else None) ≡ Some a
+        → (r : Kept) × (Some row ≡ Some r) × (r.command ≡ text) × (r.answer ≡ a)
     go true same e = (row, refl, same-bytes row.command text same, (let told : row.answer ≡ a = cc in told))
     go false other e = cc
 
-new-row : (after : State) (own : Option (List ℕ)) (key text : List ℕ) (a : Answer) → own ≡ Some key → KeptRow (with_answer own text a after) key text a
+new-row : (after : State) (own : Option (List ℕ)) (key text : List ℕ) (a : Answer) → own ≡ Some key
+    → KeptRow (with_answer own text a after) key text a
 new-row after own key text a e = subst (λ k. KeptRow (with_answer k text a after) key text a) (sym e) (record {
   row = record { word = key; command = text; answer = a };
   is = get-insert_new after.answers key (record { word = key; command = text; answer = a });
@@ -86,42 +101,54 @@ new-row after own key text a e = subst (λ k. KeptRow (with_answer k text a afte
   told = refl;
 })
 
-accepted-row : (s : State) (r : Request) (key : List ℕ) (a : Answer) → r.key ≡ Some key → (step s r).1 ≡ Ok a → KeptRow (step s r).0 key (command_text r.command) a
+accepted-row : (s : State) (r : Request) (key : List ℕ) (a : Answer) → r.key ≡ Some key → (step s r).1 ≡ Ok a
+    → KeptRow (step s r).0 key (command_text r.command) a
 accepted-row s r key a named ok = again (repeated r s) refl ok
   where
     after : State
     after = effect s r.day r.command
 
-    anew : (o : Option Refusal) → (by_check o s r after).1 ≡ Ok a → KeptRow (by_check o s r after).0 key (command_text r.command) a
+    anew : (o : Option Refusal) → (by_check o s r after).1 ≡ Ok a
+        → KeptRow (by_check o s r after).0 key (command_text r.command) a
     anew (Some x) e = cc
     anew None e =
         let same : answer_of s after ≡ a = cc in
-        subst (λ b. KeptRow (with_answer r.key (command_text r.command) (answer_of s after) after) key (command_text r.command) b) same
+        subst (λ b.
+        KeptRow (with_answer r.key (command_text r.command) (answer_of s after) after) key (command_text r.command) b)
+        same
         (new-row after r.key key (command_text r.command) (answer_of s after) named)
 
-    again : (o : Option Answer) → repeated r s ≡ o → (by_repeat o s (step_anew s r)).1 ≡ Ok a → KeptRow (by_repeat o s (step_anew s r)).0 key (command_text r.command) a
+    again : (o : Option Answer) → repeated r s ≡ o → (by_repeat o s (step_anew s r)).1 ≡ Ok a
+        → KeptRow (by_repeat o s (step_anew s r)).0 key (command_text r.command) a
     again (Some b) e ok =
         let found = repeated-row (kept_for r s) (command_text r.command) b e in
         let same : b ≡ a = cc in
-        let here : kept_for r s ≡ table.get s.answers key = ap (λ k. option_and_then (λ key. table.get s.answers key) k) named in
+        let here : kept_for r s ≡ table.get s.answers key =
+        ap (λ k. option_and_then (λ key. table.get s.answers key) k) named in
         record { row = found.0; is = sym here ∙ found.1; command = found.2; told = found.3 ∙ same }
     again None e ok = anew (check s r) ok
 
 -- a request that is kept gets its answer again
-kept-again : (s : State) (again : Request) (key text : List ℕ) (a : Answer) → again.key ≡ Some key → command_text again.command ≡ text → KeptRow s key text a → step s again ≡ (s, Ok a)
+kept-again : (s : State) (again : Request) (key text : List ℕ) (a : Answer) → again.key ≡ Some key
+    → command_text again.command ≡ text → KeptRow s key text a → step s again ≡ (s, Ok a)
 kept-again s again key text a named same kept =
-    let here : kept_for again s ≡ Some kept.row = ap (λ k. option_and_then (λ key. table.get s.answers key) k) named ∙ kept.is in
-    step-repeated s again kept.row here (bytes-same kept.row.command (command_text again.command) (kept.command ∙ sym same)) ∙ ap (λ b. told b) kept.told
+    let here : kept_for again s ≡ Some kept.row =
+    ap (λ k. option_and_then (λ key. table.get s.answers key) k) named ∙ kept.is in
+    step-repeated s again kept.row here
+    (bytes-same kept.row.command (command_text again.command) (kept.command ∙ sym same)) ∙ ap (λ b. told b) kept.told
   where
     told : Answer → State × Outcome
     told b = (s, Ok b)
 
-later : (s : State) (rs : List Request) (key text : List ℕ) (a : Answer) → KeptRow s key text a → KeptRow (run s rs).0 key text a
-later s rs key text a kept = record { row = kept.row; is = run-keeps s rs key kept.row kept.is; command = kept.command; told = kept.told }
+later : (s : State) (rs : List Request) (key text : List ℕ) (a : Answer) → KeptRow s key text a
+    → KeptRow (run s rs).0 key text a
+later s rs key text a kept =
+    record { row = kept.row; is = run-keeps s rs key kept.row kept.is; command = kept.command; told = kept.told }
 
 -- ---- runs
 
-run-append : (s : State) (xs ys : List Request) → run s (xs ++ ys) ≡ ((run (run s xs).0 ys).0, (run s xs).1 ++ (run (run s xs).0 ys).1)
+run-append : (s : State) (xs ys : List Request)
+    → run s (xs ++ ys) ≡ ((run (run s xs).0 ys).0, (run s xs).1 ++ (run (run s xs).0 ys).1)
 run-append s [] ys = refl
 run-append s (x ∷ xs) ys = let rest = run-append (step s x).0 xs ys in λ i. ((rest i).0, (step s x).1 ∷ (rest i).1)
 
@@ -135,8 +162,11 @@ later_repeat s before between r again a keyed repeat ok =
     let key = named-key r.key keyed in
     let kept = accepted-row there r key.0 a key.1 ok in
     let all : KeptRow (run s (before ++ r ∷ between)).0 key.0 (command_text r.command) a =
-    subst (λ (t : State). KeptRow t key.0 (command_text r.command) a) (sym (ap (λ p. p.0) (run-append s before (r ∷ between)))) (later (step there r).0 between key.0 (command_text r.command) a kept) in
-    kept-again (run s (before ++ r ∷ between)).0 again key.0 (command_text r.command) a (repeat.key ∙ key.1) repeat.command all
+    subst (λ (t : State). KeptRow t key.0 (command_text r.command) a)
+    (sym (ap (λ p. p.0) (run-append s before (r ∷ between))))
+    (later (step there r).0 between key.0 (command_text r.command) a kept) in
+    kept-again (run s (before ++ r ∷ between)).0 again key.0 (command_text r.command) a (repeat.key ∙ key.1)
+    repeat.command all
 
 accepted-head : (o : Outcome) (os : List Outcome) → AreAccepted (o ∷ os) → (a : Answer) × (o ≡ Ok a) × AreAccepted os
 accepted-head (Ok a) os h = (a, refl, h)
@@ -150,12 +180,17 @@ repeats s (r ∷ rs) keyed ok =
     let head = accepted-head (step s r).1 (run next rs).1 ok in
     let key = named-key r.key keyed.0 in
     let kept = later next rs key.0 (command_text r.command) head.0 (accepted-row s r key.0 head.0 key.1 head.1) in
-    let same : step last r ≡ (last, Ok head.0) = kept-again last r key.0 (command_text r.command) head.0 key.1 refl kept in
+    let same : step last r ≡ (last, Ok head.0) =
+    kept-again last r key.0 (command_text r.command) head.0 key.1 refl kept in
     let rest : run last rs ≡ run next rs = repeats next rs keyed.1 head.2 in
-    (λ i. ((run (same i).0 rs).0, (same i).1 ∷ (run (same i).0 rs).1)) ∙ (λ i. ((rest i).0, Ok head.0 ∷ (rest i).1)) ∙ (λ i. (last, sym head.1 i ∷ (run next rs).1))
+    (λ i. ((run (same i).0 rs).0, (same i).1 ∷ (run (same i).0 rs).1))
+    ∙ (λ i. ((rest i).0, Ok head.0 ∷ (rest i).1))
+    ∙ (λ i. (last, sym head.1 i ∷ (run next rs).1))
 
 pub sending_again : SendingAgainEndsAlike
 sending_again s done rest keyed ok =
     let there = (run s done).0 in
     let same : run there done ≡ run s done = repeats s done keyed ok in
-    run-append there done rest ∙ (λ i. ((run (same i).0 rest).0, (same i).1 ++ (run (same i).0 rest).1)) ∙ sym (run-append s done rest)
+    run-append there done rest
+    ∙ (λ i. ((run (same i).0 rest).0, (same i).1 ++ (run (same i).0 rest).1))
+    ∙ sym (run-append s done rest)

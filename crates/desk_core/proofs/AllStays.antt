@@ -14,7 +14,8 @@ use Rattle.stock_core.proofs.Staying as stock
 use Rattle.order_core.proofs.Staying as orders
 use Rattle.build_core.proofs.Staying as builds
 use Rattle.desk_core.specs.CommandText.{command_text}
-use Rattle.desk_core.specs.Machine.{State, Accepts, answer_of, stock_books_in, build_books_in, order_books_in, by_check, by_repeat, check, effect, register_in, repeated, step_anew, with_answer}
+use Rattle.desk_core.specs.Machine.{State, Accepts, answer_of, stock_books_in, build_books_in, order_books_in}
+use Rattle.desk_core.specs.Machine.{by_check, by_repeat, check, effect, register_in, repeated, step_anew, with_answer}
 use Rattle.desk_core.specs.Staying.{AllStay, RowsStay}
 use Rattle.desk_core.specs.declared.accepted.Accepted.{Accepted}
 use Rattle.desk_core.specs.declared.command.Command.{Command}
@@ -41,8 +42,10 @@ stay-none s = record {
 }
 
 -- where the rows of orders and of builds are as they were
-beside_owners : (s : State) (day : CivilDay) (c : Command) → (effect s day c).orders ≡ s.orders → (effect s day c).order_lines ≡ s.order_lines → (effect s day c).builds ≡ s.builds
-    → catalogue.AllStay s.parts (effect s day c).parts → yard.AllStay s.stock (effect s day c).stock → OthersStay s (effect s day c)
+beside_owners : (s : State) (day : CivilDay) (c : Command) → (effect s day c).orders ≡ s.orders
+    → (effect s day c).order_lines ≡ s.order_lines → (effect s day c).builds ≡ s.builds
+    → catalogue.AllStay s.parts (effect s day c).parts → yard.AllStay s.stock (effect s day c).stock
+    → OthersStay s (effect s day c)
 beside_owners s day c orders lines builds parts stock = record {
   parts = parts;
   stock = stock;
@@ -52,14 +55,25 @@ beside_owners s day c orders lines builds parts stock = record {
 }
 
 stay-effect : (s : State) (day : CivilDay) (c : Command) → OthersStay s (effect s day c)
-stay-effect s day (command.Part c) = beside_owners s day (command.Part c) refl refl refl (parts.rows-stay c (register_in s)) (stay-none s).stock
-stay-effect s day (command.Bom c) = beside_owners s day (command.Bom c) refl refl refl (stay-none s).parts (stay-none s).stock
-stay-effect s day (command.Yard c) = beside_owners s day (command.Yard c) refl refl refl (stay-none s).parts (yards.rows-stay c (stock_books_in s))
-stay-effect s day (command.Stock c) = beside_owners s day (command.Stock c) refl refl refl (stay-none s).parts (stock.rows-stay c day (stock_books_in s))
-stay-effect s day (command.Alloc c) = beside_owners s day (command.Alloc c) refl refl refl (stay-none s).parts (stay-none s).stock
+stay-effect s day (command.Part c) =
+    beside_owners s day (command.Part c) refl refl refl (parts.rows-stay c (register_in s)) (stay-none s).stock
+stay-effect s day (command.Bom c) =
+    beside_owners s day (command.Bom c) refl refl refl (stay-none s).parts (stay-none s).stock
+stay-effect s day (command.Yard c) =
+    beside_owners s day (command.Yard c) refl refl refl (stay-none s).parts (yards.rows-stay c (stock_books_in s))
+stay-effect s day (command.Stock c) =
+    beside_owners s day (command.Stock c) refl refl refl (stay-none s).parts (stock.rows-stay c day (stock_books_in s))
+stay-effect s day (command.Alloc c) =
+    beside_owners s day (command.Alloc c) refl refl refl (stay-none s).parts (stay-none s).stock
 stay-effect s day (command.Order c) =
     let stay = orders.rows-stay c day (order_books_in s) in
-    record { parts = (stay-none s).parts; stock = stay.stock; orders = stay.orders; order_lines = stay.lines; builds = (stay-none s).builds }
+    record {
+      parts = (stay-none s).parts;
+      stock = stay.stock;
+      orders = stay.orders;
+      order_lines = stay.lines;
+      builds = (stay-none s).builds;
+    }
 stay-effect s day (command.Build c) =
     let stay = builds.rows-stay c day s.parts s.bills (build_books_in s) in
     record {
@@ -70,11 +84,19 @@ stay-effect s day (command.Build c) =
       builds = stay.builds;
     }
 
-stay-answer : (key : Option (List ℕ)) (text : List ℕ) (answer : Answer) (s t : State) → OthersStay s t → OthersStay s (with_answer key text answer t)
+stay-answer : (key : Option (List ℕ)) (text : List ℕ) (answer : Answer) (s t : State) → OthersStay s t
+    → OthersStay s (with_answer key text answer t)
 stay-answer None text answer s t all = all
-stay-answer (Some key) text answer s t all = record { parts = all.parts; stock = all.stock; orders = all.orders; order_lines = all.order_lines; builds = all.builds }
+stay-answer (Some key) text answer s t all = record {
+  parts = all.parts;
+  stock = all.stock;
+  orders = all.orders;
+  order_lines = all.order_lines;
+  builds = all.builds;
+}
 
-stay-checked : (refusal : Option Refusal) (s : State) (r : Request) (after : State) → OthersStay s after → OthersStay s (by_check refusal s r after).0
+stay-checked : (refusal : Option Refusal) (s : State) (r : Request) (after : State) → OthersStay s after
+    → OthersStay s (by_check refusal s r after).0
 stay-checked (Some refusal) s r after all = stay-none s
 stay-checked None s r after all = stay-answer r.key (command_text r.command) (answer_of s after) s after all
 
@@ -105,4 +127,7 @@ nothing_goes s = record {
 -- nor does a request that is accepted, refused or not done
 pub accepted_stays : (s t : State) (r : Request) (o : Result Accepted CoreFault) → Accepts s r o t → AllStay s t
 accepted_stays s t r o h =
-    elim (decides-all s t r o h) [ inl same ↦ subst (AllStay s) (sym same) (nothing_goes s) | inr is ↦ subst (AllStay s) (sym is) (rows_stay s r) ]
+    elim (decides-all s t r o h) [
+      | inl same ↦ subst (AllStay s) (sym same) (nothing_goes s)
+      | inr is ↦ subst (AllStay s) (sym is) (rows_stay s r)
+    ]

@@ -19,18 +19,22 @@ use Rattle.desk_core.specs.declared.shop.assemble.Tables.{Tables}
 abbrev HasKey : Kept → Type 0
 HasKey row = is_key row.word ≡ true
 
-keys-onto : (t : Table Kept) (rows : List Kept) → AreKeys rows → EachRow HasKey t → EachRow HasKey (filled_onto (λ row. row.word) t rows)
+keys-onto : (t : Table Kept) (rows : List Kept) → AreKeys rows → EachRow HasKey t
+    → EachRow HasKey (filled_onto (λ row. row.word) t rows)
 keys-onto t [] keys each = each
-keys-onto t (row ∷ rows) keys each = keys-onto (table.insert t row.word row) rows keys.1 (each-insert HasKey t row.word row keys.0 each)
+keys-onto t (row ∷ rows) keys each =
+    keys-onto (table.insert t row.word row) rows keys.1 (each-insert HasKey t row.word row keys.0 each)
 
 -- kept answers that are read stand under their own keys
-stand-kept : (rows : List Kept) → AreKeys rows → (k : List ℕ) (row : Kept) → table.get (filled (λ (r : Kept). r.word) rows) k ≡ Some row → StandsKept k row
+stand-kept : (rows : List Kept) → AreKeys rows → (k : List ℕ) (row : Kept)
+    → table.get (filled (λ (r : Kept). r.word) rows) k ≡ Some row → StandsKept k row
 stand-kept rows keys k row e = record {
   own = filled-own (λ (r : Kept). r.word) rows k row e;
   key = keys-onto table.empty rows keys (each-empty HasKey) k row e;
 }
 
-pub sound_tables : (t : Tables) → IsNext t.limits t.next → t.entries ≡ length t.history.items → AreKeys t.answers.items → HasSoundBooks (state_from t) → AreSoundTables t
+pub sound_tables : (t : Tables) → IsNext t.limits t.next → t.entries ≡ length t.history.items → AreKeys t.answers.items
+    → HasSoundBooks (state_from t) → AreSoundTables t
 sound_tables t next entries keys books = record {
   next = next;
   entries = entries;
@@ -47,7 +51,11 @@ sound_tables t next entries keys books = record {
 pub sound_books : (t : Tables) → AreSoundTables t → HasSoundBooks (state_from t)
 sound_books t sound =
     let s = sound.state in
-    record { bills = s.bills; stock = s.stock; owners = record { allocations = s.allocations; orders = s.orders; builds = s.builds } }
+    record {
+      bills = s.bills;
+      stock = s.stock;
+      owners = record { allocations = s.allocations; orders = s.orders; builds = s.builds };
+    }
 
 pub history_own : (t : Tables) → StandUnderKeys (λ (e : Entry). e.number ∷ []) (state_from t).stock.history
 history_own t = filled-own (λ (e : Entry). e.number ∷ []) t.history.items
@@ -57,4 +65,5 @@ orders_own t = filled-own (λ (o : Order). o.number ∷ []) t.orders.items
 
 pub keys_from : (rows : List Kept) → ((k : ℕ) (d : Kept) → k < length rows → HasKey (get_or rows k d)) → AreKeys rows
 keys_from [] each = tt
-keys_from (row ∷ rows) each = (each zero row (omega arith), keys_from rows (λ k d lt. each (suc k) d (omega (arith, lt))))
+keys_from (row ∷ rows) each =
+    (each zero row (omega arith), keys_from rows (λ k d lt. each (suc k) d (omega (arith, lt))))

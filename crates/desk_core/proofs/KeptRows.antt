@@ -1,5 +1,6 @@
 -- An answer is read again from its line, and a kept answer from its columns, and from no others.
-use Rattle.std.proofs.Common.{◌≡◌, ℕ, zero, suc, ◌+◌, ◌/◌, ◌%◌, ◌<◌, ◌≤◌, ◌^◌, Bool, true, false, cond, List, [], ◌∷◌, ◌++◌, Option, Some, None, refl, sym, ap, ◌∙◌, arith, get_or, Fits as In, w64}
+use Rattle.std.proofs.Common.{◌≡◌, ℕ, zero, suc, ◌+◌, ◌/◌, ◌%◌, ◌<◌, ◌≤◌, ◌^◌, Bool, true, false, cond, List, []}
+use Rattle.std.proofs.Common.{◌∷◌, ◌++◌, Option, Some, None, refl, sym, ap, ◌∙◌, arith, get_or, Fits as In, w64}
 use Rattle.std.specs.Prelude.{codes, decimal, nat_lt, slice_get}
 use Rattle.std.specs.Str.{bytes_eq}
 use Rattle.std.proofs.lemmas.List.{append_assoc}
@@ -11,7 +12,8 @@ use Rattle.part_core.specs.declared.column.Column.{Column}
 use Rattle.part_core.specs.declared.column.Column.TheVariants.{Text}
 use Rattle.part_core.specs.Columns.{has, must, text_at}
 use Rattle.part_core.proofs.ColumnLemmas.{bound, found, has-is, text_at-is, fitting-is, same_columns}
-use Rattle.desk_core.specs.AnswerLine.{LinesTellAnswers, answer_line, answer_of_numbers, answer_told, before, is_digit, numbers_in, numbers_text, with_digit}
+use Rattle.desk_core.specs.AnswerLine.{LinesTellAnswers, answer_line, answer_of_numbers, answer_told}
+use Rattle.desk_core.specs.AnswerLine.{before, is_digit, numbers_in, numbers_text, with_digit}
 use Rattle.desk_core.specs.CommandText.{AreFit, Fits}
 use Rattle.desk_core.specs.Key.{is_key}
 use Rattle.desk_core.specs.KeptColumns.{answer_at, kept_columns, kept_from, key_at}
@@ -23,13 +25,18 @@ digit_is : (d : ℕ) → d < 10 → is_digit (48 + d) ≡ true
 digit_is d low = grind (arith, nat_tests, low)
 
 -- a digit goes on with the number that has begun
-goes_on : (begun : Option ℕ) (d : ℕ) (rest : List ℕ) → d < 10 → numbers_in begun ((48 + d) ∷ rest) ≡ numbers_in (Some (with_digit begun (48 + d))) rest
-goes_on begun d rest low = ap (λ b. cond b (numbers_in (Some (with_digit begun (48 + d))) rest) (before begun (numbers_in None rest))) (digit_is d low)
+goes_on : (begun : Option ℕ) (d : ℕ) (rest : List ℕ) → d < 10
+    → numbers_in begun ((48 + d) ∷ rest) ≡ numbers_in (Some (with_digit begun (48 + d))) rest
+goes_on begun d rest low =
+    ap (λ b. cond b (numbers_in (Some (with_digit begun (48 + d))) rest) (before begun (numbers_in None rest)))
+    (digit_is d low)
 
 -- a digit, at the start of what is left
 digit_read : (n : ℕ) (rest : List ℕ) → n < 10 → numbers_in None (decimal n ++ rest) ≡ numbers_in (Some n) rest
 digit_read n rest low =
-    ap (λ ds. numbers_in None (ds ++ rest)) (decimal_digit n low) ∙ goes_on None n rest low ∙ ap (λ m. numbers_in (Some m) rest) (omega arith)
+    ap (λ ds. numbers_in None (ds ++ rest)) (decimal_digit n low)
+    ∙ goes_on None n rest low
+    ∙ ap (λ m. numbers_in (Some m) rest) (omega arith)
 
 -- one digit more behind those of a tenth
 step_read : (n : ℕ) (rest : List ℕ) → 10 ≤ n → n < 2 ^ 64
@@ -43,9 +50,11 @@ step_read n rest high fits tenth =
     ∙ ap (λ m. numbers_in (Some m) rest) (omega (arith, fits))
 
 -- the digits of a number, at the start of what is left
-digits_read : (most n : ℕ) → n ≤ most → n < 2 ^ 64 → (rest : List ℕ) → numbers_in None (decimal n ++ rest) ≡ numbers_in (Some n) rest
+digits_read : (most n : ℕ) → n ≤ most → n < 2 ^ 64 → (rest : List ℕ)
+    → numbers_in None (decimal n ++ rest) ≡ numbers_in (Some n) rest
 digits_read zero n le fits rest = digit_read n rest (omega (arith, le))
-digits_read (suc most) n le fits rest = by_size (nat_lt n 10) refl (λ high. digits_read most (n / 10) (omega (arith, le, high)) (omega (arith, fits)))
+digits_read (suc most) n le fits rest =
+    by_size (nat_lt n 10) refl (λ high. digits_read most (n / 10) (omega (arith, le, high)) (omega (arith, fits)))
   where
     by_size : (b : Bool) → nat_lt n 10 ≡ b
         → (10 ≤ n → (more : List ℕ) → numbers_in None (decimal (n / 10) ++ more) ≡ numbers_in (Some (n / 10)) more)
@@ -80,7 +89,8 @@ ids_read (n ∷ ns) fit =
     ∙ later_read n ns fit.1
 
 line_shape : (answer : Answer)
-    → answer_line answer ≡ codes "{\"entries\":" ++ (decimal answer.entries ++ (codes ",\"ids\":[" ++ (numbers_text false answer.ids ++ codes "]}")))
+    → answer_line answer ≡ codes "{\"entries\":"
+    ++ (decimal answer.entries ++ (codes ",\"ids\":[" ++ (numbers_text false answer.ids ++ codes "]}")))
 line_shape answer =
     let start = codes "{\"entries\":" in
     let entries = decimal answer.entries in
@@ -90,7 +100,8 @@ line_shape answer =
     ∙ append_assoc (start ++ entries) middle (ids ++ codes "]}")
     ∙ append_assoc start entries (middle ++ (ids ++ codes "]}"))
 
-line_numbers : (answer : Answer) → Fits answer.entries → AreFit answer.ids → numbers_in None (answer_line answer) ≡ answer.entries ∷ answer.ids
+line_numbers : (answer : Answer) → Fits answer.entries → AreFit answer.ids
+    → numbers_in None (answer_line answer) ≡ answer.entries ∷ answer.ids
 line_numbers answer entries ids =
     ap (numbers_in None) (line_shape answer)
     ∙ number_read answer.entries entries (codes ",\"ids\":[" ++ (numbers_text false answer.ids ++ codes "]}"))
@@ -118,7 +129,8 @@ told_line text answer e =
 
 -- ---- kept answers
 
-pub kept_read : (row : Kept) → is_key row.word ≡ true → Fits row.answer.entries → AreFit row.answer.ids → kept_from (kept_columns row) ≡ Some row
+pub kept_read : (row : Kept) → is_key row.word ≡ true → Fits row.answer.entries → AreFit row.answer.ids
+    → kept_from (kept_columns row) ≡ Some row
 kept_read row word entries ids = rw (word, lines_tell_answers row.answer entries ids) refl
 
 key_at-is : (i : ℕ) (cs : List Column) (word : List ℕ) → key_at i cs ≡ Some word → slice_get cs i ≡ Some (Text word)
@@ -126,7 +138,8 @@ key_at-is i cs word e =
     let text = bound (text_at i cs) _ word e in
     text_at-is i cs text.0 text.1 ∙ ap (λ (t : List ℕ). Some (Text t)) (fitting-is is_key text.0 word text.2)
 
-answer_at-is : (i : ℕ) (cs : List Column) (answer : Answer) → answer_at i cs ≡ Some answer → slice_get cs i ≡ Some (Text (answer_line answer))
+answer_at-is : (i : ℕ) (cs : List Column) (answer : Answer) → answer_at i cs ≡ Some answer
+    → slice_get cs i ≡ Some (Text (answer_line answer))
 answer_at-is i cs answer e =
     let text = bound (text_at i cs) _ answer e in
     text_at-is i cs text.0 text.1 ∙ ap (λ (t : List ℕ). Some (Text t)) (sym (told_line text.0 answer text.2))

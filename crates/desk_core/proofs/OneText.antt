@@ -1,5 +1,6 @@
 -- A command is read back of its text, so equal texts are of equal commands.
-use Rattle.std.proofs.Common.{◌≡◌, ℕ, List, [], ◌∷◌, map, Bool, true, false, ◌&&◌, ◌||◌, not, refl, sym, ap, ◌∙◌, subst, true≢false}
+use Rattle.std.proofs.Common.{◌≡◌, ℕ, List, [], ◌∷◌, map, Bool, true, false, ◌&&◌}
+use Rattle.std.proofs.Common.{◌||◌, not, refl, sym, ap, ◌∙◌, subst, true≢false}
 use Rattle.std.specs.Prelude.{Option, Some, None, option_map, option_and_then, unwrap_or, if◌then◌else◌, codes}
 use Rattle.std.specs.Str.{bytes_eq}
 use Rattle.std.proofs.lemmas.Slice.Eq.{bytes_eq-Decides}
@@ -20,7 +21,8 @@ use Rattle.part_core.specs.Status.{status_name, all_statuses, statuses_told}
 use Rattle.part_core.specs.declared.side.Side.TheVariants.{Purchase}
 use Rattle.part_core.specs.Flags.{flag_words, no_flags, with_words}
 use Rattle.part_core.proofs.FlagWords.{words_read}
-use Rattle.part_core.specs.Forms.{Blanks, Form, form_named, kind_of, AreOf, Fills, is_among, are_distinct, have_distinct, names_of, members_of}
+use Rattle.part_core.specs.Forms.{Blanks, Form, form_named, kind_of, AreOf, Fills, is_among}
+use Rattle.part_core.specs.Forms.{are_distinct, have_distinct, names_of, members_of}
 use Rattle.desk_core.specs.DataOf.{whole, data_of}
 use Rattle.desk_core.specs.CommandText.{with_fields, data_by, data_in, TextsTell}
 use Rattle.desk_core.proofs.Plain.{one_data}
@@ -100,7 +102,8 @@ both true c e = absurd (true≢false (sym e))
 both false c e = (refl, e)
 
 -- what isn't among the names stays
-stays : (fs : Blanks) (xs : List Field) (ms : Members) (name : List ℕ) → is_among name (names_of fs) ≡ false → get_member name (with_fields fs xs ms) ≡ get_member name ms
+stays : (fs : Blanks) (xs : List Field) (ms : Members) (name : List ℕ) → is_among name (names_of fs) ≡ false
+    → get_member name (with_fields fs xs ms) ≡ get_member name ms
 stays [] xs ms name e = refl
 stays (f ∷ fs) [] ms name e = refl
 stays (f ∷ fs) (x ∷ xs) ms name e =
@@ -108,36 +111,47 @@ stays (f ∷ fs) (x ∷ xs) ms name e =
     let other = λ (same : name ≡ f.0). absurd (true≢false (sym ((bytes_eq-Decides name f.0).1 same) ∙ apart.0)) in
     stays fs xs (put f.0 (data_of x) ms) name apart.1 ∙ get_member-put_other name f.0 (data_of x) ms other
 
-fields_back : (fs : Blanks) (xs : List Field) (ms : Members) → AreOf fs xs → are_distinct (names_of fs) ≡ true → fields_in fs (with_fields fs xs ms) ≡ xs
+fields_back : (fs : Blanks) (xs : List Field) (ms : Members) → AreOf fs xs → are_distinct (names_of fs) ≡ true
+    → fields_in fs (with_fields fs xs ms) ≡ xs
 fields_back [] [] ms a d = refl
 fields_back [] (x ∷ xs) ms a d = absurd a
 fields_back (f ∷ fs) [] ms a d = absurd a
 fields_back (f ∷ fs) (x ∷ xs) ms a d =
     let once = both (is_among f.0 (names_of fs)) (are_distinct (names_of fs)) d in
     let found = stays fs xs (put f.0 (data_of x) ms) f.0 once.0 ∙ get_member-put f.0 (data_of x) ms in
-    let here : field_in f.1 (unwrap_or (get_member f.0 (with_fields fs xs (put f.0 (data_of x) ms))) null) ≡ x = ap (λ o. field_in f.1 (unwrap_or o null)) found ∙ field_back f.1 x a.0 in
-    let later : fields_in fs (with_fields fs xs (put f.0 (data_of x) ms)) ≡ xs = fields_back fs xs (put f.0 (data_of x) ms) a.1 once.1 in
+    let here : field_in f.1 (unwrap_or (get_member f.0 (with_fields fs xs (put f.0 (data_of x) ms))) null) ≡ x =
+    ap (λ o. field_in f.1 (unwrap_or o null)) found ∙ field_back f.1 x a.0 in
+    let later : fields_in fs (with_fields fs xs (put f.0 (data_of x) ms)) ≡ xs =
+    fields_back fs xs (put f.0 (data_of x) ms) a.1 once.1 in
     rw (here, later) refl
 
 -- ---- the names of a form
 
-one_distinct : (forms : List Form) (verb : List ℕ) (form : Form) → have_distinct forms ≡ true → form_named verb forms ≡ Some form → are_distinct (members_of form) ≡ true
+one_distinct : (forms : List Form) (verb : List ℕ) (form : Form) → have_distinct forms ≡ true
+    → form_named verb forms ≡ Some form → are_distinct (members_of form) ≡ true
 one_distinct [] verb form d e = search rules
-one_distinct (f ∷ fs) verb form d e = go (bytes_eq verb f.verb) e (halves (are_distinct (members_of f)) (have_distinct fs) d) (λ h. one_distinct fs verb form h)
+one_distinct (f ∷ fs) verb form d e =
+    go (bytes_eq verb f.verb) e (halves (are_distinct (members_of f)) (have_distinct fs) d)
+    (λ h. one_distinct fs verb form h)
   where
     halves : (b c : Bool) → (b && c) ≡ true → (b ≡ true) × (c ≡ true)
     halves true c e = (refl, e)
     halves false c e = absurd (true≢false (sym e))
 
-    go : (b : Bool) → (if b then Some f else form_named verb fs) ≡ Some form → (are_distinct (members_of f) ≡ true) × (have_distinct fs ≡ true)
-        → (have_distinct fs ≡ true → form_named verb fs ≡ Some form → are_distinct (members_of form) ≡ true) → are_distinct (members_of form) ≡ true
+    go : (b : Bool) → (if b then Some f else form_named verb fs) ≡ Some form
+        → (are_distinct (members_of f) ≡ true) × (have_distinct fs ≡ true)
+        → (have_distinct fs ≡ true → form_named verb fs ≡ Some form → are_distinct (members_of form) ≡ true)
+        → are_distinct (members_of form) ≡ true
     go true e h later = let same : f ≡ form = cc in subst (λ (f : Form). are_distinct (members_of f) ≡ true) same h.0
     go false e h later = later h.1 e
 
 -- `do`, `key` and `day` aren't among the names, and no name stands twice
-names_apart : (names : List (List ℕ)) → are_distinct (codes "do" ∷ codes "key" ∷ codes "day" ∷ names) ≡ true → (is_among (codes "do") names ≡ false) × (are_distinct names ≡ true)
+names_apart : (names : List (List ℕ)) → are_distinct (codes "do" ∷ codes "key" ∷ codes "day" ∷ names) ≡ true
+    → (is_among (codes "do") names ≡ false) × (are_distinct names ≡ true)
 names_apart names e =
-    let a = both (is_among (codes "do") (codes "key" ∷ codes "day" ∷ names)) (are_distinct (codes "key" ∷ codes "day" ∷ names)) e in
+    let a =
+    both (is_among (codes "do") (codes "key" ∷ codes "day" ∷ names))
+    (are_distinct (codes "key" ∷ codes "day" ∷ names)) e in
     let b = both (is_among (codes "key") (codes "day" ∷ names)) (are_distinct (codes "day" ∷ names)) a.1 in
     let c = both (is_among (codes "day") names) (are_distinct names) b.1 in
     (a.0, c.1)
@@ -150,9 +164,12 @@ verb_in ms = text_in_data (unwrap_or (get_member (codes "do") ms) null)
 abbrev start : List ℕ → Members
 start verb = put (codes "do") (string verb) no_members
 
-verb_back : (verb : List ℕ) (xs : List Field) (fs : Blanks) → is_among (codes "do") (names_of fs) ≡ false → verb_in (with_fields fs xs (start verb)) ≡ verb
+verb_back : (verb : List ℕ) (xs : List Field) (fs : Blanks) → is_among (codes "do") (names_of fs) ≡ false
+    → verb_in (with_fields fs xs (start verb)) ≡ verb
 unfolding verb_in
-verb_back verb xs fs e = ap (λ o. text_in_data (unwrap_or o null)) (stays fs xs (start verb) (codes "do") e ∙ get_member-put (codes "do") (string verb) no_members)
+verb_back verb xs fs e =
+    ap (λ o. text_in_data (unwrap_or o null))
+    (stays fs xs (start verb) (codes "do") e ∙ get_member-put (codes "do") (string verb) no_members)
 
 abbrev members_in : Data → Members
 members_in (object ms) = ms
@@ -160,8 +177,10 @@ members_in _ = no_members
 
 -- ---- commands
 
-module _ {C : Type 0} (forms : List Form) (verb_of : C → List ℕ) (fields_of : C → List Field) (command_of : List ℕ → List Field → Option C)
-    (fills : (c : C) → Fills forms (verb_of c) (fields_of c)) (back : (c : C) → command_of (verb_of c) (fields_of c) ≡ Some c) (distinct : have_distinct forms ≡ true) where
+module _ {C : Type 0} (forms : List Form) (verb_of : C → List ℕ) (fields_of : C → List Field)
+    (command_of : List ℕ → List Field → Option C)
+    (fills : (c : C) → Fills forms (verb_of c) (fields_of c))
+    (back : (c : C) → command_of (verb_of c) (fields_of c) ≡ Some c) (distinct : have_distinct forms ≡ true) where
   pub one_text : TextsTell forms verb_of fields_of
   one_text a b fit_a fit_b e =
       let fa = fills a in
@@ -172,18 +191,25 @@ module _ {C : Type 0} (forms : List Form) (verb_of : C → List ℕ) (fields_of 
       let mb = with_fields fb.0.fields (fields_of b) (start (verb_of b)) in
       let da : data_in forms (verb_of a) (fields_of a) ≡ object ma = ap (data_by (verb_of a) (fields_of a)) fa.1 in
       let db : data_in forms (verb_of b) (fields_of b) ≡ object mb = ap (data_by (verb_of b) (fields_of b)) fb.1 in
-      let texts : compact_text (object ma) ≡ compact_text (object mb) = sym (ap compact_text da) ∙ e ∙ ap compact_text db in
+      let texts : compact_text (object ma) ≡ compact_text (object mb) =
+      sym (ap compact_text da) ∙ e ∙ ap compact_text db in
       let plain_a = members_plain fa.0.fields (fields_of a) (start (verb_of a)) fit_a (tt, tt) in
       let plain_b = members_plain fb.0.fields (fields_of b) (start (verb_of b)) fit_b (tt, tt) in
       let shallow_a = object_shallow fa.0.fields (fields_of a) (codes "do") (verb_of a) in
       let shallow_b = object_shallow fb.0.fields (fields_of b) (codes "do") (verb_of b) in
-      let same_data : object ma ≡ object mb = one_data (object ma) (object mb) plain_a plain_b shallow_a shallow_b texts in
+      let same_data : object ma ≡ object mb =
+      one_data (object ma) (object mb) plain_a plain_b shallow_a shallow_b texts in
       let members : ma ≡ mb = ap members_in same_data in
-      let verb : verb_of a ≡ verb_of b = sym (verb_back (verb_of a) (fields_of a) fa.0.fields na.0) ∙ ap verb_in members ∙ verb_back (verb_of b) (fields_of b) fb.0.fields nb.0 in
+      let verb : verb_of a ≡ verb_of b =
+      sym (verb_back (verb_of a) (fields_of a) fa.0.fields na.0)
+      ∙ ap verb_in members
+      ∙ verb_back (verb_of b) (fields_of b) fb.0.fields nb.0 in
       let forms_alike : Some fa.0 ≡ Some fb.0 = sym fa.1 ∙ ap (λ v. form_named v forms) verb ∙ fb.1 in
       let form : fa.0 ≡ fb.0 = cc in
       let read_a = fields_back fa.0.fields (fields_of a) (start (verb_of a)) fa.2 na.1 in
       let read_b = fields_back fb.0.fields (fields_of b) (start (verb_of b)) fb.2 nb.1 in
-      let fields : fields_of a ≡ fields_of b = sym read_a ∙ ap (fields_in fa.0.fields) members ∙ ap (λ (f : Form). fields_in f.fields mb) form ∙ read_b in
-      let both_made : Some a ≡ Some b = sym (back a) ∙ ap (λ v. command_of v (fields_of a)) verb ∙ ap (command_of (verb_of b)) fields ∙ back b in
+      let fields : fields_of a ≡ fields_of b =
+      sym read_a ∙ ap (fields_in fa.0.fields) members ∙ ap (λ (f : Form). fields_in f.fields mb) form ∙ read_b in
+      let both_made : Some a ≡ Some b =
+      sym (back a) ∙ ap (λ v. command_of v (fields_of a)) verb ∙ ap (command_of (verb_of b)) fields ∙ back b in
       cc

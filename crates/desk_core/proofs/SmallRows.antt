@@ -1,5 +1,6 @@
 -- The numbers of a sound state's rows fit a file.
-use Rattle.std.proofs.Common.{◌≡◌, inl, inr, ℕ, ◌+◌, ◌<◌, ◌≤◌, ◌^◌, Bool, true, false, List, [], ◌∷◌, length, Option, Some, None, is_some, refl, sym, ap, ◌∙◌, subst, arith}
+use Rattle.std.proofs.Common.{◌≡◌, inl, inr, ℕ, ◌+◌, ◌<◌, ◌≤◌, ◌^◌, Bool, true, false, List, [], ◌∷◌}
+use Rattle.std.proofs.Common.{length, Option, Some, None, is_some, refl, sym, ap, ◌∙◌, subst, arith}
 use Rattle.std.specs.Prelude.{unwrap_or}
 use Rattle.std.specs.FinMap as table
 use Rattle.std.proofs.lemmas.List.{length-map}
@@ -39,7 +40,8 @@ use Rattle.forest.specs.declared.place.Reason.{Reason}
 use Rattle.forest.specs.declared.place.Reason.TheVariants.{Removed, Counted, Disassembled, Scrapped}
 use Rattle.yard_core.specs.Stock.{AreItems, IsItem, IsRun, Stock, no_item}
 use Rattle.part_core.specs.declared.named_row.NamedRow.{NamedRow as Location}
-use Rattle.alloc_core.specs.AllocationColumns.{allocation_columns, output_number, purpose_line, purpose_output, purpose_owner, purpose_side}
+use Rattle.alloc_core.specs.AllocationColumns.{allocation_columns, output_number, purpose_line}
+use Rattle.alloc_core.specs.AllocationColumns.{purpose_output, purpose_owner, purpose_side}
 use Rattle.alloc_core.specs.declared.allocation.Allocation.{Allocation}
 use Rattle.alloc_core.specs.declared.purpose.Purpose.{Purpose}
 use Rattle.alloc_core.specs.declared.purpose.Purpose.TheVariants.{Sale, Build as For}
@@ -67,14 +69,16 @@ Fits n = n < 2 ^ 63
 -- ---- one number
 
 -- a row that is there has a number that was drawn
-there-fits : {X : Type 0} (number : X → ℕ) (next : ℕ) (t : Table X) → StandRight number next t → Fits next → (n : ℕ) → IsThere t n → Fits n
+there-fits : {X : Type 0} (number : X → ℕ) (next : ℕ) (t : Table X) → StandRight number next t → Fits next → (n : ℕ)
+    → IsThere t n → Fits n
 there-fits number next t right fits n there =
     let row = row_there t n there in
     let r = right (n ∷ []) row.0 row.1 in
     let same = same_digit n (number row.0) r.own in
     omega (arith, same, r.drawn, fits)
 
-own-fits : {X : Type 0} (number : X → ℕ) (next : ℕ) (t : Table X) → StandRight number next t → Fits next → (k : List ℕ) (x : X) → table.get t k ≡ Some x → Fits (number x)
+own-fits : {X : Type 0} (number : X → ℕ) (next : ℕ) (t : Table X) → StandRight number next t → Fits next
+    → (k : List ℕ) (x : X) → table.get t k ≡ Some x → Fits (number x)
 own-fits number next t right fits k x e = let r = right k x e in omega (arith, r.drawn, fits)
 
 maybe-fits : (o : Option ℕ) → ((n : ℕ) → o ≡ Some n → Fits n) → IsSmall (number_or_absent o)
@@ -185,7 +189,8 @@ there_open t n = go (table.get t (n ∷ []))
     go (Some x) e = refl
 
 -- an output is there
-there_out : (t : Table Item) (n build : ℕ) → (unwrap_or (table.get t (n ∷ [])) no_item).place ≡ Output build → IsThere t n
+there_out : (t : Table Item) (n build : ℕ) → (unwrap_or (table.get t (n ∷ [])) no_item).place ≡ Output build
+    → IsThere t n
 there_out t n build = go (table.get t (n ∷ []))
   where
     go : (o : Option Item) → (unwrap_or o no_item).place ≡ Output build → is_some o ≡ true
@@ -193,7 +198,8 @@ there_out t n build = go (table.get t (n ∷ []))
     go (Some x) e = refl
 
 -- what a place names
-module _ (owners : Owners) (s : Stock) (locations : (n : ℕ) → IsThere s.locations n → Fits n) (items : (n : ℕ) → IsThere s.items n → Fits n)
+module _ (owners : Owners) (s : Stock) (locations : (n : ℕ) → IsThere s.locations n → Fits n)
+    (items : (n : ℕ) → IsThere s.items n → Fits n)
     (orders : (n : ℕ) → owners.is_order n ≡ true → Fits n) (builds : (n : ℕ) → owners.is_build n ≡ true → Fits n) where
   ref-fits : (q : Place) → IsPlace owners s q → Fits (place_ref q)
   ref-fits (At n) h = locations n h
@@ -220,7 +226,10 @@ item-fits x good = by_place x.place good
 
 items-fit : (xs : List Item) → AreItems xs → (x : Item) → Stands x xs → Fits x.quantity
 items-fit [] good x s = absurd s
-items-fit (y ∷ ys) good x s = elim s [ inl is ↦ subst (λ (z : Item). Fits z.quantity) is (item-fits y good.0) | inr later ↦ items-fit ys good.1 x later ]
+items-fit (y ∷ ys) good x s = elim s [
+  | inl is ↦ subst (λ (z : Item). Fits z.quantity) is (item-fits y good.0)
+  | inr later ↦ items-fit ys good.1 x later
+]
 
 run-fits : (n : ℕ) (es : List Entry) → IsRun n es → (e : Entry) → Stands e es → e.number < n + length es
 run-fits n [] run e s = absurd s
@@ -245,7 +254,8 @@ module _ (s : State) (sound : IsSoundState s) (next : Fits s.counter.next) where
   line = there-fits (λ (l : Line). l.number) s.counter.next s.bills.lines sound.bills.line_rows next
 
   location : (n : ℕ) → IsThere s.stock.locations n → Fits n
-  location = there-fits (λ (l : Location). l.number) s.counter.next s.stock.locations sound.stock.items.locations.rows next
+  location =
+      there-fits (λ (l : Location). l.number) s.counter.next s.stock.locations sound.stock.items.locations.rows next
 
   item : (n : ℕ) → IsThere s.stock.items n → Fits n
   item = there-fits (λ (i : Item). i.number) s.counter.next s.stock.items sound.stock.items.rows next
@@ -275,7 +285,9 @@ module _ (s : State) (sound : IsSoundState s) (next : Fits s.counter.next) where
           (
             maybe-fits row.category (λ n is. category n (catalogue.in_categories k row e n is)),
             (
-              maybe-fits row.template (λ n is. let t = catalogue.templates k row e n is in part n (ap (λ (o : Option Part). is_some o) t.1)),
+              maybe-fits row.template
+                  (λ n is. let t = catalogue.templates k row e n is in
+                  part n (ap (λ (o : Option Part). is_some o) t.1)),
               (flags-fit row.flags, (yes-fits row.retired, tt)),
             ),
           ),
@@ -298,14 +310,16 @@ module _ (s : State) (sound : IsSoundState s) (next : Fits s.counter.next) where
   small-substitutes : AreSmall substitute_columns s.bills.substitutes
   small-substitutes k row e =
       All-from_recursion IsSmall (substitute_columns row) (
-        own-fits (λ (x : Substitute). x.number) s.counter.next s.bills.substitutes sound.bills.substitute_rows next k row e,
+        own-fits (λ (x : Substitute). x.number) s.counter.next s.bills.substitutes sound.bills.substitute_rows
+            next k row e,
         (line row.line (sound.bills.lines k row e), (part row.part (sound.bills.substitutes k row e), tt)),
       )
 
   small-locations : AreSmall named_columns s.stock.locations
   small-locations k row e =
       All-from_recursion IsSmall (named_columns row) (
-        own-fits (λ (l : Location). l.number) s.counter.next s.stock.locations sound.stock.items.locations.rows next k row e,
+        own-fits (λ (l : Location). l.number) s.counter.next s.stock.locations sound.stock.items.locations.rows
+            next k row e,
         (tt, (maybe-fits row.parent (λ n is. location n (sound.stock.items.locations.parents k row e n is).0), tt)),
       )
 
@@ -323,8 +337,12 @@ module _ (s : State) (sound : IsSoundState s) (next : Fits s.counter.next) where
               (
                 status-fits row.lot.status,
                 (
-                  items-fit (table.values s.stock.items) sound.stock.items.stock.items.items row (get-Stands s.stock.items k row e),
-                  (place-fits row.place, (ref-fits (owners_in s) s.stock location item order build row.place there.place, tt)),
+                  items-fit (table.values s.stock.items) sound.stock.items.stock.items.items row
+                      (get-Stands s.stock.items k row e),
+                  (
+                    place-fits row.place,
+                    (ref-fits (owners_in s) s.stock location item order build row.place there.place, tt),
+                  ),
                 ),
               ),
             ),
@@ -335,8 +353,11 @@ module _ (s : State) (sound : IsSoundState s) (next : Fits s.counter.next) where
   small-history : Fits s.counter.limits.entries → AreSmall entry_columns s.stock.history
   small-history limit k row e =
       let there = sound.stock.each_entry k row e in
-      let numbered = run-fits 1 (table.values s.stock.history) sound.stock.items.stock.history.run row (get-Stands s.stock.history k row e) in
-      let count : length (table.values s.stock.history) ≡ table.len s.stock.history = length-map (table.entries s.stock.history) (λ e. e.1) ∙ sym (table.len-entries s.stock.history) in
+      let numbered =
+      run-fits 1 (table.values s.stock.history) sound.stock.items.stock.history.run row
+      (get-Stands s.stock.history k row e) in
+      let count : length (table.values s.stock.history) ≡ table.len s.stock.history =
+      length-map (table.entries s.stock.history) (λ e. e.1) ∙ sym (table.len-entries s.stock.history) in
       All-from_recursion IsSmall (entry_columns row) (
         (let within = sound.stock.items.within in omega (arith, numbered, count, within, limit)),
         (
@@ -347,7 +368,13 @@ module _ (s : State) (sound : IsSoundState s) (next : Fits s.counter.next) where
               item row.note.item there.item,
               (
                 part row.note.part there.part,
-                (let bounds = there.quantity in omega (arith, bounds.1), (place-fits row.note.place, (ref-fits (owners_in s) s.stock location item order build row.note.place there.place, tt))),
+                (
+                  let bounds = there.quantity in omega (arith, bounds.1),
+                  (
+                    place-fits row.note.place,
+                    (ref-fits (owners_in s) s.stock location item order build row.note.place there.place, tt),
+                  ),
+                ),
               ),
             ),
           ),
@@ -356,15 +383,20 @@ module _ (s : State) (sound : IsSoundState s) (next : Fits s.counter.next) where
 
   small-orders : AreSmall order_rows.order_columns s.orders
   small-orders k row e =
-      All-from_recursion IsSmall (order_rows.order_columns row)
-      (own-fits (λ (o : Order). o.number) s.counter.next s.orders sound.orders.orders next k row e, (side-fits row.side, (tt, (state-fits row.state, tt))))
+      All-from_recursion IsSmall (order_rows.order_columns row) (
+        own-fits (λ (o : Order). o.number) s.counter.next s.orders sound.orders.orders next k row e,
+        (side-fits row.side, (tt, (state-fits row.state, tt))),
+      )
 
   small-order_lines : AreSmall order_rows.line_columns s.order_lines
   small-order_lines k row e =
       let h = sound.orders.each_line k row e in
       All-from_recursion IsSmall (order_rows.line_columns row) (
         own-fits (λ (l : OrderLine). l.number) s.counter.next s.order_lines sound.orders.lines next k row e,
-        (order row.order h.order, (part row.part h.part, (omega (arith, h.fits), (omega (arith, h.fits, h.needed), tt)))),
+        (
+          order row.order h.order,
+          (part row.part h.part, (omega (arith, h.fits), (omega (arith, h.fits, h.needed), tt))),
+        ),
       )
 
   small-builds : AreSmall build_rows.build_columns s.builds
@@ -381,9 +413,11 @@ module _ (s : State) (sound : IsSoundState s) (next : Fits s.counter.next) where
 
   -- what an allocation names
   purpose-fits : (n : ℕ) (p : Purpose) → IsSoundPurpose (order_books_in s) n p
-      → ((b l : ℕ) (output : Option ℕ) → p ≡ For b l output → IsSoundFor s.parts s.bills (build_books_in s) n b l output)
+      → ((b l : ℕ) (output : Option ℕ) → p ≡ For b l output
+      → IsSoundFor s.parts s.bills (build_books_in s) n b l output)
       → Fits (purpose_side p) × Fits (purpose_owner p) × Fits (purpose_line p) × Fits (purpose_output p)
-  purpose-fits n (Sale o l) h for = (omega arith, order o (there_in_progress s.orders o h.in_progress), order_line l h.there, omega arith)
+  purpose-fits n (Sale o l) h for =
+      (omega arith, order o (there_in_progress s.orders o h.in_progress), order_line l h.there, omega arith)
   purpose-fits n (For b l output) h for =
       let work = for b l output refl in (
         omega arith,
@@ -395,8 +429,10 @@ module _ (s : State) (sound : IsSoundState s) (next : Fits s.counter.next) where
   small-allocations : AreSmall allocation_columns s.allocations
   small-allocations k row e =
       let h = sound.allocations.each k row e in
-      let p = purpose-fits row.item row.purpose (sound.orders.each_sale k row e) (sound.builds.each_allocation k row e) in
-      let there : IsThere s.stock.items row.item = ap (λ (o : Option Item). is_some o) (there-loose row.item s.stock h.loose) in
+      let p =
+      purpose-fits row.item row.purpose (sound.orders.each_sale k row e) (sound.builds.each_allocation k row e) in
+      let there : IsThere s.stock.items row.item =
+      ap (λ (o : Option Item). is_some o) (there-loose row.item s.stock h.loose) in
       All-from_recursion IsSmall (allocation_columns row) (
         own-fits (λ (a : Allocation). a.number) s.counter.next s.allocations sound.allocations.rows next k row e,
         (item row.item there, (omega (arith, h.fits), (p.0, (p.1, (p.2, (p.3, tt)))))),

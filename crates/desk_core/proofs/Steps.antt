@@ -1,5 +1,6 @@
 -- A sound state steps to a sound state, and runs go on by one step.
-use Rattle.std.proofs.Common.{◌≡◌, ◌⊎◌, inl, inr, Bool, true, false, ℕ, zero, suc, ◌+◌, ◌-◌, ◌≤◌, List, [], ◌∷◌, ◌++◌, length, Option, Some, None, refl, sym, ap, ◌∙◌, subst, arith}
+use Rattle.std.proofs.Common.{◌≡◌, ◌⊎◌, inl, inr, Bool, true, false, ℕ, zero, suc, ◌+◌, ◌-◌, ◌≤◌, List}
+use Rattle.std.proofs.Common.{[], ◌∷◌, ◌++◌, length, Option, Some, None, refl, sym, ap, ◌∙◌, subst, arith}
 use Rattle.std.specs.Prelude.{Result, Ok, Err, IfSome, option_and_then}
 use Rattle.std.specs.FinMap as table
 use Rattle.std.specs.List.{range_with_len}
@@ -43,7 +44,8 @@ use Rattle.order_core.proofs.Beside as orders
 use Rattle.order_core.proofs.Effects as order_effects
 use Rattle.order_core.proofs.ForBuilds as for_builds
 use Rattle.build_core.specs.BuildMachine as build
-use Rattle.build_core.specs.Sound.{AreSoundBooks as AreSoundBuildBooks, AreSoundBuilds, IsRightMeant, IsRightPlaced, IsSoundBuild}
+use Rattle.build_core.specs.Sound.{AreSoundBooks as AreSoundBuildBooks, AreSoundBuilds}
+use Rattle.build_core.specs.Sound.{IsRightMeant, IsRightPlaced, IsSoundBuild}
 use Rattle.build_core.specs.declared.build.Build.{Build}
 use Rattle.build_core.proofs.BesideBills as beside_bills
 use Rattle.build_core.proofs.BesideItems as beside_yard
@@ -59,7 +61,12 @@ use Rattle.desk_core.specs.declared.command.Request.{Request}
 use Rattle.desk_core.specs.declared.kept.Kept.{Kept}
 use Rattle.desk_core.specs.CommandText.{command_text}
 use Rattle.desk_core.specs.Key.{is_key}
-use Rattle.desk_core.specs.Machine.{State, start, checks, check, effect, by_check, by_repeat, step_anew, step, run, Outcome, Accepts, Decides, IsAnew, answer_of, answer_of_same, answer_anew, is_other, answers_of, answered, told, onto, ids_of, entries_in, entries_of, AreDrawn, IsSoundState, StandsKept, stock_books_in, bill_books_in, build_books_in, is_build, is_order, order_books_in, owners_in, register_in, open_parts, kept_for, repeated, is_key_taken, with_answer}
+use Rattle.desk_core.specs.Machine.{State, start, checks, check, effect, by_check, by_repeat, step_anew, step}
+use Rattle.desk_core.specs.Machine.{run, Outcome, Accepts, Decides, IsAnew, answer_of, answer_of_same}
+use Rattle.desk_core.specs.Machine.{answer_anew, is_other, answers_of, answered, told, onto, ids_of, entries_in}
+use Rattle.desk_core.specs.Machine.{entries_of, AreDrawn, IsSoundState, StandsKept, stock_books_in}
+use Rattle.desk_core.specs.Machine.{bill_books_in, build_books_in, is_build, is_order, order_books_in, owners_in}
+use Rattle.desk_core.specs.Machine.{register_in, open_parts, kept_for, repeated, is_key_taken, with_answer}
 
 -- ---- effects keep what is sound, and only add to numbers and history
 
@@ -87,16 +94,23 @@ build_books s sound = record { stock = sound.stock; allocations = sound.allocati
 yard-items : (c : YardCommand) (b : StockBooks) → (yard.effect c b).stock.items ≡ b.stock.items
 yard-items (AddLocation name parent) b = refl
 
-effect-follows : (s : State) → AreSoundStores s → (day : CivilDay) (c : Command) → first (checks s day c) ≡ None → Follows s (effect s day c)
+effect-follows : (s : State) → AreSoundStores s → (day : CivilDay) (c : Command) → first (checks s day c) ≡ None
+    → Follows s (effect s day c)
 effect-follows s sound day (command.Part c) none =
     let more = (catalogue.sound-effect c (register_in s) sound.bills.catalogue none).1 in
     let after = part.effect c (register_in s) in record {
       stores = record {
         bills = bills.sound-part_effect c (register_in s) s.bills sound.bills none;
-        stock = beside.sound-part_effect (owners_in s) c (register_in s) (stock_books_in s) refl sound.bills.catalogue sound.stock none;
+        stock =
+            beside.sound-part_effect (owners_in s) c (register_in s) (stock_books_in s) refl sound.bills.catalogue
+            sound.stock none;
         allocations = allocations.sound-later s.allocations (stock_books_in s) after.counter more sound.allocations;
-        orders = orders.orders-later s.parts after.parts (order_books_in s) after.counter (parts.rows-stay c (register_in s)).parts more sound.orders;
-        builds = beside_parts.sound-beside_parts c (is_order s) s.parts s.bills (build_books_in s) sound.bills (build_books s sound) none;
+        orders =
+            orders.orders-later s.parts after.parts (order_books_in s) after.counter
+            (parts.rows-stay c (register_in s)).parts more sound.orders;
+        builds =
+            beside_parts.sound-beside_parts c (is_order s) s.parts s.bills (build_books_in s) sound.bills
+            (build_books s sound) none;
       };
       numbers = more;
       entries = omega arith;
@@ -106,9 +120,12 @@ effect-follows s sound day (command.Bom c) none =
     let after = bom.effect c (bill_books_in s) in record {
       stores = record {
         bills = kept.0;
-        stock = beside.sound-later (owners_in s) s.parts (stock_books_in s) after.counter kept.1 (changes.effect-limits c (bill_books_in s)) sound.stock;
+        stock =
+            beside.sound-later (owners_in s) s.parts (stock_books_in s) after.counter kept.1
+            (changes.effect-limits c (bill_books_in s)) sound.stock;
         allocations = allocations.sound-later s.allocations (stock_books_in s) after.counter kept.1 sound.allocations;
-        orders = orders.orders-later s.parts s.parts (order_books_in s) after.counter (λ k there. there) kept.1 sound.orders;
+        orders =
+            orders.orders-later s.parts s.parts (order_books_in s) after.counter (λ k there. there) kept.1 sound.orders;
         builds = beside_bills.sound-beside_bills c s.parts s.bills (build_books_in s) sound.bills sound.builds none;
       };
       numbers = kept.1;
@@ -118,23 +135,38 @@ effect-follows s sound day (command.Yard c) none =
     let kept = locations.sound-effect c (stock_books_in s) sound.stock.items.locations none in
     let same = yard-items c (stock_books_in s) in record {
       stores = record {
-        bills = bills.sound-more s.parts s.bills s.counter.next (yard.effect c (stock_books_in s)).counter.next kept.1 sound.bills;
+        bills =
+            bills.sound-more s.parts s.bills s.counter.next (yard.effect c (stock_books_in s)).counter.next kept.1
+            sound.bills;
         stock = beside.sound-yard_effect (owners_in s) c s.parts (stock_books_in s) sound.stock none;
-        allocations = allocations.sound-items s.allocations (stock_books_in s) (yard.effect c (stock_books_in s)) same kept.1 sound.allocations;
-        orders = orders.orders-items s.parts (order_books_in s) (yard.effect c (stock_books_in s)) same kept.1 sound.orders;
+        allocations =
+            allocations.sound-items s.allocations (stock_books_in s) (yard.effect c (stock_books_in s)) same kept.1
+            sound.allocations;
+        orders =
+            orders.orders-items s.parts (order_books_in s) (yard.effect c (stock_books_in s)) same kept.1 sound.orders;
         builds = beside_yard.sound-beside_yard c s.parts s.bills (build_books_in s) sound.builds;
       };
       numbers = kept.1;
-      entries = (let same = ap (λ h. table.len h) (locations.effect-history c (stock_books_in s)) in omega (arith, same));
+      entries =
+          (let same = ap (λ h. table.len h) (locations.effect-history c (stock_books_in s)) in omega (arith, same));
     }
 effect-follows s sound day (command.Stock c) none =
-    let kept = effects.sound-effect (owners_in s) c day s.parts s.bills s.allocations (stock_books_in s) sound.stock sound.allocations none in record {
+    let kept =
+    effects.sound-effect (owners_in s) c day s.parts s.bills s.allocations (stock_books_in s) sound.stock
+    sound.allocations none in
+    record {
       stores = record {
-        bills = bills.sound-more s.parts s.bills s.counter.next (stock.effect c day (stock_books_in s)).counter.next kept.2.numbers sound.bills;
+        bills =
+            bills.sound-more s.parts s.bills s.counter.next (stock.effect c day (stock_books_in s)).counter.next
+            kept.2.numbers sound.bills;
         stock = kept.0;
         allocations = kept.1;
-        orders = orders.orders-beside s.parts (order_books_in s) (stock.effect c day (stock_books_in s)) kept.2 sound.allocations sound.orders;
-        builds = beside_stock.sound-where_outputs_stay (is_order s) s.parts s.bills (build_books_in s) s.allocations (stock.effect c day (stock_books_in s)) (build_books s sound) kept.2 kept.3 kept.0.items
+        orders =
+            orders.orders-beside s.parts (order_books_in s) (stock.effect c day (stock_books_in s)) kept.2
+            sound.allocations sound.orders;
+        builds =
+            beside_stock.sound-where_outputs_stay (is_order s) s.parts s.bills (build_books_in s) s.allocations
+            (stock.effect c day (stock_books_in s)) (build_books s sound) kept.2 kept.3 kept.0.items
             (none-same is_for_some_build s.allocations);
       };
       numbers = kept.2.numbers;
@@ -160,7 +192,9 @@ effect-follows s sound day (command.Order c) none =
         stock = kept.0.stock;
         allocations = kept.0.allocations;
         orders = kept.0.orders;
-        builds = beside_stock.sound-where_outputs_stay (is_order s) s.parts s.bills (build_books_in s) after.allocations after.books (build_books s sound) kept.1 kept.2 kept.0.stock.items
+        builds =
+            beside_stock.sound-where_outputs_stay (is_order s) s.parts s.bills (build_books_in s) after.allocations
+            after.books (build_books s sound) kept.1 kept.2 kept.0.stock.items
             (for_builds.none-comes c day b sound.allocations.rows);
       };
       numbers = kept.1.numbers;
@@ -169,12 +203,14 @@ effect-follows s sound day (command.Order c) none =
 effect-follows s sound day (command.Build c) none =
     let b = build_books_in s in
     let after = build.effect c day s.parts s.bills b in
-    let kept = build_effects.sound-effect c day (is_order s) s.parts s.bills b sound.bills (build_books s sound) none in record {
+    let kept = build_effects.sound-effect c day (is_order s) s.parts s.bills b sound.bills (build_books s sound) none in
+    record {
       stores = record {
         bills = bills.sound-more s.parts s.bills s.counter.next after.books.counter.next kept.1.numbers sound.bills;
         stock = kept.0.stock;
         allocations = kept.0.allocations;
-        orders = orders.sound-beside_builds s.parts (order_books_in s) after.allocations after.books sound.allocations kept.1
+        orders =
+            orders.sound-beside_builds s.parts (order_books_in s) after.allocations after.books sound.allocations kept.1
             (for_sales.none-comes c day s.parts s.bills b sound.allocations.rows) sound.orders;
         builds = kept.0.builds;
       };
@@ -196,7 +232,8 @@ pub passes_key : (s : State) (r : Request) → check s r ≡ None → is_key_tak
 passes_key s r e = passes_taken (is_key_taken r s) KeyTaken (checks s r.day r.command) e
 
 -- an answer that is kept beside changes nothing else
-beside_answer : (key : Option (List ℕ)) (text : List ℕ) (a : Answer) (old new : State) → Follows old new → Follows old (with_answer key text a new)
+beside_answer : (key : Option (List ℕ)) (text : List ℕ) (a : Answer) (old new : State) → Follows old new
+    → Follows old (with_answer key text a new)
 beside_answer None text a old new f = f
 beside_answer (Some k) text a old new f = record {
   stores = record {
@@ -243,7 +280,8 @@ effect-answers s day (command.Alloc c) = refl
 effect-answers s day (command.Order c) = refl
 effect-answers s day (command.Build c) = refl
 
-with-kept : (key : Option (List ℕ)) → IfSome key (λ k. is_key k ≡ true) → (text : List ℕ) (a : Answer) (s : State) → AreKept s.answers → AreKept (with_answer key text a s).answers
+with-kept : (key : Option (List ℕ)) → IfSome key (λ k. is_key k ≡ true) → (text : List ℕ) (a : Answer) (s : State)
+    → AreKept s.answers → AreKept (with_answer key text a s).answers
 with-kept None fits text a s kept = kept
 with-kept (Some key) fits text a s kept = λ k row e.
     let new : Kept = record { word = key; command = text; answer = a } in
@@ -252,7 +290,8 @@ with-kept (Some key) fits text a s kept = λ k row e.
       | inr before ↦ kept k row before
     ]
 
-step-kept : (s : State) (r : Request) → IfSome r.key (λ k. is_key k ≡ true) → AreKept s.answers → AreKept (step s r).0.answers
+step-kept : (s : State) (r : Request) → IfSome r.key (λ k. is_key k ≡ true) → AreKept s.answers
+    → AreKept (step s r).0.answers
 step-kept s r fits kept = again (repeated r s)
   where
     after : State
@@ -260,7 +299,9 @@ step-kept s r fits kept = again (repeated r s)
 
     anew : (o : Option Refusal) → AreKept (by_check o s r after).0.answers
     anew (Some x) = kept
-    anew None = with-kept r.key fits (command_text r.command) (answer_of s after) after (subst AreKept (sym (effect-answers s r.day r.command)) kept)
+    anew None =
+        with-kept r.key fits (command_text r.command) (answer_of s after) after
+        (subst AreKept (sym (effect-answers s r.day r.command)) kept)
 
     again : (o : Option Answer) → AreKept (by_repeat o s (step_anew s r)).0.answers
     again (Some a) = kept
@@ -275,7 +316,8 @@ sound_stores s sound = record {
   builds = sound.builds;
 }
 
-pub step-sound : (s : State) → IsSoundState s → (r : Request) → IfSome r.key (λ k. is_key k ≡ true) → IsSoundState (step s r).0
+pub step-sound : (s : State) → IsSoundState s → (r : Request) → IfSome r.key (λ k. is_key k ≡ true)
+    → IsSoundState (step s r).0
 step-sound s sound r fits =
     let follows = step-follows s (sound_stores s sound) r in record {
       bills = follows.stores.bills;
@@ -286,7 +328,8 @@ step-sound s sound r fits =
       answers = step-kept s r fits sound.answers;
     }
 
-pub Decides-sound : (s : State) → IsSoundState s → (r : Request) → IfSome r.key (λ k. is_key k ≡ true) → (o : Result Answer CoreFault) (t : State) → Decides s r o t → IsSoundState t
+pub Decides-sound : (s : State) → IsSoundState s → (r : Request) → IfSome r.key (λ k. is_key k ≡ true)
+    → (o : Result Answer CoreFault) (t : State) → Decides s r o t → IsSoundState t
 Decides-sound s sound r fits (Ok a) t e = subst IsSoundState (ap (λ p. p.0) e) (step-sound s sound r fits)
 Decides-sound s sound r fits (Err (Refused x)) t e = subst IsSoundState (ap (λ p. p.0) e) (step-sound s sound r fits)
 Decides-sound s sound r fits (Err Memory) t e = subst IsSoundState (sym e) sound
@@ -300,59 +343,74 @@ abbrev refused : Refusal → State → State × Outcome
 refused x s = (s, Err x)
 
 -- the step of a request under whose key nothing is kept
-step-new : (s : State) (r : Request) → kept_for r s ≡ None → step s r ≡ by_check (first (checks s r.day r.command)) s r (effect s r.day r.command)
+step-new : (s : State) (r : Request) → kept_for r s ≡ None
+    → step s r ≡ by_check (first (checks s r.day r.command)) s r (effect s r.day r.command)
 step-new s r e = rw e refl
 
-pub step-repeated : (s : State) (r : Request) (row : Kept) → kept_for r s ≡ Some row → bytes_eq row.command (command_text r.command) ≡ true → step s r ≡ (s, Ok row.answer)
+pub step-repeated : (s : State) (r : Request) (row : Kept) → kept_for r s ≡ Some row
+    → bytes_eq row.command (command_text r.command) ≡ true → step s r ≡ (s, Ok row.answer)
 step-repeated s r row e same = rw (e, same) refl
 
 -- one under whose key nothing is kept is accepted anew
 anew : (s : State) (r : Request) → kept_for r s ≡ None → first (checks s r.day r.command) ≡ None → IsAnew s r
 anew s r none passed = (
   ap (answer_of_same (command_text r.command)) none,
-  ap (λ (k : Option Kept). first ((is_other (command_text r.command) k, KeyTaken) ∷ checks s r.day r.command)) none ∙ passed,
+  ap (λ (k : Option Kept). first ((is_other (command_text r.command) k, KeyTaken) ∷ checks s r.day r.command)) none
+      ∙ passed,
 )
 
 -- what acts as checks and effect say, and keeps its answer, decides the step
 pub decided-ok : (s t : State) (r : Request) (a : Answer) → kept_for r s ≡ None
-    → Acts (checks s r.day r.command) (effect s r.day r.command, answer_of s (effect s r.day r.command)) s (Ok a) t → Decides s r (Ok a) (with_answer r.key (command_text r.command) a t)
+    → Acts (checks s r.day r.command) (effect s r.day r.command, answer_of s (effect s r.day r.command)) s (Ok a) t
+    → Decides s r (Ok a) (with_answer r.key (command_text r.command) a t)
 decided-ok s t r a none acts =
     step-new s r none
     ∙ ap (λ o. by_check o s r (effect s r.day r.command)) acts.0
     ∙ ap (accepted r.key (command_text r.command)) acts.1
 
 pub decided-err : (s t : State) (r : Request) (x : CoreFault) → kept_for r s ≡ None
-    → Acts (checks s r.day r.command) (effect s r.day r.command, answer_of s (effect s r.day r.command)) s (Err x) t → Decides s r (Err x) t
-decided-err s t r (Refused x) none acts = step-new s r none ∙ ap (λ o. by_check o s r (effect s r.day r.command)) acts.0 ∙ ap (refused x) (sym acts.1)
+    → Acts (checks s r.day r.command) (effect s r.day r.command, answer_of s (effect s r.day r.command)) s (Err x) t
+    → Decides s r (Err x) t
+decided-err s t r (Refused x) none acts =
+    step-new s r none ∙ ap (λ o. by_check o s r (effect s r.day r.command)) acts.0 ∙ ap (refused x) (sym acts.1)
 decided-err s t r Memory none acts = acts
 
 pub decided-plain : (s t : State) (r : Request) (o : Result Answer CoreFault) → r.key ≡ None
-    → Acts (checks s r.day r.command) (effect s r.day r.command, answer_of s (effect s r.day r.command)) s o t → Decides s r o t
+    → Acts (checks s r.day r.command) (effect s r.day r.command, answer_of s (effect s r.day r.command)) s o t
+    → Decides s r o t
 decided-plain s t r (Ok a) none acts =
     let none_kept : kept_for r s ≡ None = ap (λ k. option_and_then (λ key. table.get s.answers key) k) none in
-    subst (λ u. Decides s r (Ok a) u) (ap (λ k. with_answer k (command_text r.command) a t) none) (decided-ok s t r a none_kept acts)
+    subst (λ u. Decides s r (Ok a) u) (ap (λ k. with_answer k (command_text r.command) a t) none)
+    (decided-ok s t r a none_kept acts)
 decided-plain s t r (Err x) none acts =
     let none_kept : kept_for r s ≡ None = ap (λ k. option_and_then (λ key. table.get s.answers key) k) none in
     decided-err s t r x none_kept acts
 
-pub decides-all : (s t : State) (r : Request) (o : Result Accepted CoreFault) → Accepts s r o t → t ≡ s ⊎ (t ≡ (step s r).0)
+pub decides-all : (s t : State) (r : Request) (o : Result Accepted CoreFault) → Accepts s r o t
+    → t ≡ s ⊎ (t ≡ (step s r).0)
 decides-all s t r (Ok (Anew answer)) h = inr (ap (λ p. p.0) (sym h.1))
 decides-all s t r (Ok (Again answer)) h = inl h.1
 decides-all s t r (Err (Refused x)) h = inr (ap (λ p. p.0) (sym h))
 decides-all s t r (Err Memory) h = inl h
 
 -- such a step keeps what is sound
-pub plain-sound : (s : State) → IsSoundState s → (r : Request) → r.key ≡ None → (o : Result Answer CoreFault) (t : State)
-    → Acts (checks s r.day r.command) (effect s r.day r.command, answer_of s (effect s r.day r.command)) s o t → IsSoundState t
-plain-sound s sound r none o t acts = Decides-sound s sound r (subst (λ k. IfSome k (λ w. is_key w ≡ true)) (sym none) tt) o t (decided-plain s t r o none acts)
+pub plain-sound : (s : State) → IsSoundState s → (r : Request) → r.key ≡ None
+    → (o : Result Answer CoreFault) (t : State)
+    → Acts (checks s r.day r.command) (effect s r.day r.command, answer_of s (effect s r.day r.command)) s o t
+    → IsSoundState t
+plain-sound s sound r none o t acts =
+    Decides-sound s sound r (subst (λ k. IfSome k (λ w. is_key w ≡ true)) (sym none) tt) o t
+    (decided-plain s t r o none acts)
 
 -- an answer that is kept under a key keeps what is sound
 pub kept-sound : (s t u : State) → IsSoundState s → (day : CivilDay) (c : Command) (a : Answer)
-    → Acts (checks s day c) (effect s day c, answer_of s (effect s day c)) s (Ok a) t → (key : List ℕ) → is_key key ≡ true → (text : List ℕ) → u ≡ with_answer (Some key) text a t → IsSoundState u
+    → Acts (checks s day c) (effect s day c, answer_of s (effect s day c)) s (Ok a) t → (key : List ℕ)
+    → is_key key ≡ true → (text : List ℕ) → u ≡ with_answer (Some key) text a t → IsSoundState u
 kept-sound s t u sound day c a acts key fits text e =
     let follows = effect-follows s (sound_stores s sound) day c acts.0 in
     let after = ap (λ p. p.0) acts.1 in
-    let kept : AreKept t.answers = subst (λ (v : State). AreKept v.answers) after (subst AreKept (sym (effect-answers s day c)) sound.answers) in
+    let kept : AreKept t.answers =
+    subst (λ (v : State). AreKept v.answers) after (subst AreKept (sym (effect-answers s day c)) sound.answers) in
     let stores = subst AreSoundStores after follows.stores in
     subst IsSoundState (sym e) (record {
       bills = stores.bills;
@@ -372,8 +430,10 @@ head_is : (x y : Outcome) (xs ys : List Outcome) → x ∷ xs ≡ y ∷ ys → x
 head_is x y xs ys e = cc
 
 -- a run goes on by one request
-pub run-push : (s : State) (rs : List Request) (os : List (Result Answer CoreFault)) (t : State) (r : Request) (o : Result Answer CoreFault) (u : State) → length rs ≡ length os
-    → run s (answered rs os) ≡ (t, told os) → Decides t r o u → run s (answered (rs ++ r ∷ []) (os ++ o ∷ [])) ≡ (u, told (os ++ o ∷ []))
+pub run-push : (s : State) (rs : List Request) (os : List (Result Answer CoreFault)) (t : State) (r : Request)
+    (o : Result Answer CoreFault) (u : State) → length rs ≡ length os
+    → run s (answered rs os) ≡ (t, told os) → Decides t r o u
+    → run s (answered (rs ++ r ∷ []) (os ++ o ∷ [])) ≡ (u, told (os ++ o ∷ []))
 run-push s [] [] t r (Ok a) u len e d =
     let here = ap (λ v. step v r) (ap (λ p. p.0) e) ∙ d in λ i. ((here i).0, (here i).1 ∷ [])
 run-push s [] [] t r (Err (Refused x)) u len e d =
@@ -401,13 +461,16 @@ run-push s (r1 ∷ rs) (Err (Refused x) ∷ os) t r o u len e d =
 
 drawn-range : (next count : ℕ) → AreDrawn next (range_with_len next count) (next + count)
 drawn-range next zero = omega arith
-drawn-range next (suc count) = (refl, subst (AreDrawn (next + 1) (range_with_len (next + 1) count)) (omega arith) (drawn-range (next + 1) count))
+drawn-range next (suc count) =
+    (refl, subst (AreDrawn (next + 1) (range_with_len (next + 1) count)) (omega arith) (drawn-range (next + 1) count))
 
 -- the numbers between two that don't fall
 between : (a b : ℕ) → a ≤ b → AreDrawn a (range_with_len a (b - a)) b
-between a b le = subst (AreDrawn a (range_with_len a (b - a))) (let e : a + (b - a) ≡ b = omega arith in e) (drawn-range a (b - a))
+between a b le =
+    subst (AreDrawn a (range_with_len a (b - a))) (let e : a + (b - a) ≡ b = omega arith in e) (drawn-range a (b - a))
 
-AreDrawn-append : (a : ℕ) (xs : List ℕ) (b : ℕ) (ys : List ℕ) (c : ℕ) → AreDrawn a xs b → AreDrawn b ys c → AreDrawn a (xs ++ ys) c
+AreDrawn-append : (a : ℕ) (xs : List ℕ) (b : ℕ) (ys : List ℕ) (c : ℕ) → AreDrawn a xs b → AreDrawn b ys c
+    → AreDrawn a (xs ++ ys) c
 AreDrawn-append a [] b ys c h k = subst (λ m. AreDrawn m ys c) h k
 AreDrawn-append a (x ∷ xs) b ys c h k = (h.0, AreDrawn-append (a + 1) xs b ys c h.1 k)
 
@@ -416,37 +479,46 @@ pub record Tells (old new : State) (told : Option Answer) : Type 0 where
   pub drawn : AreDrawn old.counter.next (ids_of (onto told [])) new.counter.next
   pub written : entries_in new ≡ entries_in old + entries_of (onto told [])
 
-with-tells : (key : Option (List ℕ)) (text : List ℕ) (a : Answer) (old new : State) (told : Option Answer) → Tells old new told → Tells old (with_answer key text a new) told
+with-tells : (key : Option (List ℕ)) (text : List ℕ) (a : Answer) (old new : State) (told : Option Answer)
+    → Tells old new told → Tells old (with_answer key text a new) told
 with-tells None text a old new told h = h
 with-tells (Some k) text a old new told h = record { drawn = h.drawn; written = h.written }
 
 tells_nothing : (s : State) → Tells s s None
 tells_nothing s = record { drawn = refl; written = omega arith }
 
-step-tells : (s : State) → AreSoundStores s → (r : Request) → Tells s (step s r).0 (answer_anew (repeated r s) (step s r).1)
+step-tells : (s : State) → AreSoundStores s → (r : Request)
+    → Tells s (step s r).0 (answer_anew (repeated r s) (step s r).1)
 step-tells s sound r = again (repeated r s)
   where
     after : State
     after = effect s r.day r.command
 
-    anew : (o : Option Refusal) → check s r ≡ o → Tells s (by_check o s r after).0 (answer_anew None (by_check o s r after).1)
+    anew : (o : Option Refusal) → check s r ≡ o
+        → Tells s (by_check o s r after).0 (answer_anew None (by_check o s r after).1)
     anew (Some x) e = tells_nothing s
     anew None e =
-        let follows = effect-follows s sound r.day r.command (passes (is_key_taken r s) KeyTaken (checks s r.day r.command) e) in
+        let follows =
+        effect-follows s sound r.day r.command (passes (is_key_taken r s) KeyTaken (checks s r.day r.command) e) in
         with-tells r.key (command_text r.command) (answer_of s after) s after (Some (answer_of s after)) (record {
-          drawn = subst (λ l. AreDrawn s.counter.next l after.counter.next) (sym (append-nil _)) (between s.counter.next after.counter.next follows.numbers);
+          drawn =
+              subst (λ l. AreDrawn s.counter.next l after.counter.next) (sym (append-nil _))
+              (between s.counter.next after.counter.next follows.numbers);
           written = omega (arith, follows.entries);
         })
 
-    again : (o : Option Answer) → Tells s (by_repeat o s (step_anew s r)).0 (answer_anew o (by_repeat o s (step_anew s r)).1)
+    again : (o : Option Answer)
+        → Tells s (by_repeat o s (step_anew s r)).0 (answer_anew o (by_repeat o s (step_anew s r)).1)
     again (Some a) = tells_nothing s
     again None = anew (check s r) refl
 
-ids_of-first : (told : Option Answer) (rest : List Answer) → ids_of (onto told rest) ≡ ids_of (onto told []) ++ ids_of rest
+ids_of-first : (told : Option Answer) (rest : List Answer)
+    → ids_of (onto told rest) ≡ ids_of (onto told []) ++ ids_of rest
 ids_of-first (Some a) rest = ap (λ l. l ++ ids_of rest) (sym (append-nil _))
 ids_of-first None rest = refl
 
-entries_of-first : (told : Option Answer) (rest : List Answer) → entries_of (onto told rest) ≡ entries_of (onto told []) + entries_of rest
+entries_of-first : (told : Option Answer) (rest : List Answer)
+    → entries_of (onto told rest) ≡ entries_of (onto told []) + entries_of rest
 entries_of-first (Some a) rest = omega arith
 entries_of-first None rest = omega arith
 
@@ -462,13 +534,18 @@ run-tells s sound (r ∷ rs) =
     let told = answer_anew (repeated r s) (step s r).1 in
     let rest = run-tells next (step-follows s sound r).stores rs in
     let one = step-tells s sound r in record {
-      drawn = subst (λ l. AreDrawn s.counter.next l (run next rs).0.counter.next) (sym (ids_of-first told (answers_of next rs)))
-          (AreDrawn-append s.counter.next (ids_of (onto told [])) next.counter.next (ids_of (answers_of next rs)) (run next rs).0.counter.next one.drawn rest.drawn);
+      drawn =
+          subst (λ l. AreDrawn s.counter.next l (run next rs).0.counter.next)
+          (sym (ids_of-first told (answers_of next rs)))
+          (AreDrawn-append s.counter.next (ids_of (onto told [])) next.counter.next (ids_of (answers_of next rs))
+          (run next rs).0.counter.next one.drawn rest.drawn);
       written = omega (arith, one.written, rest.written, entries_of-first told (answers_of next rs));
     }
 
-pub told_in : (s : State) → IsSoundState s → (rs : List Request) (t : State) (os : List Outcome) → run s rs ≡ (t, os) → RunTells s t (answers_of s rs)
-told_in s sound rs t os e = subst (λ (p : State × List Outcome). RunTells s p.0 (answers_of s rs)) e (run-tells s (sound_stores s sound) rs)
+pub told_in : (s : State) → IsSoundState s → (rs : List Request) (t : State) (os : List Outcome) → run s rs ≡ (t, os)
+    → RunTells s t (answers_of s rs)
+told_in s sound rs t os e =
+    subst (λ (p : State × List Outcome). RunTells s p.0 (answers_of s rs)) e (run-tells s (sound_stores s sound) rs)
 
 pub start-sound : (limits : Limits) → IsSoundState (start limits)
 start-sound limits = record {
@@ -489,4 +566,6 @@ start-sound limits = record {
 }
   where
     none_kept : AreKept table.empty
-    none_kept k row e = absurd (let none : table.get (table.empty {X = Kept} {R = key_cmp}) k ≡ None = table.get-empty key_cmp k in let both : None ≡ Some row = sym none ∙ e in cc)
+    none_kept k row e =
+        absurd (let none : table.get (table.empty {X = Kept} {R = key_cmp}) k ≡ None = table.get-empty key_cmp k in
+        let both : None ≡ Some row = sym none ∙ e in cc)

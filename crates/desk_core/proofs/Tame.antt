@@ -7,7 +7,8 @@ use Rattle.std.specs.Cmp.Lexicographic.{slice_cmp}
 use Rattle.json.specs.Tree.{depth, items_depth, members_depth}
 use Rattle.serde_json.specs.Data.{Data, string, array, object, Members, no_members, member, put}
 use Rattle.serde_json.specs.View.{items_of}
-use Rattle.serde_json.specs.Written.{outline, items_outline, members_outline, has_float, items_have_float, members_have_float}
+use Rattle.serde_json.specs.Written.{outline, items_outline, members_outline}
+use Rattle.serde_json.specs.Written.{has_float, items_have_float, members_have_float}
 use Rattle.part_core.specs.declared.field.Field.{Field}
 use Rattle.part_core.specs.declared.field.Field.TheVariants as field
 use Rattle.part_core.specs.Flags.{flag_words}
@@ -27,15 +28,18 @@ all_put : (P : Data → Type 0) (k : List ℕ) (d : Data) (ms : Members) → P d
 all_put P k d no_members p h = (p, tt)
 all_put P k d (member l e ms) p h = go (slice_cmp nat_cmp k l) (all_put P k d ms p h.1)
   where
-    go : (o : Ordering) → AllMembers P (put k d ms) → AllMembers P (match_ordering o (member k d (member l e ms)) (member l d ms) (member l e (put k d ms)))
+    go : (o : Ordering) → AllMembers P (put k d ms)
+        → AllMembers P (match_ordering o (member k d (member l e ms)) (member l d ms) (member l e (put k d ms)))
     go Less later = (p, h)
     go Equal later = (p, h.1)
     go Greater later = (h.0, later)
 
-all_fields : (P : Data → Type 0) (fs : Blanks) (xs : List Field) (ms : Members) → ((x : Field) → FieldFits x → P (data_of x)) → FieldsFit xs → AllMembers P ms → AllMembers P (with_fields fs xs ms)
+all_fields : (P : Data → Type 0) (fs : Blanks) (xs : List Field) (ms : Members)
+    → ((x : Field) → FieldFits x → P (data_of x)) → FieldsFit xs → AllMembers P ms → AllMembers P (with_fields fs xs ms)
 all_fields P [] xs ms p f h = h
 all_fields P (b ∷ fs) [] ms p f h = h
-all_fields P (b ∷ fs) (x ∷ xs) ms p f h = all_fields P fs xs (put b.0 (data_of x) ms) p f.1 (all_put P b.0 (data_of x) ms (p x f.0) h)
+all_fields P (b ∷ fs) (x ∷ xs) ms p f h =
+    all_fields P fs xs (put b.0 (data_of x) ms) p f.1 (all_put P b.0 (data_of x) ms (p x f.0) h)
 
 -- ---- whole numbers
 
@@ -67,7 +71,8 @@ have_plain : (ms : Members) → AllMembers IsPlain ms → HavePlain ms
 have_plain no_members h = tt
 have_plain (member k d ms) h = (h.0, have_plain ms h.1)
 
-pub members_plain : (fs : Blanks) (xs : List Field) (ms : Members) → FieldsFit xs → HavePlain ms → HavePlain (with_fields fs xs ms)
+pub members_plain : (fs : Blanks) (xs : List Field) (ms : Members) → FieldsFit xs → HavePlain ms
+    → HavePlain (with_fields fs xs ms)
 members_plain fs xs ms f h = have_plain _ (all_fields IsPlain fs xs ms field_plain f (back ms h))
   where
     back : (ms : Members) → HavePlain ms → AllMembers IsPlain ms
@@ -103,16 +108,19 @@ field_float (field.MaybeText None) = refl
 field_float (field.MaybeText (Some b)) = refl
 field_float (field.Numbers ns) = wholes_float ns
 
-floats_put : (fs : Blanks) (xs : List Field) (ms : Members) → AllMembers HasNone ms → AllMembers HasNone (with_fields fs xs ms)
+floats_put : (fs : Blanks) (xs : List Field) (ms : Members) → AllMembers HasNone ms
+    → AllMembers HasNone (with_fields fs xs ms)
 floats_put [] xs ms h = h
 floats_put (b ∷ fs) [] ms h = h
-floats_put (b ∷ fs) (x ∷ xs) ms h = floats_put fs xs (put b.0 (data_of x) ms) (all_put HasNone b.0 (data_of x) ms (field_float x) h)
+floats_put (b ∷ fs) (x ∷ xs) ms h =
+    floats_put fs xs (put b.0 (data_of x) ms) (all_put HasNone b.0 (data_of x) ms (field_float x) h)
 
 have_none : (ms : Members) → AllMembers HasNone ms → members_have_float ms ≡ false
 have_none no_members h = refl
 have_none (member k d ms) h = rw (h.0, have_none ms h.1) refl
 
-pub members_float : (fs : Blanks) (xs : List Field) (name verb : List ℕ) → members_have_float (with_fields fs xs (put name (string verb) no_members)) ≡ false
+pub members_float : (fs : Blanks) (xs : List Field) (name verb : List ℕ)
+    → members_have_float (with_fields fs xs (put name (string verb) no_members)) ≡ false
 members_float fs xs name verb = have_none _ (floats_put fs xs (put name (string verb) no_members) (refl, tt))
 
 -- ---- depth
@@ -147,14 +155,18 @@ field_shallow (field.MaybeText None) = lit≤ tt
 field_shallow (field.MaybeText (Some b)) = lit≤ tt
 field_shallow (field.Numbers ns) = rw (flat_wholes ns) (lit≤ tt)
 
-shallow_put : (fs : Blanks) (xs : List Field) (ms : Members) → AllMembers IsShallow ms → AllMembers IsShallow (with_fields fs xs ms)
+shallow_put : (fs : Blanks) (xs : List Field) (ms : Members) → AllMembers IsShallow ms
+    → AllMembers IsShallow (with_fields fs xs ms)
 shallow_put [] xs ms h = h
 shallow_put (b ∷ fs) [] ms h = h
-shallow_put (b ∷ fs) (x ∷ xs) ms h = shallow_put fs xs (put b.0 (data_of x) ms) (all_put IsShallow b.0 (data_of x) ms (field_shallow x) h)
+shallow_put (b ∷ fs) (x ∷ xs) ms h =
+    shallow_put fs xs (put b.0 (data_of x) ms) (all_put IsShallow b.0 (data_of x) ms (field_shallow x) h)
 
 have_shallow : (ms : Members) → AllMembers IsShallow ms → members_depth (members_outline ms) ≤ 1
 have_shallow no_members h = lit≤ tt
 have_shallow (member k d ms) h = omega (arith, h.0, have_shallow ms h.1)
 
-pub object_shallow : (fs : Blanks) (xs : List Field) (name verb : List ℕ) → depth (outline (object (with_fields fs xs (put name (string verb) no_members)))) ≤ 128
-object_shallow fs xs name verb = omega (arith, have_shallow _ (shallow_put fs xs (put name (string verb) no_members) (lit≤ tt, tt)))
+pub object_shallow : (fs : Blanks) (xs : List Field) (name verb : List ℕ)
+    → depth (outline (object (with_fields fs xs (put name (string verb) no_members)))) ≤ 128
+object_shallow fs xs name verb =
+    omega (arith, have_shallow _ (shallow_put fs xs (put name (string verb) no_members) (lit≤ tt, tt)))

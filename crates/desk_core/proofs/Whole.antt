@@ -11,5 +11,6 @@ by_float : (o : Option Form) (verb : List ℕ) (fields : List Field) → has_flo
 by_float None verb fields = refl
 by_float (Some form) verb fields = members_float form.fields fields (codes "do") verb
 
-pub data_float : (forms : List Form) (verb : List ℕ) (fields : List Field) → has_float (data_in forms verb fields) ≡ false
+pub data_float : (forms : List Form) (verb : List ℕ) (fields : List Field)
+    → has_float (data_in forms verb fields) ≡ false
 data_float forms verb fields = by_float (form_named verb forms) verb fields

@@ -1,5 +1,6 @@
 -- Answers as text.
-use Rattle.std.specs.Prelude.{◌≡◌, ℕ, ◌+◌, ◌-◌, ◌*◌, ◌%◌, ◌^◌, ◌&&◌, nat_le, List, [], ◌∷◌, ◌++◌, Bool, true, false, if◌then◌else◌, Option, Some, None, decimal, codes}
+use Rattle.std.specs.Prelude.{◌≡◌, ℕ, ◌+◌, ◌-◌, ◌*◌, ◌%◌, ◌^◌, ◌&&◌, nat_le, List, [], ◌∷◌, ◌++◌}
+use Rattle.std.specs.Prelude.{Bool, true, false, if◌then◌else◌, Option, Some, None, decimal, codes}
 use Rattle.std.specs.Str.{bytes_eq}
 use Rattle.part_core.specs.Columns.{◌>>=◌, must}
 use Rattle.part_core.specs.declared.answer.Answer.{Answer}
@@ -12,7 +13,8 @@ numbers_text later (n ∷ ns) = (if later then 44 ∷ [] else []) ++ (decimal n 
 
 -- the line that tells an answer, without its LF
 abbrev pub answer_line : Answer → List ℕ
-answer_line answer = codes "{\"entries\":" ++ decimal answer.entries ++ codes ",\"ids\":[" ++ numbers_text false answer.ids ++ codes "]}"
+answer_line answer =
+    codes "{\"entries\":" ++ decimal answer.entries ++ codes ",\"ids\":[" ++ numbers_text false answer.ids ++ codes "]}"
 
 -- ---- read again
 
@@ -31,7 +33,8 @@ before (Some n) ns = n ∷ ns
 -- the numbers whose digits stand in a text, in order; of the first some digits may be known
 abbrev pub numbers_in : Option ℕ → List ℕ → List ℕ
 numbers_in begun [] = before begun []
-numbers_in begun (b ∷ bs) = if is_digit b then numbers_in (Some (with_digit begun b)) bs else before begun (numbers_in None bs)
+numbers_in begun (b ∷ bs) =
+    if is_digit b then numbers_in (Some (with_digit begun b)) bs else before begun (numbers_in None bs)
 
 -- the first number tells the entries, the others are the ids
 abbrev pub answer_of_numbers : List ℕ → Option Answer
@@ -47,4 +50,5 @@ answer_told text = do
 
 -- an answer is read again from its line
 abbrev pub LinesTellAnswers : Type 0
-LinesTellAnswers = (answer : Answer) → Fits answer.entries → AreFit answer.ids → answer_told (answer_line answer) ≡ Some answer
+LinesTellAnswers =
+    (answer : Answer) → Fits answer.entries → AreFit answer.ids → answer_told (answer_line answer) ≡ Some answer

@@ -90,11 +90,13 @@ unfolding from_build from_part from_bom from_yard from_alloc build_forms part_fo
 once_from_build = refl
 
 once_from_order : AreOnce from_order
-unfolding from_order from_build from_part from_bom from_yard from_alloc order_forms build_forms part_forms bom_forms yard_forms alloc_forms
+unfolding from_order from_build from_part from_bom from_yard from_alloc order_forms build_forms part_forms bom_forms
+    yard_forms alloc_forms
 once_from_order = refl
 
 once : AreOnce command_forms
-unfolding command_forms from_order from_build from_part from_bom from_yard from_alloc stock_forms order_forms build_forms part_forms bom_forms yard_forms alloc_forms
+unfolding command_forms from_order from_build from_part from_bom from_yard from_alloc stock_forms order_forms
+    build_forms part_forms bom_forms yard_forms alloc_forms
 once = refl
 
 past_yard : (c : Command) → Makes from_alloc c → Makes from_yard c
@@ -159,7 +161,8 @@ pub command_back : (c : Command) → Makes command_forms c
 command_back (Part c) = past_three (Part c) (part_here c)
 command_back (Bom c) = past_three (Bom c) (past_part (Bom c) (bom_here c))
 command_back (Yard c) = past_three (Yard c) (past_part (Yard c) (past_bom (Yard c) (yard_here c)))
-command_back (Alloc c) = past_three (Alloc c) (past_part (Alloc c) (past_bom (Alloc c) (past_yard (Alloc c) (alloc_here c))))
+command_back (Alloc c) =
+    past_three (Alloc c) (past_part (Alloc c) (past_bom (Alloc c) (past_yard (Alloc c) (alloc_here c))))
 command_back (Order c) = past_stock (Order c) (order_here c)
 command_back (Build c) = past_stock (Build c) (past_order (Build c) (build_here c))
 command_back (Stock c) = stock_here c
@@ -172,31 +175,45 @@ AreTold rows = AllTell command_verb command_fields rows
 
 told_from_alloc : AreTold from_alloc
 unfolding from_alloc
-told_from_alloc = told_within Alloc alloc_verb alloc_fields command_verb command_fields (λ c. refl) (λ c. refl) alloc_forms [] alloc_told tt
+told_from_alloc =
+    told_within Alloc alloc_verb alloc_fields command_verb command_fields (λ c. refl) (λ c. refl) alloc_forms []
+    alloc_told tt
 
 told_from_yard : AreTold from_yard
 unfolding from_yard
-told_from_yard = told_within Yard yard_verb yard_fields command_verb command_fields (λ c. refl) (λ c. refl) yard_forms from_alloc yard_told told_from_alloc
+told_from_yard =
+    told_within Yard yard_verb yard_fields command_verb command_fields (λ c. refl) (λ c. refl) yard_forms from_alloc
+    yard_told told_from_alloc
 
 told_from_bom : AreTold from_bom
 unfolding from_bom
-told_from_bom = told_within Bom bom_verb bom_fields command_verb command_fields (λ c. refl) (λ c. refl) bom_forms from_yard bom_told told_from_yard
+told_from_bom =
+    told_within Bom bom_verb bom_fields command_verb command_fields (λ c. refl) (λ c. refl) bom_forms from_yard bom_told
+    told_from_yard
 
 told_from_part : AreTold from_part
 unfolding from_part
-told_from_part = told_within Part part_verb part_fields command_verb command_fields (λ c. refl) (λ c. refl) part_forms from_bom part_told told_from_bom
+told_from_part =
+    told_within Part part_verb part_fields command_verb command_fields (λ c. refl) (λ c. refl) part_forms from_bom
+    part_told told_from_bom
 
 told_from_build : AreTold from_build
 unfolding from_build
-told_from_build = told_within Build build_verb build_fields command_verb command_fields (λ c. refl) (λ c. refl) build_forms from_part build_told told_from_part
+told_from_build =
+    told_within Build build_verb build_fields command_verb command_fields (λ c. refl) (λ c. refl) build_forms from_part
+    build_told told_from_part
 
 told_from_order : AreTold from_order
 unfolding from_order
-told_from_order = told_within Order order_verb order_fields command_verb command_fields (λ c. refl) (λ c. refl) order_forms from_build order_told told_from_build
+told_from_order =
+    told_within Order order_verb order_fields command_verb command_fields (λ c. refl) (λ c. refl) order_forms from_build
+    order_told told_from_build
 
 command_told : AreTold command_forms
 unfolding command_forms
-command_told = told_within Stock stock_verb stock_fields command_verb command_fields (λ c. refl) (λ c. refl) stock_forms from_order stock_told told_from_order
+command_told =
+    told_within Stock stock_verb stock_fields command_verb command_fields (λ c. refl) (λ c. refl) stock_forms from_order
+    stock_told told_from_order
 
 pub command_made : (verb : List ℕ) (fields : List Field) → Fills (forms_by command_forms) verb fields
     → IsCommand command_verb command_fields (command_by command_forms verb fields) verb fields
@@ -210,4 +227,5 @@ command_distinct =
     (distinct_within Build build_forms from_part build_distinct
     (distinct_within Part part_forms from_bom part_distinct
     (distinct_within Bom bom_forms from_yard bom_distinct
-    (distinct_within Yard yard_forms from_alloc yard_distinct (distinct_within Alloc alloc_forms [] alloc_distinct refl))))))
+    (distinct_within Yard yard_forms from_alloc yard_distinct
+    (distinct_within Alloc alloc_forms [] alloc_distinct refl))))))

@@ -1,5 +1,6 @@
 -- The stock machine: its state, the checks of each command, its effect, one step and a run.
-use Rattle.std.specs.Prelude.{◌≡◌, ℕ, ◌+◌, ◌-◌, Bool, true, false, not, if◌then◌else◌, is_some, List, [], ◌∷◌, ◌++◌, Option, Some, None, option_and_then, Result, Ok, Err}
+use Rattle.std.specs.Prelude.{◌≡◌, ℕ, ◌+◌, ◌-◌, Bool, true, false, not, if◌then◌else◌, is_some, List}
+use Rattle.std.specs.Prelude.{[], ◌∷◌, ◌++◌, Option, Some, None, option_and_then, Result, Ok, Err}
 use Rattle.std.specs.FinMap as table
 use Rattle.std.specs.Str.{bytes_eq}
 use Rattle.part_core.specs.Catalogue.{Parts, Register, no_parts}
@@ -85,7 +86,8 @@ abbrev pub stock_books_in : State → StockBooks
 stock_books_in s = record { stock = s.stock; counter = s.counter }
 
 abbrev pub order_books_in : State → OrderBooks
-order_books_in s = record { orders = s.orders; lines = s.order_lines; allocations = s.allocations; books = stock_books_in s }
+order_books_in s =
+    record { orders = s.orders; lines = s.order_lines; allocations = s.allocations; books = stock_books_in s }
 
 abbrev pub build_books_in : State → BuildBooks
 build_books_in s = record { builds = s.builds; allocations = s.allocations; books = stock_books_in s }
@@ -104,7 +106,13 @@ with_allocations s t = record s { allocations = t }
 
 abbrev pub with_order_books : State → OrderBooks → State
 with_order_books s b =
-    record s { stock = b.books.stock; allocations = b.allocations; orders = b.orders; order_lines = b.lines; counter = b.books.counter }
+    record s {
+      stock = b.books.stock;
+      allocations = b.allocations;
+      orders = b.orders;
+      order_lines = b.lines;
+      counter = b.books.counter;
+    }
 
 abbrev pub with_build_books : State → BuildBooks → State
 with_build_books s b =
@@ -263,8 +271,8 @@ abbrev pub answer_in : Accepted → Answer
 answer_in (Anew answer) = answer
 answer_in (Again answer) = answer
 
--- a request is accepted anew exactly where its step is, and again exactly where it is a repeat; or it is refused, as its
--- step is; or it ran out of memory, which changes nothing
+-- a request is accepted anew exactly where its step is, and again exactly where it is a repeat; or it is refused, as
+-- its step is; or it ran out of memory, which changes nothing
 abbrev pub Accepts : State → Request → Result Accepted CoreFault → State → Type 0
 Accepts old r (Ok (Anew answer)) new = IsAnew old r × (step old r ≡ (new, Ok answer))
 Accepts old r (Ok (Again answer)) new = (repeated r old ≡ Some answer) × (new ≡ old)

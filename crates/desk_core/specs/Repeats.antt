@@ -32,7 +32,8 @@ LaterRepeatsChangeNothing =
 
 -- a list of accepted requests that is run again ends in the same state with the same outcomes
 abbrev pub RepeatsChangeNothing : Type 0
-RepeatsChangeNothing = (s : State) (rs : List Request) → AreKeyed rs → AreAccepted (run s rs).1 → run (run s rs).0 rs ≡ run s rs
+RepeatsChangeNothing =
+    (s : State) (rs : List Request) → AreKeyed rs → AreAccepted (run s rs).1 → run (run s rs).0 rs ≡ run s rs
 
 -- where the first of a list were run and accepted, the whole list, sent again, ends as if it had been sent once
 abbrev pub SendingAgainEndsAlike : Type 0

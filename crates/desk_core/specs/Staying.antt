@@ -15,7 +15,8 @@ pub record AllStay (old new : State) : Type 0 where
   pub orders : StayThere old.orders new.orders
   pub order_lines : StayThere old.order_lines new.order_lines
   pub builds : StayThere old.builds new.builds
-  pub answers : (key : List ℕ) (row : Kept) → table.get old.answers key ≡ Some row → table.get new.answers key ≡ Some row
+  pub answers : (key : List ℕ) (row : Kept) → table.get old.answers key ≡ Some row
+      → table.get new.answers key ≡ Some row
 
 -- in no step, of whatever state
 abbrev pub RowsStay : Type 0

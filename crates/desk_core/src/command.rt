@@ -2,7 +2,8 @@
 ghost use Rattle.std.specs.Prelude.{◌≡◌, option_map};
 ghost use Rattle.part_core.specs.Forms.{form_named, shown};
 ghost use Rattle.part_core.specs.FormTables.{command_by, forms_by};
-ghost use Rattle.desk_core.specs.CommandForms.{command_back, command_distinct, command_fields, command_fills, command_forms, command_made, command_verb};
+ghost use Rattle.desk_core.specs.CommandForms.{command_back, command_distinct, command_fields};
+ghost use Rattle.desk_core.specs.CommandForms.{command_fills, command_forms, command_made, command_verb};
 
 use crate::key::Key;
 use alloc_core::AllocCommand;

@@ -10,7 +10,9 @@ ghost use Rattle.bom_core.specs.Walks.{IsAcyclic};
 ghost use Rattle.forest.specs.Forest.{Balanced};
 ghost use Rattle.yard_core.specs.Stock.{forest_and_history};
 ghost use Rattle.stock_core.specs.Sound.{SerialsStandOnce};
-ghost use Rattle.desk_core.specs.Machine.{Accepts, AreDrawn, Decides, IsSoundState, answer_of, answered, answers_of, checks, effect, entries_in, entries_of, ids_of, run, start, told, with_answer};
+ghost use Rattle.desk_core.specs.Machine.{Accepts, AreDrawn, Decides, IsSoundState, answer_of};
+ghost use Rattle.desk_core.specs.Machine.{answered, answers_of, checks, effect, entries_in};
+ghost use Rattle.desk_core.specs.Machine.{entries_of, ids_of, run, start, told, with_answer};
 ghost use Rattle.desk_core.specs.ShopView.{state_before, state_of};
 
 use crate::accepted::Accepted;

@@ -8,7 +8,8 @@ ghost use Rattle.std.specs.String.{string_bytes};
 ghost use Rattle.serde_json.specs.Data.{no_members, put, string};
 ghost use Rattle.serde_json.specs.View.{members_view, view};
 ghost use Rattle.part_core.specs.Forms.{shown_fields};
-ghost use Rattle.desk_core.specs.CommandText.{TextsTell, TextsTellCommands, command_text, data_in, text_in, with_fields};
+ghost use Rattle.desk_core.specs.CommandText.{TextsTell, TextsTellCommands, command_text};
+ghost use Rattle.desk_core.specs.CommandText.{data_in, text_in, with_fields};
 
 use crate::command::Command;
 use part_core::{Field, FieldKind, Formed};

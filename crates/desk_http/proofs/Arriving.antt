@@ -1,5 +1,7 @@
 -- What has come, and what is still to come.
-use Rattle.std.proofs.Common.{◌≡◌, ◌+◌, ◌-◌, ◌≤◌, ◌<◌, ℕ, Bool, true, false, cond, List, [], ◌∷◌, ◌++◌, take, length, arith, ap, sym, refl, ◌∙◌, append-nil, length-append, zero, suc, nat_eq, ◌==◌, get_or, drop, drop-cons, add-one}
+use Rattle.std.proofs.Common.{◌≡◌, ◌+◌, ◌-◌, ◌≤◌, ◌<◌, ℕ, Bool, true, false, cond, List, [], ◌∷◌, ◌++◌}
+use Rattle.std.proofs.Common.{take, length, arith, ap, sym, refl, ◌∙◌, append-nil, length-append, zero}
+use Rattle.std.proofs.Common.{suc, nat_eq, ◌==◌, get_or, drop, drop-cons, add-one}
 use Rattle.std.specs.Prelude.{Option, Some, None, option_map, nat_lt, IfSome, ◌||◌, ◌&&◌}
 use Rattle.std.specs.List.{starts_with}
 use Rattle.std.specs.Io.KnownBytes.{IsAtEnd}
@@ -17,18 +19,24 @@ further : (i : ℕ) (o : Option ℕ) → option_map (λ n. n + i) (option_map (�
 further i None = refl
 further i (Some n) = ap Some (omega arith)
 
-unless_there : (b : ℕ) (bs : List ℕ) → starts_with nat_eq (b ∷ bs) (10 ∷ 10 ∷ []) ≡ false → starts_with nat_eq (b ∷ bs) (10 ∷ 13 ∷ 10 ∷ []) ≡ false
+unless_there : (b : ℕ) (bs : List ℕ) → starts_with nat_eq (b ∷ bs) (10 ∷ 10 ∷ []) ≡ false
+    → starts_with nat_eq (b ∷ bs) (10 ∷ 13 ∷ 10 ∷ []) ≡ false
     → empty_line_end (b ∷ bs) ≡ option_map (λ n. n + 1) (empty_line_end bs)
 unfolding empty_line_end
 unless_there b bs e f =
-    ap (λ t. cond t (Some 2) (cond (starts_with nat_eq (b ∷ bs) (10 ∷ 13 ∷ 10 ∷ [])) (Some 3) (option_map (λ n. n + 1) (empty_line_end bs)))) e
+    ap (λ t. cond t (Some 2)
+    (cond (starts_with nat_eq (b ∷ bs) (10 ∷ 13 ∷ 10 ∷ [])) (Some 3) (option_map (λ n. n + 1) (empty_line_end bs))))
+    e
     ∙ ap (λ t. cond t (Some 3) (option_map (λ n. n + 1) (empty_line_end bs))) f
 
 -- no empty line stands at this place
-pub no_empty_line : (bs rest : List ℕ) (i : ℕ) → i < length bs → rest ≡ drop i bs → starts_with nat_eq rest (10 ∷ 10 ∷ []) ≡ false → starts_with nat_eq rest (10 ∷ 13 ∷ 10 ∷ []) ≡ false
-    → option_map (λ n. n + i) (empty_line_end (drop i bs)) ≡ option_map (λ n. n + (i + 1)) (empty_line_end (drop (i + 1) bs))
+pub no_empty_line : (bs rest : List ℕ) (i : ℕ) → i < length bs → rest ≡ drop i bs
+    → starts_with nat_eq rest (10 ∷ 10 ∷ []) ≡ false → starts_with nat_eq rest (10 ∷ 13 ∷ 10 ∷ []) ≡ false
+    → option_map (λ n. n + i) (empty_line_end (drop i bs))
+    ≡ option_map (λ n. n + (i + 1)) (empty_line_end (drop (i + 1) bs))
 no_empty_line bs rest i l r e f =
-    let cut : drop i bs ≡ get_or bs i 0 ∷ drop (i + 1) bs = drop-cons bs i 0 l ∙ ap (λ k. get_or bs i 0 ∷ drop k bs) (sym (add-one i)) in
+    let cut : drop i bs ≡ get_or bs i 0 ∷ drop (i + 1) bs =
+    drop-cons bs i 0 l ∙ ap (λ k. get_or bs i 0 ∷ drop k bs) (sym (add-one i)) in
     let same = r ∙ cut in
     ap (λ v. option_map (λ n. n + i) (empty_line_end v)) cut
     ∙ ap (option_map (λ n. n + i)) (unless_there (get_or bs i 0) (drop (i + 1) bs) (rw same at e) (rw same at f))
@@ -44,7 +52,8 @@ one_byte b n h = by (nat_eq 10 b) h
     by true e = absurd (cc)
     by false e = absurd (cc)
 
-two_bytes : (c n : ℕ) (s u : Bool) (o : Option ℕ) → empty_line_end (c ∷ []) ≡ o → cond (s && (u && false)) (Some 3) (option_map (λ k. k + 1) o) ≡ Some n → ⊥
+two_bytes : (c n : ℕ) (s u : Bool) (o : Option ℕ) → empty_line_end (c ∷ []) ≡ o
+    → cond (s && (u && false)) (Some 3) (option_map (λ k. k + 1) o) ≡ Some n → ⊥
 two_bytes c n true true (Some m) q e = one_byte c m q
 two_bytes c n true false (Some m) q e = one_byte c m q
 two_bytes c n false u (Some m) q e = one_byte c m q
@@ -64,25 +73,39 @@ empty_line_stays [] more n h = absurd (cc)
 empty_line_stays (b ∷ []) more n h = absurd (one_byte b n h)
 empty_line_stays (b ∷ c ∷ []) more n h = by (nat_eq 10 b && (nat_eq 10 c && true)) h
   where
-    by : (t : Bool) → cond t (Some 2) (cond (nat_eq 10 b && (nat_eq 13 c && false)) (Some 3) (option_map (λ k. k + 1) (empty_line_end (c ∷ [])))) ≡ Some n
-        → cond t (Some 2) (cond (starts_with nat_eq (b ∷ c ∷ more) (10 ∷ 13 ∷ 10 ∷ [])) (Some 3) (option_map (λ k. k + 1) (empty_line_end (c ∷ more)))) ≡ Some n
+    by : (t : Bool) → cond t (Some 2)
+        (cond (nat_eq 10 b && (nat_eq 13 c && false)) (Some 3) (option_map (λ k. k + 1) (empty_line_end (c ∷ []))))
+        ≡ Some n
+        → cond t (Some 2)
+        (cond (starts_with nat_eq (b ∷ c ∷ more) (10 ∷ 13 ∷ 10 ∷ [])) (Some 3)
+        (option_map (λ k. k + 1) (empty_line_end (c ∷ more))))
+        ≡ Some n
     by true e = e
     by false e = absurd (two_bytes c n (nat_eq 10 b) (nat_eq 13 c) (empty_line_end (c ∷ [])) refl e)
 empty_line_stays (b ∷ c ∷ d ∷ ds) more n h =
     by (starts_with nat_eq (b ∷ c ∷ d ∷ ds) (10 ∷ 10 ∷ [])) h (empty_line_stays (c ∷ d ∷ ds) more)
   where
-    by : (t : Bool) → cond t (Some 2) (cond (starts_with nat_eq (b ∷ c ∷ d ∷ ds) (10 ∷ 13 ∷ 10 ∷ [])) (Some 3) (option_map (λ k. k + 1) (empty_line_end (c ∷ d ∷ ds)))) ≡ Some n
+    by : (t : Bool) → cond t (Some 2)
+        (cond (starts_with nat_eq (b ∷ c ∷ d ∷ ds) (10 ∷ 13 ∷ 10 ∷ [])) (Some 3)
+        (option_map (λ k. k + 1) (empty_line_end (c ∷ d ∷ ds))))
+        ≡ Some n
         → ((m : ℕ) → empty_line_end (c ∷ d ∷ ds) ≡ Some m → empty_line_end (c ∷ d ∷ ds ++ more) ≡ Some m)
-        → cond t (Some 2) (cond (starts_with nat_eq (b ∷ c ∷ d ∷ ds) (10 ∷ 13 ∷ 10 ∷ [])) (Some 3) (option_map (λ k. k + 1) (empty_line_end (c ∷ d ∷ ds ++ more)))) ≡ Some n
+        → cond t (Some 2)
+        (cond (starts_with nat_eq (b ∷ c ∷ d ∷ ds) (10 ∷ 13 ∷ 10 ∷ [])) (Some 3)
+        (option_map (λ k. k + 1) (empty_line_end (c ∷ d ∷ ds ++ more))))
+        ≡ Some n
     by true e ih = e
-    by false e ih = later (starts_with nat_eq (b ∷ c ∷ d ∷ ds) (10 ∷ 13 ∷ 10 ∷ [])) (empty_line_end (c ∷ d ∷ ds)) (empty_line_end (c ∷ d ∷ ds ++ more)) n ih e
+    by false e ih =
+        later (starts_with nat_eq (b ∷ c ∷ d ∷ ds) (10 ∷ 13 ∷ 10 ∷ [])) (empty_line_end (c ∷ d ∷ ds))
+        (empty_line_end (c ∷ d ∷ ds ++ more)) n ih e
 
 end_stays : (bs more : List ℕ) (n : ℕ) → head_end bs ≡ Some n → head_end (bs ++ more) ≡ Some n
 unfolding head_end
 end_stays [] more n h = absurd (cc)
 end_stays (b ∷ bs) more n h = by (b == 13 || b == 10) (head_end bs) (end_stays bs more) h
   where
-    by : (t : Bool) (o : Option ℕ) → ((m : ℕ) → o ≡ Some m → head_end (bs ++ more) ≡ Some m) → cond t (option_map (λ k. k + 1) o) (empty_line_end (b ∷ bs)) ≡ Some n
+    by : (t : Bool) (o : Option ℕ) → ((m : ℕ) → o ≡ Some m → head_end (bs ++ more) ≡ Some m)
+        → cond t (option_map (λ k. k + 1) o) (empty_line_end (b ∷ bs)) ≡ Some n
         → cond t (option_map (λ k. k + 1) (head_end (bs ++ more))) (empty_line_end (b ∷ bs ++ more)) ≡ Some n
     by true None ih e = absurd (cc)
     by true (Some m) ih e = ap (option_map (λ i. i + 1)) (ih m refl) ∙ e
@@ -92,7 +115,8 @@ front_more : (n : ℕ) (bs ys : List ℕ) → take n (bs ++ ys) ≡ take n bs ++
 front_more zero bs ys = let e : 0 ≡ 0 - length bs = omega arith in ap (λ k. take k ys) e
 front_more (suc n) [] ys = let e : suc n ≡ suc n - 0 = omega arith in ap (λ k. take k ys) e
 front_more (suc n) (b ∷ bs) ys =
-    let e : n - length bs ≡ suc n - length (b ∷ bs) = omega arith in ap (λ l. b ∷ l) (front_more n bs ys) ∙ ap (λ k. b ∷ take n bs ++ take k ys) e
+    let e : n - length bs ≡ suc n - length (b ∷ bs) = omega arith in
+    ap (λ l. b ∷ l) (front_more n bs ys) ∙ ap (λ k. b ∷ take n bs ++ take k ys) e
 
 found_early : (bs ys : List ℕ) (n : ℕ) → head_end (front bs) ≡ Some n → head_end (front (bs ++ ys)) ≡ Some n
 unfolding front
@@ -100,13 +124,17 @@ found_early bs ys n h = ap head_end (front_more 8192 bs ys) ∙ end_stays (take 
 
 -- ---- what has come of a head is what the whole bytes begin with
 
-pub found : (r : Option (List ℕ)) (bs : List ℕ) (n : ℕ) → head_end (front bs) ≡ Some n → IfSome (all_of r bs) (λ xs. Head n ≡ arrival xs)
+pub found : (r : Option (List ℕ)) (bs : List ℕ) (n : ℕ) → head_end (front bs) ≡ Some n
+    → IfSome (all_of r bs) (λ xs. Head n ≡ arrival xs)
 found None bs n h = tt
 found (Some ys) bs n h = sym (ap (arrival_at (bs ++ ys)) (found_early bs ys n h))
 
 front_full : (bs ys : List ℕ) → 8192 ≤ length bs → front (bs ++ ys) ≡ front bs
 unfolding front
-front_full bs ys h = front_more 8192 bs ys ∙ (let e : 8192 - length bs ≡ 0 = omega arith in ap (λ k. take 8192 bs ++ take k ys) e) ∙ append-nil (take 8192 bs)
+front_full bs ys h =
+    front_more 8192 bs ys
+    ∙ (let e : 8192 - length bs ≡ 0 = omega arith in ap (λ k. take 8192 bs ++ take k ys) e)
+    ∙ append-nil (take 8192 bs)
 
 unless_short : (x : ℕ) → 8192 ≤ x → cond (nat_lt x 8192) Incomplete TooLong ≡ TooLong
 unless_short x h = ap (λ b. cond b Incomplete TooLong) (le-ltb x 8192 h)
@@ -114,12 +142,15 @@ unless_short x h = ap (λ b. cond b Incomplete TooLong) (le-ltb x 8192 h)
 if_short : (x : ℕ) → x < 8192 → cond (nat_lt x 8192) Incomplete TooLong ≡ Incomplete
 if_short x h = ap (λ b. cond b Incomplete TooLong) (lt-ltb x 8192 h)
 
-pub too_long : (r : Option (List ℕ)) (bs : List ℕ) → head_end (front bs) ≡ None → 8192 ≤ length bs → IfSome (all_of r bs) (λ xs. TooLong ≡ arrival xs)
+pub too_long : (r : Option (List ℕ)) (bs : List ℕ) → head_end (front bs) ≡ None → 8192 ≤ length bs
+    → IfSome (all_of r bs) (λ xs. TooLong ≡ arrival xs)
 too_long None bs h l = tt
 too_long (Some ys) bs h l =
-    sym (ap (arrival_at (bs ++ ys)) (ap head_end (front_full bs ys l) ∙ h) ∙ unless_short (length (bs ++ ys)) (omega (arith, length-append bs ys)))
+    sym (ap (arrival_at (bs ++ ys)) (ap head_end (front_full bs ys l) ∙ h)
+    ∙ unless_short (length (bs ++ ys)) (omega (arith, length-append bs ys)))
 
-pub incomplete : (r : Option (List ℕ)) (bs : List ℕ) → IsAtEnd r → head_end (front bs) ≡ None → length bs < 8192 → IfSome (all_of r bs) (λ xs. Incomplete ≡ arrival xs)
+pub incomplete : (r : Option (List ℕ)) (bs : List ℕ) → IsAtEnd r → head_end (front bs) ≡ None → length bs < 8192
+    → IfSome (all_of r bs) (λ xs. Incomplete ≡ arrival xs)
 incomplete None bs e h l = tt
 incomplete (Some ys) bs e h l =
     let all : bs ++ ys ≡ bs = ap (λ v. bs ++ v) e ∙ append-nil bs in

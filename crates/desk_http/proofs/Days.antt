@@ -1,5 +1,6 @@
 -- Days as parts of a path.
-use Rattle.std.proofs.Common.{◌≡◌, ℕ, zero, suc, ◌+◌, ◌<◌, ◌≤◌, slice_index, List, [], ◌∷◌, Option, Some, None, Bool, true, false, cond, refl, sym, ap, ◌∙◌, arith, ◌==◌}
+use Rattle.std.proofs.Common.{◌≡◌, ℕ, zero, suc, ◌+◌, ◌<◌, ◌≤◌, slice_index, List, [], ◌∷◌, Option}
+use Rattle.std.proofs.Common.{Some, None, Bool, true, false, cond, refl, sym, ap, ◌∙◌, arith, ◌==◌}
 use Rattle.std.specs.Prelude.{option_map, codes, ◌&&◌, not, nat_lt, nat_le}
 use Rattle.std.specs.List.{list_all}
 use Rattle.std.specs.Str.{IsUtf8, IsAscii}
@@ -14,16 +15,19 @@ no true = refl
 no false = refl
 
 -- a text with a slash doesn't fit a pattern without one
-unslashed : (ws s : List ℕ) (i : ℕ) → list_all (λ w. not (is_digit_or w 47)) ws ≡ true → slash_in s ≡ Some i → fits_pattern ws s ≡ false
+unslashed : (ws s : List ℕ) (i : ℕ) → list_all (λ w. not (is_digit_or w 47)) ws ≡ true → slash_in s ≡ Some i
+    → fits_pattern ws s ≡ false
 unfolding slash_in
 unslashed [] [] i h e = absurd (cc)
 unslashed [] (b ∷ s) i h e = refl
 unslashed (w ∷ ws) [] i h e = refl
 unslashed (w ∷ ws) (b ∷ s) i h e = by (is_digit_or w 47) refl (b == 47) refl (slash_in s) refl h e (unslashed ws s)
   where
-    by : (d : Bool) → is_digit_or w 47 ≡ d → (c : Bool) → (b == 47) ≡ c → (o : Option ℕ) → slash_in s ≡ o → (not d && list_all (λ w. not (is_digit_or w 47)) ws) ≡ true
+    by : (d : Bool) → is_digit_or w 47 ≡ d → (c : Bool) → (b == 47) ≡ c → (o : Option ℕ) → slash_in s ≡ o
+        → (not d && list_all (λ w. not (is_digit_or w 47)) ws) ≡ true
         → cond c (Some 0) (option_map (λ n. n + 1) o) ≡ Some i
-        → ((j : ℕ) → list_all (λ w. not (is_digit_or w 47)) ws ≡ true → slash_in s ≡ Some j → fits_pattern ws s ≡ false) → (is_digit_or w b && fits_pattern ws s) ≡ false
+        → ((j : ℕ) → list_all (λ w. not (is_digit_or w 47)) ws ≡ true → slash_in s ≡ Some j → fits_pattern ws s ≡ false)
+        → (is_digit_or w b && fits_pattern ws s) ≡ false
     by true p c q o r h' e' ih = absurd (cc)
     by false p true q o r h' e' ih =
         let is : b ≡ 47 = grind (arith, nat_tests) in
@@ -60,8 +64,10 @@ ascii [] (b ∷ s) h e i = absurd (cc)
 ascii (w ∷ ws) [] h e i = absurd (cc)
 ascii (w ∷ ws) (b ∷ s) h e i = by (nat_lt w 128) refl h (is_digit_or w b) refl e (ascii ws s) i
   where
-    by : (c : Bool) → nat_lt w 128 ≡ c → (c && list_all (λ w. nat_lt w 128) ws) ≡ true → (d : Bool) → is_digit_or w b ≡ d → (d && fits_pattern ws s) ≡ true
-        → (list_all (λ w. nat_lt w 128) ws ≡ true → fits_pattern ws s ≡ true → IsAscii s) → (i : ℕ) → slice_index (b ∷ s) i < 128
+    by : (c : Bool) → nat_lt w 128 ≡ c → (c && list_all (λ w. nat_lt w 128) ws) ≡ true → (d : Bool)
+        → is_digit_or w b ≡ d → (d && fits_pattern ws s) ≡ true
+        → (list_all (λ w. nat_lt w 128) ws ≡ true → fits_pattern ws s ≡ true → IsAscii s) → (i : ℕ)
+        → slice_index (b ∷ s) i < 128
     by false q h' d r e' ih i = absurd (cc)
     by true q h' false r e' ih i = absurd (cc)
     by true q h' true r e' ih zero = let k : w < 128 = grind (arith, nat_tests) in ascii_digit w b k r

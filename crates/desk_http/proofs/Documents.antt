@@ -1,5 +1,6 @@
 -- The name of a document is text.
-use Rattle.std.proofs.Common.{◌≡◌, ℕ, zero, suc, ◌<◌, ◌≤◌, slice_index, List, [], ◌∷◌, Bool, true, false, refl, arith, length}
+use Rattle.std.proofs.Common.{◌≡◌, ℕ, zero, suc, ◌<◌, ◌≤◌, slice_index, List}
+use Rattle.std.proofs.Common.{[], ◌∷◌, Bool, true, false, refl, arith, length}
 use Rattle.std.specs.Prelude.{◌&&◌, nat_lt, nat_le}
 use Rattle.std.specs.List.{list_all}
 use Rattle.std.specs.Str.{IsUtf8, IsAscii}
@@ -14,7 +15,8 @@ ascii : (s : List ℕ) → list_all is_document_byte s ≡ true → IsAscii s
 ascii [] h i = omega arith
 ascii (b ∷ s) h i = by (is_document_byte b) refl h (ascii s) i
   where
-    by : (c : Bool) → is_document_byte b ≡ c → (c && list_all is_document_byte s) ≡ true → (list_all is_document_byte s ≡ true → IsAscii s) → (i : ℕ) → slice_index (b ∷ s) i < 128
+    by : (c : Bool) → is_document_byte b ≡ c → (c && list_all is_document_byte s) ≡ true
+        → (list_all is_document_byte s ≡ true → IsAscii s) → (i : ℕ) → slice_index (b ∷ s) i < 128
     by false q h' ih i = absurd (cc)
     by true q h' ih zero = low b q
     by true q h' ih (suc i) = ih h' i

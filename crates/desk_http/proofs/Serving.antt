@@ -1,5 +1,6 @@
 -- What is served, over plain variables.
-use Rattle.std.proofs.Common.{◌≡◌, ◌+◌, ◌≤◌, ◌<◌, ℕ, cond, List, [], ◌++◌, take, drop, length, arith, ap, sym, refl, ◌∙◌, subst, append-nil, length-append, length-drop, inl, inr}
+use Rattle.std.proofs.Common.{◌≡◌, ◌+◌, ◌≤◌, ◌<◌, ℕ, cond, List, [], ◌++◌, take, drop, length, arith, ap}
+use Rattle.std.proofs.Common.{sym, refl, ◌∙◌, subst, append-nil, length-append, length-drop, inl, inr}
 use Rattle.std.specs.Prelude.{Option, Some, None, Result, Ok, Err, IfSome, ◌⊎◌}
 use Rattle.std.specs.Io.KnownBytes.{IsAtEnd, Keeps}
 use Rattle.std.proofs.KnownBytes.{Keeps-refl}
@@ -20,20 +21,27 @@ use Rattle.desk_http.specs.Plans.{plan_of}
 use Rattle.desk_http.specs.HeadEnds.{arrival, all_of}
 use Rattle.desk_http.specs.Services.{Operation, operation, ReplyView}
 use Rattle.desk_http.specs.Responses.{Response, rejection_response, reply_response, failure_response}
-use Rattle.desk_http.specs.Serving.{Received, Incomplete, Rejected, Complete, received_of, IsReceivedAt, IsReceivedFrom, IsReceived, Serves, Answers, Sends, PerformsAndSends}
+use Rattle.desk_http.specs.Serving.{Received, Incomplete, Rejected, Complete, received_of, IsReceivedAt}
+use Rattle.desk_http.specs.Serving.{IsReceivedFrom, IsReceived, Serves, Answers, Sends, PerformsAndSends}
 
 -- how what was received comes out of a plan
-whole : (resource : Resource) (len : ℕ) (rest : List ℕ) → len ≤ length rest → received_of (Ok (resource, len)) rest ≡ Complete (operation resource (take len rest))
-whole resource len rest h = ap (λ b. cond b Incomplete (Complete (operation resource (take len rest)))) (le-ltb (length rest) len h)
+whole : (resource : Resource) (len : ℕ) (rest : List ℕ) → len ≤ length rest
+    → received_of (Ok (resource, len)) rest ≡ Complete (operation resource (take len rest))
+whole resource len rest h =
+    ap (λ b. cond b Incomplete (Complete (operation resource (take len rest)))) (le-ltb (length rest) len h)
 
-part : (resource : Resource) (len : ℕ) (rest : List ℕ) → length rest < len → received_of (Ok (resource, len)) rest ≡ Incomplete
-part resource len rest h = ap (λ b. cond b Incomplete (Complete (operation resource (take len rest)))) (lt-ltb (length rest) len h)
+part : (resource : Resource) (len : ℕ) (rest : List ℕ) → length rest < len
+    → received_of (Ok (resource, len)) rest ≡ Incomplete
+part resource len rest h =
+    ap (λ b. cond b Incomplete (Complete (operation resource (take len rest)))) (lt-ltb (length rest) len h)
 
-head_kept : (bs ys h : List ℕ) (n : ℕ) (class : Class) → n ≤ length bs → h ≡ take n bs → IsHead h class → IsHead (take n (bs ++ ys)) class
+head_kept : (bs ys h : List ℕ) (n : ℕ) (class : Class) → n ≤ length bs → h ≡ take n bs → IsHead h class
+    → IsHead (take n (bs ++ ys)) class
 head_kept bs ys h n class l e is = subst (λ v. IsHead v class) (e ∙ sym (take-append-le n bs ys l)) is
 
 -- a head that is rejected
-pub is_rejected : (r : Option (List ℕ)) (bs h : List ℕ) (n : ℕ) (class : Class) (rejection : Rejection) → n ≤ length bs → h ≡ take n bs → IsHead h class
+pub is_rejected : (r : Option (List ℕ)) (bs h : List ℕ) (n : ℕ) (class : Class) (rejection : Rejection) → n ≤ length bs
+    → h ≡ take n bs → IsHead h class
     → Err rejection ≡ plan_of class → IsReceivedFrom (arrival.Head n) (all_of r bs) (Rejected rejection)
 is_rejected None bs h n class rejection l e is p = tt
 is_rejected (Some ys) bs h n class rejection l e is p =
@@ -41,18 +49,24 @@ is_rejected (Some ys) bs h n class rejection l e is p =
 
 -- a body that ended too early
 pub is_incomplete : (r r' : Option (List ℕ)) (bs bs' h : List ℕ) (n len : ℕ) (resource : Resource) (class : Class)
-    → n ≤ length bs → h ≡ take n bs → IsHead h class → Ok (resource, len) ≡ plan_of class → Keeps (all_of r bs) (all_of r' bs') → IsAtEnd r'
+    → n ≤ length bs → h ≡ take n bs → IsHead h class → Ok (resource, len) ≡ plan_of class
+    → Keeps (all_of r bs) (all_of r' bs') → IsAtEnd r'
     → length bs' < n + len → IsReceivedFrom (arrival.Head n) (all_of r bs) Incomplete
 is_incomplete None r' bs bs' h n len resource class l e is p k end less = tt
 is_incomplete (Some ys) None bs bs' h n len resource class l e is p k end less = absurd k
 is_incomplete (Some ys) (Some zs) bs bs' h n len resource class l e is p k end less =
     let all : bs' ≡ bs ++ ys = sym (append-nil bs') ∙ ap (λ v. bs' ++ v) (sym end) ∙ k in
-    let short : length (drop n (bs ++ ys)) < len = omega (arith, length-drop n (bs ++ ys), ap length all, length-append bs ys) in
-    (class, head_kept bs ys h n class l e is, sym (ap (λ q. received_of q (drop n (bs ++ ys))) (sym p) ∙ part resource len (drop n (bs ++ ys)) short))
+    let short : length (drop n (bs ++ ys)) < len =
+    omega (arith, length-drop n (bs ++ ys), ap length all, length-append bs ys) in (
+      class,
+      head_kept bs ys h n class l e is,
+      sym (ap (λ q. received_of q (drop n (bs ++ ys))) (sym p) ∙ part resource len (drop n (bs ++ ys)) short),
+    )
 
 -- a body that has come
 pub is_complete : (r r' : Option (List ℕ)) (bs bs' h body : List ℕ) (n len : ℕ) (resource : Resource) (class : Class)
-    → n ≤ length bs → h ≡ take n bs → IsHead h class → Ok (resource, len) ≡ plan_of class → Keeps (all_of r bs) (all_of r' bs') → n + len ≤ length bs'
+    → n ≤ length bs → h ≡ take n bs → IsHead h class → Ok (resource, len) ≡ plan_of class
+    → Keeps (all_of r bs) (all_of r' bs') → n + len ≤ length bs'
     → body ≡ take len (drop n bs') → IsReceivedFrom (arrival.Head n) (all_of r bs) (Complete (operation resource body))
 is_complete None r' bs bs' h body n len resource class l e is p k fit b = tt
 is_complete (Some ys) None bs bs' h body n len resource class l e is p k fit b = absurd k
@@ -62,50 +76,68 @@ is_complete (Some ys) (Some zs) bs bs' h body n len resource class l e is p k fi
     let here : n ≤ length bs' = omega arith in
     let rest : len ≤ length (drop n bs') = omega (arith, length-drop n bs') in
     let same : body ≡ take len (drop n xs) =
-    b ∙ sym (take-append-le len (drop n bs') zs rest) ∙ ap (take len) (sym (drop-append-le n bs' zs here)) ∙ ap (λ v. take len (drop n v)) k in
-    (class, head_kept bs ys h n class l e is, ap (λ v. Complete (operation resource v)) same ∙ sym (whole resource len (drop n xs) fits) ∙ ap (λ q. received_of q (drop n xs)) p)
+    b
+    ∙ sym (take-append-le len (drop n bs') zs rest)
+    ∙ ap (take len) (sym (drop-append-le n bs' zs here))
+    ∙ ap (λ v. take len (drop n v)) k in (
+      class,
+      head_kept bs ys h n class l e is,
+      ap (λ v. Complete (operation resource v)) same
+          ∙ sym (whole resource len (drop n xs) fits)
+          ∙ ap (λ q. received_of q (drop n xs)) p,
+    )
 
 pub is_too_long : (known : Option (List ℕ)) → IsReceivedFrom arrival.TooLong known (Rejected HeadTooLarge)
 is_too_long None = tt
 is_too_long (Some xs) = refl
 
 -- what was read and is still to come are the bytes at the start
-pub is_of_all : (o r : Option (List ℕ)) (bs : List ℕ) (a : HeadArrival) → Keeps (all_of o []) (all_of r bs) → IfSome (all_of r bs) (λ xs. a ≡ arrival xs)
+pub is_of_all : (o r : Option (List ℕ)) (bs : List ℕ) (a : HeadArrival) → Keeps (all_of o []) (all_of r bs)
+    → IfSome (all_of r bs) (λ xs. a ≡ arrival xs)
     → (q : Received) → IsReceivedFrom a (all_of r bs) q → IsReceived o q
 is_of_all None r bs a k e q is = tt
 is_of_all (Some xs) None bs a k e q is = absurd k
-is_of_all (Some xs) (Some ys) bs a k e q is = subst (λ v. IsReceivedAt (arrival v) v q) k (subst (λ b. IsReceivedAt b (bs ++ ys) q) e is)
+is_of_all (Some xs) (Some ys) bs a k e q is =
+    subst (λ v. IsReceivedAt (arrival v) v q) k (subst (λ b. IsReceivedAt b (bs ++ ys) q) e is)
 
 module _ {D : Type 0} (performs : D → Operation → Result ReplyView NoReply → D → Type 0) where
   -- what may be said of the bytes where more is known of them
-  pub moved : (are be : Received → Type 0) → ((q : Received) → are q → be q) → (d d' : D) (w w' : Option (List ℕ)) (res : Result ℕ Stop)
+  pub moved : (are be : Received → Type 0) → ((q : Received) → are q → be q)
+      → (d d' : D) (w w' : Option (List ℕ)) (res : Result ℕ Stop)
       → Serves performs are d d' w w' res → Serves performs be d d' w w' res
   moved are be f d d' w w' (Ok status) (p, (q, is, responds), e, k) = (p, (q, f q is, responds), e, k)
   moved are be f d d' w w' (Err Ended) h = (f Incomplete h.0, h.1, h.2)
   moved are be f d d' w w' (Err ReadFailed) h = h
   moved are be f d d' w w' (Err WriteFailed) (p, (q, is, responds), k) = (p, (q, f q is, responds), k)
   moved are be f d d' w w' (Err Memory) (inl same, kept) = (inl same, kept)
-  moved are be f d d' w w' (Err Memory) (inr (o, is, outcome, done), kept) = (inr (o, f (Complete o) is, outcome, done), kept)
+  moved are be f d d' w w' (Err Memory) (inr (o, is, outcome, done), kept) =
+      (inr (o, f (Complete o) is, outcome, done), kept)
 
   -- a call that read no more did and wrote nothing
-  pub stopped : (are : Received → Type 0) (d : D) (w : Option (List ℕ)) (e : Stop) → (e ≡ ReadFailed) ⊎ (e ≡ Memory) → Serves performs are d d w w (Err e)
+  pub stopped : (are : Received → Type 0) (d : D) (w : Option (List ℕ)) (e : Stop) → (e ≡ ReadFailed) ⊎ (e ≡ Memory)
+      → Serves performs are d d w w (Err e)
   stopped are d w e (inl h) = subst (λ v. Serves performs are d d w w (Err v)) (sym h) (refl, Keeps-refl w)
   stopped are d w e (inr h) = subst (λ v. Serves performs are d d w w (Err v)) (sym h) (inl refl, Keeps-refl w)
 
-  pub ended : (are : Received → Type 0) (d : D) (w : Option (List ℕ)) → are Incomplete → Serves performs are d d w w (Err Ended)
+  pub ended : (are : Received → Type 0) (d : D) (w : Option (List ℕ)) → are Incomplete
+      → Serves performs are d d w w (Err Ended)
   ended are d w is = (is, refl, Keeps-refl w)
 
   -- a response to what was rejected, sent
-  pub rejected : (are : Received → Type 0) (rejection : Rejection) (d : D) (w w' : Option (List ℕ)) (res : Result ℕ Stop) → are (Rejected rejection)
+  pub rejected : (are : Received → Type 0) (rejection : Rejection) (d : D) (w w' : Option (List ℕ))
+      (res : Result ℕ Stop) → are (Rejected rejection)
       → Sends (rejection_response rejection) w w' res → Serves performs are d d w w' res
-  rejected are rejection d w w' (Ok status) is k = (rejection_response rejection, (Rejected rejection, is, (refl, refl)), k.0, k.1)
-  rejected are rejection d w w' (Err WriteFailed) is k = (rejection_response rejection, (Rejected rejection, is, (refl, refl)), k)
+  rejected are rejection d w w' (Ok status) is k =
+      (rejection_response rejection, (Rejected rejection, is, (refl, refl)), k.0, k.1)
+  rejected are rejection d w w' (Err WriteFailed) is k =
+      (rejection_response rejection, (Rejected rejection, is, (refl, refl)), k)
   rejected are rejection d w w' (Err Memory) is k = (inl refl, k)
   rejected are rejection d w w' (Err Ended) is k = absurd k
   rejected are rejection d w w' (Err ReadFailed) is k = absurd k
 
   -- a response to what was done, sent
-  pub performed : (are : Received → Type 0) (o : Operation) (d d' : D) (w w' : Option (List ℕ)) (res : Result ℕ Stop) → are (Complete o)
+  pub performed : (are : Received → Type 0) (o : Operation) (d d' : D) (w w' : Option (List ℕ)) (res : Result ℕ Stop)
+      → are (Complete o)
       → PerformsAndSends performs d o d' w w' res → Serves performs are d d' w w' res
   performed are o d d' w w' (Ok status) is (inl (p, replies, k)) = (p, (Complete o, is, replies), k.0, k.1)
   performed are o d d' w w' (Err WriteFailed) is (inl (p, replies, k)) = (p, (Complete o, is, replies), k)
@@ -116,13 +148,16 @@ module _ {D : Type 0} (performs : D → Operation → Result ReplyView NoReply �
   performed are o d d' w w' res is (inr (none, done, kept)) =
       subst (λ v. Serves performs are d d' w w' v) (sym none) (inr (o, is, done.0, done.1), kept)
 
-  pub told : (d : D) (o : Operation) (d' : D) (reply : ReplyView) (w w' : Option (List ℕ)) (res : Result ℕ Stop) → performs d o (Ok reply) d' → Sends (reply_response reply) w w' res
+  pub told : (d : D) (o : Operation) (d' : D) (reply : ReplyView) (w w' : Option (List ℕ)) (res : Result ℕ Stop)
+      → performs d o (Ok reply) d' → Sends (reply_response reply) w w' res
       → PerformsAndSends performs d o d' w w' res
   told d o d' reply w w' res h k = inl (reply_response reply, inl (reply, h, refl), k)
 
-  pub failed : (d : D) (o : Operation) (d' : D) (e : Failure) (w w' : Option (List ℕ)) (res : Result ℕ Stop) → performs d o (Err (Failed e)) d' → Sends (failure_response e) w w' res
+  pub failed : (d : D) (o : Operation) (d' : D) (e : Failure) (w w' : Option (List ℕ)) (res : Result ℕ Stop)
+      → performs d o (Err (Failed e)) d' → Sends (failure_response e) w w' res
       → PerformsAndSends performs d o d' w w' res
   failed d o d' e w w' res h k = inl (failure_response e, inr (e, h, refl), k)
 
-  pub untold : (d : D) (o : Operation) (d' : D) (e : NoReply) (w : Option (List ℕ)) → performs d o (Err e) d' → PerformsAndSends performs d o d' w w (Err Memory)
+  pub untold : (d : D) (o : Operation) (d' : D) (e : NoReply) (w : Option (List ℕ)) → performs d o (Err e) d'
+      → PerformsAndSends performs d o d' w w (Err Memory)
   untold d o d' e w h = inr (refl, (Err e, h), Keeps-refl w)

@@ -1,5 +1,6 @@
 -- Where the head of a request ends.
-use Rattle.std.specs.Prelude.{◌+◌, ◌==◌, ◌||◌, ◌≤◌, nat_lt, nat_eq, length, take, ℕ, List, [], ◌∷◌, Option, Some, None, option_map, if◌then◌else◌}
+use Rattle.std.specs.Prelude.{◌+◌, ◌==◌, ◌||◌, ◌≤◌, nat_lt, nat_eq, length, take, ℕ, List}
+use Rattle.std.specs.Prelude.{[], ◌∷◌, Option, Some, None, option_map, if◌then◌else◌}
 use Rattle.std.specs.List.{starts_with}
 use Rattle.std.specs.Io.KnownBytes.{prepend_known}
 use Rattle.desk_http.specs.declared.receive.HeadArrival.{HeadArrival}
@@ -10,7 +11,8 @@ unfoldable pub empty_line_end : List ℕ → Option ℕ
 empty_line_end [] = None
 empty_line_end (b ∷ bs) =
     if starts_with nat_eq (b ∷ bs) (10 ∷ 10 ∷ []) then Some 2
-    else (if starts_with nat_eq (b ∷ bs) (10 ∷ 13 ∷ 10 ∷ []) then Some 3 else option_map (λ n. n + 1) (empty_line_end bs))
+    else (if starts_with nat_eq (b ∷ bs) (10 ∷ 13 ∷ 10 ∷ []) then Some 3
+    else option_map (λ n. n + 1) (empty_line_end bs))
 
 -- how long the head is: it ends with its first empty line behind the first byte that is neither CR nor LF
 unfoldable pub head_end : List ℕ → Option ℕ

@@ -19,6 +19,8 @@ head_parts_of h = record { method = h.method; target = h.target; fields = map na
 -- The bytes are a head of the grammar with at most 64 fields; or they are none with so few, and begin with more
 -- field lines; or they are no head. Of bytes that are no head and begin with more than 64 field lines both may be said.
 abbrev pub IsHead : List ℕ → Class → Type 0
-IsHead bytes (WellFormed parts) = (h : RequestHead) × ReadsRequest bytes h [] × (length h.fields ≤ 64) × (parts ≡ head_parts_of h)
-IsHead bytes TooManyFields = RequestExceeds 64 bytes × ((h : RequestHead) → ReadsRequest bytes h [] → 64 < length h.fields)
+IsHead bytes (WellFormed parts) =
+    (h : RequestHead) × ReadsRequest bytes h [] × (length h.fields ≤ 64) × (parts ≡ head_parts_of h)
+IsHead bytes TooManyFields =
+    RequestExceeds 64 bytes × ((h : RequestHead) → ReadsRequest bytes h [] → 64 < length h.fields)
 IsHead bytes Malformed = (h : RequestHead) → ¬ (ReadsRequest bytes h [])

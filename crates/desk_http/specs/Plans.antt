@@ -1,5 +1,6 @@
 -- What a head asks for, by the checks in their order.
-use Rattle.std.specs.Prelude.{nat_lt, ℕ, Bool, List, [], ◌∷◌, map, Option, Some, None, Result, Ok, Err, if◌then◌else◌, codes}
+use Rattle.std.specs.Prelude.{nat_lt, ℕ, Bool, List, [], ◌∷◌, map, Option, Some}
+use Rattle.std.specs.Prelude.{None, Result, Ok, Err, if◌then◌else◌, codes}
 use Rattle.std.specs.Borrow.{Bor}
 use Rattle.std.specs.List.{list_any, filter}
 use Rattle.std.specs.Str.{bytes_eq, str_eq_ignore_ascii_case}
@@ -7,7 +8,8 @@ use Rattle.desk_http.specs.Heads.{Class, WellFormed, TooManyFields, Malformed}
 use Rattle.desk_http.specs.Targets.{Resource, Run, Import, Report, resource, resource_of, number_of}
 use Rattle.desk_http.specs.declared.target.Target.{Target}
 use Rattle.desk_http.specs.declared.rejection.Rejection.{Rejection}
-use Rattle.desk_http.specs.declared.rejection.Rejection.TheVariants.{HeadTooLarge, BadRequest, NotFound, OnlyPost, OnlyGet, LengthRequired, BodyTooLarge}
+use Rattle.desk_http.specs.declared.rejection.Rejection.TheVariants.{HeadTooLarge, BadRequest, NotFound, OnlyPost}
+use Rattle.desk_http.specs.declared.rejection.Rejection.TheVariants.{OnlyGet, LengthRequired, BodyTooLarge}
 
 -- the field has this name, whatever its case
 abbrev pub is_named : List ℕ → List ℕ × List ℕ → Bool
@@ -29,7 +31,8 @@ one_length (v ∷ w ∷ more) = Err BadRequest
 -- the length of the body that the fields of a POST tell
 abbrev pub body_length : List (List ℕ × List ℕ) → Result ℕ Rejection
 body_length fields =
-    if list_any (is_named (codes "transfer-encoding")) fields then Err BadRequest else one_length (values (codes "content-length") fields)
+    if list_any (is_named (codes "transfer-encoding")) fields then Err BadRequest
+    else one_length (values (codes "content-length") fields)
 
 abbrev pub posted_length : List ℕ → List (List ℕ × List ℕ) → Result ℕ Rejection
 posted_length method fields = if bytes_eq method (codes "POST") then body_length fields else Err OnlyPost

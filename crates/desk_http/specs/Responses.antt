@@ -3,7 +3,8 @@ use Rattle.std.specs.Prelude.{◌≡◌, ◌++◌, ℕ, List, [], ◌∷◌, len
 use Rattle.http.specs.StatusCode.{status_text}
 use Rattle.desk_http.specs.Services.{ReplyView}
 use Rattle.desk_http.specs.declared.rejection.Rejection.{Rejection}
-use Rattle.desk_http.specs.declared.rejection.Rejection.TheVariants.{HeadTooLarge, BadRequest, NotFound, OnlyPost, OnlyGet, LengthRequired, BodyTooLarge}
+use Rattle.desk_http.specs.declared.rejection.Rejection.TheVariants.{HeadTooLarge, BadRequest, NotFound, OnlyPost}
+use Rattle.desk_http.specs.declared.rejection.Rejection.TheVariants.{OnlyGet, LengthRequired, BodyTooLarge}
 use Rattle.desk_http.specs.declared.service.Outcome.{Outcome}
 use Rattle.desk_http.specs.declared.service.Outcome.TheVariants.{Answered, Refused, Faulty, Reported}
 use Rattle.desk_http.specs.declared.service.Failure.{Failure}
@@ -43,7 +44,8 @@ pub record AreNamed : Type 0 where
 -- the status line, the fields, an empty line and the body; `allow` is the line of that field, or nothing
 abbrev pub response_bytes : ℕ → List ℕ → List ℕ → List ℕ → List ℕ
 response_bytes status media allow body =
-    line (codes "HTTP/1.1 ") (status_words status) ++ line (codes "Content-Type: ") media ++ line (codes "Content-Length: ") (decimal (length body))
+    line (codes "HTTP/1.1 ") (status_words status) ++ line (codes "Content-Type: ") media
+    ++ line (codes "Content-Length: ") (decimal (length body))
     ++ allow ++ line (codes "Connection: close") [] ++ crlf ++ body
 
 abbrev pub json : List ℕ
@@ -97,7 +99,8 @@ media_of Faulty = json
 media_of Reported = plain_text
 
 abbrev pub reply_response : ReplyView → Response
-reply_response reply = response (outcome_status reply.0) (response_bytes (outcome_status reply.0) (media_of reply.0) [] reply.1)
+reply_response reply =
+    response (outcome_status reply.0) (response_bytes (outcome_status reply.0) (media_of reply.0) [] reply.1)
 
 -- ---- the service failed
 

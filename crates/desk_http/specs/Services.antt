@@ -65,7 +65,8 @@ module _ {S : Type 0} where
 
 -- A service did an operation, and replied so or not at all: its state and its reply are the machine's, or what is left
 -- where there is no reply; and what the service says besides of an operation holds.
-module _ {D S : Type 0} (state : D → S) (m : Machine S) (left : Failure → S → Operation → S → Type 0) (relates : D → Operation → Option NoReply → D → Type 0) where
+module _ {D S : Type 0} (state : D → S) (m : Machine S) (left : Failure → S → Operation → S → Type 0)
+    (relates : D → Operation → Option NoReply → D → Type 0) where
   abbrev pub Performs : D → Operation → Result ReplyView NoReply → D → Type 0
   Performs d o (Ok reply) d' = ((state d', reply) ≡ step m (state d) o) × relates d o None d'
   Performs d o (Err e) d' = Stops m left e (state d) o (state d') × relates d o (Some e) d'

@@ -1,5 +1,6 @@
 -- What a connection is answered, and what becomes of the service.
-use Rattle.std.specs.Prelude.{◌≡◌, ◌≤◌, ◌⊎◌, nat_lt, ℕ, List, length, take, drop, Option, Some, None, Result, Ok, Err, if◌then◌else◌}
+use Rattle.std.specs.Prelude.{◌≡◌, ◌≤◌, ◌⊎◌, nat_lt, ℕ, List, length, take, drop}
+use Rattle.std.specs.Prelude.{Option, Some, None, Result, Ok, Err, if◌then◌else◌}
 use Rattle.std.specs.Io.KnownBytes.{Appends, Keeps}
 use Rattle.desk_http.specs.Heads.{Class, IsHead}
 use Rattle.desk_http.specs.Targets.{Resource}
@@ -35,7 +36,8 @@ received_of (Ok p) rest = if nat_lt (length rest) p.1 then Incomplete else Compl
 abbrev pub IsReceivedAt : HeadArrival → List ℕ → Received → Type 0
 IsReceivedAt arrival.Incomplete xs r = r ≡ Incomplete
 IsReceivedAt arrival.TooLong xs r = r ≡ Rejected HeadTooLarge
-IsReceivedAt (arrival.Head n) xs r = (class : Class) × IsHead (take n xs) class × (r ≡ received_of (plan_of class) (drop n xs))
+IsReceivedAt (arrival.Head n) xs r =
+    (class : Class) × IsHead (take n xs) class × (r ≡ received_of (plan_of class) (drop n xs))
 
 -- the bytes are that, as far as they are known
 abbrev pub IsReceived : Option (List ℕ) → Received → Type 0
@@ -90,9 +92,9 @@ module _ {D : Type 0} (performs : D → Operation → Result ReplyView NoReply �
   abbrev pub Does : (Received → Type 0) → D → D → Type 0
   Does are d d' = (o : Operation) × are (Complete o) × (outcome : Result ReplyView NoReply) × performs d o outcome d'
 
-  -- What a call did. Answered: the response is written. Ended: the bytes aren't a whole request, and nothing was done or
-  -- written. ReadFailed: nothing was done or written. WriteFailed: what the response tells was done, and a front of it is
-  -- written. Memory: nothing is written, and the operation was done or nothing was.
+  -- What a call did. Answered: the response is written. Ended: the bytes aren't a whole request, and nothing was done
+  -- or written. ReadFailed: nothing was done or written. WriteFailed: what the response tells was done, and a front of
+  -- it is written. Memory: nothing is written, and the operation was done or nothing was.
   abbrev pub Serves : (Received → Type 0) → D → D → Option (List ℕ) → Option (List ℕ) → Result ℕ Stop → Type 0
   Serves are d d' w w' (Ok status) = (p : Response) × Answers are d d' p × (status ≡ p.status) × Appends w w' p.bytes
   Serves are d d' w w' (Err Ended) = are Incomplete × (d' ≡ d) × Keeps w w'

@@ -9,7 +9,11 @@ use Rattle.desk_http.specs.declared.head.Head.{Head}
 use Rattle.desk_http.specs.declared.head.Head.TheVariants as head
 
 abbrev pub head_parts_at : List ℕ → List HeaderSpan → RequestSpans → HeadParts
-head_parts_at bytes spans r = record { method = span_bytes bytes r.method; target = span_bytes bytes r.path; fields = map (header_bytes bytes) (take r.headers spans) }
+head_parts_at bytes spans r = record {
+  method = span_bytes bytes r.method;
+  target = span_bytes bytes r.path;
+  fields = map (header_bytes bytes) (take r.headers spans);
+}
 
 abbrev pub class_of : List ℕ → List HeaderSpan → Head → Class
 class_of bytes spans (head.WellFormed r) = WellFormed (head_parts_at bytes spans r)
@@ -17,6 +21,7 @@ class_of bytes spans head.TooManyFields = TooManyFields
 class_of bytes spans head.Malformed = Malformed
 
 abbrev pub LiesWithin : List ℕ → List HeaderSpan → Head → Type 0
-LiesWithin bytes spans (head.WellFormed r) = IsRequestWithin bytes spans r × (r.len ≡ length bytes) × IsUtf8 (span_bytes bytes r.path)
+LiesWithin bytes spans (head.WellFormed r) =
+    IsRequestWithin bytes spans r × (r.len ≡ length bytes) × IsUtf8 (span_bytes bytes r.path)
 LiesWithin bytes spans head.TooManyFields = Unit {0}
 LiesWithin bytes spans head.Malformed = Unit {0}

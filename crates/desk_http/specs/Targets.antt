@@ -1,5 +1,6 @@
 -- What the target of a request names.
-use Rattle.std.specs.Prelude.{◌+◌, ◌==◌, ◌&&◌, ◌||◌, ◌≡◌, nat_lt, nat_le, nat_eq, ℕ, Bool, true, List, [], ◌∷◌, length, take, drop, Option, Some, None, if◌then◌else◌, codes, option_map}
+use Rattle.std.specs.Prelude.{◌+◌, ◌==◌, ◌&&◌, ◌||◌, ◌≡◌, nat_lt, nat_le, nat_eq, ℕ, Bool, true, List, []}
+use Rattle.std.specs.Prelude.{◌∷◌, length, take, drop, Option, Some, None, if◌then◌else◌, codes, option_map}
 use Rattle.std.specs.Borrow.{Bor}
 use Rattle.std.specs.List.{list_all, starts_with}
 use Rattle.std.specs.Str.{bytes_eq}
@@ -30,7 +31,9 @@ where_it test x = if test x then Some x else None
 
 -- 1 to 19 digits
 abbrev pub number_of : List ℕ → Option ℕ
-number_of bytes = if nat_lt 0 (length bytes) && nat_le (length bytes) 19 && list_all is_ascii_digit bytes then Some (digits_value 10 bytes) else None
+number_of bytes =
+    if nat_lt 0 (length bytes) && nat_le (length bytes) 19 && list_all is_ascii_digit bytes
+    then Some (digits_value 10 bytes) else None
 
 -- where the first slash stands
 unfoldable pub slash_in : List ℕ → Option ℕ
@@ -46,7 +49,9 @@ abbrev pub cut : List ℕ → Option (List ℕ × List ℕ)
 cut bytes = cut_at bytes (slash_in bytes)
 
 abbrev pub kind_of : List ℕ → Option ImportKind
-kind_of bytes = if bytes_eq bytes (codes "receipts") then Some Receipts else (if bytes_eq bytes (codes "counts") then Some Counts else None)
+kind_of bytes =
+    if bytes_eq bytes (codes "receipts") then Some Receipts
+    else (if bytes_eq bytes (codes "counts") then Some Counts else None)
 
 abbrev pub name_of : List ℕ → Option ReportName
 name_of bytes =
@@ -68,13 +73,15 @@ is_document bytes = nat_lt 0 (length bytes) && nat_le (length bytes) 32 && list_
 -- what stands behind the kind of an import: a document and a day
 abbrev pub file_resource : ImportKind → List ℕ → Option Resource
 file_resource kind bytes =
-    cut bytes then λ parts. where_it is_document parts.0 then λ document. day_of parts.1 then λ day. Some (Import kind document day)
+    cut bytes then λ parts.
+    where_it is_document parts.0 then λ document. day_of parts.1 then λ day. Some (Import kind document day)
 
 abbrev pub import_resource : List ℕ → Option Resource
 import_resource bytes = cut bytes then λ parts. kind_of parts.0 then λ kind. file_resource kind parts.1
 
 abbrev pub report_resource : List ℕ → Option Resource
-report_resource bytes = cut bytes then λ parts. name_of parts.0 then λ name. number_of parts.1 then λ number. Some (Report name number)
+report_resource bytes =
+    cut bytes then λ parts. name_of parts.0 then λ name. number_of parts.1 then λ number. Some (Report name number)
 
 abbrev pub run_resource : List ℕ → Option Resource
 run_resource [] = Some Run

@@ -1,6 +1,7 @@
 //! Bytes as they come. What was read is held whole; each read counts, an interrupted one too, and past a bound of reads
 //! the reader has failed.
-ghost use Rattle.std.specs.Prelude.{ℕ, ◌≡◌, ◌≤◌, ◌<◌, ◌+◌, ◌++◌, length, take, true, false, Some, None, OnOk, IfOk, IfErr, IfSome, ◌⊎◌};
+ghost use Rattle.std.specs.Prelude.{ℕ, ◌≡◌, ◌≤◌, ◌<◌, ◌+◌, ◌++◌, length, take, true};
+ghost use Rattle.std.specs.Prelude.{false, Some, None, OnOk, IfOk, IfErr, IfSome, ◌⊎◌};
 ghost use Rattle.std.specs.Io.KnownBytes.{Keeps, IsAtEnd, prepend_known};
 ghost use Rattle.desk_http.specs.HeadEnds.{head_end, front, arrival, IsInside, all_of};
 

@@ -1,6 +1,7 @@
 //! Responses, byte by byte.
 ghost use Rattle.std.specs.Prelude.{◌≡◌, ◌++◌, decimal, length, IfOk, OnOk, string_bytes};
-ghost use Rattle.desk_http.specs.Responses.{AreNamed, line, status_words, response_bytes, error_body, error_response, rejection_status, allow_of, outcome_status, media_of, failure_status};
+ghost use Rattle.desk_http.specs.Responses.{AreNamed, line, status_words, response_bytes, error_body, error_response};
+ghost use Rattle.desk_http.specs.Responses.{rejection_status, allow_of, outcome_status, media_of, failure_status};
 
 use crate::rejection::Rejection;
 use crate::service::{Failure, Outcome};

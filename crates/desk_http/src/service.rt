@@ -1,7 +1,8 @@
 //! The service that requests are handed to.
 ghost use Rattle.std.specs.Prelude.{◌≡◌, ℕ, List, Option, true, IfOk, IfErr};
 ghost use Rattle.desk_http.specs.Targets.{is_document};
-ghost use Rattle.desk_http.specs.Services.{Machine, Operation, RunLine, ImportFile, ShowReport, Stops, heard, reply_view, step, why_none};
+ghost use Rattle.desk_http.specs.Services.{Machine, Operation, RunLine, ImportFile, ShowReport};
+ghost use Rattle.desk_http.specs.Services.{Stops, heard, reply_view, step, why_none};
 
 use crate::target::{ImportKind, ReportName};
 use part_core::Day;

@@ -2,7 +2,9 @@
 ghost use Rattle.std.specs.Prelude.{◌≡◌, ◌<◌, IfSome, true, length};
 ghost use Rattle.std.specs.List.{list_all};
 ghost use Rattle.part_core.specs.Day.{day_of};
-ghost use Rattle.desk_http.specs.Targets.{number_of, cut, kind_of, name_of, slash_in, is_document_byte, is_document, where_it, file_resource, import_resource, report_resource, some_parts, some_resource, some_text, IsProper};
+ghost use Rattle.desk_http.specs.Targets.{number_of, cut, kind_of, name_of, slash_in, is_document_byte};
+ghost use Rattle.desk_http.specs.Targets.{is_document, where_it, file_resource, import_resource};
+ghost use Rattle.desk_http.specs.Targets.{report_resource, some_parts, some_resource, some_text, IsProper};
 
 use part_core::Day;
 

@@ -14,7 +14,9 @@ use Rattle.table_store.specs.Transactions.{IsBadRow, IsOfReading}
 use Rattle.table_store.specs.declared.fault.TableFault.{TableFault}
 use Rattle.table_store.specs.declared.fault.TableFault.TheVariants.{Memory, Store, NoTable, BadRow}
 use Rattle.table_store.specs.declared.name.TableName.{TableName}
-use Rattle.table_store.specs.declared.name.TableName.TheVariants.{Meta, Categories, Locations, Parts, Lines, Substitutes, Items, History, Orders, OrderLines, Builds, Allocations, Kept}
+use Rattle.table_store.specs.declared.name.TableName.TheVariants.{Meta, Categories, Locations, Parts, Lines}
+use Rattle.table_store.specs.declared.name.TableName.TheVariants.{Substitutes, Items, History, Orders}
+use Rattle.table_store.specs.declared.name.TableName.TheVariants.{OrderLines, Builds, Allocations, Kept}
 
 answers-own : (s : State) → IsSoundState s → StandUnderKeys (λ (row : KeptRow). row.word) s.answers
 answers-own s sound key row is = (sound.answers key row is).own
@@ -34,7 +36,8 @@ broken-none Builds trees none s sound next tables = none s.builds (tables Builds
 broken-none Allocations trees none s sound next tables = none s.allocations (tables Allocations)
 broken-none Kept trees none s sound next tables = none s.answers (answers-own s sound) (tables Kept)
 
-pub why-broken : (trees : Trees) (table : TableName) (fault : TableFault) → IsOfReading fault → (IsBadRow fault → IsBroken table trees) → NamesTable table fault → WhyUnread trees (open_fault_of fault)
+pub why-broken : (trees : Trees) (table : TableName) (fault : TableFault) → IsOfReading fault
+    → (IsBadRow fault → IsBroken table trees) → NamesTable table fault → WhyUnread trees (open_fault_of fault)
 why-broken trees table Memory of broken named = tt
 why-broken trees table (Store failed) of broken named = tt
 why-broken trees table (NoTable failed) of broken named = absurd of

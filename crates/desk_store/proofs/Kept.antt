@@ -20,16 +20,21 @@ use Rattle.table_store.specs.Written.{IsTableOf, StayAsTheyAre}
 use Rattle.table_store.specs.declared.name.TableName.TheVariants.{Meta, Kept}
 
 module _ (sheet source : Rows KeptRow) (same : sheet ≡ source) where
-  pub own_words : ((k : List ℕ) (row : KeptRow) → get (now_of source) k ≡ Some row → StandsKept k row) → StandUnderKeys (λ (r : KeptRow). r.word) (now_of sheet)
-  own_words h = subst (λ (s : Rows KeptRow). StandUnderKeys (λ (r : KeptRow). r.word) (now_of s)) (sym same) (λ k r is. (h k r is).own)
+  pub own_words : ((k : List ℕ) (row : KeptRow) → get (now_of source) k ≡ Some row → StandsKept k row)
+      → StandUnderKeys (λ (r : KeptRow). r.word) (now_of sheet)
+  own_words h =
+      subst (λ (s : Rows KeptRow). StandUnderKeys (λ (r : KeptRow). r.word) (now_of s)) (sym same)
+      (λ k r is. (h k r is).own)
 
   pub answers_stay : StayAsTheyAre source.before (now_of source) → StayAsTheyAre sheet.before (now_of sheet)
   answers_stay h = subst (λ (s : Rows KeptRow). StayAsTheyAre s.before (now_of s)) (sym same) h
 
-  pub before_there : (tree : List Row) → IsTableOf kept_from kept_columns Kept tree source.before → IsTableOf kept_from kept_columns Kept tree sheet.before
+  pub before_there : (tree : List Row) → IsTableOf kept_from kept_columns Kept tree source.before
+      → IsTableOf kept_from kept_columns Kept tree sheet.before
   before_there tree h = subst (λ (s : Rows KeptRow). IsTableOf kept_from kept_columns Kept tree s.before) (sym same) h
 
-  pub now_there : (tree : List Row) → IsTableOf kept_from kept_columns Kept tree (now_of sheet) → IsTableOf kept_from kept_columns Kept tree (now_of source)
+  pub now_there : (tree : List Row) → IsTableOf kept_from kept_columns Kept tree (now_of sheet)
+      → IsTableOf kept_from kept_columns Kept tree (now_of source)
   now_there tree h = subst (λ (s : Rows KeptRow). IsTableOf kept_from kept_columns Kept tree (now_of s)) same h
 
 -- answers have no numbers
@@ -41,7 +46,16 @@ pub small_meta : (s : State) → IsSoundState s → HaveSmallNumbers s → All I
 small_meta s sound small =
     All-from_recursion IsSmall (meta_columns (meta_of s)) (
       omega arith,
-      (omega arith, (small.next, (let within = sound.stock.items.within in let most = small.max_entries in omega (arith, within, most), (small.max_numbers, (small.max_entries, tt))))),
+      (
+        omega arith,
+        (
+          small.next,
+          (
+            let within = sound.stock.items.within in let most = small.max_entries in omega (arith, within, most),
+            (small.max_numbers, (small.max_entries, tt)),
+          ),
+        ),
+      ),
     )
 
 -- ---- the table of one row
@@ -54,14 +68,19 @@ absorbed true x y z = refl
 absorbed false x y z = refl
 
 -- of two rows that are put under one key the later one is there
-put_twice : {X : Type 0} (k : List ℕ) (x y : X) → insert (insert (empty {X = X} {R = key_cmp}) k x) k y ≡ insert empty k y
+put_twice : {X : Type 0} (k : List ℕ) (x y : X)
+    → insert (insert (empty {X = X} {R = key_cmp}) k x) k y ≡ insert empty k y
 put_twice k x y =
     same_map keys_total keys_exact _ _ (λ q.
-    get-insert keys_total (insert empty k x) k y q ∙ ap (cond (eq_by_cmp key_cmp q k) (Some y)) (get-insert keys_total empty k x q)
+    get-insert keys_total (insert empty k x) k y q
+    ∙ ap (cond (eq_by_cmp key_cmp q k) (Some y)) (get-insert keys_total empty k x q)
     ∙ absorbed (eq_by_cmp key_cmp q k) (Some y) (Some x) (get empty q) ∙ sym (get-insert keys_total empty k y q))
 
-pub meta_there : (tree : List Row) (old new : State) (row : MetaRow) → row ≡ meta_of new → IsTableOf meta_from meta_columns Meta tree (insert (only (meta_of old)) (row.one ∷ []) row)
+pub meta_there : (tree : List Row) (old new : State) (row : MetaRow) → row ≡ meta_of new
+    → IsTableOf meta_from meta_columns Meta tree (insert (only (meta_of old)) (row.one ∷ []) row)
     → IsTableOf meta_from meta_columns Meta tree (only (meta_of new))
 meta_there tree old new row is h =
     subst (IsTableOf meta_from meta_columns Meta tree)
-    (ap (λ (r : MetaRow). insert (only (meta_of old)) (r.one ∷ []) r) is ∙ put_twice (1 ∷ []) (meta_of old) (meta_of new)) h
+    (ap (λ (r : MetaRow). insert (only (meta_of old)) (r.one ∷ []) r) is
+    ∙ put_twice (1 ∷ []) (meta_of old) (meta_of new))
+    h

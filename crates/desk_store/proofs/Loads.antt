@@ -33,7 +33,9 @@ use Rattle.desk_store.proofs.Sheets.{own_keys}
 use Rattle.table_store.specs.Schema.{position}
 use Rattle.table_store.specs.Stored.{values_of}
 use Rattle.table_store.specs.Written.{IsTableOf}
-use Rattle.table_store.specs.declared.name.TableName.TheVariants.{Meta, Categories, Locations, Parts, Lines, Substitutes, Items, History, Orders, OrderLines, Builds, Allocations, Kept}
+use Rattle.table_store.specs.declared.name.TableName.TheVariants.{Meta, Categories, Locations, Parts, Lines}
+use Rattle.table_store.specs.declared.name.TableName.TheVariants.{Substitutes, Items, History, Orders}
+use Rattle.table_store.specs.declared.name.TableName.TheVariants.{OrderLines, Builds, Allocations, Kept}
 
 -- limits with the same numbers are one
 same-limits : (a b : Limits) → a.numbers ≡ b.numbers → a.entries ≡ b.entries → a ≡ b
@@ -42,18 +44,26 @@ same-limits a b numbers entries =
       numbers = numbers i;
       entries = entries i;
       numbers_in = to_path_p (λ j. 1 ≤ numbers j) {a = a.numbers_in} {b = b.numbers_in} (le_prop _ _) i;
-      numbers_within = to_path_p (λ j. numbers j ≤ 10000000000) {a = a.numbers_within} {b = b.numbers_within} (le_prop _ _) i;
+      numbers_within =
+          to_path_p (λ j. numbers j ≤ 10000000000) {a = a.numbers_within} {b = b.numbers_within} (le_prop _ _) i;
       entries_in = to_path_p (λ j. 1 ≤ entries j) {a = a.entries_in} {b = b.entries_in} (le_prop _ _) i;
-      entries_within = to_path_p (λ j. entries j ≤ 10000000000) {a = a.entries_within} {b = b.entries_within} (le_prop _ _) i;
+      entries_within =
+          to_path_p (λ j. entries j ≤ 10000000000) {a = a.entries_within} {b = b.entries_within} (le_prop _ _) i;
     }
 
 -- the history has as many rows as were loaded
-as-many : (tree : List Row) (rows : List Entry) → AreTheRows entry_from entry_columns (λ row. row.number ∷ []) History tree rows
+as-many : (tree : List Row) (rows : List Entry)
+    → AreTheRows entry_from entry_columns (λ row. row.number ∷ []) History tree rows
     → table.len (filled (λ (row : Entry). row.number ∷ []) rows) ≡ length rows
 as-many tree rows are =
     let all = filled (λ (row : Entry). row.number ∷ []) rows in
-    let shown : map (values_of entry_columns) (table.values all) ≡ map (values_of entry_columns) rows = are.its.table_of.holds ∙ sym are.loaded.loaded ∙ are.loaded.same in
-    table.len-entries all ∙ sym (length-map (table.entries all) (λ (e : List ℕ × Entry). e.1)) ∙ sym (length-map (table.values all) (values_of entry_columns)) ∙ ap length shown ∙ length-map rows (values_of entry_columns)
+    let shown : map (values_of entry_columns) (table.values all) ≡ map (values_of entry_columns) rows =
+    are.its.table_of.holds ∙ sym are.loaded.loaded ∙ are.loaded.same in
+    table.len-entries all
+    ∙ sym (length-map (table.entries all) (λ (e : List ℕ × Entry). e.1))
+    ∙ sym (length-map (table.values all) (values_of entry_columns))
+    ∙ ap length shown
+    ∙ length-map rows (values_of entry_columns)
 
 module _ (trees : Trees) (t : Tables) (are : AreTables trees t) where
   -- the row of the counter is that of the tables' state
@@ -61,11 +71,20 @@ module _ (trees : Trees) (t : Tables) (are : AreTables trees t) where
   counted-meta e =
       let many = as-many (trees (position History)) t.history.items are.sheets.stock.history_are in
       let count : table.len (state_from t).stock.history ≡ t.entries = many ∙ sym e in
-      λ i. record { one = 1; version = 1; next = t.next; entries = count i; max_numbers = t.limits.numbers; max_entries = t.limits.entries }
+      λ i. record {
+        one = 1;
+        version = 1;
+        next = t.next;
+        entries = count i;
+        max_numbers = t.limits.numbers;
+        max_entries = t.limits.entries;
+      }
 
   -- they are the tables of the state that is made of them
   pub tables-are : AreSoundTables t → TablesAre (state_from t) trees
-  tables-are sound Meta = subst (λ m. IsTableOf meta_from meta_columns Meta (trees (position Meta)) (only m)) (sym (counted-meta sound.entries)) are.meta.table
+  tables-are sound Meta =
+      subst (λ m. IsTableOf meta_from meta_columns Meta (trees (position Meta)) (only m))
+      (sym (counted-meta sound.entries)) are.meta.table
   tables-are sound Categories = are.sheets.catalogue.categories_are.its.table_of
   tables-are sound Locations = are.sheets.stock.locations_are.its.table_of
   tables-are sound Parts = are.sheets.catalogue.parts_are.its.table_of
@@ -86,24 +105,35 @@ module _ (trees : Trees) (t : Tables) (are : AreTables trees t) where
 
     same-parts : s.parts ≡ (state_from t).parts
     same-parts =
-        let categories = are.sheets.catalogue.categories_are.its.only s.parts.categories (own_keys _ _ _ sound.bills.catalogue.categories) (has Categories) in
-        let parts = are.sheets.catalogue.parts_are.its.only s.parts.parts (own_keys _ _ _ sound.bills.catalogue.parts) (has Parts) in
+        let categories =
+        are.sheets.catalogue.categories_are.its.only s.parts.categories
+        (own_keys _ _ _ sound.bills.catalogue.categories) (has Categories) in
+        let parts =
+        are.sheets.catalogue.parts_are.its.only s.parts.parts (own_keys _ _ _ sound.bills.catalogue.parts)
+        (has Parts) in
         λ i. record { categories = categories i; parts = parts i }
 
     same-bills : s.bills ≡ (state_from t).bills
     same-bills =
-        let lines = are.sheets.bills.lines_are.its.only s.bills.lines (own_keys _ _ _ sound.bills.line_rows) (has Lines) in
-        let substitutes = are.sheets.bills.substitutes_are.its.only s.bills.substitutes (own_keys _ _ _ sound.bills.substitute_rows) (has Substitutes) in
+        let lines =
+        are.sheets.bills.lines_are.its.only s.bills.lines (own_keys _ _ _ sound.bills.line_rows) (has Lines) in
+        let substitutes =
+        are.sheets.bills.substitutes_are.its.only s.bills.substitutes (own_keys _ _ _ sound.bills.substitute_rows)
+        (has Substitutes) in
         λ i. record { lines = lines i; substitutes = substitutes i }
 
     same-history : s.stock.history ≡ (state_from t).stock.history
     same-history =
-        are.sheets.stock.history_are.its.only s.stock.history (keyed-own (λ e. e.number) s.stock.history sound.stock.items.stock.history.own) (has History)
+        are.sheets.stock.history_are.its.only s.stock.history
+        (keyed-own (λ e. e.number) s.stock.history sound.stock.items.stock.history.own) (has History)
 
     same-stock : s.stock ≡ (state_from t).stock
     same-stock =
-        let locations = are.sheets.stock.locations_are.its.only s.stock.locations (own_keys _ _ _ sound.stock.items.locations.rows) (has Locations) in
-        let items = are.sheets.stock.items_are.its.only s.stock.items (own_keys _ _ _ sound.stock.items.rows) (has Items) in
+        let locations =
+        are.sheets.stock.locations_are.its.only s.stock.locations (own_keys _ _ _ sound.stock.items.locations.rows)
+        (has Locations) in
+        let items =
+        are.sheets.stock.items_are.its.only s.stock.items (own_keys _ _ _ sound.stock.items.rows) (has Items) in
         let history = same-history in
         λ i. record { locations = locations i; items = items i; history = history i }
 
@@ -111,13 +141,16 @@ module _ (trees : Trees) (t : Tables) (are : AreTables trees t) where
     same-orders = are.sheets.orders.0.orders_are.its.only s.orders (own_keys _ _ _ sound.orders.orders) (has Orders)
 
     same-order-lines : s.order_lines ≡ (state_from t).order_lines
-    same-order-lines = are.sheets.orders.0.lines_are.its.only s.order_lines (own_keys _ _ _ sound.orders.lines) (has OrderLines)
+    same-order-lines =
+        are.sheets.orders.0.lines_are.its.only s.order_lines (own_keys _ _ _ sound.orders.lines) (has OrderLines)
 
     same-builds : s.builds ≡ (state_from t).builds
     same-builds = are.sheets.orders.1.builds_are.its.only s.builds (own_keys _ _ _ sound.builds.rows) (has Builds)
 
     same-allocations : s.allocations ≡ (state_from t).allocations
-    same-allocations = are.sheets.orders.1.allocations_are.its.only s.allocations (own_keys _ _ _ sound.allocations.rows) (has Allocations)
+    same-allocations =
+        are.sheets.orders.1.allocations_are.its.only s.allocations (own_keys _ _ _ sound.allocations.rows)
+        (has Allocations)
 
     same-counter : s.counter ≡ (state_from t).counter
     same-counter =
@@ -169,7 +202,8 @@ module _ (trees : Trees) (t : Tables) (are : AreTables trees t) where
   unsound-tables not s sound within has = not (are-sound s sound has within)
 
 -- the shop that is made of sound tables has their books
-pub books-of : (trees : Trees) (t : Tables) (shop : Shop) → AreTables trees t → state_of shop ≡ state_from t → AreSoundTables t → AreBooksOf trees shop
+pub books-of : (trees : Trees) (t : Tables) (shop : Shop) → AreTables trees t → state_of shop ≡ state_from t
+    → AreSoundTables t → AreBooksOf trees shop
 books-of trees t shop are is sound = record {
   tables = subst (λ s. TablesAre s trees) (sym is) (tables-are trees t are sound);
   one = λ s right has. same-state trees t are s right has ∙ sym is;
@@ -178,37 +212,53 @@ books-of trees t shop are is sound = record {
 -- ---- the row of the counter comes first
 
 -- what tells why where nothing is foreign tells it where this isn't so
-pub why-else : (Else : Trees → Type 0) (trees : Trees) (e : OpenFault) → ¬ Else trees → WhyUnread trees e → WhyBut Else trees e
+pub why-else : (Else : Trees → Type 0) (trees : Trees) (e : OpenFault) → ¬ Else trees → WhyUnread trees e
+    → WhyBut Else trees e
 why-else Else trees why.Memory not said = tt
 why-else Else trees (why.Store failed) not said = tt
 why-else Else trees why.Foreign not said = absurd said
 why-else Else trees (why.Damaged told) not said = (said.0, said.1, not)
 
 -- the row that the tables' counter has is the one that was found
-counted : (row : MetaRow) (t : Tables) (limits : Limits) → row.one ≡ 1 → row.version ≡ 1 → t.next ≡ row.next → t.entries ≡ row.entries → t.limits ≡ limits → limits.numbers ≡ row.max_numbers → limits.entries ≡ row.max_entries → meta_in t ≡ row
+counted : (row : MetaRow) (t : Tables) (limits : Limits) → row.one ≡ 1 → row.version ≡ 1 → t.next ≡ row.next
+    → t.entries ≡ row.entries → t.limits ≡ limits → limits.numbers ≡ row.max_numbers → limits.entries ≡ row.max_entries
+    → meta_in t ≡ row
 counted row t limits one version next entries same numbers most =
     let first = sym one in
     let form = sym version in
     let max_numbers : t.limits.numbers ≡ row.max_numbers = ap (λ (l : Limits). l.numbers) same ∙ numbers in
     let max_entries : t.limits.entries ≡ row.max_entries = ap (λ (l : Limits). l.entries) same ∙ most in
-    λ i. record { one = first i; version = form i; next = next i; entries = entries i; max_numbers = max_numbers i; max_entries = max_entries i }
+    λ i. record {
+      one = first i;
+      version = form i;
+      next = next i;
+      entries = entries i;
+      max_numbers = max_numbers i;
+      max_entries = max_entries i;
+    }
 
-module _ (a b c : sqlite.State) (found : MetaRow × Limits) (counter : Reads (λ trees found. IsMetaRow trees found.0) (WhyBut IsOfOtherVersion) a b (Ok found)) where
+module _ (a b c : sqlite.State) (found : MetaRow × Limits)
+    (counter : Reads (λ trees found. IsMetaRow trees found.0) (WhyBut IsOfOtherVersion) a b (Ok found)) where
   first : HasRead a b
   first = has-read (λ trees found. IsMetaRow trees found.0) (WhyBut IsOfOtherVersion) a b found counter
 
-  pub tables-read : (t : Tables) → Reads AreSheets WhyUnread b c (Ok t) → t.next ≡ found.0.next → t.entries ≡ found.0.entries → t.limits ≡ found.1 → found.1.numbers ≡ found.0.max_numbers → found.1.entries ≡ found.0.max_entries
+  pub tables-read : (t : Tables) → Reads AreSheets WhyUnread b c (Ok t) → t.next ≡ found.0.next
+      → t.entries ≡ found.0.entries → t.limits ≡ found.1 → found.1.numbers ≡ found.0.max_numbers
+      → found.1.entries ≡ found.0.max_entries
       → Reads AreTables (WhyBut IsOfOtherVersion) a c (Ok t)
   tables-read t sheets next entries limits numbers most =
       let later = has-read AreSheets WhyUnread b c t sheets in
       reads-ok AreTables (WhyBut IsOfOtherVersion) a c t (read-then a b c first later) (λ clean.
       let row = counter.gives (was-clean b c _ later.crash clean) in
       record {
-        meta = subst (IsMetaRow a.now.trees) (sym (counted found.0 t found.1 row.one row.version next entries limits numbers most)) row;
+        meta =
+            subst (IsMetaRow a.now.trees)
+            (sym (counted found.0 t found.1 row.one row.version next entries limits numbers most)) row;
         sheets = gives-first AreSheets WhyUnread a b c t first sheets clean;
       })
 
-  pub tables-unread : (e : OpenFault) → Reads AreSheets WhyUnread b c (Err e) → Reads AreTables (WhyBut IsOfOtherVersion) a c (Err e)
+  pub tables-unread : (e : OpenFault) → Reads AreSheets WhyUnread b c (Err e)
+      → Reads AreTables (WhyBut IsOfOtherVersion) a c (Err e)
   tables-unread e sheets = record {
     gives = λ clean. tt;
     why = λ clean.

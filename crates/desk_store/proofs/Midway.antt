@@ -1,5 +1,6 @@
 -- How the tables of a transaction go over from one state to another.
-use Rattle.std.proofs.Common.{◌≡◌, ◌≢◌, ◌⊎◌, inl, inr, ℕ, ◌+◌, ◌<◌, ◌≤◌, Bool, true, false, get_or, Result, Ok, Err, OnOk, OnErr, IfErr, refl, sym, ap, ◌∙◌, subst, arith, IsTrue}
+use Rattle.std.proofs.Common.{◌≡◌, ◌≢◌, ◌⊎◌, inl, inr, ℕ, ◌+◌, ◌<◌, ◌≤◌, Bool, true, false, get_or, Result}
+use Rattle.std.proofs.Common.{Ok, Err, OnOk, OnErr, IfErr, refl, sym, ap, ◌∙◌, subst, arith, IsTrue}
 use Rattle.std.proofs.lemmas.Bool.{cases_lt}
 use Rattle.std.specs.Result.{IsErrAnd}
 use Rattle.sqlite.proofs.StateLemmas.{survives_then}
@@ -21,7 +22,9 @@ use Rattle.table_store.specs.declared.fault.Cause.TheVariants as cause
 use Rattle.table_store.specs.declared.fault.TableFault.{TableFault}
 use Rattle.table_store.specs.declared.fault.TableFault.TheVariants.{Memory, Store, NoTable, BadRow}
 use Rattle.table_store.specs.declared.name.TableName.{TableName}
-use Rattle.table_store.specs.declared.name.TableName.TheVariants.{Meta, Categories, Locations, Parts, Lines, Substitutes, Items, History, Orders, OrderLines, Builds, Allocations, Kept}
+use Rattle.table_store.specs.declared.name.TableName.TheVariants.{Meta, Categories, Locations, Parts, Lines}
+use Rattle.table_store.specs.declared.name.TableName.TheVariants.{Substitutes, Items, History, Orders}
+use Rattle.table_store.specs.declared.name.TableName.TheVariants.{OrderLines, Builds, Allocations, Kept}
 
 -- ---- the order of the tables
 
@@ -60,9 +63,12 @@ within Kept = omega arith
 
 -- ---- one table
 
-module _ (old new : State) (table : TableName) (d e : sqlite.State) (way : IsUnderWay old new (position table) d) (ready : IsReady e)
-    (others : (other : TableName) → other ≢ table → tree_of other e ≡ tree_of other d) (is : IsTableIn new table (tree_of table e)) where
-  as_before : (t : TableName) (s : State) → position t ≢ position table → IsTableIn s t (tree_of t d) → IsTableIn s t (tree_of t e)
+module _ (old new : State) (table : TableName) (d e : sqlite.State) (way : IsUnderWay old new (position table) d)
+    (ready : IsReady e)
+    (others : (other : TableName) → other ≢ table → tree_of other e ≡ tree_of other d)
+    (is : IsTableIn new table (tree_of table e)) where
+  as_before : (t : TableName) (s : State) → position t ≢ position table → IsTableIn s t (tree_of t d)
+      → IsTableIn s t (tree_of t e)
   as_before t s apart h = subst (IsTableIn s t) (sym (others t (λ same. apart (ap position same)))) h
 
   written : (t : TableName) → position t < position table + 1 → IsTableIn new t (tree_of t e)
@@ -81,12 +87,21 @@ module _ (old new : State) (table : TableName) (d e : sqlite.State) (way : IsUnd
   one_more = record { ready = ready; midway = record { written = written; left = left } }
 
 -- the table whose turn it is was written
-pub one_written : (old new : State) (table : TableName) (d e : sqlite.State) → IsUnderWay old new (position table) d → Writes table d e → IsTableIn new table (tree_of table e)
+pub one_written : (old new : State) (table : TableName) (d e : sqlite.State) → IsUnderWay old new (position table) d
+    → Writes table d e → IsTableIn new table (tree_of table e)
     → IsUnderWay old new (position table + 1) e
-one_written old new table d e way wrote is = one_more old new table d e way ((wrote.tables, wrote.shown.mode), wrote.shown.is_open) wrote.others is
+one_written old new table d e way wrote is =
+    one_more old new table d e way ((wrote.tables, wrote.shown.mode), wrote.shown.is_open) wrote.others is
 
 pub survives_same : (d : sqlite.State) → sqlite.Survives d d (λ _. ⊥)
-survives_same d = record { clean = omega arith; shield = λ s. s; counts = omega arith; limit = refl; closes = λ clean up. inl up; crash = λ clean db may. inl may }
+survives_same d = record {
+  clean = omega arith;
+  shield = λ s. s;
+  counts = omega arith;
+  limit = refl;
+  closes = λ clean up. inl up;
+  crash = λ clean db may. inl may;
+}
 
 -- ---- the first and the last
 
@@ -99,14 +114,18 @@ all_of_them old new trees h = λ t. h.written t (within t)
 -- ---- the transaction
 
 -- what was begun shows the tables as they were
-pub begun : (old new : State) (d e : sqlite.State) → HoldsBooks old d → Shows d e d.now d.committed true → HasTables e → IsUnderWay old new 0 e
+pub begun : (old new : State) (d e : sqlite.State) → HoldsBooks old d → Shows d e d.now d.committed true → HasTables e
+    → IsUnderWay old new 0 e
 begun old new d e holds shown tables = record {
   ready = ((tables, shown.mode), shown.is_open);
-  midway = subst (λ (db : Database). IsMidway old new 0 db.trees) (sym shown.now_is) (none_yet old new d.now.trees holds.books);
+  midway =
+      subst (λ (db : Database). IsMidway old new 0 db.trees) (sym shown.now_is)
+      (none_yet old new d.now.trees holds.books);
 }
 
 -- what was committed holds the new state's tables
-pub committed : (old new : State) (d e : sqlite.State) → ((db : Trees) → IsTrue e.is_open → e.may_leave db → db ≡ e.committed.trees)
+pub committed : (old new : State) (d e : sqlite.State)
+    → ((db : Trees) → IsTrue e.is_open → e.may_leave db → db ≡ e.committed.trees)
     → IsUnderWay old new 13 d → Shows d e d.now d.now false → HasTables e → HoldsBooks new e
 committed old new d e settled way shown tables =
     let all : TablesAre new d.now.trees = all_of_them old new d.now.trees way.midway in
@@ -114,11 +133,14 @@ committed old new d e settled way shown tables =
       rest = record { is_open = shown.is_open; free = shown.mode; saved = shown.committed_is ∙ sym shown.now_is };
       tables = tables;
       books = subst (λ (db : Database). TablesAre new db.trees) (sym shown.now_is) all;
-      left = λ trees may. subst (TablesAre new) (sym (settled trees shown.is_open may ∙ ap (λ (db : Database). db.trees) shown.committed_is)) all;
+      left =
+          λ trees may. subst (TablesAre new)
+          (sym (settled trees shown.is_open may ∙ ap (λ (db : Database). db.trees) shown.committed_is)) all;
     }
 
 -- what was undone holds the old state's tables again
-pub undone : (s : State) (d m e : sqlite.State) → ((db : Trees) → IsTrue e.is_open → e.may_leave db → db ≡ e.committed.trees)
+pub undone : (s : State) (d m e : sqlite.State)
+    → ((db : Trees) → IsTrue e.is_open → e.may_leave db → db ≡ e.committed.trees)
     → HoldsBooks s d → KeepsCommit d m → IsBack m e → IsTrue e.is_open → HoldsBooks s e
 undone s d m e settled holds kept back up =
     let saved : e.committed ≡ d.now = (back.undone up).1 ∙ kept.committed (back.was_open up) ∙ holds.rest.saved in
@@ -127,18 +149,26 @@ undone s d m e settled holds kept back up =
       rest = record { is_open = up; free = back.autocommit; saved = saved ∙ sym shown };
       tables = record {
         schema = ap (λ (db : Database). db.schema) shown ∙ holds.tables.schema;
-        shaped = λ table. subst (λ (db : Database). IsShaped Table (db.trees (position table))) (sym shown) (holds.tables.shaped table);
+        shaped =
+            λ table. subst (λ (db : Database). IsShaped Table (db.trees (position table))) (sym shown)
+            (holds.tables.shaped table);
       };
       books = subst (λ (db : Database). TablesAre s db.trees) (sym shown) holds.books;
-      left = λ trees may. subst (TablesAre s) (sym (settled trees up may ∙ ap (λ (db : Database). db.trees) saved)) holds.books;
+      left =
+          λ trees may.
+          subst (TablesAre s) (sym (settled trees up may ∙ ap (λ (db : Database). db.trees) saved)) holds.books;
     }
 
 -- ---- what was committed before
 
 pub keeps_then : (a b c : sqlite.State) → KeepsCommit a b → KeepsCommit b c → KeepsCommit a c
-keeps_then a b c one two = record { was_open = λ up. one.was_open (two.was_open up); committed = λ up. two.committed up ∙ one.committed (two.was_open up) }
+keeps_then a b c one two = record {
+  was_open = λ up. one.was_open (two.was_open up);
+  committed = λ up. two.committed up ∙ one.committed (two.was_open up);
+}
 
-pub keeps_shown : (a b : sqlite.State) (now : Database) (inside : Bool) → Shows a b now a.committed inside → KeepsCommit a b
+pub keeps_shown : (a b : sqlite.State) (now : Database) (inside : Bool) → Shows a b now a.committed inside
+    → KeepsCommit a b
 keeps_shown a b now inside shown = record { was_open = λ _. shown.was_open; committed = λ _. shown.committed_is }
 
 keeps_undone : (a b : sqlite.State) → IsRolledBack a b → KeepsCommit a b
@@ -155,7 +185,8 @@ keeps_failed a b (Store failed) h = keeps_stopped a b failed.cause h
 keeps_failed a b (NoTable failed) h = absurd h
 keeps_failed a b (BadRow failed) h = absurd h
 
-pub keeps_unless : {A : Type 0} (a b : sqlite.State) (r : Result A TableFault) → IfErr r (Stops a b) → OnErr r (KeepsCommit a b)
+pub keeps_unless : {A : Type 0} (a b : sqlite.State) (r : Result A TableFault) → IfErr r (Stops a b)
+    → OnErr r (KeepsCommit a b)
 keeps_unless a b (Ok x) h = tt
 keeps_unless a b (Err fault) h = keeps_failed a b fault h
 
@@ -170,17 +201,20 @@ keeps_fault a b (Store failed) (inr back) = keeps_undone a b back
 keeps_fault a b (NoTable failed) same = keeps_same a b same
 keeps_fault a b (BadRow failed) same = keeps_same a b same
 
-pub keeps_row : {A : Type 0} (table : TableName) (a b : sqlite.State) (r : Result A TableFault) → OnOk r (Writes table a b) → IfErr r (MayUndo a b) → KeepsCommit a b
+pub keeps_row : {A : Type 0} (table : TableName) (a b : sqlite.State) (r : Result A TableFault)
+    → OnOk r (Writes table a b) → IfErr r (MayUndo a b) → KeepsCommit a b
 keeps_row table a b (Ok x) wrote failed = keeps_shown a b b.now true wrote.shown
 keeps_row table a b (Err fault) wrote failed = keeps_fault a b fault failed
 
 -- after a look at the tables
-pub keeps_look : {A E : Type 0} (a b : sqlite.State) (r : Result A E) → OnOk r (IsUnchanged a b) → OnErr r (IsUnchanged a b ⊎ IsRolledBack a b) → KeepsCommit a b
+pub keeps_look : {A E : Type 0} (a b : sqlite.State) (r : Result A E) → OnOk r (IsUnchanged a b)
+    → OnErr r (IsUnchanged a b ⊎ IsRolledBack a b) → KeepsCommit a b
 keeps_look a b (Ok x) same failed = keeps_same a b same
 keeps_look a b (Err e) same failed = elim failed [ inl same ↦ keeps_same a b same | inr back ↦ keeps_undone a b back ]
 
 -- where a call changed what was committed only if it failed
-pub keeps_later : {A E : Type 0} (a b c : sqlite.State) (r : Result A E) → KeepsCommit a b → OnErr r (KeepsCommit b c) → OnErr r (KeepsCommit a c)
+pub keeps_later : {A E : Type 0} (a b c : sqlite.State) (r : Result A E) → KeepsCommit a b → OnErr r (KeepsCommit b c)
+    → OnErr r (KeepsCommit a c)
 keeps_later a b c (Ok x) one two = tt
 keeps_later a b c (Err e) one two = keeps_then a b c one two
 
@@ -195,7 +229,9 @@ when_err (Err e) p = p
 
 -- ---- a call that ends early
 
-pub goes_fault : (old new : State) (n count : ℕ) (a b c : sqlite.State) (r : Result (Unit {0}) TableFault) (fault : TableFault) → IsErrAnd r (λ d. d ≡ fault) → sqlite.Survives a b (λ _. ⊥) → (sqlite.HasCleanDisk b → KeepsCommit a b)
+pub goes_fault :
+    (old new : State) (n count : ℕ) (a b c : sqlite.State) (r : Result (Unit {0}) TableFault) (fault : TableFault)
+    → IsErrAnd r (λ d. d ≡ fault) → sqlite.Survives a b (λ _. ⊥) → (sqlite.HasCleanDisk b → KeepsCommit a b)
     → Goes old new n b c (Err fault) → Goes old new count a c r
 goes_fault old new n count a b c (Ok x) fault is before kept goes = absurd is
 goes_fault old new n count a b c (Err e) fault is before kept goes = record {

@@ -27,33 +27,41 @@ still-rests a b same rest = record {
 }
 
 -- why there is no desk in tables that are none of another schema's
-pub why_not : (trees first : Trees) (e : OpenFault) → trees ≡ first → ¬ IsForeign first → WhyBut IsOfOtherVersion trees e → WhyNot first e
+pub why_not : (trees first : Trees) (e : OpenFault) → trees ≡ first → ¬ IsForeign first
+    → WhyBut IsOfOtherVersion trees e → WhyNot first e
 why_not trees first e same own why = go e (subst (λ t. WhyBut IsOfOtherVersion t e) same why)
   where
     go : (e : OpenFault) → WhyBut IsOfOtherVersion first e → WhyNot first e
     go Memory said = tt
     go (Store failed) said = tt
     go Foreign said = inr said
-    go (Damaged told) said = (said.0, said.1, λ else. elim else [ inl foreign ↦ own foreign | inr other ↦ said.2 other ])
+    go (Damaged told) said =
+        (said.0, said.1, λ else. elim else [ inl foreign ↦ own foreign | inr other ↦ said.2 other ])
 
-module _ {S : Type 0} (g : Ghosts S) (settled : (s : S) (db : Trees) → IsTrue (g.view s).is_open → g.recovers s db → db ≡ (g.view s).committed) where
+module _ {S : Type 0} (g : Ghosts S)
+    (settled : (s : S) (db : Trees) → IsTrue (g.view s).is_open → g.recovers s db → db ≡ (g.view s).committed) where
   -- books that stand in a database at rest are all that a crash leaves
-  rests-books : (s : State) (h : Held S) → IsAtRest (state g h) → HasTables (state g h) → TablesAre s (state g h).now.trees → HoldsBooks s (state g h)
+  rests-books : (s : State) (h : Held S) → IsAtRest (state g h) → HasTables (state g h)
+      → TablesAre s (state g h).now.trees → HoldsBooks s (state g h)
   rests-books s h rest tables books = record {
     rest = rest;
     tables = tables;
     books = books;
     left = λ trees may.
-        subst (TablesAre s) (sym (settled h.store trees rest.is_open may ∙ ap (λ (d : Database). d.trees) rest.saved)) books;
+        subst (TablesAre s)
+        (sym (settled h.store trees rest.is_open may ∙ ap (λ (d : Database). d.trees) rest.saved)) books;
   }
 
-  module _ (opened loaded : Held S) (shop : Shop) (read : Reads AreBooksOf (WhyBut IsOfOtherVersion) (state g opened) (state g loaded) (Ok shop)) where
+  module _ (opened loaded : Held S) (shop : Shop)
+      (read : Reads AreBooksOf (WhyBut IsOfOtherVersion) (state g opened) (state g loaded) (Ok shop)) where
     -- the books of a shop that was read from a database at rest
-    pub opened-books : (HasCleanDisk (state g opened) → IsAtRest (state g opened)) → (HasCleanDisk (state g opened) → HasTables (state g opened))
+    pub opened-books : (HasCleanDisk (state g opened) → IsAtRest (state g opened))
+        → (HasCleanDisk (state g opened) → HasTables (state g opened))
         → HasCleanDisk (state g loaded) → HoldsBooks (state_of shop) (state g loaded)
     opened-books rest tables clean =
         let past = was-clean (state g opened) (state g loaded) _ read.crash clean in
         let same = read.same clean in
         rests-books (state_of shop) loaded (still-rests (state g opened) (state g loaded) same (rest past))
-        (still-tables (state g opened) (state g loaded) (has-read AreBooksOf (WhyBut IsOfOtherVersion) (state g opened) (state g loaded) shop read) tables clean)
+        (still-tables (state g opened) (state g loaded)
+        (has-read AreBooksOf (WhyBut IsOfOtherVersion) (state g opened) (state g loaded) shop read) tables clean)
         (subst (λ (d : Database). TablesAre (state_of shop) d.trees) (sym same.0.now_is) (read.gives clean).tables)

@@ -41,21 +41,24 @@ may_undo a b (Store failed) may = may
 may_undo a b (NoTable failed) same = inl same
 may_undo a b (BadRow failed) same = inl same
 
-pub fails_to_load : {R : Type 0} (from : List Column → Option R) (table : TableName) (a b : State) (fault : TableFault) → FailsToLoad from table a b fault → IsUnchanged a b ⊎ IsRolledBack a b
+pub fails_to_load : {R : Type 0} (from : List Column → Option R) (table : TableName) (a b : State) (fault : TableFault)
+    → FailsToLoad from table a b fault → IsUnchanged a b ⊎ IsRolledBack a b
 fails_to_load from table a b Memory same = inl same
 fails_to_load from table a b (Store failed) may = may
 fails_to_load from table a b (NoTable failed) never = absurd never
 fails_to_load from table a b (BadRow failed) bad = inl bad.1
 
 -- what fails after a look fails of what was there before it
-pub fails-later : (a b c : State) → IsUnchanged a b → IsUnchanged b c ⊎ IsRolledBack b c → IsUnchanged a c ⊎ IsRolledBack a c
+pub fails-later : (a b c : State) → IsUnchanged a b → IsUnchanged b c ⊎ IsRolledBack b c
+    → IsUnchanged a c ⊎ IsRolledBack a c
 fails-later a b c one (inl same) = inl (unchanged_then a b c one same)
 fails-later a b c one (inr back) = inr (record {
   was_open = λ up. one.0.was_open;
   undone = λ up. let at = back.undone up in (at.0 ∙ one.0.committed_is, at.1 ∙ one.0.committed_is);
   autocommit = back.autocommit;
   unmarked = back.unmarked;
-  counts = record { changes = back.counts.changes ∙ one.1.changes; last_rowid = back.counts.last_rowid ∙ one.1.last_rowid };
+  counts =
+      record { changes = back.counts.changes ∙ one.1.changes; last_rowid = back.counts.last_rowid ∙ one.1.last_rowid };
 })
 
 -- the tables are still there
@@ -73,14 +76,19 @@ module _ {X : Type 0} (Gives : Trees → X → Type 0) (Why : Trees → OpenFaul
   has-read a b x r = record { same = r.same; crash = r.crash }
 
   -- what a later call found is so of the tables as they were first
-  pub gives-first : (a b c : State) (x : X) → HasRead a b → Reads Gives Why b c (Ok x) → HasCleanDisk c → Gives a.now.trees x
+  pub gives-first : (a b c : State) (x : X) → HasRead a b → Reads Gives Why b c (Ok x) → HasCleanDisk c
+      → Gives a.now.trees x
   gives-first a b c x read r clean =
       subst (λ d. Gives d.trees x) (read.same (was-clean b c _ r.crash clean)).0.now_is (r.gives clean)
 
   -- what was read is what the call answers
-  pub reads-ok : (a b : State) (x : X) → HasRead a b → (HasCleanDisk b → Gives a.now.trees x) → Reads Gives Why a b (Ok x)
-  reads-ok a b x read gives = record { gives = gives; why = λ _. tt; same = read.same; failed = λ _. tt; crash = read.crash }
+  pub reads-ok : (a b : State) (x : X) → HasRead a b → (HasCleanDisk b → Gives a.now.trees x)
+      → Reads Gives Why a b (Ok x)
+  reads-ok a b x read gives =
+      record { gives = gives; why = λ _. tt; same = read.same; failed = λ _. tt; crash = read.crash }
 
   -- what was read tells why there is nothing
-  pub reads-why : (a b : State) (e : OpenFault) → HasRead a b → (HasCleanDisk b → Why a.now.trees e) → Reads Gives Why a b (Err e)
-  reads-why a b e read why = record { gives = λ _. tt; why = why; same = λ _. tt; failed = λ clean. inl (read.same clean); crash = read.crash }
+  pub reads-why : (a b : State) (e : OpenFault) → HasRead a b → (HasCleanDisk b → Why a.now.trees e)
+      → Reads Gives Why a b (Err e)
+  reads-why a b e read why =
+      record { gives = λ _. tt; why = why; same = λ _. tt; failed = λ clean. inl (read.same clean); crash = read.crash }

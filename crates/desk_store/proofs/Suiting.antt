@@ -29,7 +29,9 @@ use Rattle.desk_store.specs.declared.meta.MetaRow.{MetaRow}
 use Rattle.table_store.specs.Stored.{value_of}
 use Rattle.table_store.specs.Values.{Takes}
 use Rattle.table_store.specs.Written.{Suits, SuitKept}
-use Rattle.table_store.specs.declared.name.TableName.TheVariants.{Meta, Categories, Locations, Parts, Lines, Substitutes, Items, History, Orders, OrderLines, Builds, Allocations}
+use Rattle.table_store.specs.declared.name.TableName.TheVariants.{Meta, Categories, Locations, Parts}
+use Rattle.table_store.specs.declared.name.TableName.TheVariants.{Lines, Substitutes, Items, History}
+use Rattle.table_store.specs.declared.name.TableName.TheVariants.{Orders, OrderLines, Builds, Allocations}
 
 number-fits : (number : Option ℕ) → Takes Integer false (value_of (number_or_absent number))
 number-fits None = tt

@@ -1,5 +1,6 @@
 -- What is read of the tables, and what a call that reads them leaves.
-use Rattle.std.specs.Prelude.{◌≡◌, ◌⊎◌, ℕ, List, [], ◌∷◌, Option, None, Some, Result, IfOk, IfErr, OnOk, OnErr, Contains, ◌≢◌}
+use Rattle.std.specs.Prelude.{◌≡◌, ◌⊎◌, ℕ, List, [], ◌∷◌, Option, None, Some}
+use Rattle.std.specs.Prelude.{Result, IfOk, IfErr, OnOk, OnErr, Contains, ◌≢◌}
 use Rattle.sqlite.specs.Order.{Row}
 use Rattle.sqlite.specs.State.{State, HasCleanDisk, IsUnchanged, IsRolledBack, Survives}
 use Rattle.sqlite.specs.Tree.{Trees}
@@ -39,12 +40,15 @@ use Rattle.table_store.specs.Schema.{position}
 use Rattle.table_store.specs.Stored.{AreLoaded}
 use Rattle.table_store.specs.Written.{AreItsRows, IsTableOf}
 use Rattle.table_store.specs.declared.name.TableName.{TableName}
-use Rattle.table_store.specs.declared.name.TableName.TheVariants.{Meta, Categories, Locations, Parts, Lines, Substitutes, Items, History, Orders, OrderLines, Builds, Allocations, Kept}
+use Rattle.table_store.specs.declared.name.TableName.TheVariants.{Meta, Categories, Locations, Parts, Lines}
+use Rattle.table_store.specs.declared.name.TableName.TheVariants.{Substitutes, Items, History, Orders}
+use Rattle.table_store.specs.declared.name.TableName.TheVariants.{OrderLines, Builds, Allocations, Kept}
 
 -- ---- calls that read
 
 -- What a call answers is so of the tables, or its fault is. It changes nothing, and a crash leaves nothing new.
-pub record Reads {X : Type 0} (Gives : Trees → X → Type 0) (Why : Trees → OpenFault → Type 0) (old new : State) (r : Result X OpenFault) : Type 0 where
+pub record Reads {X : Type 0} (Gives : Trees → X → Type 0) (Why : Trees → OpenFault → Type 0) (old new : State)
+    (r : Result X OpenFault) : Type 0 where
   pub gives : HasCleanDisk new → IfOk r (Gives old.now.trees)
   pub why : HasCleanDisk new → IfErr r (Why old.now.trees)
   pub same : HasCleanDisk new → OnOk r (IsUnchanged old new)
@@ -60,25 +64,33 @@ module _ {R : Type 0} (row_from : List Column → Option R) (columns_of : R → 
     pub its : AreItsRows row_from columns_of key_of table tree rows
 
 pub record ArePartRows (trees : Trees) (categories : List Category) (parts : List Part) : Type 0 where
-  pub categories_are : AreTheRows named_from named_columns (λ row. row.number ∷ []) Categories (trees (position Categories)) categories
+  pub categories_are : AreTheRows named_from named_columns (λ row. row.number ∷ []) Categories
+      (trees (position Categories)) categories
   pub parts_are : AreTheRows part_from part_columns (λ row. row.number ∷ []) Parts (trees (position Parts)) parts
 
 pub record AreBillRows (trees : Trees) (lines : List Line) (substitutes : List Substitute) : Type 0 where
   pub lines_are : AreTheRows line_from line_columns (λ row. row.number ∷ []) Lines (trees (position Lines)) lines
-  pub substitutes_are : AreTheRows substitute_from substitute_columns (λ row. row.number ∷ []) Substitutes (trees (position Substitutes)) substitutes
+  pub substitutes_are : AreTheRows substitute_from substitute_columns (λ row. row.number ∷ []) Substitutes
+      (trees (position Substitutes)) substitutes
 
-pub record AreStockRows (trees : Trees) (locations : List Location) (items : List Item) (history : List Entry) : Type 0 where
-  pub locations_are : AreTheRows named_from named_columns (λ row. row.number ∷ []) Locations (trees (position Locations)) locations
+pub record AreStockRows (trees : Trees) (locations : List Location) (items : List Item)
+    (history : List Entry) : Type 0 where
+  pub locations_are : AreTheRows named_from named_columns (λ row. row.number ∷ []) Locations
+      (trees (position Locations)) locations
   pub items_are : AreTheRows item_from item_columns (λ row. row.number ∷ []) Items (trees (position Items)) items
-  pub history_are : AreTheRows entry_from entry_columns (λ row. row.number ∷ []) History (trees (position History)) history
+  pub history_are : AreTheRows entry_from entry_columns (λ row. row.number ∷ []) History
+      (trees (position History)) history
 
 pub record AreOrderRows (trees : Trees) (orders_in : List Order) (lines : List OrderLine) : Type 0 where
-  pub orders_are : AreTheRows orders.order_from orders.order_columns (λ row. row.number ∷ []) Orders (trees (position Orders)) orders_in
-  pub lines_are : AreTheRows orders.line_from orders.line_columns (λ row. row.number ∷ []) OrderLines (trees (position OrderLines)) lines
+  pub orders_are : AreTheRows orders.order_from orders.order_columns (λ row. row.number ∷ []) Orders
+      (trees (position Orders)) orders_in
+  pub lines_are : AreTheRows orders.line_from orders.line_columns (λ row. row.number ∷ []) OrderLines
+      (trees (position OrderLines)) lines
 
 pub record AreBuildRows (trees : Trees) (builds : List Build) (allocations : List Allocation) : Type 0 where
   pub builds_are : AreTheRows build_from build_columns (λ row. row.number ∷ []) Builds (trees (position Builds)) builds
-  pub allocations_are : AreTheRows allocation_from allocation_columns (λ row. row.number ∷ []) Allocations (trees (position Allocations)) allocations
+  pub allocations_are : AreTheRows allocation_from allocation_columns (λ row. row.number ∷ []) Allocations
+      (trees (position Allocations)) allocations
 
 abbrev pub AreAnswers : Trees → List KeptRow → Type 0
 AreAnswers trees answers = AreItsRows kept_from kept_columns (λ row. row.word) Kept (trees (position Kept)) answers
@@ -89,7 +101,8 @@ AreAnswers trees answers = AreItsRows kept_from kept_columns (λ row. row.word) 
 -- there has another version
 pub record IsMetaRow (trees : Trees) (row : MetaRow) : Type 0 where
   pub table : IsTableOf meta_from meta_columns Meta (trees (position Meta)) (only row)
-  pub sole : (other : MetaRow) → IsTableOf meta_from meta_columns Meta (trees (position Meta)) (only other) → other ≡ row
+  pub sole : (other : MetaRow) → IsTableOf meta_from meta_columns Meta (trees (position Meta)) (only other)
+      → other ≡ row
   pub one : row.one ≡ 1
   pub version : row.version ≡ 1
   pub this : ¬ IsOfOtherVersion trees
@@ -108,7 +121,14 @@ IsNoMeta rows (why.Damaged (Some failed)) = ⊥
 
 -- the row that the counter of these tables has
 abbrev pub meta_in : Tables → MetaRow
-meta_in t = record { one = 1; version = 1; next = t.next; entries = t.entries; max_numbers = t.limits.numbers; max_entries = t.limits.entries }
+meta_in t = record {
+  one = 1;
+  version = 1;
+  next = t.next;
+  entries = t.entries;
+  max_numbers = t.limits.numbers;
+  max_entries = t.limits.entries;
+}
 
 -- ---- all tables
 
@@ -117,7 +137,8 @@ pub record AreSheets (trees : Trees) (t : Tables) : Type 0 where
   pub catalogue : ArePartRows trees t.categories.items t.parts.items
   pub bills : AreBillRows trees t.lines.items t.substitutes.items
   pub stock : AreStockRows trees t.locations.items t.items.items t.history.items
-  pub orders : AreOrderRows trees t.orders.items t.order_lines.items × AreBuildRows trees t.builds.items t.allocations.items
+  pub orders : AreOrderRows trees t.orders.items t.order_lines.items
+      × AreBuildRows trees t.builds.items t.allocations.items
   pub answers : AreAnswers trees t.answers.items
 
 -- these rows are those of the tables

@@ -10,7 +10,8 @@ use Rattle.desk_core.specs.Machine.{State, entries_in}
 use Rattle.desk_store.specs.declared.meta.MetaRow.{MetaRow}
 
 abbrev pub meta_columns : MetaRow → List Column
-meta_columns m = Whole m.one ∷ Whole m.version ∷ Whole m.next ∷ Whole m.entries ∷ Whole m.max_numbers ∷ Whole m.max_entries ∷ []
+meta_columns m =
+    Whole m.one ∷ Whole m.version ∷ Whole m.next ∷ Whole m.entries ∷ Whole m.max_numbers ∷ Whole m.max_entries ∷ []
 
 abbrev pub meta_from : List Column → Option MetaRow
 meta_from columns = do
@@ -21,7 +22,14 @@ meta_from columns = do
   entries ← number_at 3 columns
   max_numbers ← number_at 4 columns
   max_entries ← number_at 5 columns
-  Some (record { one = one; version = version; next = next; entries = entries; max_numbers = max_numbers; max_entries = max_entries })
+  Some (record {
+    one = one;
+    version = version;
+    next = next;
+    entries = entries;
+    max_numbers = max_numbers;
+    max_entries = max_entries;
+  })
 
 -- the row that a state has
 abbrev pub meta_of : State → MetaRow

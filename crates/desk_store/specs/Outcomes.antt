@@ -42,8 +42,8 @@ told (Err Memory ∷ os) = told os
 told (Err Store ∷ os) = told os
 told (Err Closed ∷ os) = told os
 
--- a desk that is closed or not answers so, and is closed or not after it: nothing but a Store closes it, and from then on
--- each answer is Closed
+-- a desk that is closed or not answers so, and is closed or not after it: nothing but a Store closes it, and from then
+-- on each answer is Closed
 abbrev pub Closes : Bool → List (Result Answer Fault) → Bool → Type 0
 Closes before [] after = after ≡ before
 Closes true (Err Closed ∷ os) after = Closes true os after

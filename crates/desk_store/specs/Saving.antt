@@ -42,7 +42,8 @@ pub record Goes (old new : State) (count : ℕ) (d e : sqlite.State) (r : Result
 
 -- ---- what is written
 
-module _ {R : Type 0} (row_from : List Column → Option R) (columns_of : R → List Column) (key_of : R → List ℕ) (digits : ℕ → List ℕ) where
+module _ {R : Type 0} (row_from : List Column → Option R) (columns_of : R → List Column) (key_of : R → List ℕ)
+    (digits : ℕ → List ℕ) where
   -- the sheet has the rows of this table in the two states, as it was before and as it is now, and the table takes them
   pub record IsSheetIn (old new : State) (table : TableName) (sheet : Rows R) : Type 0 where
     pub suits : Suits columns_of key_of digits table

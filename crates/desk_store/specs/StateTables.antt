@@ -19,7 +19,9 @@ use Rattle.table_store.specs.Schema.{position}
 use Rattle.table_store.specs.Values.{HasTables}
 use Rattle.table_store.specs.Written.{IsTableOf}
 use Rattle.table_store.specs.declared.name.TableName.{TableName}
-use Rattle.table_store.specs.declared.name.TableName.TheVariants.{Meta, Categories, Locations, Parts, Lines, Substitutes, Items, History, Orders, OrderLines, Builds, Allocations, Kept}
+use Rattle.table_store.specs.declared.name.TableName.TheVariants.{Meta, Categories, Locations, Parts, Lines}
+use Rattle.table_store.specs.declared.name.TableName.TheVariants.{Substitutes, Items, History, Orders}
+use Rattle.table_store.specs.declared.name.TableName.TheVariants.{OrderLines, Builds, Allocations, Kept}
 
 -- the tree is this table of the state: the rows of its sheet, read as they are, or the one row of `meta`
 abbrev pub IsTableIn : State → TableName → List Row → Type 0

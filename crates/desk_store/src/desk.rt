@@ -4,7 +4,8 @@
 //! transaction, and answered once that is committed. A refusal and a kept answer touch no table. Where memory runs out,
 //! the shop and the tables are as they were. Where the database fails, the desk is closed: no later request is run, and
 //! what the file then holds, the tables before or after that request, is found by opening it again.
-ghost use Rattle.std.specs.Prelude.{◌≡◌, ◌↔◌, ◌⊎◌, ◌+◌, ℕ, None, IfSome, IsSome, is_some, length, IfOk, IfErr, OnErr, OnOk, Err};
+ghost use Rattle.std.specs.Prelude.{◌≡◌, ◌↔◌, ◌⊎◌, ◌+◌, ℕ, None, IfSome, IsSome};
+ghost use Rattle.std.specs.Prelude.{is_some, length, IfOk, IfErr, OnErr, OnOk, Err};
 ghost use Rattle.sqlite.specs.Held.{state};
 ghost use Rattle.sqlite.specs.State.{HasCleanDisk, Survives};
 ghost use Rattle.sqlite.specs.Tree.{Trees};

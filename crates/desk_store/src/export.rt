@@ -6,7 +6,8 @@ ghost use Rattle.csv.specs.Writing.{default_writer, row_text};
 ghost use Rattle.part_core.specs.Sheet.{now_of};
 ghost use Rattle.desk_core.specs.ShopView.{state_of};
 ghost use Rattle.desk_store.specs.MetaColumns.{meta_columns};
-ghost use Rattle.desk_store.specs.Exports.{AppendsFront, HasLines, WritesLines, field_of, header_line, lines_of, row_line, rows_text, sheet_lines, table_text};
+ghost use Rattle.desk_store.specs.Exports.{AppendsFront, HasLines, WritesLines, field_of, header_line};
+ghost use Rattle.desk_store.specs.Exports.{lines_of, row_line, rows_text, sheet_lines, table_text};
 
 use crate::desk::Desk;
 use crate::meta::MetaRow;

@@ -16,5 +16,6 @@ none-left (n ∷ ns) (o ∷ os) (inl e) = cc e
 none-left (n ∷ ns) (o ∷ os) (inr e) = cc e
 
 -- a text to which the lines that are left are to be added, where none are
-pub all-told : (ns : List ℕ) (os : List Outcome) (all text : List ℕ) → (ns ≡ []) ⊎ (os ≡ []) → all ≡ text ++ import_text ns os → text ≡ all
+pub all-told : (ns : List ℕ) (os : List Outcome) (all text : List ℕ) → (ns ≡ []) ⊎ (os ≡ [])
+    → all ≡ text ++ import_text ns os → text ≡ all
 all-told ns os all text e h = sym (h ∙ ap (λ more. text ++ more) (none-left ns os e) ∙ append-nil text)

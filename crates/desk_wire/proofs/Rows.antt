@@ -1,5 +1,6 @@
 -- Records as rows.
-use Rattle.std.proofs.Common.{◌≡◌, ◌≢◌, ℕ, zero, suc, ◌<◌, ◌+◌, true, false, Bool, ◌&&◌, ◌==◌, List, [], ◌∷◌, length, drop, map, get_or, arith, refl, sym, ap, subst, ◌∙◌, Option, Ok, Err, inl, inr}
+use Rattle.std.proofs.Common.{◌≡◌, ◌≢◌, ℕ, zero, suc, ◌<◌, ◌+◌, true, false, Bool, ◌&&◌, ◌==◌, List, [], ◌∷◌, length}
+use Rattle.std.proofs.Common.{drop, map, get_or, arith, refl, sym, ap, subst, ◌∙◌, Option, Ok, Err, inl, inr}
 use Rattle.std.specs.Prelude.{Result, nat_le}
 use Rattle.std.specs.Borrow.{Bor}
 use Rattle.std.proofs.lemmas.List.{length-map}
@@ -44,43 +45,58 @@ drop-next (x ∷ xs) (suc i) h = drop-next xs i (omega arith)
 drop-field : (xs : Fields) (i : ℕ) → i < length xs → drop i xs ≡ field i xs ∷ drop (i + 1) xs
 drop-field xs i h = let e : suc i ≡ i + 1 = omega arith in drop-next xs i h ∙ ap (λ j. field i xs ∷ drop j xs) e
 
-field-name : (names : List (Bor (List ℕ))) (i : ℕ) (d : Bor (List ℕ)) → i < length names → field i (map (λ name. name.now) names) ≡ (get_or names i d).now
+field-name : (names : List (Bor (List ℕ))) (i : ℕ) (d : Bor (List ℕ)) → i < length names
+    → field i (map (λ name. name.now) names) ≡ (get_or names i d).now
 unfolding field_at
 field-name [] i d h = absurd (omega arith)
 field-name (n ∷ ns) zero d h = refl
 field-name (n ∷ ns) (suc i) d h = field-name ns i d (omega arith)
 
 -- of two lists that are equally long, the places from the i-th on
-pub names-step : (names : List (Bor (List ℕ))) (fields : Fields) (i : ℕ) (d : Bor (List ℕ)) → length names ≡ length fields → i < length names
+pub names-step : (names : List (Bor (List ℕ))) (fields : Fields) (i : ℕ) (d : Bor (List ℕ))
+    → length names ≡ length fields → i < length names
     → pointwise bytes_eq (drop i (map (λ name. name.now) names)) (drop i fields)
-    ≡ (bytes_eq (get_or names i d).now (field i fields) && pointwise bytes_eq (drop (i + 1) (map (λ name. name.now) names)) (drop (i + 1) fields))
+    ≡ (bytes_eq (get_or names i d).now (field i fields)
+    && pointwise bytes_eq (drop (i + 1) (map (λ name. name.now) names)) (drop (i + 1) fields))
 names-step names fields i d e h =
-    let long : length (map (λ (name : Bor (List ℕ)). name.now) names) ≡ length names = length-map names (λ name. name.now) in
+    let long : length (map (λ (name : Bor (List ℕ)). name.now) names) ≡ length names =
+    length-map names (λ name. name.now) in
     let a = drop-field (map (λ name. name.now) names) i (omega (arith, long)) in
     let b = drop-field fields i (omega arith) in
-    ap (λ v. pointwise bytes_eq v (drop i fields)) a ∙ ap (λ v. pointwise bytes_eq (field i (map (λ name. name.now) names) ∷ drop (i + 1) (map (λ name. name.now) names)) v) b
-    ∙ ap (λ v. bytes_eq v (field i fields) && pointwise bytes_eq (drop (i + 1) (map (λ name. name.now) names)) (drop (i + 1) fields)) (field-name names i d h)
+    ap (λ v. pointwise bytes_eq v (drop i fields)) a ∙ ap
+    (λ v. pointwise bytes_eq (field i (map (λ name. name.now) names) ∷ drop (i + 1) (map (λ name. name.now) names)) v) b
+    ∙ ap (λ v. bytes_eq v (field i fields)
+    && pointwise bytes_eq (drop (i + 1) (map (λ name. name.now) names)) (drop (i + 1) fields))
+    (field-name names i d h)
 
-pub names-same : (names : List (Bor (List ℕ))) (fields : Fields) (i : ℕ) (d : Bor (List ℕ)) → length names ≡ length fields → i < length names
+pub names-same : (names : List (Bor (List ℕ))) (fields : Fields) (i : ℕ) (d : Bor (List ℕ))
+    → length names ≡ length fields → i < length names
     → bytes_eq (get_or names i d).now (field i fields) ≡ true
-    → pointwise bytes_eq (drop i (map (λ name. name.now) names)) (drop i fields) ≡ pointwise bytes_eq (drop (i + 1) (map (λ name. name.now) names)) (drop (i + 1) fields)
+    → pointwise bytes_eq (drop i (map (λ name. name.now) names)) (drop i fields)
+    ≡ pointwise bytes_eq (drop (i + 1) (map (λ name. name.now) names)) (drop (i + 1) fields)
 names-same names fields i d e h same =
-    names-step names fields i d e h ∙ ap (λ b. b && pointwise bytes_eq (drop (i + 1) (map (λ name. name.now) names)) (drop (i + 1) fields)) same
+    names-step names fields i d e h
+    ∙ ap (λ b. b && pointwise bytes_eq (drop (i + 1) (map (λ name. name.now) names)) (drop (i + 1) fields)) same
 
-pub names-differ : (names : List (Bor (List ℕ))) (fields : Fields) (i : ℕ) (d : Bor (List ℕ)) → length names ≡ length fields → i < length names
-    → bytes_eq (get_or names i d).now (field i fields) ≡ false → pointwise bytes_eq (drop i (map (λ name. name.now) names)) (drop i fields) ≡ false
+pub names-differ : (names : List (Bor (List ℕ))) (fields : Fields) (i : ℕ) (d : Bor (List ℕ))
+    → length names ≡ length fields → i < length names
+    → bytes_eq (get_or names i d).now (field i fields) ≡ false
+    → pointwise bytes_eq (drop i (map (λ name. name.now) names)) (drop i fields) ≡ false
 names-differ names fields i d e h differ =
-    names-step names fields i d e h ∙ ap (λ b. b && pointwise bytes_eq (drop (i + 1) (map (λ name. name.now) names)) (drop (i + 1) fields)) differ
+    names-step names fields i d e h
+    ∙ ap (λ b. b && pointwise bytes_eq (drop (i + 1) (map (λ name. name.now) names)) (drop (i + 1) fields)) differ
 
 -- names that are text
-same-texts : (names fields : Fields) → are_texts names ≡ true → pointwise bytes_eq names fields ≡ true → are_texts fields ≡ true
+same-texts : (names fields : Fields) → are_texts names ≡ true → pointwise bytes_eq names fields ≡ true
+    → are_texts fields ≡ true
 same-texts [] [] t e = refl
 same-texts [] (f ∷ fs) t e = absurd (false≢true e)
 same-texts (n ∷ ns) [] t e = absurd (false≢true e)
 same-texts (n ∷ ns) (f ∷ fs) t e =
     let was = and_parts (is_utf8 n) (are_texts ns) t in
     let now = and_parts (bytes_eq n f) (pointwise bytes_eq ns fs) e in
-    ap (λ b. b && are_texts fs) (ap is_utf8 (sym ((bytes_eq-Decides n f).0 now.0)) ∙ was.0) ∙ same-texts ns fs was.1 now.1
+    ap (λ b. b && are_texts fs) (ap is_utf8 (sym ((bytes_eq-Decides n f).0 now.0)) ∙ was.0)
+    ∙ same-texts ns fs was.1 now.1
 
 abbrev is_ascii : List ℕ → Bool
 is_ascii text = list_all (λ b. nat_lt b 128) text
@@ -100,36 +116,46 @@ names-texts : (kind : ImportKind) → are_texts (names_of kind) ≡ true
 names-texts Receipts = ascii-texts (names_of Receipts) refl
 names-texts Counts = ascii-texts (names_of Counts) refl
 
-no-header : (kind : ImportKind) (fields : Fields) → are_texts fields ≡ false → pointwise bytes_eq (names_of kind) fields ≡ false
+no-header : (kind : ImportKind) (fields : Fields) → are_texts fields ≡ false
+    → pointwise bytes_eq (names_of kind) fields ≡ false
 no-header kind fields h = elim (cases_Bool (pointwise bytes_eq (names_of kind) fields)) [
   | inl t ↦ absurd (false≢true (sym h ∙ same-texts (names_of kind) fields (names-texts kind) t))
   | inr f ↦ f
 ]
 
 -- a first record that isn't all text is no header
-pub untold_header : (kind : ImportKind) (document : List ℕ) (day : CivilDay) (all : List Fields) (bad : Fields) (rest : List Fields) → all ≡ bad ∷ rest → are_texts bad ≡ false
+pub untold_header : (kind : ImportKind) (document : List ℕ) (day : CivilDay) (all : List Fields) (bad : Fields)
+    (rest : List Fields) → all ≡ bad ∷ rest → are_texts bad ≡ false
     → rows_in kind document day all ≡ Err (record { line = 1; what = Header })
 untold_header kind document day all bad rest e h = rw (e, no-header kind bad h) refl
 
-pub import-untold : (kind : ImportKind) (document : List ℕ) (day : CivilDay) (bytes : List ℕ) (all : List Fields) (bad : Fields) (rest : List Fields) → nat_le (length bytes) 16777216 ≡ true
-    → all ≡ records default_config (strip_bom bytes) → all ≡ bad ∷ rest → are_texts bad ≡ false → import kind document day bytes ≡ Err (record { line = 1; what = Header })
-import-untold kind document day bytes all bad rest fits are e h = rw fits (untold_header kind document day (records default_config (strip_bom bytes)) bad rest (sym are ∙ e) h)
+pub import-untold : (kind : ImportKind) (document : List ℕ) (day : CivilDay) (bytes : List ℕ) (all : List Fields)
+    (bad : Fields) (rest : List Fields) → nat_le (length bytes) 16777216 ≡ true
+    → all ≡ records default_config (strip_bom bytes) → all ≡ bad ∷ rest → are_texts bad ≡ false
+    → import kind document day bytes ≡ Err (record { line = 1; what = Header })
+import-untold kind document day bytes all bad rest fits are e h =
+    rw fits (untold_header kind document day (records default_config (strip_bom bytes)) bad rest (sym are ∙ e) h)
 
 -- ---- one row
 
-untold : (kind : ImportKind) (document : List ℕ) (day : CivilDay) (fields : Fields) → are_texts fields ≡ false → row_of kind document day fields ≡ Err Csv
+untold : (kind : ImportKind) (document : List ℕ) (day : CivilDay) (fields : Fields) → are_texts fields ≡ false
+    → row_of kind document day fields ≡ Err Csv
 unfolding row_of
 untold kind document day fields h = elim (cases_Bool (length fields == length (names_of kind))) [
   | inl t ↦ rw (t, h) refl
   | inr f ↦ rw f refl
 ]
 
-wrong : (reading : Fields → Result ImportRow What) (a b : BytesReader) (fields : Fields) (bad : Unread) → ReadsRecord a b fields (Err bad)
+wrong : (reading : Fields → Result ImportRow What) (a b : BytesReader) (fields : Fields) (bad : Unread)
+    → ReadsRecord a b fields (Err bad)
     → ((f : Fields) → are_texts f ≡ false → reading f ≡ Err Csv) → ReadsRow reading (left a) (left b) (Err bad)
 wrong reading a b fields Memory h u = tt
 wrong reading a b fields (Wrong what) (bad, rest, e, n, is) u = (bad, rest, e, u bad n ∙ ap Err (sym is))
 
-pub row-wrong : (kind : ImportKind) (document : List ℕ) (day : CivilDay) (a b : BytesReader) (fields : Fields) (bad : Unread) (r : Result (Option ImportRow) Unread) → IsErrAnd r (λ d. d ≡ bad)
+pub row-wrong : (kind : ImportKind) (document : List ℕ) (day : CivilDay) (a b : BytesReader) (fields : Fields)
+    (bad : Unread) (r : Result (Option ImportRow) Unread) → IsErrAnd r (λ d. d ≡ bad)
     → ReadsRecord a b fields (Err bad) → ReadsRow (row_of kind document day) (left a) (left b) r
 row-wrong kind document day a b fields bad (Ok x) is h = absurd is
-row-wrong kind document day a b fields bad (Err d) is h = subst (λ v. ReadsRow (row_of kind document day) (left a) (left b) (Err v)) (sym is) (wrong (row_of kind document day) a b fields bad h (untold kind document day))
+row-wrong kind document day a b fields bad (Err d) is h =
+    subst (λ v. ReadsRow (row_of kind document day) (left a) (left b) (Err v)) (sym is)
+    (wrong (row_of kind document day) a b fields bad h (untold kind document day))

@@ -1,7 +1,9 @@
 -- The faults' names.
 use Rattle.std.specs.Prelude.{ℕ, List, codes}
 use Rattle.desk_wire.specs.declared.fault.What.{What}
-use Rattle.desk_wire.specs.declared.fault.What.TheVariants.{TooLong, NotJson, NotObject, NoField, WrongType, UnknownCommand, UnknownField, BadKey, BadDay, BadText, BadSerials, BadWord, Csv, Header}
+use Rattle.desk_wire.specs.declared.fault.What.TheVariants.{TooLong, NotJson, NotObject, NoField, WrongType}
+use Rattle.desk_wire.specs.declared.fault.What.TheVariants.{UnknownCommand, UnknownField, BadKey, BadDay}
+use Rattle.desk_wire.specs.declared.fault.What.TheVariants.{BadText, BadSerials, BadWord, Csv, Header}
 
 abbrev pub fault_name : What → List ℕ
 fault_name TooLong = codes "TooLong"

@@ -1,5 +1,6 @@
 -- What a file of comma-separated values asks, or its first fault.
-use Rattle.std.specs.Prelude.{ℕ, ◌≡◌, ◌+◌, ◌==◌, ◌++◌, ◌∷◌, List, [], length, nat_le, codes, decimal, Option, Some, None, unwrap_or, Result, Ok, Err}
+use Rattle.std.specs.Prelude.{ℕ, ◌≡◌, ◌+◌, ◌==◌, ◌++◌, ◌∷◌, List, [], length, nat_le, codes}
+use Rattle.std.specs.Prelude.{decimal, Option, Some, None, unwrap_or, Result, Ok, Err}
 use Rattle.std.specs.Str.{bytes_eq}
 use Rattle.std.specs.Cmp.Lexicographic.{pointwise}
 use Rattle.csv.specs.Reading.{default_config, records, strip_bom}
@@ -27,7 +28,8 @@ use Rattle.desk_wire.specs.Records.{Fields, are_texts}
 -- ---- one record
 
 abbrev pub names_of : ImportKind → Fields
-names_of Receipts = codes "number" ∷ codes "line" ∷ codes "location" ∷ codes "quantity" ∷ codes "batch" ∷ codes "serials" ∷ []
+names_of Receipts =
+    codes "number" ∷ codes "line" ∷ codes "location" ∷ codes "quantity" ∷ codes "batch" ∷ codes "serials" ∷ []
 names_of Counts = codes "number" ∷ codes "item" ∷ codes "quantity" ∷ []
 
 abbrev pub field : ℕ → Fields → List ℕ
@@ -73,12 +75,16 @@ row_of kind document day fields = do
   texts ← must Csv (are_texts fields)
   number ← or_fault WrongType (row_number_in (field 0 fields))
   command ← command_of kind fields
-  Ok (record { number = number; request = record { key = Some (key_of kind document number); day = day; command = command } })
+  Ok (record {
+    number = number;
+    request = record { key = Some (key_of kind document number); day = day; command = command };
+  })
 
 -- ---- all records
 
 -- these rows, and then those that the records are, of which the first has the number; or the first fault
-abbrev pub with_rows : ImportKind → List ℕ → CivilDay → ℕ → List ImportRow → List Fields → Result (List ImportRow) WireFault
+abbrev pub with_rows : ImportKind → List ℕ → CivilDay → ℕ → List ImportRow → List Fields
+    → Result (List ImportRow) WireFault
 with_rows kind document day number rows [] = Ok rows
 with_rows kind document day number rows (r ∷ rs) = do
   row ← at number (row_of kind document day r)
@@ -100,8 +106,10 @@ import kind document day bytes = do
 -- ---- what the code reads at a time
 
 -- the next record was read: as a row, or as one that is wrong, or there was none
-abbrev pub ReadsRow : (Fields → Result ImportRow What) → List Fields → List Fields → Result (Option ImportRow) Unread → Type 0
+abbrev pub ReadsRow : (Fields → Result ImportRow What) → List Fields → List Fields
+    → Result (Option ImportRow) Unread → Type 0
 ReadsRow reading old new (Ok None) = old ≡ []
 ReadsRow reading old new (Ok (Some row)) = (fields : Fields) × (old ≡ fields ∷ new) × (reading fields ≡ Ok row)
 ReadsRow reading old new (Err Memory) = Unit {0}
-ReadsRow reading old new (Err (Wrong what)) = (fields : Fields) × (rest : List Fields) × (old ≡ fields ∷ rest) × (reading fields ≡ Err what)
+ReadsRow reading old new (Err (Wrong what)) =
+    (fields : Fields) × (rest : List Fields) × (old ≡ fields ∷ rest) × (reading fields ≡ Err what)

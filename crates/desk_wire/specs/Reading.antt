@@ -1,5 +1,6 @@
 -- What a line asks for, its wish, or its first fault.
-use Rattle.std.specs.Prelude.{◌≡◌, ℕ, List, [], ◌∷◌, ◌&&◌, Bool, nat_le, length, codes, is_some, is_none, Option, None, Result, Ok, if◌then◌else◌}
+use Rattle.std.specs.Prelude.{◌≡◌, ℕ, List, [], ◌∷◌, ◌&&◌, Bool, nat_le, length, codes}
+use Rattle.std.specs.Prelude.{is_some, is_none, Option, None, Result, Ok, if◌then◌else◌}
 use Rattle.std.specs.Str.{is_utf8}
 use Rattle.serde_json.specs.Data.{Data}
 use Rattle.serde_json.specs.Read.{read}
@@ -11,7 +12,8 @@ use Rattle.desk_core.specs.CommandForms.{command_forms}
 use Rattle.desk_core.specs.declared.command.Request.{Request}
 use Rattle.report_core.specs.Names.{report_named}
 use Rattle.desk_wire.specs.declared.fault.What.{What}
-use Rattle.desk_wire.specs.declared.fault.What.TheVariants.{TooLong, NotJson, NotObject, UnknownCommand, UnknownField, BadWord}
+use Rattle.desk_wire.specs.declared.fault.What.TheVariants.{TooLong, NotJson, NotObject}
+use Rattle.desk_wire.specs.declared.fault.What.TheVariants.{UnknownCommand, UnknownField, BadWord}
 use Rattle.desk_wire.specs.declared.read.Wish.{Wish}
 use Rattle.desk_wire.specs.declared.read.Wish.TheVariants as wish
 use Rattle.desk_wire.specs.Steps.{◌>>=◌, or_fault, must}
@@ -56,9 +58,11 @@ request_of d = do
   Ok (record { key = key; day = day; command = command })
 
 -- the fields of a form, once they are read, are a command of its verb
-abbrev pub LinesAreCommands : {C : Type 0} → List Form → (C → List ℕ) → (C → List Field) → (List ℕ → List Field → Option C) → Type 0
+abbrev pub LinesAreCommands : {C : Type 0} → List Form → (C → List ℕ) → (C → List Field)
+    → (List ℕ → List Field → Option C) → Type 0
 LinesAreCommands {C} forms verb_of fields_of command_of =
-    (d : Data) (form : Form) (fields : List Field) → form_in forms d ≡ Ok form → fields_from [] form.fields d ≡ Ok fields
+    (d : Data) (form : Form) (fields : List Field) → form_in forms d ≡ Ok form
+    → fields_from [] form.fields d ≡ Ok fields
     → (c : C) × (command_in command_of form d ≡ Ok c) × (verb_of c ≡ form.verb) × (fields_of c ≡ fields)
 
 -- ---- reports

@@ -17,7 +17,8 @@ abbrev pub refused_text : Refusal → List ℕ
 refused_text refusal = codes "{\"refused\":\"" ++ refusal_name refusal ++ codes "\"}\n"
 
 abbrev pub fault_text : WireFault → List ℕ
-fault_text fault = codes "{\"fault\":\"" ++ fault_name fault.what ++ codes "\",\"line\":" ++ decimal fault.line ++ codes "}\n"
+fault_text fault =
+    codes "{\"fault\":\"" ++ fault_name fault.what ++ codes "\",\"line\":" ++ decimal fault.line ++ codes "}\n"
 
 -- an object whose one member is the report
 abbrev pub report_object : Data → Data

@@ -6,7 +6,11 @@ ghost use Rattle.serde_json.specs.View.{view, items_view};
 ghost use Rattle.part_core.specs.Flags.{no_flags};
 ghost use Rattle.part_core.specs.Forms.{shown_fields};
 ghost use Rattle.desk_wire.specs.Steps.{Gives, Fails};
-ghost use Rattle.desk_wire.specs.Fields.{number_of, text_of, row_text_of, serials_of, key_of, given, member_in, number_in, maybe_number_in, text_in, row_text_in, maybe_row_text_in, yes_in, key_in, day_in, serials_in, maybe_serials_in, status_in, side_in, with_numbers, numbers_in, are_texts, with_words, flags_in, field_in, fields_from};
+ghost use Rattle.desk_wire.specs.Fields.{number_of, text_of, row_text_of, serials_of, key_of, given};
+ghost use Rattle.desk_wire.specs.Fields.{member_in, number_in, maybe_number_in, text_in, row_text_in};
+ghost use Rattle.desk_wire.specs.Fields.{maybe_row_text_in, yes_in, key_in, day_in, serials_in};
+ghost use Rattle.desk_wire.specs.Fields.{maybe_serials_in, status_in, side_in, with_numbers, numbers_in};
+ghost use Rattle.desk_wire.specs.Fields.{are_texts, with_words, flags_in, field_in, fields_from};
 
 use crate::fault::{Unread, What};
 use crate::texts::{listed, row_text_from};

@@ -3,7 +3,8 @@ ghost use Rattle.std.specs.Prelude.{◌≡◌, Ok, Err, Some, MatchResult};
 ghost use Rattle.serde_json.specs.View.{view};
 ghost use Rattle.part_core.specs.Forms.{shown};
 ghost use Rattle.desk_wire.specs.Steps.{Gives, GivesAt, Fails, or_fault};
-ghost use Rattle.desk_wire.specs.Reading.{LinesAreCommands, parsed, object_of, form_in, command_in, request_of, is_report, report_of, wish_of};
+ghost use Rattle.desk_wire.specs.Reading.{LinesAreCommands, parsed, object_of, form_in};
+ghost use Rattle.desk_wire.specs.Reading.{command_in, request_of, is_report, report_of, wish_of};
 ghost use Rattle.desk_wire.specs.Reading as reading;
 
 use crate::fault::{ReadError, Unread, What, WireFault};

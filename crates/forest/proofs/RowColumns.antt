@@ -2,21 +2,26 @@
 use Rattle.std.proofs.Common.{◌≡◌, ℕ, ◌+◌, Bool, true, false, List, [], ◌∷◌, Option, Some, None, refl, sym, ap, ◌∙◌}
 use Rattle.std.specs.Prelude.{slice_get, ◌==◌, if◌then◌else◌}
 use Rattle.std.proofs.lemmas.Bool.{eqb-true}
-use Rattle.part_core.specs.Columns.{◌>>=◌, has, must, number_at, row_text_or_none_at, serial_or_none_at, status_at, day_at, day_as_written, fitting_or_none, text_or_absent}
+use Rattle.part_core.specs.Columns.{◌>>=◌, has, must, number_at, row_text_or_none_at, serial_or_none_at}
+use Rattle.part_core.specs.Columns.{status_at, day_at, day_as_written, fitting_or_none, text_or_absent}
 use Rattle.part_core.specs.Day.{CivilDay, day_text}
 use Rattle.part_core.specs.Serial.{is_serial}
 use Rattle.part_core.specs.Status.{status_code}
 use Rattle.part_core.specs.Text.{is_text}
 use Rattle.part_core.specs.declared.column.Column.{Column}
 use Rattle.part_core.specs.declared.column.Column.TheVariants.{Whole}
-use Rattle.part_core.proofs.ColumnLemmas.{bound, found, code-found, has-is, number_at-is, row_text_or_none_at-is, serial_or_none_at-is, status_at-is, day_at-is, same_columns, absent_text-read, status-read}
+use Rattle.part_core.proofs.ColumnLemmas.{bound, found, code-found, has-is, number_at-is}
+use Rattle.part_core.proofs.ColumnLemmas.{row_text_or_none_at-is, serial_or_none_at-is, status_at-is}
+use Rattle.part_core.proofs.ColumnLemmas.{day_at-is, same_columns, absent_text-read, status-read}
 use Rattle.forest.specs.Forest.{kind_code}
-use Rattle.forest.specs.PlaceColumns.{all_kinds, all_reasons, gone_of, kind_at, kind_of, off_of, place_at, place_code, place_of, place_ref, reason_code, reason_of}
+use Rattle.forest.specs.PlaceColumns.{all_kinds, all_reasons, gone_of, kind_at, kind_of, off_of}
+use Rattle.forest.specs.PlaceColumns.{place_at, place_code, place_of, place_ref, reason_code, reason_of}
 use Rattle.forest.specs.ItemColumns.{item_columns, item_from, lot_at}
 use Rattle.forest.specs.EntryColumns.{entry_columns, entry_from, note_at}
 use Rattle.forest.specs.declared.entry.Entry.{Entry}
 use Rattle.forest.specs.declared.entry.Kind.{Kind}
-use Rattle.forest.specs.declared.entry.Kind.TheVariants.{Received, Found, Built, Consumed, Shipped, Returned, Written, Moved, Cut as CutOff, Poured, Installed, TakenOut, Marked}
+use Rattle.forest.specs.declared.entry.Kind.TheVariants.{Received, Found, Built, Consumed, Shipped, Returned, Written}
+use Rattle.forest.specs.declared.entry.Kind.TheVariants.{Moved, Cut as CutOff, Poured, Installed, TakenOut, Marked}
 use Rattle.forest.specs.declared.entry.Note.{Note}
 use Rattle.forest.specs.declared.item.Item.{Item}
 use Rattle.forest.specs.declared.item.Lot.{Lot}
@@ -73,7 +78,12 @@ place-read (Used n) = refl
 place-read (Off r) = ap (λ o. o >>= λ reason. Some (Off reason)) (reason-read r)
   where
     reason-read : (r : Reason) → reason_of (reason_code r) ≡ Some r
-    reason-read r = elim r as (λ r. reason_of (reason_code r) ≡ Some r) [ Removed ↦ refl | Counted ↦ refl | Disassembled ↦ refl | Scrapped ↦ refl ]
+    reason-read r = elim r as (λ r. reason_of (reason_code r) ≡ Some r) [
+      | Removed ↦ refl
+      | Counted ↦ refl
+      | Disassembled ↦ refl
+      | Scrapped ↦ refl
+    ]
 place-read Gone = refl
 
 module _ (i : ℕ) (cs : List Column) where
@@ -82,25 +92,32 @@ module _ (i : ℕ) (cs : List Column) where
   place_at-is place e =
       let code = bound (number_at i cs) _ place e in
       let ref = bound (number_at (i + 1) cs) _ place code.2 in
-      let are = place-is code.0 ref.0 place ref.2 in
-      (number_at-is i cs code.0 code.1 ∙ ap (λ (n : ℕ). Some (Whole n)) are.0, number_at-is (i + 1) cs ref.0 ref.1 ∙ ap (λ (n : ℕ). Some (Whole n)) are.1)
+      let are = place-is code.0 ref.0 place ref.2 in (
+        number_at-is i cs code.0 code.1 ∙ ap (λ (n : ℕ). Some (Whole n)) are.0,
+        number_at-is (i + 1) cs ref.0 ref.1 ∙ ap (λ (n : ℕ). Some (Whole n)) are.1,
+      )
 
   kind_at-is : (kind : Kind) → kind_at i cs ≡ Some kind → slice_get cs i ≡ Some (Whole (kind_code kind))
   kind_at-is kind e =
       let code = bound (number_at i cs) kind_of kind e in
-      number_at-is i cs code.0 code.1 ∙ ap (λ (n : ℕ). Some (Whole n)) (code-found kind_code code.0 all_kinds kind code.2)
+      number_at-is i cs code.0 code.1
+      ∙ ap (λ (n : ℕ). Some (Whole n)) (code-found kind_code code.0 all_kinds kind code.2)
 
 -- what stands in the columns of a lot
 lot_at-is : (cs : List Column) (lot : Lot) → lot_at cs ≡ Some lot
-    → (slice_get cs 2 ≡ Some (text_or_absent lot.batch)) × (slice_get cs 3 ≡ Some (text_or_absent lot.serial)) × (slice_get cs 4 ≡ Some (Whole (status_code lot.status)))
+    → (slice_get cs 2 ≡ Some (text_or_absent lot.batch)) × (slice_get cs 3 ≡ Some (text_or_absent lot.serial))
+    × (slice_get cs 4 ≡ Some (Whole (status_code lot.status)))
 lot_at-is cs lot e =
     let batch = bound (row_text_or_none_at 2 cs) _ lot e in
     let serial = bound (serial_or_none_at 3 cs) _ lot batch.2 in
     let status = bound (status_at 4 cs) _ lot serial.2 in
     let one : Lot = record { batch = batch.0; serial = serial.0; status = status.0 } in (
-      row_text_or_none_at-is 2 cs batch.0 batch.1 ∙ sym (found (λ (l : Lot). Some (text_or_absent l.batch)) one lot status.2),
-      serial_or_none_at-is 3 cs serial.0 serial.1 ∙ sym (found (λ (l : Lot). Some (text_or_absent l.serial)) one lot status.2),
-      status_at-is 4 cs status.0 status.1 ∙ sym (found (λ (l : Lot). Some (Whole (status_code l.status))) one lot status.2),
+      row_text_or_none_at-is 2 cs batch.0 batch.1
+          ∙ sym (found (λ (l : Lot). Some (text_or_absent l.batch)) one lot status.2),
+      serial_or_none_at-is 3 cs serial.0 serial.1
+          ∙ sym (found (λ (l : Lot). Some (text_or_absent l.serial)) one lot status.2),
+      status_at-is 4 cs status.0 status.1
+          ∙ sym (found (λ (l : Lot). Some (Whole (status_code l.status))) one lot status.2),
     )
 
 pub item_told : (cs : List Column) (number part : ℕ) (lot : Lot) (quantity : ℕ) (place : Place)
@@ -131,7 +148,14 @@ item_told cs number part lot quantity place all c0 c1 c2 c5 c6 =
 pub item_read : (row : Item) → fitting_or_none is_text row.lot.batch ≡ Some row.lot.batch
     → fitting_or_none is_serial row.lot.serial ≡ Some row.lot.serial → item_from (item_columns row) ≡ Some row
 item_read row batch serial =
-    rw (absent_text-read row.lot.batch, absent_text-read row.lot.serial, batch, serial, status-read row.lot.status, place-read row.place) refl
+    rw (
+      absent_text-read row.lot.batch,
+      absent_text-read row.lot.serial,
+      batch,
+      serial,
+      status-read row.lot.status,
+      place-read row.place,
+    ) refl
 
 -- ---- entries
 
@@ -174,9 +198,12 @@ note_at-is cs note e =
     (number_at-is 4 cs part.0 part.1) (number_at-is 5 cs quantity.0 quantity.1) stands.0 stands.1 place.2
   where
     told : (kind : Kind) (item part quantity : ℕ) (place : Place)
-        → slice_get cs 2 ≡ Some (Whole (kind_code kind)) → slice_get cs 3 ≡ Some (Whole item) → slice_get cs 4 ≡ Some (Whole part)
-        → slice_get cs 5 ≡ Some (Whole quantity) → slice_get cs 6 ≡ Some (Whole (place_code place)) → slice_get cs 7 ≡ Some (Whole (place_ref place))
-        → Some (record { kind = kind; item = item; part = part; quantity = quantity; place = place }) ≡ Some note → NoteStands cs note
+        → slice_get cs 2 ≡ Some (Whole (kind_code kind)) → slice_get cs 3 ≡ Some (Whole item)
+        → slice_get cs 4 ≡ Some (Whole part)
+        → slice_get cs 5 ≡ Some (Whole quantity) → slice_get cs 6 ≡ Some (Whole (place_code place))
+        → slice_get cs 7 ≡ Some (Whole (place_ref place))
+        → Some (record { kind = kind; item = item; part = part; quantity = quantity; place = place }) ≡ Some note
+        → NoteStands cs note
     told kind item part quantity place c2 c3 c4 c5 c6 c7 e =
         let one : Note = record { kind = kind; item = item; part = part; quantity = quantity; place = place } in
         record {
@@ -194,9 +221,12 @@ pub entry_told : (cs : List Column) (number : ℕ) (day : CivilDay) (note : Note
 entry_told cs number day note all c0 c1 c2 =
     let one : Entry = record { number = number; day = day; note = note } in
     let n = note_at-is cs note c2 in
-    same_columns cs (entry_columns one) (has-is 8 cs tt all)
-    (number_at-is 0 cs number c0, (day_at-is 1 cs day c1, (n.kind, (n.item, (n.part, (n.quantity, (n.place, (n.ref, tt))))))))
+    same_columns cs (entry_columns one) (has-is 8 cs tt all) (
+      number_at-is 0 cs number c0,
+      (day_at-is 1 cs day c1, (n.kind, (n.item, (n.part, (n.quantity, (n.place, (n.ref, tt))))))),
+    )
 
-pub entry_read : (row : Entry) → day_as_written (day_text row.day) ≡ Some row.day → entry_from (entry_columns row) ≡ Some row
+pub entry_read : (row : Entry) → day_as_written (day_text row.day) ≡ Some row.day
+    → entry_from (entry_columns row) ≡ Some row
 entry_read row read =
     rw (read, kind-read row.note.kind, place-read row.note.place) refl

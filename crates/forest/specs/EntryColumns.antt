@@ -20,7 +20,8 @@ note_at columns = do
 
 abbrev pub entry_columns : Entry → List Column
 entry_columns row =
-    Whole row.number ∷ Text (day_text row.day) ∷ Whole (kind_code row.note.kind) ∷ Whole row.note.item ∷ Whole row.note.part
+    Whole row.number ∷ Text (day_text row.day) ∷ Whole (kind_code row.note.kind) ∷ Whole row.note.item
+    ∷ Whole row.note.part
     ∷ Whole row.note.quantity ∷ Whole (place_code row.note.place) ∷ Whole (place_ref row.note.place) ∷ []
 
 abbrev pub entry_from : List Column → Option Entry

@@ -3,7 +3,8 @@ use Rattle.std.specs.Prelude.{List, [], ◌∷◌, Option, Some}
 use Rattle.part_core.specs.Status.{status_code}
 use Rattle.part_core.specs.declared.column.Column.{Column}
 use Rattle.part_core.specs.declared.column.Column.TheVariants.{Whole}
-use Rattle.part_core.specs.Columns.{◌>>=◌, has, number_at, row_text_or_none_at, serial_or_none_at, status_at, text_or_absent}
+use Rattle.part_core.specs.Columns.{◌>>=◌, has, number_at, row_text_or_none_at}
+use Rattle.part_core.specs.Columns.{serial_or_none_at, status_at, text_or_absent}
 use Rattle.forest.specs.PlaceColumns.{place_at, place_code, place_ref}
 use Rattle.forest.specs.declared.item.Item.{Item}
 use Rattle.forest.specs.declared.item.Lot.{Lot}
@@ -17,7 +18,8 @@ lot_at columns = do
 
 abbrev pub item_columns : Item → List Column
 item_columns row =
-    Whole row.number ∷ Whole row.part ∷ text_or_absent row.lot.batch ∷ text_or_absent row.lot.serial ∷ Whole (status_code row.lot.status)
+    Whole row.number ∷ Whole row.part ∷ text_or_absent row.lot.batch ∷ text_or_absent row.lot.serial
+    ∷ Whole (status_code row.lot.status)
     ∷ Whole row.quantity ∷ Whole (place_code row.place) ∷ Whole (place_ref row.place) ∷ []
 
 abbrev pub item_from : List Column → Option Item

@@ -5,7 +5,8 @@ use Rattle.part_core.specs.declared.column.Column.{Column}
 use Rattle.part_core.specs.Columns.{◌>>=◌, number_at, must}
 use Rattle.forest.specs.Forest.{kind_code}
 use Rattle.forest.specs.declared.entry.Kind.{Kind}
-use Rattle.forest.specs.declared.entry.Kind.TheVariants.{Received, Found, Built, Consumed, Shipped, Returned, Written, Moved, Cut, Poured, Installed, TakenOut, Marked}
+use Rattle.forest.specs.declared.entry.Kind.TheVariants.{Received, Found, Built, Consumed, Shipped, Returned}
+use Rattle.forest.specs.declared.entry.Kind.TheVariants.{Written, Moved, Cut, Poured, Installed, TakenOut, Marked}
 use Rattle.forest.specs.declared.place.Place.{Place}
 use Rattle.forest.specs.declared.place.Place.TheVariants.{At, In, Output, Sent, Used, Off, Gone}
 use Rattle.forest.specs.declared.place.Reason.{Reason}
@@ -80,7 +81,8 @@ place_at i columns = do
 
 abbrev pub all_kinds : List Kind
 all_kinds =
-    Received ∷ Found ∷ Built ∷ Consumed ∷ Shipped ∷ Returned ∷ Written ∷ Moved ∷ Cut ∷ Poured ∷ Installed ∷ TakenOut ∷ Marked ∷ []
+    Received ∷ Found ∷ Built ∷ Consumed ∷ Shipped ∷ Returned ∷ Written ∷ Moved ∷ Cut ∷ Poured ∷ Installed ∷ TakenOut
+    ∷ Marked ∷ []
 
 -- the kind of that number, if there is one
 abbrev pub kind_of : ℕ → Option Kind

@@ -13,15 +13,19 @@ more total body = (total % 65536 + length body % 65536) % 65536
 
 -- the report of no number is refused, and that of 9 has no lines
 abbrev pub report_said : ℕ → ReplyView
-report_said number = if number == 0 then (Refused, number_line 0) else (if number == 9 then (Reported, []) else (Reported, number_line number))
+report_said number =
+    if number == 0 then (Refused, number_line 0)
+    else (if number == 9 then (Reported, []) else (Reported, number_line number))
 
 abbrev pub counting : Machine ℕ
 counting = record {
   run_line = λ total body.
       if length body == 0 then (total, (Refused, number_line total))
-      else (if bytes_eq body (codes "faulty") then (total, (Faulty, number_line total)) else (more total body, (Answered, number_line (more total body))));
+      else (if bytes_eq body (codes "faulty") then (total, (Faulty, number_line total))
+      else (more total body, (Answered, number_line (more total body))));
   import_file = λ total kind document day rows.
-      if bytes_eq rows (codes "faulty") then (total, (Faulty, number_line total)) else (more total rows, (Reported, document ++ 10 ∷ []));
+      if bytes_eq rows (codes "faulty") then (total, (Faulty, number_line total))
+      else (more total rows, (Reported, document ++ 10 ∷ []));
   show_report = λ total name number. report_said number;
 }
 

@@ -1,5 +1,6 @@
 -- What is allocated for a sale leaves orders, allocations and stock sound.
-use Rattle.std.proofs.Common.{◌≡◌, ℕ, ◌+◌, ◌≤◌, Bool, true, false, not, List, [], ◌∷◌, Option, Some, None, refl, sym, ap, ◌∙◌, subst, arith, eqb-true, eq-eqb}
+use Rattle.std.proofs.Common.{◌≡◌, ℕ, ◌+◌, ◌≤◌, Bool, true, false, not, List, [], ◌∷◌, Option}
+use Rattle.std.proofs.Common.{Some, None, refl, sym, ap, ◌∙◌, subst, arith, eqb-true, eq-eqb}
 use Rattle.std.specs.Prelude.{◌==◌}
 use Rattle.std.specs.FinMap as table
 use Rattle.std.proofs.lemmas.Bool.{ltb-false}
@@ -23,7 +24,8 @@ use Rattle.stock_core.proofs.Beside.{sound-later}
 use Rattle.stock_core.proofs.Checked.{good-quantity, there-row}
 use Rattle.order_core.specs.AllocateSale.{allocate_sale, allocate_sale_checks, sale_row}
 use Rattle.part_core.specs.Side.{is_sale}
-use Rattle.order_core.specs.Orders.{OrderBooks, is_in_progress, is_no_line, line_at, one_drawn, order_of_line, owners_beside}
+use Rattle.order_core.specs.Orders.{OrderBooks, is_in_progress, is_no_line, line_at}
+use Rattle.order_core.specs.Orders.{one_drawn, order_of_line, owners_beside}
 use Rattle.order_core.specs.Sound.{AreSoundBooks, IsSoundLine, IsSoundPurpose}
 use Rattle.order_core.specs.declared.line.OrderLine.{OrderLine}
 use Rattle.order_core.specs.declared.order.Order.{Order}
@@ -34,7 +36,8 @@ use Rattle.order_core.proofs.NoneFor.{test_of}
 pub grows-drawn : (b : StockBooks) → Grows b (one_drawn b)
 grows-drawn b = record { numbers = omega arith; limits = refl; entries = omega arith; items = λ n x e. (x, e, refl) }
 
-module _ (is_build : ℕ → Bool) (parts : Parts) (line item q : ℕ) (b : OrderBooks) (sound : AreSoundBooks is_build parts b) (e : first (allocate_sale_checks line item q b) ≡ None) where
+module _ (is_build : ℕ → Bool) (parts : Parts) (line item q : ℕ) (b : OrderBooks)
+    (sound : AreSoundBooks is_build parts b) (e : first (allocate_sale_checks line item q b) ≡ None) where
   abbrev next : ℕ
   next = b.books.counter.next
 
@@ -59,15 +62,25 @@ module _ (is_build : ℕ → Bool) (parts : Parts) (line item q : ℕ) (b : Orde
   there : IsThere b.lines line
   there = there-row b.lines line (or_none (is_no_line line b) (is_no_item item b.books.stock) holds.0).0
 
-  sum : (m : ℕ) → allocated_for_sale_line m after.allocations ≡ amount_where (test_of m) row + allocated_for_sale_line m b.allocations
-  sum m = sum-insert_new (amount_where (test_of m)) b.allocations (next ∷ []) row (right-none (λ (x : Allocation). x.number) next next b.allocations sound.allocations.rows (omega arith))
+  sum : (m : ℕ) → allocated_for_sale_line m after.allocations
+      ≡ amount_where (test_of m) row + allocated_for_sale_line m b.allocations
+  sum m =
+      sum-insert_new (amount_where (test_of m)) b.allocations (next ∷ []) row
+      (right-none (λ (x : Allocation). x.number) next next b.allocations sound.allocations.rows (omega arith))
 
   each-line : EachRow (IsSoundLine parts after) after.lines
   each-line k x at =
       let h = sound.orders.each_line k x at in
-      record { order = h.order; part = h.part; some = h.some; fits = h.fits; needed = go (line == x.number) refl h.needed }
+      record {
+        order = h.order;
+        part = h.part;
+        some = h.some;
+        fits = h.fits;
+        needed = go (line == x.number) refl h.needed;
+      }
     where
-      go : (d : Bool) → (line == x.number) ≡ d → x.done + allocated_for_sale_line x.number b.allocations ≤ x.quantity → x.done + allocated_for_sale_line x.number after.allocations ≤ x.quantity
+      go : (d : Bool) → (line == x.number) ≡ d → x.done + allocated_for_sale_line x.number b.allocations ≤ x.quantity
+          → x.done + allocated_for_sale_line x.number after.allocations ≤ x.quantity
       go false f needed = omega (arith, needed, sum x.number, amount-out (test_of x.number) row f)
       go true f needed =
           let same = eqb-true line x.number f in
@@ -75,7 +88,8 @@ module _ (is_build : ℕ → Bool) (parts : Parts) (line item q : ℕ) (b : Orde
           let is : l ≡ x = ap line_of (ap (λ j. table.get b.lines (j ∷ [])) same ∙ under) in
           let enough = ltb-false _ _ holds.1.1.1.1.1.1.1.1.0 in
           let mine = subst (λ j. l.done + allocated_for_sale_line j b.allocations + q ≤ l.quantity) same enough in
-          let here = subst (λ (z : OrderLine). z.done + allocated_for_sale_line x.number b.allocations + q ≤ z.quantity) is mine in
+          let here =
+          subst (λ (z : OrderLine). z.done + allocated_for_sale_line x.number b.allocations + q ≤ z.quantity) is mine in
           omega (arith, here, sum x.number, amount-in (test_of x.number) row f)
 
   new : IsSoundPurpose after row.item row.purpose
@@ -90,15 +104,24 @@ module _ (is_build : ℕ → Bool) (parts : Parts) (line item q : ℕ) (b : Orde
   pub sound-allocate_sale : AreSoundBooks is_build parts after × Grows b.books after.books
   sound-allocate_sale = (
     record {
-      stock = sound-later (owners_beside is_build b.orders) parts b.books after.books.counter (omega arith) refl sound.stock;
-      allocations = sound-allocated b.allocations b.books sound.allocations row after.books refl refl sound.stock.items.locations.some refl quantity.0 quantity.1 loose
+      stock =
+          sound-later (owners_beside is_build b.orders) parts b.books after.books.counter (omega arith) refl
+          sound.stock;
+      allocations =
+          sound-allocated b.allocations b.books sound.allocations row after.books refl refl
+          sound.stock.items.locations.some refl quantity.0 quantity.1 loose
           (free-enough item q b.allocations b.books.stock holds.1.1.1.1.1.1.1.0);
       orders = record {
-        orders = right-later (λ (o : Order). o.number) next after.books.counter.next b.orders (omega arith) sound.orders.orders;
-        lines = right-later (λ (o : OrderLine). o.number) next after.books.counter.next b.lines (omega arith) sound.orders.lines;
+        orders =
+            right-later (λ (o : Order). o.number) next after.books.counter.next b.orders (omega arith)
+            sound.orders.orders;
+        lines =
+            right-later (λ (o : OrderLine). o.number) next after.books.counter.next b.lines (omega arith)
+            sound.orders.lines;
         each_line = each-line;
         each_sale = each-insert (λ a. IsSoundPurpose after a.item a.purpose) b.allocations (next ∷ []) row new
-            (λ k a at. purpose-kept b after a.item a.purpose (λ order m is. refl) (lines-same b.lines) refl (sound.orders.each_sale k a at));
+            (λ k a at. purpose-kept b after a.item a.purpose (λ order m is. refl) (lines-same b.lines) refl
+            (sound.orders.each_sale k a at));
       };
     },
     grows-drawn b.books,

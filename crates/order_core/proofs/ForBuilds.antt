@@ -9,7 +9,9 @@ use Rattle.std.specs.Prelude.{[], ◌∷◌}
 use Rattle.order_core.specs.AllocateSale.{sale_row}
 use Rattle.order_core.specs.OrderMachine.{NoneComesForBuilds}
 use Rattle.order_core.specs.Orders.{line_at}
-use Rattle.order_core.specs.declared.order_command.OrderCommand.TheVariants.{NewOrder, NewLine, IssueOrder, Receive, AllocateSale, Ship, ReturnItem, CloseOrder, CancelOrder}
+use Rattle.order_core.specs.declared.order_command.OrderCommand.TheVariants.{NewOrder, NewLine, IssueOrder}
+use Rattle.order_core.specs.declared.order_command.OrderCommand.TheVariants.{Receive, AllocateSale, Ship}
+use Rattle.order_core.specs.declared.order_command.OrderCommand.TheVariants.{ReturnItem, CloseOrder, CancelOrder}
 
 pub none-comes : NoneComesForBuilds
 none-comes (NewOrder side partner) day b right = none-same is_for_some_build b.allocations

@@ -20,7 +20,8 @@ use Rattle.order_core.specs.declared.line.OrderLine.{OrderLine}
 -- each line that was there is there, of its order and of its part
 abbrev pub LinesStay : Table OrderLine → Table OrderLine → Type 0
 LinesStay old new =
-    (n : ℕ) (l : OrderLine) → table.get old (n ∷ []) ≡ Some l → (m : OrderLine) × (table.get new (n ∷ []) ≡ Some m) × (m.order ≡ l.order) × (m.part ≡ l.part)
+    (n : ℕ) (l : OrderLine) → table.get old (n ∷ []) ≡ Some l
+    → (m : OrderLine) × (table.get new (n ∷ []) ≡ Some m) × (m.order ≡ l.order) × (m.part ≡ l.part)
 
 pub lines-same : (t : Table OrderLine) → LinesStay t t
 lines-same t n l e = (l, e, refl, refl)
@@ -29,12 +30,14 @@ abbrev pub line_of : Option OrderLine → OrderLine
 line_of o = unwrap_or o no_line
 
 -- the part of a loose item stays
-pub part-stays : (old new : Stock) → PartsStay old new → (n : ℕ) → is_at (item_at n old).place ≡ true → part_at n new ≡ part_at n old
+pub part-stays : (old new : Stock) → PartsStay old new → (n : ℕ) → is_at (item_at n old).place ≡ true
+    → part_at n new ≡ part_at n old
 part-stays old new stay n loose =
     let row = stay n (item_at n old) (there-loose n old loose) in
     ap (λ o. (item_of o).part) row.1 ∙ row.2
 
-pub sale-kept : (b c : OrderBooks) (item order line : ℕ) → order_at order c ≡ order_at order b → LinesStay b.lines c.lines → part_at item c.books.stock ≡ part_at item b.books.stock
+pub sale-kept : (b c : OrderBooks) (item order line : ℕ) → order_at order c ≡ order_at order b
+    → LinesStay b.lines c.lines → part_at item c.books.stock ≡ part_at item b.books.stock
     → IsSoundSale b item order line → IsSoundSale c item order line
 sale-kept b c item order line same lines part h =
     let was = row_there b.lines line h.there in
@@ -50,9 +53,11 @@ sale-kept b c item order line same lines part h =
     }
 
 -- the order that a sound sale names stays as it is
-pub purpose-kept : (b c : OrderBooks) (item : ℕ) (p : Purpose) → ((order line : ℕ) → p ≡ Sale order line → order_at order c ≡ order_at order b) → LinesStay b.lines c.lines
+pub purpose-kept : (b c : OrderBooks) (item : ℕ) (p : Purpose)
+    → ((order line : ℕ) → p ≡ Sale order line → order_at order c ≡ order_at order b) → LinesStay b.lines c.lines
     → part_at item c.books.stock ≡ part_at item b.books.stock → IsSoundPurpose b item p → IsSoundPurpose c item p
-purpose-kept b c item (Sale order line) same lines part h = sale-kept b c item order line (same order line refl) lines part h
+purpose-kept b c item (Sale order line) same lines part h =
+    sale-kept b c item order line (same order line refl) lines part h
 purpose-kept b c item (Build build line output) same lines part h = tt
 
 pub some-there : {X : Type 0} (o : Option X) → is_none o ≡ false → is_some o ≡ true

@@ -1,5 +1,6 @@
 -- What is received leaves orders, allocations and stock sound.
-use Rattle.std.proofs.Common.{◌≡◌, ℕ, ◌+◌, ◌≤◌, Bool, true, false, List, [], ◌∷◌, Option, Some, None, refl, sym, ap, ◌∙◌, subst, arith, eqb-true}
+use Rattle.std.proofs.Common.{◌≡◌, ℕ, ◌+◌, ◌≤◌, Bool, true, false, List, [], ◌∷◌, Option}
+use Rattle.std.proofs.Common.{Some, None, refl, sym, ap, ◌∙◌, subst, arith, eqb-true}
 use Rattle.std.specs.Prelude.{◌==◌, ◌||◌, not}
 use Rattle.std.specs.FinMap as table
 use Rattle.std.proofs.lemmas.Bool.{eqb-false, ltb-false}
@@ -9,7 +10,8 @@ use Rattle.part_core.specs.Day.{CivilDay}
 use Rattle.part_core.specs.Quantity.{is_bad_quantity}
 use Rattle.part_core.specs.Rows.{EachRow, IsThere}
 use Rattle.part_core.proofs.Conditions.{none-holds, or_none}
-use Rattle.part_core.proofs.RowLemmas.{each-insert, get-insert_new, get-insert_other, right-changed, right-later, right-number, row_there, same_digit}
+use Rattle.part_core.proofs.RowLemmas.{each-insert, get-insert_new, get-insert_other, right-changed}
+use Rattle.part_core.proofs.RowLemmas.{right-later, right-number, row_there, same_digit}
 use Rattle.forest.specs.declared.entry.Kind.TheVariants as kind
 use Rattle.forest.specs.declared.place.Place.TheVariants.{At}
 use Rattle.alloc_core.specs.Allocations.{allocated_for_sale_line}
@@ -37,7 +39,8 @@ use Rattle.order_core.specs.declared.order.Order.{Order}
 use Rattle.order_core.proofs.Kept.{LinesStay, line_of, part-stays, purpose-kept}
 use Rattle.order_core.proofs.NoneFor.{none-for}
 
-module _ (is_build : ℕ → Bool) (parts : Parts) (line location : ℕ) (new : NewStock) (day : CivilDay) (b : OrderBooks) (sound : AreSoundBooks is_build parts b)
+module _ (is_build : ℕ → Bool) (parts : Parts) (line location : ℕ) (new : NewStock) (day : CivilDay) (b : OrderBooks)
+    (sound : AreSoundBooks is_build parts b)
     (e : first (receive_checks line location new day parts b) ≡ None) where
   abbrev owners : Owners
   owners = owners_beside is_build b.orders
@@ -66,30 +69,46 @@ module _ (is_build : ℕ → Bool) (parts : Parts) (line location : ℕ) (new : 
   stock : IsSoundStock owners parts after.books × Grows b.books after.books
   stock = sound-leads owners parts b.books after.books
       (leads-make_new owners parts arrival new day b.books (upright-of owners parts b.books sound.stock) tt
-      old.part (there-row b.books.stock.locations location both.1) (good-quantity new.quantity (or_none (is_bad_quantity new.quantity) (given are_many new.serials) holds.1.0).0) holds.1.1.1.1.1.1.1.0)
+      old.part (there-row b.books.stock.locations location both.1)
+      (good-quantity new.quantity (or_none (is_bad_quantity new.quantity) (given are_many new.serials) holds.1.0).0)
+      holds.1.1.1.1.1.1.1.0)
       holds.1.1.1.1.1.1.1.1.0
 
   abbrev changed : OrderLine
   changed = record (line_at line b) { done = (line_at line b).done + new.quantity }
 
   own : (line_at line b).number ≡ line
-  own = ap (λ (l : OrderLine). l.number) here ∙ right-number (λ (l : OrderLine). l.number) b.books.counter.next line was.0 b.lines sound.orders.lines was.1
+  own =
+      ap (λ (l : OrderLine). l.number) here
+      ∙ right-number (λ (l : OrderLine). l.number) b.books.counter.next line was.0 b.lines sound.orders.lines was.1
 
   -- nothing is allocated for a line of a purchase
   none : (item order : ℕ) → IsSoundSale b item order line → ⊥
   none item order h =
-      let clash : true ≡ false = sym h.sale ∙ ap (λ m. is_sale (order_at m b).side) (sym h.of_order) ∙ holds.1.1.1.1.0 in
+      let clash : true ≡ false =
+      sym h.sale ∙ ap (λ m. is_sale (order_at m b).side) (sym h.of_order) ∙ holds.1.1.1.1.0 in
       cc
 
   lines-stay : LinesStay b.lines after.lines
   lines-stay n l at = go (n == line) refl
     where
-      go : (d : Bool) → (n == line) ≡ d → (m : OrderLine) × (table.get after.lines (n ∷ []) ≡ Some m) × (m.order ≡ l.order) × (m.part ≡ l.part)
+      go : (d : Bool) → (n == line) ≡ d
+          → (m : OrderLine) × (table.get after.lines (n ∷ []) ≡ Some m) × (m.order ≡ l.order) × (m.part ≡ l.part)
       go true f =
           let same = eqb-true n line f in
-          let is : line_at line b ≡ l = ap line_of (ap (λ m. table.get b.lines (m ∷ [])) (sym same) ∙ at) in
-          (changed, ap (λ m. table.get after.lines (m ∷ [])) same ∙ get-insert_new b.lines (line ∷ []) changed, ap (λ (x : OrderLine). x.order) is, ap (λ (x : OrderLine). x.part) is)
-      go false f = (l, get-insert_other b.lines (line ∷ []) changed (n ∷ []) (λ same. eqb-false n line f (same_digit n line same)) ∙ at, refl, refl)
+          let is : line_at line b ≡ l = ap line_of (ap (λ m. table.get b.lines (m ∷ [])) (sym same) ∙ at) in (
+            changed,
+            ap (λ m. table.get after.lines (m ∷ [])) same ∙ get-insert_new b.lines (line ∷ []) changed,
+            ap (λ (x : OrderLine). x.order) is,
+            ap (λ (x : OrderLine). x.part) is,
+          )
+      go false f = (
+        l,
+        get-insert_other b.lines (line ∷ []) changed (n ∷ []) (λ same. eqb-false n line f (same_digit n line same))
+            ∙ at,
+        refl,
+        refl,
+      )
 
   now : IsSoundLine parts after changed
   now = record {
@@ -113,13 +132,20 @@ module _ (is_build : ℕ → Bool) (parts : Parts) (line location : ℕ) (new : 
       allocations = sound-held b.allocations b.books after.books sound.allocations stock.1.numbers
           (holds-make_new arrival new day b.books sound.stock.items.locations.some sound.stock.items.rows);
       orders = record {
-        orders = right-later (λ (o : Order). o.number) b.books.counter.next after.books.counter.next b.orders stock.1.numbers sound.orders.orders;
-        lines = right-later (λ (l : OrderLine). l.number) b.books.counter.next after.books.counter.next after.lines stock.1.numbers
-            (right-changed (λ (l : OrderLine). l.number) b.books.counter.next line changed was.0 b.lines was.1 (ap (λ (l : OrderLine). l.number) here) sound.orders.lines);
+        orders =
+            right-later (λ (o : Order). o.number) b.books.counter.next after.books.counter.next b.orders stock.1.numbers
+            sound.orders.orders;
+        lines =
+            right-later (λ (l : OrderLine). l.number) b.books.counter.next after.books.counter.next after.lines
+            stock.1.numbers
+            (right-changed (λ (l : OrderLine). l.number) b.books.counter.next line changed was.0 b.lines was.1
+            (ap (λ (l : OrderLine). l.number) here) sound.orders.lines);
         each_line = each-insert (IsSoundLine parts after) b.lines (line ∷ []) changed now
-            (λ k l at. let h = sound.orders.each_line k l at in record { order = h.order; part = h.part; some = h.some; fits = h.fits; needed = h.needed });
+            (λ k l at. let h = sound.orders.each_line k l at in
+            record { order = h.order; part = h.part; some = h.some; fits = h.fits; needed = h.needed });
         each_sale = λ k a at. purpose-kept b after a.item a.purpose (λ order m is. refl) lines-stay
-            (part-stays b.books.stock after.books.stock stock.1.items a.item (sound.allocations.each k a at).loose) (sound.orders.each_sale k a at);
+            (part-stays b.books.stock after.books.stock stock.1.items a.item (sound.allocations.each k a at).loose)
+            (sound.orders.each_sale k a at);
       };
     },
     stock.1,

@@ -1,5 +1,6 @@
 -- What is shipped leaves orders, allocations and stock sound.
-use Rattle.std.proofs.Common.{◌≡◌, ℕ, ◌+◌, ◌≤◌, Bool, true, false, not, List, [], ◌∷◌, ◌++◌, Option, Some, None, refl, sym, ap, ◌∙◌, subst, arith, is_some, eqb-true}
+use Rattle.std.proofs.Common.{◌≡◌, ℕ, ◌+◌, ◌≤◌, Bool, true, false, not, List, [], ◌∷◌, ◌++◌, Option}
+use Rattle.std.proofs.Common.{Some, None, refl, sym, ap, ◌∙◌, subst, arith, is_some, eqb-true}
 use Rattle.std.specs.Prelude.{◌==◌, filter, option_map}
 use Rattle.std.specs.FinMap as table
 use Rattle.std.proofs.lemmas.Bool.{eqb-false}
@@ -54,7 +55,8 @@ turned n m e = go (m == n) refl
     go false u = refl
 
 -- an item that was taken goes to the customer
-pub sent-on : (owners : Owners) (parts : Parts) (n q order : ℕ) (day : CivilDay) (b : StockBooks) (t : StockBooks × ℕ) → owners.is_order order ≡ true → IsTaken owners parts n q b t
+pub sent-on : (owners : Owners) (parts : Parts) (n q order : ℕ) (day : CivilDay) (b : StockBooks) (t : StockBooks × ℕ)
+    → owners.is_order order ≡ true → IsTaken owners parts n q b t
     → GoesOn owners parts t (sent_for order day t)
 sent-on owners parts n q order day b t is_order taken =
     let s = t.0.stock in
@@ -63,11 +65,14 @@ sent-on owners parts n q order day b t is_order taken =
     record {
       leads = leads-sent owners parts t.0 up t.1 there day taken.loose order is_order;
       others = λ k other.
-          let own : (item_at t.1 s).number ≡ t.1 = right-number (λ (i : Item). i.number) t.0.counter.next t.1 (item_at t.1 s) s.items up.rows there in
-          get-other (item_at t.1 s).number k (row_of (lifted_root (Sent order) (tree_of t.1 s))) s.items (ap (λ j. j == k) own ∙ turned k t.1 other);
+          let own : (item_at t.1 s).number ≡ t.1 =
+          right-number (λ (i : Item). i.number) t.0.counter.next t.1 (item_at t.1 s) s.items up.rows there in
+          get-other (item_at t.1 s).number k (row_of (lifted_root (Sent order) (tree_of t.1 s))) s.items
+          (ap (λ j. j == k) own ∙ turned k t.1 other);
     }
 
-module _ (is_build : ℕ → Bool) (parts : Parts) (n : ℕ) (day : CivilDay) (b : OrderBooks) (sound : AreSoundBooks is_build parts b) (e : first (ship_checks n day b) ≡ None) where
+module _ (is_build : ℕ → Bool) (parts : Parts) (n : ℕ) (day : CivilDay) (b : OrderBooks)
+    (sound : AreSoundBooks is_build parts b) (e : first (ship_checks n day b) ≡ None) where
   abbrev owners : Owners
   owners = owners_beside is_build b.orders
 
@@ -97,8 +102,10 @@ module _ (is_build : ℕ → Bool) (parts : Parts) (n : ℕ) (day : CivilDay) (b
   abbrev Quiet : List Allocation → StockBooks → Type 0
   Quiet xs c = LeavesOutputs b.books.stock.items c.stock.items
 
-  one : (a : Allocation) (xs : List Allocation) (c : StockBooks) → Upright owners parts c → IsCovered c.stock (a ∷ (xs ++ rest)) → Quiet (a ∷ xs) c
-      → GoesOn owners parts (take a.item a.quantity day c) (serve (sent_for n day) day a c) × Quiet xs (serve (sent_for n day) day a c)
+  one : (a : Allocation) (xs : List Allocation) (c : StockBooks) → Upright owners parts c
+      → IsCovered c.stock (a ∷ (xs ++ rest)) → Quiet (a ∷ xs) c
+      → GoesOn owners parts (take a.item a.quantity day c) (serve (sent_for n day) day a c)
+      × Quiet xs (serve (sent_for n day) day a c)
   one a xs c upright covered quiet =
       let t = take a.item a.quantity day c in
       let taken = taken-one owners parts day (sent_for n day) a (xs ++ rest) c upright covered in
@@ -106,11 +113,15 @@ module _ (is_build : ℕ → Bool) (parts : Parts) (n : ℕ) (day : CivilDay) (b
       let away = leaves-lifted t.1 t.0.stock taken.leads.upright.stock day taken.loose (Sent n) refl in
       let cut = leaves-take a.item a.quantity day c upright.rows covered.each.0.loose in (
         sent-on owners parts a.item a.quantity n day c t is_order taken,
-        leaves-more b.books.stock.items c.stock.items on.stock.items quiet (leaves-more c.stock.items t.0.stock.items on.stock.items cut away),
+        leaves-more b.books.stock.items c.stock.items on.stock.items quiet
+            (leaves-more c.stock.items t.0.stock.items on.stock.items cut away),
       )
 
   all-served : IsServed owners parts b.books after.books rest × Quiet [] after.books
-  all-served = served-all owners parts day (sent_for n day) rest Quiet one (sale_rows n b) b.books up (covered-split b.books.stock (is_owned own) all (covered-of b.allocations b.books sound.allocations)) (leaves-none b.books.stock.items)
+  all-served =
+      served-all owners parts day (sent_for n day) rest Quiet one (sale_rows n b) b.books up
+      (covered-split b.books.stock (is_owned own) all (covered-of b.allocations b.books sound.allocations))
+      (leaves-none b.books.stock.items)
 
   pub served : IsServed owners parts b.books after.books rest
   served = all-served.0
@@ -122,7 +133,12 @@ module _ (is_build : ℕ → Bool) (parts : Parts) (n : ℕ) (day : CivilDay) (b
   stock = sound-leads owners parts b.books after.books served.leads holds.1.1.1.1.0
 
   lines-stay : LinesStay b.lines after.lines
-  lines-stay m l at = (delivered (sale_rows n b) l, get-mapped (delivered (sale_rows n b)) b.lines (m ∷ []) ∙ ap (option_map (delivered (sale_rows n b))) at, refl, refl)
+  lines-stay m l at = (
+    delivered (sale_rows n b) l,
+    get-mapped (delivered (sale_rows n b)) b.lines (m ∷ []) ∙ ap (option_map (delivered (sale_rows n b))) at,
+    refl,
+    refl,
+  )
 
   each-line : EachRow (IsSoundLine parts after) after.lines
   each-line k x at =
@@ -135,20 +151,31 @@ module _ (is_build : ℕ → Bool) (parts : Parts) (n : ℕ) (day : CivilDay) (b
         part = h.part;
         some = h.some;
         fits = h.fits;
-        needed = omega (arith, h.needed, ap (sum_where test) (values-without (is_owned own) b.allocations), sum-split test (is_owned own) all);
+        needed = omega (
+          arith,
+          h.needed,
+          ap (sum_where test) (values-without (is_owned own) b.allocations),
+          sum-split test (is_owned own) all,
+        );
       } in
       subst (IsSoundLine parts after) (sym was.2) now
 
   orders : AreSoundOrders parts after
   orders = record {
-    orders = right-later (λ (o : Order). o.number) b.books.counter.next after.books.counter.next b.orders stock.1.numbers sound.orders.orders;
-    lines = right-later (λ (l : OrderLine). l.number) b.books.counter.next after.books.counter.next after.lines stock.1.numbers
-        (right-mapped (delivered (sale_rows n b)) (λ (l : OrderLine). l.number) (λ l. refl) b.books.counter.next b.lines sound.orders.lines);
+    orders =
+        right-later (λ (o : Order). o.number) b.books.counter.next after.books.counter.next b.orders stock.1.numbers
+        sound.orders.orders;
+    lines =
+        right-later (λ (l : OrderLine). l.number) b.books.counter.next after.books.counter.next after.lines
+        stock.1.numbers
+        (right-mapped (delivered (sale_rows n b)) (λ (l : OrderLine). l.number) (λ l. refl) b.books.counter.next b.lines
+        sound.orders.lines);
     each_line = each-line;
     each_sale = λ k a at.
         let was = (get-without (is_owned own) b.allocations k a at).0 in
         let loose = (sound.allocations.each k a was).loose in
-        purpose-kept b after a.item a.purpose (λ order line is. refl) lines-stay (part-stays b.books.stock after.books.stock stock.1.items a.item loose) (sound.orders.each_sale k a was);
+        purpose-kept b after a.item a.purpose (λ order line is. refl) lines-stay
+        (part-stays b.books.stock after.books.stock stock.1.items a.item loose) (sound.orders.each_sale k a was);
   }
 
   pub sound-ship : AreSoundBooks is_build parts after × Grows b.books after.books

@@ -26,7 +26,9 @@ use Rattle.order_core.specs.Receive.{arrival_at}
 use Rattle.order_core.specs.Ship.{delivered, sale_rows, sent_for}
 use Rattle.order_core.specs.declared.state.OrderState.{OrderState}
 use Rattle.order_core.specs.declared.state.OrderState.TheVariants.{InProgress, Complete, Cancelled}
-use Rattle.order_core.specs.declared.order_command.OrderCommand.TheVariants.{NewOrder, NewLine, IssueOrder, Receive, AllocateSale, Ship, ReturnItem, CloseOrder, CancelOrder}
+use Rattle.order_core.specs.declared.order_command.OrderCommand.TheVariants.{NewOrder, NewLine, IssueOrder}
+use Rattle.order_core.specs.declared.order_command.OrderCommand.TheVariants.{Receive, AllocateSale, Ship}
+use Rattle.order_core.specs.declared.order_command.OrderCommand.TheVariants.{ReturnItem, CloseOrder, CancelOrder}
 
 module _ {X : Type 0} where
   stay-same : (t : Table X) → StayThere t t
@@ -49,28 +51,42 @@ stay-take n q day b = go (has_more n q b.stock)
     go true = stay-cut_off n q None day b
     go false = stay-none b.stock
 
-stay-sent : (order : ℕ) (day : CivilDay) (a : Allocation) (b : StockBooks) → AllStay b.stock (serve (sent_for order day) day a b).stock
+stay-sent : (order : ℕ) (day : CivilDay) (a : Allocation) (b : StockBooks)
+    → AllStay b.stock (serve (sent_for order day) day a b).stock
 stay-sent order day a b =
     let t = take a.item a.quantity day b in
-    stay-more b.stock t.0.stock (lift t.1 (Sent order) day t.0.stock) (stay-take a.item a.quantity day b) (stay-lift t.1 (Sent order) day t.0.stock)
+    stay-more b.stock t.0.stock (lift t.1 (Sent order) day t.0.stock) (stay-take a.item a.quantity day b)
+    (stay-lift t.1 (Sent order) day t.0.stock)
 
-stay-sent_each : (order : ℕ) (day : CivilDay) (xs : List Allocation) (b : StockBooks) → AllStay b.stock (serve_each (sent_for order day) day xs b).stock
+stay-sent_each : (order : ℕ) (day : CivilDay) (xs : List Allocation) (b : StockBooks)
+    → AllStay b.stock (serve_each (sent_for order day) day xs b).stock
 stay-sent_each order day [] b = stay-none b.stock
 stay-sent_each order day (a ∷ xs) b =
     let one = serve (sent_for order day) day a b in
-    stay-more b.stock one.stock (serve_each (sent_for order day) day xs one).stock (stay-sent order day a b) (stay-sent_each order day xs one)
+    stay-more b.stock one.stock (serve_each (sent_for order day) day xs one).stock (stay-sent order day a b)
+    (stay-sent_each order day xs one)
 
-stay-state : (state : OrderState) (n : ℕ) (b : OrderBooks) → StayThere b.orders (table.insert b.orders (n ∷ []) (in_state state (order_at n b)))
+stay-state : (state : OrderState) (n : ℕ) (b : OrderBooks)
+    → StayThere b.orders (table.insert b.orders (n ∷ []) (in_state state (order_at n b)))
 stay-state state n b = stay-insert b.orders (n ∷ []) (in_state state (order_at n b))
 
 pub rows-stay : RowsStay
 rows-stay (NewOrder side partner) day b =
     let n = b.books.counter.next in
-    record { orders = stay-insert b.orders (n ∷ []) (order_row n side partner); lines = stay-same b.lines; stock = stay-none b.books.stock }
+    record {
+      orders = stay-insert b.orders (n ∷ []) (order_row n side partner);
+      lines = stay-same b.lines;
+      stock = stay-none b.books.stock;
+    }
 rows-stay (NewLine order part quantity) day b =
     let n = b.books.counter.next in
-    record { orders = stay-same b.orders; lines = stay-insert b.lines (n ∷ []) (line_row n order part quantity); stock = stay-none b.books.stock }
-rows-stay (IssueOrder order) day b = record { orders = stay-state InProgress order b; lines = stay-same b.lines; stock = stay-none b.books.stock }
+    record {
+      orders = stay-same b.orders;
+      lines = stay-insert b.lines (n ∷ []) (line_row n order part quantity);
+      stock = stay-none b.books.stock;
+    }
+rows-stay (IssueOrder order) day b =
+    record { orders = stay-state InProgress order b; lines = stay-same b.lines; stock = stay-none b.books.stock }
 rows-stay (Receive line location new) day b =
     let l = line_in line b.lines in
     record {
@@ -78,7 +94,8 @@ rows-stay (Receive line location new) day b =
       lines = stay-insert b.lines (line ∷ []) (with_done_of (l.done + new.quantity) l);
       stock = stay-make_new (arrival_at (line_at line b).part location) new day b.books;
     }
-rows-stay (AllocateSale line item quantity) day b = record { orders = stay-same b.orders; lines = stay-same b.lines; stock = stay-none b.books.stock }
+rows-stay (AllocateSale line item quantity) day b =
+    record { orders = stay-same b.orders; lines = stay-same b.lines; stock = stay-none b.books.stock }
 rows-stay (Ship order) day b = record {
   orders = stay-same b.orders;
   lines = stay-mapped (delivered (sale_rows order b)) b.lines;
@@ -90,7 +107,11 @@ rows-stay (ReturnItem item location) day b =
     record {
       orders = stay-same b.orders;
       lines = stay-same b.lines;
-      stock = stay-more s back (mark item Returned day back) (stay-lift item (At location) day s) (stay-mark item Returned day back);
+      stock =
+          stay-more s back (mark item Returned day back) (stay-lift item (At location) day s)
+          (stay-mark item Returned day back);
     }
-rows-stay (CloseOrder order) day b = record { orders = stay-state Complete order b; lines = stay-same b.lines; stock = stay-none b.books.stock }
-rows-stay (CancelOrder order) day b = record { orders = stay-state Cancelled order b; lines = stay-same b.lines; stock = stay-none b.books.stock }
+rows-stay (CloseOrder order) day b =
+    record { orders = stay-state Complete order b; lines = stay-same b.lines; stock = stay-none b.books.stock }
+rows-stay (CancelOrder order) day b =
+    record { orders = stay-state Cancelled order b; lines = stay-same b.lines; stock = stay-none b.books.stock }

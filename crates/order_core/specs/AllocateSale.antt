@@ -5,7 +5,8 @@ use Rattle.part_core.specs.Checks.{Check}
 use Rattle.part_core.specs.Counter.{passes_limit}
 use Rattle.part_core.specs.Quantity.{is_bad_quantity}
 use Rattle.part_core.specs.Status.{is_allocatable}
-use Rattle.part_core.specs.declared.refusal.Refusal.TheVariants.{NoSuch, BadNumber, WrongState, Mismatch, Unfit, NotLoose, Unavailable, Allocated, OverNeed, Full}
+use Rattle.part_core.specs.declared.refusal.Refusal.TheVariants.{NoSuch, BadNumber, WrongState, Mismatch, Unfit}
+use Rattle.part_core.specs.declared.refusal.Refusal.TheVariants.{NotLoose, Unavailable, Allocated, OverNeed, Full}
 use Rattle.alloc_core.specs.Allocations.{allocated_for_sale_line, is_above_free}
 use Rattle.alloc_core.specs.declared.allocation.Allocation.{Allocation}
 use Rattle.alloc_core.specs.declared.purpose.Purpose.TheVariants as purpose
@@ -15,13 +16,17 @@ use Rattle.part_core.specs.Side.{is_sale}
 use Rattle.order_core.specs.Orders.{OrderBooks, is_in_progress, is_no_line, line_at, one_drawn, order_of_line}
 
 abbrev pub sale_row : ℕ → ℕ → ℕ → ℕ → ℕ → Allocation
-sale_row n order line item quantity = record { number = n; item = item; quantity = quantity; purpose = purpose.Sale order line }
+sale_row n order line item quantity =
+    record { number = n; item = item; quantity = quantity; purpose = purpose.Sale order line }
 
 -- an allocation under the next number
 abbrev pub allocate_sale : ℕ → ℕ → ℕ → OrderBooks → OrderBooks
 allocate_sale line item quantity b =
     let n = b.books.counter.next in
-    record b { allocations = table.insert b.allocations (n ∷ []) (sale_row n (line_at line b).order line item quantity); books = one_drawn b.books }
+    record b {
+      allocations = table.insert b.allocations (n ∷ []) (sale_row n (line_at line b).order line item quantity);
+      books = one_drawn b.books;
+    }
 
 -- why it is refused, in the order of checks
 abbrev pub allocate_sale_checks : ℕ → ℕ → ℕ → OrderBooks → List Check

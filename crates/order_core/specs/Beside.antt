@@ -17,5 +17,7 @@ beside allocations books b = record { orders = b.orders; lines = b.lines; alloca
 -- where allocations for builds come, and any go, and numbers and history only grow
 abbrev pub SoundBesideBuilds : Type 0
 SoundBesideBuilds =
-    (parts : Parts) (b : OrderBooks) (allocations : Table Allocation) (books : StockBooks) → AreSoundAllocations b.allocations b.books → Grows b.books books
-    → NoneComes is_for_sale b.allocations allocations → AreSoundOrders parts b → AreSoundOrders parts (beside allocations books b)
+    (parts : Parts) (b : OrderBooks) (allocations : Table Allocation) (books : StockBooks)
+    → AreSoundAllocations b.allocations b.books → Grows b.books books
+    → NoneComes is_for_sale b.allocations allocations → AreSoundOrders parts b
+    → AreSoundOrders parts (beside allocations books b)

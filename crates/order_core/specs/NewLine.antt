@@ -5,7 +5,8 @@ use Rattle.part_core.specs.Catalogue.{Parts, is_flagged, is_retired, is_virtual,
 use Rattle.part_core.specs.Checks.{Check}
 use Rattle.part_core.specs.Counter.{passes_limit}
 use Rattle.part_core.specs.Quantity.{is_bad_quantity}
-use Rattle.part_core.specs.declared.refusal.Refusal.TheVariants.{NoSuch, BadNumber, WrongFlag, Retired, WrongState, Full}
+use Rattle.part_core.specs.declared.refusal.Refusal.TheVariants.{NoSuch, BadNumber, WrongFlag}
+use Rattle.part_core.specs.declared.refusal.Refusal.TheVariants.{Retired, WrongState, Full}
 use Rattle.order_core.specs.Orders.{OrderBooks, is_no_order, is_open, one_drawn, order_at}
 use Rattle.order_core.specs.declared.line.OrderLine.{OrderLine}
 use Rattle.part_core.specs.declared.side.Side.{Side}

@@ -6,7 +6,9 @@ use Rattle.part_core.specs.declared.field.FieldKind.TheVariants.{Number, Text, M
 use Rattle.part_core.specs.Forms.{have_distinct}
 use Rattle.part_core.specs.FormTables.{AllTell, FormRow, command_by, forms_by}
 use Rattle.order_core.specs.declared.order_command.OrderCommand.{OrderCommand}
-use Rattle.order_core.specs.declared.order_command.OrderCommand.TheVariants.{NewOrder, NewLine, IssueOrder, Receive, AllocateSale, Ship, ReturnItem, CloseOrder, CancelOrder}
+use Rattle.order_core.specs.declared.order_command.OrderCommand.TheVariants.{NewOrder, NewLine, IssueOrder}
+use Rattle.order_core.specs.declared.order_command.OrderCommand.TheVariants.{Receive, AllocateSale, Ship}
+use Rattle.order_core.specs.declared.order_command.OrderCommand.TheVariants.{ReturnItem, CloseOrder, CancelOrder}
 
 -- shut, so that no proof above meets the whole table
 unfoldable pub order_forms : List (FormRow OrderCommand)
@@ -29,9 +31,13 @@ order_forms =
     ∷ record {
       form = record {
         verb = codes "receive";
-        fields = (codes "line", Number) ∷ (codes "location", Number) ∷ (codes "quantity", Number) ∷ (codes "batch", MaybeText) ∷ (codes "serials", MaybeSerials) ∷ [];
+        fields =
+            (codes "line", Number) ∷ (codes "location", Number) ∷ (codes "quantity", Number)
+            ∷ (codes "batch", MaybeText) ∷ (codes "serials", MaybeSerials) ∷ [];
       };
-      make = λ line location quantity batch serials. Receive line location (record { quantity = quantity; batch = batch; serials = serials });
+      make =
+          λ line location quantity batch serials.
+          Receive line location (record { quantity = quantity; batch = batch; serials = serials });
     }
     ∷ record {
       form = record {
@@ -74,7 +80,8 @@ order_fields (NewOrder side partner) = field.Side side ∷ field.Text partner �
 order_fields (NewLine order part quantity) = field.Number order ∷ field.Number part ∷ field.Number quantity ∷ []
 order_fields (IssueOrder order) = field.Number order ∷ []
 order_fields (Receive line location new) =
-    field.Number line ∷ field.Number location ∷ field.Number new.quantity ∷ field.MaybeText new.batch ∷ field.MaybeSerials new.serials ∷ []
+    field.Number line ∷ field.Number location ∷ field.Number new.quantity ∷ field.MaybeText new.batch
+    ∷ field.MaybeSerials new.serials ∷ []
 order_fields (AllocateSale line item quantity) = field.Number line ∷ field.Number item ∷ field.Number quantity ∷ []
 order_fields (Ship order) = field.Number order ∷ []
 order_fields (ReturnItem item location) = field.Number item ∷ field.Number location ∷ []

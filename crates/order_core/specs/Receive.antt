@@ -4,7 +4,8 @@ use Rattle.part_core.specs.Catalogue.{Parts, is_trackable, part_in}
 use Rattle.part_core.specs.Checks.{Check}
 use Rattle.part_core.specs.Day.{CivilDay}
 use Rattle.part_core.specs.Quantity.{is_bad_quantity}
-use Rattle.part_core.specs.declared.refusal.Refusal.TheVariants.{NoSuch, BadNumber, WrongFlag, WrongState, Mismatch, OverNeed, SerialCount, SerialTaken, Full}
+use Rattle.part_core.specs.declared.refusal.Refusal.TheVariants.{NoSuch, BadNumber, WrongFlag, WrongState, Mismatch}
+use Rattle.part_core.specs.declared.refusal.Refusal.TheVariants.{OverNeed, SerialCount, SerialTaken, Full}
 use Rattle.forest.specs.declared.entry.Kind.TheVariants as kind
 use Rattle.forest.specs.declared.place.Place.TheVariants.{At}
 use Rattle.yard_core.specs.StockBooks.{is_full}
@@ -22,7 +23,9 @@ arrival_at part location = record { kind = kind.Received; place = At location; p
 
 -- the new items are made, and so much more of the line is done
 abbrev pub receive : ℕ → ℕ → NewStock → CivilDay → OrderBooks → OrderBooks
-receive line location new day b = record (with_done line new.quantity b) { books = make_new (arrival_at (line_at line b).part location) new day b.books }
+receive line location new day b = record (with_done line new.quantity b) {
+  books = make_new (arrival_at (line_at line b).part location) new day b.books;
+}
 
 -- why it is refused, in the order of checks
 abbrev pub receive_checks : ℕ → ℕ → NewStock → CivilDay → Parts → OrderBooks → List Check

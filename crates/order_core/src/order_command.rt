@@ -2,7 +2,8 @@
 ghost use Rattle.std.specs.Prelude.{◌≡◌};
 ghost use Rattle.part_core.specs.CatalogueView.{parts_of};
 ghost use Rattle.order_core.specs.Beside.{SoundBesideBuilds};
-ghost use Rattle.order_core.specs.OrderMachine.{ChecksAreInOrder, EffectsAreSound, NoneComesForBuilds, RowsStay, checks, effect};
+ghost use Rattle.order_core.specs.OrderMachine.{ChecksAreInOrder, EffectsAreSound};
+ghost use Rattle.order_core.specs.OrderMachine.{NoneComesForBuilds, RowsStay, checks, effect};
 ghost use Rattle.order_core.specs.OrderBooks.{AreSoundSomehow, Does, order_books, order_books_before};
 
 use crate::order::Partner;

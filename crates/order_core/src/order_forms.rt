@@ -3,7 +3,8 @@
 ghost use Rattle.std.specs.Prelude.{◌≡◌, codes};
 ghost use Rattle.part_core.specs.FormLaws.{rows_fill, rows_made};
 ghost use Rattle.part_core.specs.FormTables.{command_by, forms_by};
-ghost use Rattle.order_core.specs.OrderForms.{order_back, order_distinct, order_fields, order_forms, order_told, order_verb};
+ghost use Rattle.order_core.specs.OrderForms.{order_back, order_distinct, order_fields};
+ghost use Rattle.order_core.specs.OrderForms.{order_forms, order_told, order_verb};
 
 use crate::order_command::OrderCommand;
 use part_core::{Field, FieldKind, Fields, Form, Formed, form_in};

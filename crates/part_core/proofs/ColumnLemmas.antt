@@ -1,5 +1,6 @@
 -- What is read from columns stands in them.
-use Rattle.std.proofs.Common.{◌≡◌, ℕ, zero, suc, ◌<◌, ◌≤◌, ◌/◌, ◌%◌, Bool, true, false, cond, List, [], ◌∷◌, length, Option, Some, None, refl, sym, ap, ◌∙◌, arith}
+use Rattle.std.proofs.Common.{◌≡◌, ℕ, zero, suc, ◌<◌, ◌≤◌, ◌/◌, ◌%◌, Bool, true, false, cond, List}
+use Rattle.std.proofs.Common.{[], ◌∷◌, length, Option, Some, None, refl, sym, ap, ◌∙◌, arith}
 use Rattle.std.specs.Prelude.{slice_get, ◌==◌, ◌&&◌, if◌then◌else◌}
 use Rattle.std.specs.List.{find}
 use Rattle.std.specs.Str.{bytes_eq}
@@ -7,16 +8,22 @@ use Rattle.std.proofs.lemmas.Slice.Eq.{bytes_eq-Decides}
 use Rattle.std.proofs.lemmas.Bool.{eqb-true, eqb-false}
 use Rattle.part_core.specs.declared.column.Column.{Column}
 use Rattle.part_core.specs.declared.column.Column.TheVariants.{Whole, Text, Absent}
-use Rattle.part_core.specs.Columns.{◌>>=◌, must, has, is_bit, day_as_written, day_at, status_at, row_text_or_none_at, serial_or_none_at, fitting_or_none, number_at, text_at, text_or_none_at, number_or_none_at, row_text_at, yes_at, yes_of, yes_number, whole_of, whole_or_none_of, words_of, words_or_none_of, fitting, number_or_absent, text_or_absent}
+use Rattle.part_core.specs.Columns.{◌>>=◌, must, has, is_bit, day_as_written, day_at, status_at}
+use Rattle.part_core.specs.Columns.{row_text_or_none_at, serial_or_none_at, fitting_or_none, number_at}
+use Rattle.part_core.specs.Columns.{text_at, text_or_none_at, number_or_none_at, row_text_at, yes_at}
+use Rattle.part_core.specs.Columns.{yes_of, yes_number, whole_of, whole_or_none_of, words_of}
+use Rattle.part_core.specs.Columns.{words_or_none_of, fitting, number_or_absent, text_or_absent}
 use Rattle.part_core.specs.Text.{is_text}
 use Rattle.part_core.specs.Serial.{is_serial}
 use Rattle.part_core.specs.Day.{CivilDay, day_of, day_text}
 use Rattle.part_core.specs.Status.{status_of, status_code, all_statuses}
 use Rattle.part_core.specs.declared.status.Status.{Status}
-use Rattle.part_core.specs.declared.status.Status.TheVariants.{Okay, Attention, Damaged, Destroyed, Rejected, Lost, Quarantined, Returned}
+use Rattle.part_core.specs.declared.status.Status.TheVariants.{Okay, Attention, Damaged, Destroyed}
+use Rattle.part_core.specs.declared.status.Status.TheVariants.{Rejected, Lost, Quarantined, Returned}
 
 -- what a step found, and what was found after it
-pub bound : {A B : Type 0} (o : Option A) (f : A → Option B) (y : B) → (o >>= f) ≡ Some y → (x : A) × (o ≡ Some x) × (f x ≡ Some y)
+pub bound : {A B : Type 0} (o : Option A) (f : A → Option B) (y : B) → (o >>= f) ≡ Some y
+    → (x : A) × (o ≡ Some x) × (f x ≡ Some y)
 bound None f y e = cc
 bound (Some x) f y e = (x, refl, e)
 
@@ -67,7 +74,8 @@ fitting-is test t u = kept (test t)
     kept false e = cc
 
 -- the code of what is found by its code is that code
-pub code-found : {X : Type 0} (code : X → ℕ) (n : ℕ) (xs : List X) (x : X) → find (λ y. code y == n) xs ≡ Some x → n ≡ code x
+pub code-found : {X : Type 0} (code : X → ℕ) (n : ℕ) (xs : List X) (x : X) → find (λ y. code y == n) xs ≡ Some x
+    → n ≡ code x
 code-found code n [] x e = cc
 code-found code n (y ∷ ys) x e = told (code y == n) refl (λ later. code-found code n ys x later) e
   where
@@ -88,13 +96,15 @@ module _ (i : ℕ) (cs : List Column) where
   pub number_at-is : (n : ℕ) → number_at i cs ≡ Some n → slice_get cs i ≡ Some (Whole n)
   number_at-is n e = whole-is (slice_get cs i) n e
 
-  pub number_or_none_at-is : (v : Option ℕ) → number_or_none_at i cs ≡ Some v → slice_get cs i ≡ Some (number_or_absent v)
+  pub number_or_none_at-is : (v : Option ℕ) → number_or_none_at i cs ≡ Some v
+      → slice_get cs i ≡ Some (number_or_absent v)
   number_or_none_at-is v e = whole_or_none-is (slice_get cs i) v e
 
   pub text_at-is : (t : List ℕ) → text_at i cs ≡ Some t → slice_get cs i ≡ Some (Text t)
   text_at-is t e = words-is (slice_get cs i) t e
 
-  pub text_or_none_at-is : (v : Option (List ℕ)) → text_or_none_at i cs ≡ Some v → slice_get cs i ≡ Some (text_or_absent v)
+  pub text_or_none_at-is : (v : Option (List ℕ)) → text_or_none_at i cs ≡ Some v
+      → slice_get cs i ≡ Some (text_or_absent v)
   text_or_none_at-is v e = words_or_none-is (slice_get cs i) v e
 
   pub row_text_at-is : (t : List ℕ) → row_text_at i cs ≡ Some t → slice_get cs i ≡ Some (Text t)
@@ -102,15 +112,19 @@ module _ (i : ℕ) (cs : List Column) where
       let b = bound (text_at i cs) (fitting is_text) t e in
       text_at-is b.0 b.1 ∙ ap (λ (k : List ℕ). Some (Text k)) (fitting-is is_text b.0 t b.2)
 
-  pub row_text_or_none_at-is : (v : Option (List ℕ)) → row_text_or_none_at i cs ≡ Some v → slice_get cs i ≡ Some (text_or_absent v)
+  pub row_text_or_none_at-is : (v : Option (List ℕ)) → row_text_or_none_at i cs ≡ Some v
+      → slice_get cs i ≡ Some (text_or_absent v)
   row_text_or_none_at-is v e =
       let b = bound (text_or_none_at i cs) (fitting_or_none is_text) v e in
-      text_or_none_at-is b.0 b.1 ∙ ap (λ (k : Option (List ℕ)). Some (text_or_absent k)) (fitting_or_none-is is_text b.0 v b.2)
+      text_or_none_at-is b.0 b.1
+      ∙ ap (λ (k : Option (List ℕ)). Some (text_or_absent k)) (fitting_or_none-is is_text b.0 v b.2)
 
-  pub serial_or_none_at-is : (v : Option (List ℕ)) → serial_or_none_at i cs ≡ Some v → slice_get cs i ≡ Some (text_or_absent v)
+  pub serial_or_none_at-is : (v : Option (List ℕ)) → serial_or_none_at i cs ≡ Some v
+      → slice_get cs i ≡ Some (text_or_absent v)
   serial_or_none_at-is v e =
       let b = bound (text_or_none_at i cs) (fitting_or_none is_serial) v e in
-      text_or_none_at-is b.0 b.1 ∙ ap (λ (k : Option (List ℕ)). Some (text_or_absent k)) (fitting_or_none-is is_serial b.0 v b.2)
+      text_or_none_at-is b.0 b.1
+      ∙ ap (λ (k : Option (List ℕ)). Some (text_or_absent k)) (fitting_or_none-is is_serial b.0 v b.2)
 
   pub status_at-is : (s : Status) → status_at i cs ≡ Some s → slice_get cs i ≡ Some (Whole (status_code s))
   status_at-is s e =
@@ -122,9 +136,11 @@ module _ (i : ℕ) (cs : List Column) where
       let text = bound (text_at i cs) day_as_written d e in
       let day = bound (day_of text.0) _ d text.2 in
       let same = bound (must (bytes_eq (day_text day.0) text.0)) _ d day.2 in
-      text_at-is text.0 text.1 ∙ ap (λ (k : List ℕ). Some (Text k)) (sym (written day.0 text.0 same.0 same.1) ∙ sym (found day_text day.0 d same.2))
+      text_at-is text.0 text.1 ∙ ap (λ (k : List ℕ). Some (Text k))
+      (sym (written day.0 text.0 same.0 same.1) ∙ sym (found day_text day.0 d same.2))
     where
-      written : (day : CivilDay) (text : List ℕ) (u : Unit {0}) → must (bytes_eq (day_text day) text) ≡ Some u → day_text day ≡ text
+      written : (day : CivilDay) (text : List ℕ) (u : Unit {0}) → must (bytes_eq (day_text day) text) ≡ Some u
+          → day_text day ≡ text
       written day text u = held (bytes_eq (day_text day) text) refl
         where
           held : (b : Bool) → bytes_eq (day_text day) text ≡ b → must b ≡ Some u → day_text day ≡ text
@@ -143,7 +159,8 @@ module _ (i : ℕ) (cs : List Column) where
           told_one true p e = eqb-true n 1 p ∙ found yes_number b true (sym e)
           told_one false p e = cc
 
-          told : (c : Bool) → (n == 0) ≡ c → (if c then Some false else (if n == 1 then Some true else None)) ≡ Some b → n ≡ yes_number b
+          told : (c : Bool) → (n == 0) ≡ c → (if c then Some false else (if n == 1 then Some true else None)) ≡ Some b
+              → n ≡ yes_number b
           told true p e = eqb-true n 0 p ∙ found yes_number b false (sym e)
           told false p e = told_one (n == 1) refl e
 
@@ -181,7 +198,16 @@ absent_text-read (Some t) = refl
 
 pub status-read : (s : Status) → status_of (status_code s) ≡ Some s
 status-read s =
-    elim s as (λ s. status_of (status_code s) ≡ Some s) [ Okay ↦ refl | Attention ↦ refl | Damaged ↦ refl | Destroyed ↦ refl | Rejected ↦ refl | Lost ↦ refl | Quarantined ↦ refl | Returned ↦ refl ]
+    elim s as (λ s. status_of (status_code s) ≡ Some s) [
+      | Okay ↦ refl
+      | Attention ↦ refl
+      | Damaged ↦ refl
+      | Destroyed ↦ refl
+      | Rejected ↦ refl
+      | Lost ↦ refl
+      | Quarantined ↦ refl
+      | Returned ↦ refl
+    ]
 
 pub yes-small : (b : Bool) → yes_number b ≤ 1
 yes-small true = omega arith

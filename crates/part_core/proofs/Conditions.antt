@@ -1,5 +1,6 @@
 -- What it says of conditions that they hold, or that none does.
-use Rattle.std.proofs.Common.{◌≡◌, ◌⊎◌, inl, inr, Bool, true, false, not, ◌||◌, List, [], ◌∷◌, ◌++◌, Option, Some, None, refl, is_none}
+use Rattle.std.proofs.Common.{◌≡◌, ◌⊎◌, inl, inr, Bool, true, false, not, ◌||◌, List}
+use Rattle.std.proofs.Common.{[], ◌∷◌, ◌++◌, Option, Some, None, refl, is_none}
 use Rattle.std.specs.Prelude.{◌&&◌}
 use Rattle.part_core.specs.Checks.{Check, first, NoneHolds}
 use Rattle.part_core.specs.declared.refusal.Refusal.{Refusal}

@@ -1,5 +1,6 @@
 -- A day is read back from its text.
-use Rattle.std.proofs.Common.{◌≡◌, ℕ, ◌+◌, ◌/◌, ◌%◌, ◌<◌, ◌≤◌, Bool, true, false, cond, [], ◌∷◌, ◌++◌, Some, Ok, pos, refl, ap, ap₂, ◌∙◌, arith}
+use Rattle.std.proofs.Common.{◌≡◌, ℕ, ◌+◌, ◌/◌, ◌%◌, ◌<◌, ◌≤◌, Bool, true, false, cond}
+use Rattle.std.proofs.Common.{[], ◌∷◌, ◌++◌, Some, Ok, pos, refl, ap, ap₂, ◌∙◌, arith}
 use Rattle.std.specs.Prelude.{codes, decimal, nat_lt}
 use Rattle.std.proofs.lemmas.Bool.Decides.{nat_tests}
 use Rattle.std.proofs.lemmas.Fmt.{decimal_digit, decimal_step}
@@ -24,10 +25,13 @@ two-written n high low =
 four-written : (n : ℕ) → 1000 ≤ n → n < 10_000 → decimal n ≡ pad4 n
 four-written n high low =
     decimal_step n (omega arith) (omega arith)
-    ∙ ap (λ ds. ds ++ (48 + n % 10) ∷ []) (decimal_step (n / 10) (omega arith) (omega arith) ∙ ap (λ ds. ds ++ (48 + n / 10 % 10) ∷ []) (two-written (n / 10 / 10) (omega arith) (omega arith)))
+    ∙ ap (λ ds. ds ++ (48 + n % 10) ∷ [])
+    (decimal_step (n / 10) (omega arith) (omega arith)
+    ∙ ap (λ ds. ds ++ (48 + n / 10 % 10) ∷ []) (two-written (n / 10 / 10) (omega arith) (omega arith)))
     ∙ same (n / 10 / 10) (n / 10 % 10) (n % 10) (n / 100) (n % 100) (omega arith) (omega arith) (omega arith)
   where
-    same : (h t u a b : ℕ) → h ≡ a → t ≡ b / 10 → u ≡ b % 10 → (pad2 h ++ (48 + t) ∷ []) ++ (48 + u) ∷ [] ≡ pad2 a ++ pad2 b
+    same : (h t u a b : ℕ) → h ≡ a → t ≡ b / 10 → u ≡ b % 10
+        → (pad2 h ++ (48 + t) ∷ []) ++ (48 + u) ∷ [] ≡ pad2 a ++ pad2 b
     same h t u a b p q r = rw (p, q, r) refl
 
 two-padded : (n : ℕ) → n < 100 → two_digits n ≡ pad2 n
@@ -42,19 +46,29 @@ two-padded n low = padded (nat_lt n 10) refl
     padded false e = two-written n (grind (arith, nat_tests, e)) low
 
 -- the text has the form `0000-00-00`
-fits-padded : (y m d : ℕ) → y < 10_000 → m < 100 → d < 100 → fits_pattern (codes "0000-00-00") (pad4 y ++ 45 ∷ pad2 m ++ 45 ∷ pad2 d) ≡ true
+fits-padded : (y m d : ℕ) → y < 10_000 → m < 100 → d < 100
+    → fits_pattern (codes "0000-00-00") (pad4 y ++ 45 ∷ pad2 m ++ 45 ∷ pad2 d) ≡ true
 fits-padded y m d year month day = grind (arith, nat_tests)
 
 day-read : (d : CivilDay) → IsInUse d.year d.month d.day → day_of (day_text d) ≡ Some d
 day-read d held =
     let below_32 : d.day < 100 = omega (arith, held.day_to, (days_in_month_bounds (pos d.year) d.month).0) in
-    let year_in : IsYear (pos d.year) = (omega (arith, signed_arith, held.begun, held.ends), omega (arith, signed_arith, held.begun, held.ends)) in
-    let date : Date = record { year = pos d.year; month = d.month; day = d.day; year_in = year_in; month_in = (held.month_from, held.month_to); day_in = (held.day_from, held.day_to) } in
+    let year_in : IsYear (pos d.year) =
+    (omega (arith, signed_arith, held.begun, held.ends), omega (arith, signed_arith, held.begun, held.ends)) in
+    let date : Date = record {
+      year = pos d.year;
+      month = d.month;
+      day = d.day;
+      year_in = year_in;
+      month_in = (held.month_from, held.month_to);
+      day_in = (held.day_from, held.day_to);
+    } in
     let year = four-written d.year (omega (arith, held.begun)) (omega (arith, held.ends)) in
     let month = two-padded d.month (omega (arith, held.month_to)) in
     let day = two-padded d.day below_32 in
     let text : day_text d ≡ date_text date = rw (year, month, day) refl in
-    let shape : fits_pattern (codes "0000-00-00") (date_text date) ≡ true = fits-padded d.year d.month d.day (omega (arith, held.ends)) (omega (arith, held.month_to)) below_32 in
+    let shape : fits_pattern (codes "0000-00-00") (date_text date) ≡ true =
+    fits-padded d.year d.month d.day (omega (arith, held.ends)) (omega (arith, held.month_to)) below_32 in
     let read : parse_date (date_text date) ≡ Ok (date_parts date) = parse_date-date_text date in
     let begun : nat_lt d.year 2000 ≡ false = grind (arith, nat_tests, held.begun) in
     let ends : nat_lt 2099 d.year ≡ false = grind (arith, nat_tests, held.ends) in

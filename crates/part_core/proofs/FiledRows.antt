@@ -1,5 +1,7 @@
--- The rows of numbers that rise, where each row that passes a test has one of them: those that pass are the table's rows that do.
-use Rattle.std.proofs.Common.{◌≡◌, ℕ, Bool, true, false, cond, ◌||◌, List, [], ◌∷◌, map, Option, Some, None, refl, sym, ap, ◌∙◌}
+-- The rows of numbers that rise, where each row that passes a test has one of them: those that pass are the table's
+-- rows that do.
+use Rattle.std.proofs.Common.{◌≡◌, ℕ, Bool, true, false, cond, ◌||◌, List, []}
+use Rattle.std.proofs.Common.{◌∷◌, map, Option, Some, None, refl, sym, ap, ◌∙◌}
 use Rattle.std.specs.Prelude.{filter, T}
 use Rattle.std.specs.FinMap as table
 use Rattle.std.specs.FinMap.Entries.{below_all, is_sorted, same_entries}
@@ -14,7 +16,8 @@ use Rattle.part_core.proofs.Conditions.{and_both}
 use Rattle.part_core.proofs.Entries.{find_in}
 use Rattle.part_core.proofs.Keys.{key_eq, keys_total, keys_exact, key_eq-true}
 use Rattle.part_core.proofs.Scans.{of_rows}
-use Rattle.part_core.proofs.Selects.{passing, values-passing, none-passing, AreAbove, AreAbove-passing, Rises, Rises-from}
+use Rattle.part_core.proofs.Selects.{passing, values-passing, none-passing}
+use Rattle.part_core.proofs.Selects.{AreAbove, AreAbove-passing, Rises, Rises-from}
 
 -- one number rises
 pub Rise-one : (n : ℕ) → Rise (n ∷ [])
@@ -22,10 +25,12 @@ unfolding IsStrictlySortedBy
 Rise-one n = (tt, tt)
 
 module _ {X : Type 0} (p : X → Bool) where
-  pub filter-taken : (k : List ℕ) (x : X) (rs : List (List ℕ × X)) → p x ≡ true → filter p (of_rows (with_row k (Some x) rs)) ≡ x ∷ filter p (of_rows rs)
+  pub filter-taken : (k : List ℕ) (x : X) (rs : List (List ℕ × X)) → p x ≡ true
+      → filter p (of_rows (with_row k (Some x) rs)) ≡ x ∷ filter p (of_rows rs)
   filter-taken k x rs passes = ap (λ b. cond b (x ∷ filter p (of_rows rs)) (filter p (of_rows rs))) passes
 
-  pub filter-left : (k : List ℕ) (x : X) (rs : List (List ℕ × X)) → p x ≡ false → filter p (of_rows (with_row k (Some x) rs)) ≡ filter p (of_rows rs)
+  pub filter-left : (k : List ℕ) (x : X) (rs : List (List ℕ × X)) → p x ≡ false
+      → filter p (of_rows (with_row k (Some x) rs)) ≡ filter p (of_rows rs)
   filter-left k x rs fails = ap (λ b. cond b (x ∷ filter p (of_rows rs)) (filter p (of_rows rs))) fails
 
   -- a row or none, where it passes
@@ -40,7 +45,10 @@ module _ {X : Type 0} (p : X → Bool) where
   Rises-passing : (es : List (List ℕ × X)) → Rises p es → Rises p (passing p es)
   Rises-passing [] r = tt
   Rises-passing (e ∷ es) r =
-      elim (p e.1) as (λ b. Rises p (cond b (e ∷ passing p es) (passing p es))) [ true ↦ (AreAbove-passing p e.0 es r.0, Rises-passing es r.1) | false ↦ Rises-passing es r.1 ]
+      elim (p e.1) as (λ b. Rises p (cond b (e ∷ passing p es) (passing p es))) [
+        | true ↦ (AreAbove-passing p e.0 es r.0, Rises-passing es r.1)
+        | false ↦ Rises-passing es r.1
+      ]
 
   find-passing : (q : List ℕ) (es : List (List ℕ × X)) → Rises p es → find_in q (passing p es) ≡ passed (find_in q es)
   find-passing q [] r = refl
@@ -48,30 +56,36 @@ module _ {X : Type 0} (p : X → Bool) where
     where
       by : (b : Bool) → key_eq q e.0 ≡ b → (c : Bool) → p e.1 ≡ c → find_in q (passing p es) ≡ passed (find_in q es)
           → find_in q (cond c (e ∷ passing p es) (passing p es)) ≡ passed (cond b (Some e.1) (find_in q es))
-      by true s true y rest = ap (λ b. cond b (Some e.1) (find_in q (passing p es))) s ∙ sym (ap (λ b. cond b (Some e.1) None) y)
+      by true s true y rest =
+          ap (λ b. cond b (Some e.1) (find_in q (passing p es))) s ∙ sym (ap (λ b. cond b (Some e.1) None) y)
       by true s false y rest =
-          none-passing p q es (ap (λ k. find_in k es) (key_eq-true q e.0 s) ∙ none-above e.0 es r.0) ∙ sym (ap (λ b. cond b (Some e.1) None) y)
+          none-passing p q es (ap (λ k. find_in k es) (key_eq-true q e.0 s) ∙ none-above e.0 es r.0)
+          ∙ sym (ap (λ b. cond b (Some e.1) None) y)
       by false s true y rest = ap (λ b. cond b (Some e.1) (find_in q (passing p es))) s ∙ rest
       by false s false y rest = rest
 
   below-from : (k : List ℕ) (es : List (List ℕ × X)) → AreAbove p k es → below_all key_cmp k es ≡ true
   below-from k [] a = refl
-  below-from k (e ∷ es) a = and_both (is_lt (key_cmp k e.0)) (below_all key_cmp k es) (ap is_lt a.0) (below-from k es a.1)
+  below-from k (e ∷ es) a =
+      and_both (is_lt (key_cmp k e.0)) (below_all key_cmp k es) (ap is_lt a.0) (below-from k es a.1)
 
   sorted-from : (es : List (List ℕ × X)) → Rises p es → is_sorted key_cmp es ≡ true
   sorted-from [] r = refl
-  sorted-from (e ∷ es) r = and_both (below_all key_cmp e.0 es) (is_sorted key_cmp es) (below-from e.0 es r.0) (sorted-from es r.1)
+  sorted-from (e ∷ es) r =
+      and_both (below_all key_cmp e.0 es) (is_sorted key_cmp es) (below-from e.0 es r.0) (sorted-from es r.1)
 
   any-passing : (xs : List X) → list_any p xs ≡ list_any p (filter p xs)
   any-passing [] = refl
   any-passing (x ∷ xs) = by (p x) refl (any-passing xs)
     where
-      by : (b : Bool) → p x ≡ b → list_any p xs ≡ list_any p (filter p xs) → (b || list_any p xs) ≡ list_any p (cond b (x ∷ filter p xs) (filter p xs))
+      by : (b : Bool) → p x ≡ b → list_any p xs ≡ list_any p (filter p xs)
+          → (b || list_any p xs) ≡ list_any p (cond b (x ∷ filter p xs) (filter p xs))
       by true y rest = sym (ap (λ b. b || list_any p (filter p xs)) y)
       by false y rest = rest
 
   module _ (t : Table X) where
-    AreAbove-rows : (n : ℕ) (ns : List ℕ) → AllByRecursion (λ m. nat_cmp n m ≡ Less) ns → AreAbove p (n ∷ []) (rows_at t ns)
+    AreAbove-rows : (n : ℕ) (ns : List ℕ) → AllByRecursion (λ m. nat_cmp n m ≡ Less) ns
+        → AreAbove p (n ∷ []) (rows_at t ns)
     AreAbove-rows n [] up = tt
     AreAbove-rows n (m ∷ ms) up =
         elim (table.get t (m ∷ [])) as (λ o. AreAbove p (n ∷ []) (with_row (m ∷ []) o (rows_at t ms))) [
@@ -107,16 +121,20 @@ module _ {X : Type 0} (p : X → Bool) where
         nothing true = refl
         nothing false = refl
 
-        by : (b : Bool) → key_eq q (n ∷ []) ≡ b → (o : Option X) → table.get t (n ∷ []) ≡ o → find_in q (rows_at t ns) ≡ cond (is_one q ns) (table.get t q) None
+        by : (b : Bool) → key_eq q (n ∷ []) ≡ b → (o : Option X) → table.get t (n ∷ []) ≡ o
+            → find_in q (rows_at t ns) ≡ cond (is_one q ns) (table.get t q) None
             → find_in q (with_row (n ∷ []) o (rows_at t ns)) ≡ cond (b || is_one q ns) (table.get t q) None
         by true s None e rest =
             let gone : table.get t q ≡ None = ap (table.get t) (key_eq-true q (n ∷ []) s) ∙ e in
             rest ∙ ap (λ r. cond (is_one q ns) r None) gone ∙ nothing (is_one q ns) ∙ sym gone
-        by true s (Some x) e rest = ap (λ b. cond b (Some x) (find_in q (rows_at t ns))) s ∙ sym (ap (table.get t) (key_eq-true q (n ∷ []) s) ∙ e)
+        by true s (Some x) e rest =
+            ap (λ b. cond b (Some x) (find_in q (rows_at t ns))) s
+            ∙ sym (ap (table.get t) (key_eq-true q (n ∷ []) s) ∙ e)
         by false s None e rest = rest
         by false s (Some x) e rest = ap (λ b. cond b (Some x) (find_in q (rows_at t ns))) s ∙ rest
 
-    module _ (ns : List ℕ) (up : Rise ns) (covered : (k : List ℕ) (x : X) → table.get t k ≡ Some x → p x ≡ true → is_one k ns ≡ true) where
+    module _ (ns : List ℕ) (up : Rise ns)
+        (covered : (k : List ℕ) (x : X) → table.get t k ≡ Some x → p x ≡ true → is_one k ns ≡ true) where
       same-found : (q : List ℕ) → find_in q (passing p (rows_at t ns)) ≡ find_in q (passing p (table.entries t))
       same-found q =
           find-passing q (rows_at t ns) (Rises-rows ns up) ∙ ap passed (find-rows q ns)
@@ -144,7 +162,11 @@ module _ {X : Type 0} (p : X → Bool) where
           tested false e = cc
 
       pub selected-filed : filter p (of_rows (rows_at t ns)) ≡ filter p (table.values t)
-      selected-filed = sym (values-passing p (rows_at t ns)) ∙ ap (map (λ (e : List ℕ × X). e.1)) same-passing ∙ values-passing p (table.entries t)
+      selected-filed =
+          sym (values-passing p (rows_at t ns))
+          ∙ ap (map (λ (e : List ℕ × X). e.1)) same-passing
+          ∙ values-passing p (table.entries t)
 
       pub any-filed : list_any p (of_rows (rows_at t ns)) ≡ list_any p (table.values t)
-      any-filed = any-passing (of_rows (rows_at t ns)) ∙ ap (list_any p) selected-filed ∙ sym (any-passing (table.values t))
+      any-filed =
+          any-passing (of_rows (rows_at t ns)) ∙ ap (list_any p) selected-filed ∙ sym (any-passing (table.values t))

@@ -11,9 +11,11 @@ use Rattle.part_core.proofs.Standing.{Stands, each-value, get-Stands}
 module _ {X : Type 0} where
   module _ (key_of : X → List ℕ) where
     own-insert : (t : Table X) (x : X) → StandUnderKeys key_of t → StandUnderKeys key_of (table.insert t (key_of x) x)
-    own-insert t x own k y e = elim (get-insert_cases t (key_of x) x k y e) [ inl i ↦ i.0 ∙ ap key_of i.1 | inr i ↦ own k y i ]
+    own-insert t x own k y e =
+        elim (get-insert_cases t (key_of x) x k y e) [ inl i ↦ i.0 ∙ ap key_of i.1 | inr i ↦ own k y i ]
 
-    own-onto : (t : Table X) (rows : List X) → StandUnderKeys key_of t → StandUnderKeys key_of (filled_onto key_of t rows)
+    own-onto : (t : Table X) (rows : List X) → StandUnderKeys key_of t
+        → StandUnderKeys key_of (filled_onto key_of t rows)
     own-onto t [] own = own
     own-onto t (x ∷ xs) own = own-onto (table.insert t (key_of x) x) xs (own-insert t x own)
 

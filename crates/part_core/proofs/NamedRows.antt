@@ -7,7 +7,8 @@ use Rattle.part_core.specs.Sheet.{Table}
 use Rattle.part_core.specs.declared.named_row.NamedRow.{NamedRow}
 use Rattle.part_core.proofs.RowLemmas.{each-insert, each-so, row_there, same_digit, there-insert}
 
-module _ (next : ℕ) (name : List ℕ) (parent : Option ℕ) (rows : Table NamedRow) (right : StandRight (λ r. r.number) next rows) where
+module _ (next : ℕ) (name : List ℕ) (parent : Option ℕ) (rows : Table NamedRow)
+    (right : StandRight (λ r. r.number) next rows) where
   abbrev row : NamedRow
   row = record { number = next; name = name; parent = parent }
 
@@ -18,10 +19,16 @@ module _ (next : ℕ) (name : List ℕ) (parent : Option ℕ) (rows : Table Name
   more = there-insert rows (next ∷ []) row
 
   below : (n : ℕ) → IsThere rows n → n < next
-  below n h = let x = row_there rows n h in let s = right (n ∷ []) x.0 x.1 in let own = same_digit n x.0.number s.own in omega (arith, own, s.drawn)
+  below n h =
+      let x = row_there rows n h in
+      let s = right (n ∷ []) x.0 x.1 in
+      let own = same_digit n x.0.number s.own in
+      omega (arith, own, s.drawn)
 
-  pub parents-new : ((n : ℕ) → parent ≡ Some n → IsThere rows n) → EachRow (HasParent rows) rows → EachRow (HasParent after) after
+  pub parents-new : ((n : ℕ) → parent ≡ Some n → IsThere rows n) → EachRow (HasParent rows) rows
+      → EachRow (HasParent after) after
   parents-new named parents =
       each-insert (HasParent after) rows (next ∷ []) row
       (λ n is. let h = named n is in (more n h, below n h))
-      (each-so (HasParent rows) (HasParent after) rows (λ k r at has n is. let h = has n is in (more n h.0, h.1)) parents)
+      (each-so (HasParent rows) (HasParent after) rows
+      (λ k r at has n is. let h = has n is in (more n h.0, h.1)) parents)

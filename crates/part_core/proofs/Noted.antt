@@ -1,5 +1,7 @@
 -- The places of the slots with a noted change.
-use Rattle.std.proofs.Common.{◌≡◌, ◌≢◌, ◌⊎◌, inl, inr, ℕ, suc, zero, Bool, true, false, cond, ◌||◌, ◌+◌, ◌-◌, ◌<◌, ◌≤◌, List, [], ◌∷◌, ◌++◌, take, length, Option, Some, None, set, get_or, refl, sym, ap, ◌∙◌, subst, arith}
+use Rattle.std.proofs.Common.{◌≡◌, ◌≢◌, ◌⊎◌, inl, inr, ℕ, suc, zero, Bool, true, false, cond}
+use Rattle.std.proofs.Common.{◌||◌, ◌+◌, ◌-◌, ◌<◌, ◌≤◌, List, [], ◌∷◌, ◌++◌, take, length}
+use Rattle.std.proofs.Common.{Option, Some, None, set, get_or, refl, sym, ap, ◌∙◌, subst, arith}
 use Rattle.std.specs.Prelude.{slice_get, nat_eq, is_some, not}
 use Rattle.std.proofs.lemmas.Bool.{eqb-true, eq-eqb}
 use Rattle.std.proofs.lemmas.List.{get_or_append_left}
@@ -8,7 +10,8 @@ use Rattle.std.proofs.lemmas.List.Sums.{sum_by_push, sum_by-cons}
 use Rattle.std.specs.List.Sorted.{IsNonDecreasing, IsPermutation}
 use Rattle.std.proofs.lemmas.List.Sorted.{sum_by-IsPermutation}
 use Rattle.part_core.specs.declared.slots.Held.{Held}
-use Rattle.part_core.specs.Slots.{first_of, noted, times, row_before, now_row, rows_by, with_row, noted_at, ArePlaces, NoneFrom, IsUnnoted}
+use Rattle.part_core.specs.Slots.{first_of, noted, times, row_before, now_row, rows_by}
+use Rattle.part_core.specs.Slots.{with_row, noted_at, ArePlaces, NoneFrom, IsUnnoted}
 
 -- two numbers are the same or not
 pub same_or_other : (a b : ℕ) → (a ≡ b) ⊎ (a ≢ b)
@@ -21,7 +24,10 @@ one_same : (i j : ℕ) → i ≡ j → ◌≡◌ {A = ℕ} (cond (nat_eq j i) 1 
 one_same i j e = ap {B = ℕ} (λ b. cond b 1 0) (eq-eqb j i (sym e))
 
 one_other : (i j : ℕ) → j ≢ i → ◌≡◌ {A = ℕ} (cond (nat_eq j i) 1 0) 0
-one_other i j other = elim (nat_eq j i) as (λ b. nat_eq j i ≡ b → ◌≡◌ {A = ℕ} (cond b 1 0) 0) [ true ↦ λ p. absurd (other (eqb-true j i p)) | false ↦ λ p. refl ] refl
+one_other i j other = elim (nat_eq j i) as (λ b. nat_eq j i ≡ b → ◌≡◌ {A = ℕ} (cond b 1 0) 0) [
+  | true ↦ λ p. absurd (other (eqb-true j i p))
+  | false ↦ λ p. refl
+] refl
 
 pub times-push_same : (is : List ℕ) (i : ℕ) → times i (is ++ i ∷ []) ≡ times i is + 1
 times-push_same is i = sum_by_push (λ n. cond (nat_eq i n) 1 0) is i ∙ ap (λ n. times i is + n) (one_same i i refl)
@@ -41,7 +47,10 @@ times-above [] j low = refl
 times-above (i ∷ is) j low =
     let first : i < j = low 0 0 (omega arith) in
     let rest = times-above is j (λ n d within. low (suc n) d (omega arith)) in
-    sum_by-cons (λ n. cond (nat_eq j n) 1 0) i is ∙ ap (λ n. n + times j is) (one_other i j (λ e. absurd (omega arith))) ∙ none_plus (times j is) ∙ rest
+    sum_by-cons (λ n. cond (nat_eq j n) 1 0) i is
+    ∙ ap (λ n. n + times j is) (one_other i j (λ e. absurd (omega arith)))
+    ∙ none_plus (times j is)
+    ∙ rest
   where
     none_plus : (n : ℕ) → 0 + n ≡ n
     none_plus n = omega arith
@@ -71,7 +80,8 @@ module _ {X : Type 0} where
   noted_at-past (e ∷ es) zero past = absurd (omega arith)
   noted_at-past (e ∷ es) (suc j) past = noted_at-past es j (omega arith)
 
-  pub noted_at-slot : (es : List (List ℕ × Held X)) (j : ℕ) (e : List ℕ × Held X) → slice_get es j ≡ Some e → noted_at es j ≡ noted e.1.before
+  pub noted_at-slot : (es : List (List ℕ × Held X)) (j : ℕ) (e : List ℕ × Held X) → slice_get es j ≡ Some e
+      → noted_at es j ≡ noted e.1.before
   noted_at-slot [] j e at = cc
   noted_at-slot (f ∷ es) zero e at = ap (λ (g : List ℕ × Held X). noted g.1.before) (same_slot f e at)
     where
@@ -79,23 +89,27 @@ module _ {X : Type 0} where
       same_slot a b e = cc
   noted_at-slot (f ∷ es) (suc j) e at = noted_at-slot es j e at
 
-  pub noted_at-set_same : (es : List (List ℕ × Held X)) (i : ℕ) (e : List ℕ × Held X) → i < length es → noted_at (set es i e) i ≡ noted e.1.before
+  pub noted_at-set_same : (es : List (List ℕ × Held X)) (i : ℕ) (e : List ℕ × Held X) → i < length es
+      → noted_at (set es i e) i ≡ noted e.1.before
   noted_at-set_same [] i e within = absurd (omega arith)
   noted_at-set_same (f ∷ es) zero e within = refl
   noted_at-set_same (f ∷ es) (suc i) e within = noted_at-set_same es i e (omega arith)
 
-  pub noted_at-set_other : (es : List (List ℕ × Held X)) (i j : ℕ) (e : List ℕ × Held X) → j ≢ i → noted_at (set es i e) j ≡ noted_at es j
+  pub noted_at-set_other : (es : List (List ℕ × Held X)) (i j : ℕ) (e : List ℕ × Held X) → j ≢ i
+      → noted_at (set es i e) j ≡ noted_at es j
   noted_at-set_other [] i j e other = refl
   noted_at-set_other (f ∷ es) zero zero e other = absurd (other refl)
   noted_at-set_other (f ∷ es) zero (suc j) e other = refl
   noted_at-set_other (f ∷ es) (suc i) zero e other = refl
   noted_at-set_other (f ∷ es) (suc i) (suc j) e other = noted_at-set_other es i j e (λ s. other (ap suc s))
 
-  pub noted_at-push_same : (es : List (List ℕ × Held X)) (e : List ℕ × Held X) → noted_at (es ++ e ∷ []) (length es) ≡ noted e.1.before
+  pub noted_at-push_same : (es : List (List ℕ × Held X)) (e : List ℕ × Held X)
+      → noted_at (es ++ e ∷ []) (length es) ≡ noted e.1.before
   noted_at-push_same [] e = refl
   noted_at-push_same (f ∷ es) e = noted_at-push_same es e
 
-  pub noted_at-push_other : (es : List (List ℕ × Held X)) (j : ℕ) (e : List ℕ × Held X) → j ≢ length es → noted_at (es ++ e ∷ []) j ≡ noted_at es j
+  pub noted_at-push_other : (es : List (List ℕ × Held X)) (j : ℕ) (e : List ℕ × Held X) → j ≢ length es
+      → noted_at (es ++ e ∷ []) j ≡ noted_at es j
   noted_at-push_other [] zero e other = absurd (other refl)
   noted_at-push_other [] (suc j) e other = refl
   noted_at-push_other (f ∷ es) zero e other = refl
@@ -114,9 +128,13 @@ module _ {X : Type 0} where
   noted_at-take_past (suc n) (e ∷ es) (suc j) past = noted_at-take_past n es j (omega arith)
 
   -- the last slot takes the place of one behind which no change is noted
-  pub unnoted-taken : (es : List (List ℕ × Held X)) (i : ℕ) (e : List ℕ × Held X) → i < length es → slice_get es (length es - 1) ≡ Some e → NoneFrom (i + 1) es
+  pub unnoted-taken : (es : List (List ℕ × Held X)) (i : ℕ) (e : List ℕ × Held X) → i < length es
+      → slice_get es (length es - 1) ≡ Some e → NoneFrom (i + 1) es
       → IsUnnoted es (take (length es - 1) (set es i e)) i
-  unnoted-taken es i e within last none = record { here = here (below_or_not i (length es - 1)); others = λ j other. others j other (below_or_not j (length es - 1)) }
+  unnoted-taken es i e within last none = record {
+    here = here (below_or_not i (length es - 1));
+    others = λ j other. others j other (below_or_not j (length es - 1));
+  }
     where
       here : (i < length es - 1) ⊎ (length es - 1 ≤ i) → noted_at (take (length es - 1) (set es i e)) i ≡ 0
       here (inr past) = noted_at-take_past (length es - 1) (set es i e) i past
@@ -124,17 +142,22 @@ module _ {X : Type 0} where
           noted_at-take (length es - 1) (set es i e) i low ∙ noted_at-set_same es i e within
           ∙ sym (noted_at-slot es (length es - 1) e last) ∙ none (length es - 1) (omega arith)
 
-      others : (j : ℕ) → j ≢ i → (j < length es - 1) ⊎ (length es - 1 ≤ j) → noted_at (take (length es - 1) (set es i e)) j ≡ noted_at es j
+      others : (j : ℕ) → j ≢ i → (j < length es - 1) ⊎ (length es - 1 ≤ j)
+          → noted_at (take (length es - 1) (set es i e)) j ≡ noted_at es j
       others j other (inl low) = noted_at-take (length es - 1) (set es i e) j low ∙ noted_at-set_other es i j e other
-      others j other (inr past) = noted_at-take_past (length es - 1) (set es i e) j past ∙ sym (none j (omega (arith, other)))
+      others j other (inr past) =
+          noted_at-take_past (length es - 1) (set es i e) j past ∙ sym (none j (omega (arith, other)))
 
   module _ (is : List ℕ) (es : List (List ℕ × Held X)) (p : ArePlaces is es) where
     -- one more change is noted
-    pub ArePlaces-push : (i : ℕ) (fs : List (List ℕ × Held X)) → noted_at es i ≡ 0 → noted_at fs i ≡ 1 → ((j : ℕ) → j ≢ i → noted_at fs j ≡ noted_at es j) → ArePlaces (is ++ i ∷ []) fs
+    pub ArePlaces-push : (i : ℕ) (fs : List (List ℕ × Held X)) → noted_at es i ≡ 0 → noted_at fs i ≡ 1
+        → ((j : ℕ) → j ≢ i → noted_at fs j ≡ noted_at es j) → ArePlaces (is ++ i ∷ []) fs
     ArePlaces-push i fs old new rest j = by (same_or_other j i)
       where
         by : (j ≡ i) ⊎ (j ≢ i) → times j (is ++ i ∷ []) ≡ noted_at fs j
-        by (inl same) = subst (λ n. times n (is ++ i ∷ []) ≡ noted_at fs n) (sym same) (times-push_same is i ∙ ap (λ n. n + 1) (p i ∙ old) ∙ sym new)
+        by (inl same) =
+            subst (λ n. times n (is ++ i ∷ []) ≡ noted_at fs n) (sym same)
+            (times-push_same is i ∙ ap (λ n. n + 1) (p i ∙ old) ∙ sym new)
         by (inr other) = times-push_other is i j other ∙ p j ∙ sym (rest j other)
 
     -- what is noted stays
@@ -142,7 +165,8 @@ module _ {X : Type 0} where
     ArePlaces-same fs same j = p j ∙ sym (same j)
 
   -- the places may be listed in another order
-  pub ArePlaces-sorted : (is js : List ℕ) (es : List (List ℕ × Held X)) → ArePlaces is es → IsPermutation is js → ArePlaces js es
+  pub ArePlaces-sorted : (is js : List ℕ) (es : List (List ℕ × Held X)) → ArePlaces is es → IsPermutation is js
+      → ArePlaces js es
   ArePlaces-sorted is js es p moved j = sum_by-IsPermutation (λ n. cond (nat_eq j n) 1 0) is js moved ∙ p j
 
   module _ (is : List ℕ) (i : ℕ) (es : List (List ℕ × Held X)) (p : ArePlaces (is ++ i ∷ []) es) where
@@ -161,7 +185,9 @@ module _ {X : Type 0} where
     ArePlaces-pop fs u j = by (same_or_other j i)
       where
         by : (j ≡ i) ⊎ (j ≢ i) → times j is ≡ noted_at fs j
-        by (inl same) = subst (λ n. times n is ≡ noted_at fs n) (sym same) (let a = times-push_same is i in let b = p i in let c = place-noted in let h = u.here in omega arith)
+        by (inl same) =
+            subst (λ n. times n is ≡ noted_at fs n) (sym same)
+            (let a = times-push_same is i in let b = p i in let c = place-noted in let h = u.here in omega arith)
         by (inr other) = sym (times-push_other is i j other) ∙ p j ∙ sym (u.others j other)
 
     module _ (up : IsNonDecreasing (is ++ i ∷ [])) where
@@ -192,7 +218,8 @@ module _ {X : Type 0} where
   before-unnoted (Some o) now none = absurd (omega arith)
 
   -- where no change is noted, the rows are as before
-  pub rows-unnoted : (es : List (List ℕ × Held X)) → ((j : ℕ) → noted_at es j ≡ 0) → rows_by row_before es ≡ rows_by now_row es
+  pub rows-unnoted : (es : List (List ℕ × Held X)) → ((j : ℕ) → noted_at es j ≡ 0)
+      → rows_by row_before es ≡ rows_by now_row es
   rows-unnoted [] none = refl
   rows-unnoted (e ∷ es) none =
       ap (λ o. with_row e.0 o (rows_by row_before es)) (before-unnoted e.1.before e.1.row (none 0))
@@ -225,5 +252,6 @@ module _ {X : Type 0} where
   pub before-newly : (b : Option (Option X)) (o : Option X) (r : Bool) → is_some b ≡ not r → r ≡ true → first_of b o ≡ o
   before-newly b o r e t = before-unnoted b o (newly_noted b r e t)
 
-  pub before-still : (b : Option (Option X)) (o p : Option X) (r : Bool) → is_some b ≡ not r → r ≡ false → first_of b o ≡ first_of b p
+  pub before-still : (b : Option (Option X)) (o p : Option X) (r : Bool) → is_some b ≡ not r → r ≡ false
+      → first_of b o ≡ first_of b p
   before-still b o p r e f = before-noted b o p (still_noted b r e f)

@@ -10,11 +10,14 @@ use Rattle.part_core.specs.Columns.{has, is_bit, number_at, number_or_none_at, r
 use Rattle.part_core.specs.NamedRows.{named_columns}
 use Rattle.part_core.specs.PartColumns.{part_columns, part_from, flags_at, flags_number, flags_of, flags_of_bits}
 use Rattle.part_core.specs.Text.{is_text}
-use Rattle.part_core.proofs.ColumnLemmas.{absent-read, below, bit-is, bound, found, has-is, number_at-is, number_or_none_at-is, row_text_at-is, yes_at-is, same_columns, yes-small, yes_of-number}
+use Rattle.part_core.proofs.ColumnLemmas.{absent-read, below, bit-is, bound, found, has-is}
+use Rattle.part_core.proofs.ColumnLemmas.{number_at-is, number_or_none_at-is, row_text_at-is}
+use Rattle.part_core.proofs.ColumnLemmas.{yes_at-is, same_columns, yes-small, yes_of-number}
 
 -- those of a row with a name and a parent
 pub named_told : (cs : List Column) (number : ℕ) (name : List ℕ) (parent : Option ℕ)
-    → has 3 cs ≡ Some tt → number_at 0 cs ≡ Some number → row_text_at 1 cs ≡ Some name → number_or_none_at 2 cs ≡ Some parent
+    → has 3 cs ≡ Some tt → number_at 0 cs ≡ Some number → row_text_at 1 cs ≡ Some name
+    → number_or_none_at 2 cs ≡ Some parent
     → named_columns (record { number = number; name = name; parent = parent }) ≡ cs
 named_told cs number name parent all c0 c1 c2 =
     same_columns cs (named_columns (record { number = number; name = name; parent = parent })) (has-is 3 cs tt all)
@@ -26,7 +29,8 @@ flags-tell n f = told (nat_lt n 128) refl
   where
     told : (b : Bool) → nat_lt n 128 ≡ b → (if b then Some (flags_of_bits n) else None) ≡ Some f → n ≡ flags_number f
     told true less e =
-        sym (eqb-true (flags_number (flags_of_bits n)) n (below 128 (λ k. flags_number (flags_of_bits k) == k) refl n (ltb-true n 128 less)))
+        sym (eqb-true (flags_number (flags_of_bits n)) n
+        (below 128 (λ k. flags_number (flags_of_bits k) == k) refl n (ltb-true n 128 less)))
         ∙ sym (found flags_number (flags_of_bits n) f e)
     told false less e = cc
 
@@ -51,24 +55,43 @@ flags_read f =
     ap (λ b. if b then Some (flags_of_bits n) else None) (lt-ltb n 128 (omega (arith, t, a, c, k, p, s, v)))
     ∙ ap (λ b. Some (record (flags_of_bits n) { template = b })) template
     ∙ ap (λ b. Some (record (flags_of_bits n) { template = f.template; assembly = b })) assembly
-    ∙ ap (λ b. Some (record (flags_of_bits n) { template = f.template; assembly = f.assembly; component = b })) component
-    ∙ ap (λ b. Some (record f { trackable = b; purchaseable = is_bit 16 n; salable = is_bit 32 n; is_virtual = is_bit 64 n })) trackable
+    ∙ ap (λ b. Some (record (flags_of_bits n) { template = f.template; assembly = f.assembly; component = b }))
+    component
+    ∙ ap (λ b.
+    Some (record f { trackable = b; purchaseable = is_bit 16 n; salable = is_bit 32 n; is_virtual = is_bit 64 n }))
+    trackable
     ∙ ap (λ b. Some (record f { purchaseable = b; salable = is_bit 32 n; is_virtual = is_bit 64 n })) purchaseable
     ∙ ap (λ b. Some (record f { salable = b; is_virtual = is_bit 64 n })) salable
     ∙ ap (λ b. Some (record f { is_virtual = b })) is_virtual
 
-flags_at-is : (i : ℕ) (cs : List Column) (f : Flags) → flags_at i cs ≡ Some f → slice_get cs i ≡ Some (Whole (flags_number f))
+flags_at-is : (i : ℕ) (cs : List Column) (f : Flags) → flags_at i cs ≡ Some f
+    → slice_get cs i ≡ Some (Whole (flags_number f))
 flags_at-is i cs f e =
     let code = bound (number_at i cs) flags_of f e in
     number_at-is i cs code.0 code.1 ∙ ap (λ (n : ℕ). Some (Whole n)) (flags-tell code.0 f code.2)
 
-pub part_told : (cs : List Column) (number : ℕ) (name : List ℕ) (category template : Option ℕ) (flags : Flags) (retired : Bool)
+pub part_told :
+    (cs : List Column) (number : ℕ) (name : List ℕ) (category template : Option ℕ) (flags : Flags) (retired : Bool)
     → has 6 cs ≡ Some tt → number_at 0 cs ≡ Some number → row_text_at 1 cs ≡ Some name
     → number_or_none_at 2 cs ≡ Some category → number_or_none_at 3 cs ≡ Some template
     → flags_at 4 cs ≡ Some flags → yes_at 5 cs ≡ Some retired
-    → part_columns (record { number = number; name = name; category = category; template = template; flags = flags; retired = retired }) ≡ cs
+    → part_columns (record {
+      number = number;
+      name = name;
+      category = category;
+      template = template;
+      flags = flags;
+      retired = retired;
+    }) ≡ cs
 part_told cs number name category template flags retired all c0 c1 c2 c3 c4 c5 =
-    let one : Part = record { number = number; name = name; category = category; template = template; flags = flags; retired = retired } in
+    let one : Part = record {
+      number = number;
+      name = name;
+      category = category;
+      template = template;
+      flags = flags;
+      retired = retired;
+    } in
     same_columns cs (part_columns one) (has-is 6 cs tt all) (
       number_at-is 0 cs number c0,
       (

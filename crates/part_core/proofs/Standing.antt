@@ -1,5 +1,6 @@
 -- Elements of lists, and rows among a table's rows.
-use Rattle.std.proofs.Common.{◌≡◌, ◌⊎◌, inl, inr, ℕ, suc, zero, ◌<◌, Bool, true, false, cond, List, [], ◌∷◌, map, length, get_or, Some, refl, sym, ap, ◌∙◌, arith}
+use Rattle.std.proofs.Common.{◌≡◌, ◌⊎◌, inl, inr, ℕ, suc, zero, ◌<◌, Bool, true, false, cond}
+use Rattle.std.proofs.Common.{List, [], ◌∷◌, map, length, get_or, Some, refl, sym, ap, ◌∙◌, arith}
 use Rattle.std.specs.Prelude.{filter, T}
 use Rattle.std.specs.List.{Contains}
 use Rattle.std.specs.FinMap as table
@@ -17,12 +18,15 @@ Stands x [] = ⊥
 Stands x (y ∷ ys) = (y ≡ x) ⊎ Stands x ys
 
 less_is : (k q : List ℕ) → is_lt (key_cmp k q) ≡ true → key_cmp k q ≡ Less
-less_is k q = elim (key_cmp k q) as (λ r. is_lt r ≡ true → r ≡ Less) [ Less ↦ λ h. refl | Equal ↦ λ h. cc | Greater ↦ λ h. cc ]
+less_is k q =
+    elim (key_cmp k q) as (λ r. is_lt r ≡ true → r ≡ Less) [ Less ↦ λ h. refl | Equal ↦ λ h. cc | Greater ↦ λ h. cc ]
 
 -- a key above another is not that one
 apart : (a b : List ℕ) → key_cmp a b ≡ Less → key_eq b a ≡ false
 apart a b h =
-    key_eq-other b a (λ same. let less : key_eq a b ≡ false = ap is_eq h in let tied : key_eq a b ≡ true = key_eq-same a b (sym same) in cc)
+    key_eq-other b a
+    (λ same. let less : key_eq a b ≡ false = ap is_eq h in
+    let tied : key_eq a b ≡ true = key_eq-same a b (sym same) in cc)
 
 module _ {X : Type 0} where
   pub filter_all : (xs : List X) → filter (λ (x : X). true) xs ≡ xs
@@ -40,12 +44,17 @@ module _ {X : Type 0} where
   pub Stands-Contains : (xs : List X) (x : X) → Stands x xs → Contains xs x
   Stands-Contains [] x s = absurd s
   Stands-Contains (y ∷ ys) x s =
-      elim s [ inl e ↦ (zero, omega arith, e) | inr r ↦ let c = Stands-Contains ys x r in (suc c.0, (let lt = c.1 in omega arith), c.2) ]
+      elim s [
+        | inl e ↦ (zero, omega arith, e)
+        | inr r ↦ let c = Stands-Contains ys x r in (suc c.0, (let lt = c.1 in omega arith), c.2)
+      ]
 
-  found-Stands : (es : List (List ℕ × X)) (k : List ℕ) (x : X) → table.find key_cmp k es ≡ Some x → Stands x (map (λ e. e.1) es)
+  found-Stands : (es : List (List ℕ × X)) (k : List ℕ) (x : X) → table.find key_cmp k es ≡ Some x
+      → Stands x (map (λ e. e.1) es)
   found-Stands [] k x e = cc
   found-Stands (f ∷ fs) k x e =
-      elim (key_eq k f.0) as (λ b. cond b (Some f.1) (table.find key_cmp k fs) ≡ Some x → (f.1 ≡ x) ⊎ Stands x (map (λ e. e.1) fs)) [
+      elim (key_eq k f.0)
+      as (λ b. cond b (Some f.1) (table.find key_cmp k fs) ≡ Some x → (f.1 ≡ x) ⊎ Stands x (map (λ e. e.1) fs)) [
         | true ↦ λ h. inl (same f.1 x h)
         | false ↦ λ h. inr (found-Stands fs k x h)
       ] e
@@ -68,25 +77,39 @@ module _ {X : Type 0} where
 
   AreAbove-from : (k : List ℕ) (es : List (List ℕ × X)) → below_all key_cmp k es ≡ true → AreAbove k es
   AreAbove-from k [] h = tt
-  AreAbove-from k (e ∷ es) h = let both = and_parts (is_lt (key_cmp k e.0)) (below_all key_cmp k es) h in (less_is k e.0 both.0, AreAbove-from k es both.1)
+  AreAbove-from k (e ∷ es) h =
+      let both = and_parts (is_lt (key_cmp k e.0)) (below_all key_cmp k es) h in
+      (less_is k e.0 both.0, AreAbove-from k es both.1)
 
   Rises-from : (es : List (List ℕ × X)) → is_sorted key_cmp es ≡ true → Rises es
   Rises-from [] h = tt
-  Rises-from (e ∷ es) h = let both = and_parts (below_all key_cmp e.0 es) (is_sorted key_cmp es) h in (AreAbove-from e.0 es both.0, Rises-from es both.1)
+  Rises-from (e ∷ es) h =
+      let both = and_parts (below_all key_cmp e.0 es) (is_sorted key_cmp es) h in
+      (AreAbove-from e.0 es both.0, Rises-from es both.1)
 
   -- a row that stands among entries that rise is found under some key, which is above what is below them all
-  row-found : (es : List (List ℕ × X)) (x : X) → Rises es → Stands x (map (λ e. e.1) es) → (k : List ℕ) × (table.find key_cmp k es ≡ Some x) × ((q : List ℕ) → AreAbove q es → key_cmp q k ≡ Less)
+  row-found : (es : List (List ℕ × X)) (x : X) → Rises es → Stands x (map (λ e. e.1) es)
+      → (k : List ℕ) × (table.find key_cmp k es ≡ Some x) × ((q : List ℕ) → AreAbove q es → key_cmp q k ≡ Less)
   row-found [] x r s = absurd s
   row-found (e ∷ es) x r s = elim s [
-    | inl i ↦ (e.0, ap (λ b. cond b (Some e.1) (table.find key_cmp e.0 es)) (key_eq-self e.0) ∙ ap (λ y. Some y) i, λ q a. a.0)
+    | inl i ↦ (
+      e.0,
+      ap (λ b. cond b (Some e.1) (table.find key_cmp e.0 es)) (key_eq-self e.0) ∙ ap (λ y. Some y) i,
+      λ q a. a.0,
+    )
     | inr t ↦
-        let f = row-found es x r.1 t in
-        (f.0, ap (λ b. cond b (Some e.1) (table.find key_cmp f.0 es)) (apart e.0 f.0 (f.2 e.0 r.0)) ∙ f.1, λ q a. f.2 q a.1)
+        let f = row-found es x r.1 t in (
+          f.0,
+          ap (λ b. cond b (Some e.1) (table.find key_cmp f.0 es)) (apart e.0 f.0 (f.2 e.0 r.0)) ∙ f.1,
+          λ q a. f.2 q a.1,
+        )
   ]
 
   -- a row stands under some key
   pub Stands-get : (m : Table X) (x : X) → Stands x (table.values m) → (k : List ℕ) × (table.get m k ≡ Some x)
-  Stands-get m x s = let f = row-found (table.entries m) x (Rises-from (table.entries m) (sorted_is _ (table.entries_sorted m))) s in (f.0, table.get-entries m f.0 ∙ f.1)
+  Stands-get m x s =
+      let f = row-found (table.entries m) x (Rises-from (table.entries m) (sorted_is _ (table.entries_sorted m))) s in
+      (f.0, table.get-entries m f.0 ∙ f.1)
     where
       sorted_is : (b : Bool) → T b → b ≡ true
       sorted_is true h = refl
@@ -101,7 +124,8 @@ module _ {X : Type 0} where
   Stands-filtered p [] x s = s
   Stands-filtered p (y ∷ ys) x s = go (p y) s (Stands-filtered p ys x)
     where
-      go : (b : Bool) → Stands x (cond b (y ∷ filter p ys) (filter p ys)) → (Stands x (filter p ys) → Stands x ys) → (y ≡ x) ⊎ Stands x ys
+      go : (b : Bool) → Stands x (cond b (y ∷ filter p ys) (filter p ys)) → (Stands x (filter p ys) → Stands x ys)
+          → (y ≡ x) ⊎ Stands x ys
       go true (inl e) ih = inl e
       go true (inr r) ih = inr (ih r)
       go false r ih = inr (ih r)

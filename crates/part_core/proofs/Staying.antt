@@ -17,7 +17,9 @@ stay-retired n s = go (part_in n s) refl
 
 pub rows-stay : RowsStay
 rows-stay (AddCategory name parent) r = record {
-  categories = stay-insert r.parts.categories (r.counter.next ∷ []) (record { number = r.counter.next; name = name; parent = parent });
+  categories =
+      stay-insert r.parts.categories (r.counter.next ∷ [])
+      (record { number = r.counter.next; name = name; parent = parent });
   parts = λ k h. h;
 }
 rows-stay (AddPart new) r = record {

@@ -1,5 +1,6 @@
 -- Sums and tests over a table's rows, after a row is put, and over rows with distinct keys in any order.
-use Rattle.std.proofs.Common.{◌≡◌, ℕ, ◌+◌, Bool, true, false, cond, ◌||◌, suc, length, is_some, List, [], ◌∷◌, map, Option, Some, None, refl, sym, ap, ◌∙◌, arith}
+use Rattle.std.proofs.Common.{◌≡◌, ℕ, ◌+◌, Bool, true, false, cond, ◌||◌, suc, length, is_some}
+use Rattle.std.proofs.Common.{List, [], ◌∷◌, map, Option, Some, None, refl, sym, ap, ◌∙◌, arith}
 use Rattle.std.specs.Prelude.{sum_by}
 use Rattle.std.specs.List.{list_any}
 use Rattle.std.proofs.lemmas.List.Sums.{sum_by-cons}
@@ -22,52 +23,75 @@ module _ {X : Type 0} where
   of_rows = map (λ e. e.1)
 
   pub entries-empty : table.entries (table.empty {X = X} {R = key_cmp}) ≡ []
-  entries-empty = nil_from_length _ (sym (table.len-entries (table.empty {X = X} {R = key_cmp})) ∙ table.len-empty key_cmp X)
+  entries-empty =
+      nil_from_length _ (sym (table.len-entries (table.empty {X = X} {R = key_cmp})) ∙ table.len-empty key_cmp X)
 
   module _ (f : X → ℕ) where
-    sum-put : (k : List ℕ) (v : X) (es : List (List ℕ × X)) → find_in k es ≡ None → sum_by f (of_rows (put key_cmp k v es)) ≡ f v + sum_by f (of_rows es)
+    sum-put : (k : List ℕ) (v : X) (es : List (List ℕ × X)) → find_in k es ≡ None
+        → sum_by f (of_rows (put key_cmp k v es)) ≡ f v + sum_by f (of_rows es)
     sum-put k v [] none = sum_by-cons f v []
     sum-put k v (e ∷ es) none =
-        elim (key_cmp k e.0) as (λ r. key_cmp k e.0 ≡ r → cond (is_eq r) (Some e.1) (find_in k es) ≡ None → sum_by f (of_rows (by_order r ((k, v) ∷ e ∷ es) ((e.0, v) ∷ es) (e ∷ put key_cmp k v es))) ≡ f v + sum_by f (of_rows (e ∷ es))) [
+        elim (key_cmp k e.0) as (λ r. key_cmp k e.0 ≡ r → cond (is_eq r) (Some e.1) (find_in k es) ≡ None
+        → sum_by f (of_rows (by_order r ((k, v) ∷ e ∷ es) ((e.0, v) ∷ es) (e ∷ put key_cmp k v es)))
+        ≡ f v + sum_by f (of_rows (e ∷ es))) [
           | Less ↦ λ p n. sum_by-cons f v (of_rows (e ∷ es))
           | Equal ↦ λ p n. cc
-          | Greater ↦ λ p n. omega (arith, sum-put k v es n, sum_by-cons f e.1 (of_rows (put key_cmp k v es)), sum_by-cons f e.1 (of_rows es))
+          | Greater ↦ λ p n. omega (
+            arith,
+            sum-put k v es n,
+            sum_by-cons f e.1 (of_rows (put key_cmp k v es)),
+            sum_by-cons f e.1 (of_rows es),
+          )
         ] refl none
 
     -- a row under a new key adds its share
-    pub sum-insert_new : (m : Table X) (k : List ℕ) (v : X) → table.get m k ≡ None → sum_by f (table.values (table.insert m k v)) ≡ f v + sum_by f (table.values m)
+    pub sum-insert_new : (m : Table X) (k : List ℕ) (v : X) → table.get m k ≡ None
+        → sum_by f (table.values (table.insert m k v)) ≡ f v + sum_by f (table.values m)
     sum-insert_new m k v none =
-        ap (λ es. sum_by f (of_rows es)) (table.entries-insert keys_total m k v) ∙ sum-put k v (table.entries m) (sym (table.get-entries m k) ∙ none)
+        ap (λ es. sum_by f (of_rows es)) (table.entries-insert keys_total m k v)
+        ∙ sum-put k v (table.entries m) (sym (table.get-entries m k) ∙ none)
 
-    pub sum-of_rows : (es : List (List ℕ × X)) → IsDistinct es → sum_by f (table.values (table_of es)) ≡ sum_by f (of_rows es)
+    pub sum-of_rows : (es : List (List ℕ × X)) → IsDistinct es
+        → sum_by f (table.values (table_of es)) ≡ sum_by f (of_rows es)
     sum-of_rows [] d = ap (λ (es : List (List ℕ × X)). sum_by f (of_rows es)) entries-empty
-    sum-of_rows (e ∷ es) d = sum-insert_new (table_of es) e.0 e.1 (get-absent es e.0 d.0) ∙ ap (λ n. f e.1 + n) (sum-of_rows es d.1) ∙ sym (sum_by-cons f e.1 (of_rows es))
+    sum-of_rows (e ∷ es) d =
+        sum-insert_new (table_of es) e.0 e.1 (get-absent es e.0 d.0)
+        ∙ ap (λ n. f e.1 + n) (sum-of_rows es d.1)
+        ∙ sym (sum_by-cons f e.1 (of_rows es))
 
   module _ (p : X → Bool) where
-    any-put : (k : List ℕ) (v : X) (es : List (List ℕ × X)) → find_in k es ≡ None → list_any p (of_rows (put key_cmp k v es)) ≡ (p v || list_any p (of_rows es))
+    any-put : (k : List ℕ) (v : X) (es : List (List ℕ × X)) → find_in k es ≡ None
+        → list_any p (of_rows (put key_cmp k v es)) ≡ (p v || list_any p (of_rows es))
     any-put k v [] none = refl
     any-put k v (e ∷ es) none =
-        elim (key_cmp k e.0) as (λ r. key_cmp k e.0 ≡ r → cond (is_eq r) (Some e.1) (find_in k es) ≡ None → list_any p (of_rows (by_order r ((k, v) ∷ e ∷ es) ((e.0, v) ∷ es) (e ∷ put key_cmp k v es))) ≡ (p v || list_any p (of_rows (e ∷ es)))) [
+        elim (key_cmp k e.0) as (λ r. key_cmp k e.0 ≡ r → cond (is_eq r) (Some e.1) (find_in k es) ≡ None
+        → list_any p (of_rows (by_order r ((k, v) ∷ e ∷ es) ((e.0, v) ∷ es) (e ∷ put key_cmp k v es)))
+        ≡ (p v || list_any p (of_rows (e ∷ es)))) [
           | Less ↦ λ q n. refl
           | Equal ↦ λ q n. cc
           | Greater ↦ λ q n. ap (λ b. p e.1 || b) (any-put k v es n) ∙ or_turn (p e.1) (p v) (list_any p (of_rows es))
         ] refl none
 
-    pub any-insert_new : (m : Table X) (k : List ℕ) (v : X) → table.get m k ≡ None → list_any p (table.values (table.insert m k v)) ≡ (p v || list_any p (table.values m))
+    pub any-insert_new : (m : Table X) (k : List ℕ) (v : X) → table.get m k ≡ None
+        → list_any p (table.values (table.insert m k v)) ≡ (p v || list_any p (table.values m))
     any-insert_new m k v none =
-        ap (λ es. list_any p (of_rows es)) (table.entries-insert keys_total m k v) ∙ any-put k v (table.entries m) (sym (table.get-entries m k) ∙ none)
+        ap (λ es. list_any p (of_rows es)) (table.entries-insert keys_total m k v)
+        ∙ any-put k v (table.entries m) (sym (table.get-entries m k) ∙ none)
 
     -- a test over the rows in any order
-    pub any-of_rows : (es : List (List ℕ × X)) → IsDistinct es → list_any p (table.values (table_of es)) ≡ list_any p (of_rows es)
+    pub any-of_rows : (es : List (List ℕ × X)) → IsDistinct es
+        → list_any p (table.values (table_of es)) ≡ list_any p (of_rows es)
     any-of_rows [] d = ap (λ (es : List (List ℕ × X)). list_any p (of_rows es)) entries-empty
-    any-of_rows (e ∷ es) d = any-insert_new (table_of es) e.0 e.1 (get-absent es e.0 d.0) ∙ ap (λ b. p e.1 || b) (any-of_rows es d.1)
+    any-of_rows (e ∷ es) d =
+        any-insert_new (table_of es) e.0 e.1 (get-absent es e.0 d.0) ∙ ap (λ b. p e.1 || b) (any-of_rows es d.1)
 
   -- how many rows a table has
   pub len-of_rows : (es : List (List ℕ × X)) → IsDistinct es → table.len (table_of es) ≡ length es
   len-of_rows [] d = table.len-empty key_cmp X
   len-of_rows (e ∷ es) d =
       table.len-insert keys_total (table_of es) e.0 e.1
-      ∙ ap (λ (o : Option X). cond (is_some o) (table.len (table_of es)) (table.len (table_of es) + 1)) (get-absent es e.0 d.0)
+      ∙ ap (λ (o : Option X). cond (is_some o) (table.len (table_of es)) (table.len (table_of es) + 1))
+      (get-absent es e.0 d.0)
       ∙ ap (λ n. n + 1) (len-of_rows es d.1) ∙ plus_one (length es)
     where
       plus_one : (n : ℕ) → n + 1 ≡ suc n

@@ -9,11 +9,13 @@ use Rattle.part_core.specs.declared.refusal.Refusal.TheVariants.{NoSuch, NameTak
 
 -- the catalogue with a category under that number
 abbrev pub with_category : ℕ → List ℕ → Option ℕ → Parts → Parts
-with_category n name parent s = record s { categories = table.insert s.categories (n ∷ []) (record { number = n; name = name; parent = parent }) }
+with_category n name parent s =
+    record s { categories = table.insert s.categories (n ∷ []) (record { number = n; name = name; parent = parent }) }
 
 -- a category under the next number
 abbrev pub add_category : List ℕ → Option ℕ → Register → Register
-add_category name parent r = record { parts = with_category r.counter.next name parent r.parts; counter = drawn 1 r.counter }
+add_category name parent r =
+    record { parts = with_category r.counter.next name parent r.parts; counter = drawn 1 r.counter }
 
 -- why it is refused, in the order of checks
 abbrev pub add_category_checks : List ℕ → Option ℕ → Register → List Check

@@ -34,7 +34,14 @@ is_template_retired (Some t) s = is_retired (part_in t s)
 -- the row of a new part
 abbrev pub part_row : ℕ → NewPart → Part
 part_row n new =
-    record { number = n; name = new.name; category = new.category; template = new.template; flags = new.flags; retired = false }
+    record {
+      number = n;
+      name = new.name;
+      category = new.category;
+      template = new.template;
+      flags = new.flags;
+      retired = false;
+    }
 
 -- the catalogue with a part under that number
 abbrev pub with_part : ℕ → NewPart → Parts → Parts
@@ -49,7 +56,10 @@ abbrev pub add_part_checks : NewPart → Register → List Check
 add_part_checks new r =
     (is_missing new.category (λ n. category_in n r.parts) || is_missing new.template (λ n. part_in n r.parts), NoSuch)
     ∷ (is_part_named new.name r.parts, NameTaken)
-    ∷ (is_no_template new.template r.parts || is_template_variant new.template new.flags || is_mixed new.flags, WrongFlag)
+    ∷ (
+      is_no_template new.template r.parts || is_template_variant new.template new.flags || is_mixed new.flags,
+      WrongFlag,
+    )
     ∷ (is_template_retired new.template r.parts, Retired)
     ∷ (passes_limit (add_part new r).counter, Full)
     ∷ []

@@ -1,5 +1,6 @@
 -- Rows as columns: what a file has of a row, and which row columns are.
-use Rattle.std.specs.Prelude.{◌≡◌, ℕ, ◌==◌, ◌/◌, ◌%◌, ◌<◌, ◌^◌, All, Bool, true, false, cond, if◌then◌else◌, List, length, slice_get, Option, Some, None, Result, Ok, Err}
+use Rattle.std.specs.Prelude.{◌≡◌, ℕ, ◌==◌, ◌/◌, ◌%◌, ◌<◌, ◌^◌, All, Bool, true, false, cond}
+use Rattle.std.specs.Prelude.{if◌then◌else◌, List, length, slice_get, Option, Some, None, Result, Ok, Err}
 use Rattle.std.specs.Str.{bytes_eq}
 use Rattle.part_core.specs.Day.{CivilDay, day_of, day_text}
 use Rattle.part_core.specs.Rows.{EachRow}

@@ -1,5 +1,6 @@
 -- What fills a form of a table makes a command, and what makes a command fills a form.
-use Rattle.std.specs.Prelude.{◌≡◌, ℕ, List, [], ◌∷◌, ◌++◌, Bool, true, false, Option, Some, None, option_and_then, unwrap_or, refl, if◌then◌else◌}
+use Rattle.std.specs.Prelude.{◌≡◌, ℕ, List, [], ◌∷◌, ◌++◌, Bool, true, false, Option}
+use Rattle.std.specs.Prelude.{Some, None, option_and_then, unwrap_or, refl, if◌then◌else◌}
 use Rattle.std.specs.Str.{bytes_eq}
 use Rattle.std.proofs.Common.{sym, ap, ◌∙◌, subst, append_assoc}
 use Rattle.std.proofs.lemmas.List.{append-nil}
@@ -69,18 +70,22 @@ module _ {C : Type 0} where
       go (Some v) is e later = (kind_told f.1 x v is, later v e)
 
   -- fields that make a command fill the form of its verb
-  pub rows_fill : (rows : List (FormRow C)) (verb : List ℕ) (fields : List Field) (c : C) → command_by rows verb fields ≡ Some c → Fills (forms_by rows) verb fields
+  pub rows_fill : (rows : List (FormRow C)) (verb : List ℕ) (fields : List Field) (c : C)
+      → command_by rows verb fields ≡ Some c → Fills (forms_by rows) verb fields
   rows_fill [] verb fields c e = absurd (none_apart c e)
   rows_fill (row ∷ rows) verb fields c e = go (bytes_eq verb row.form.verb) e (rows_fill rows verb fields c)
     where
-      go : (b : Bool) → option_and_then (λ r. made r.form.fields r.make fields) (if b then Some row else row_named verb rows) ≡ Some c
+      go : (b : Bool) → option_and_then (λ r. made r.form.fields r.make fields)
+          (if b then Some row else row_named verb rows) ≡ Some c
           → (command_by rows verb fields ≡ Some c → Fills (forms_by rows) verb fields)
-          → (form : Form) × ((if b then Some row.form else form_named verb (forms_by rows)) ≡ Some form) × AreOf form.fields fields
+          → (form : Form) × ((if b then Some row.form else form_named verb (forms_by rows)) ≡ Some form)
+          × AreOf form.fields fields
       go true e later = (row.form, refl, made_fills row.form.fields row.make fields c e)
       go false e later = later e
 
   module _ (verb_of : C → List ℕ) (fields_of : C → List Field) where
-    tells_made : (verb : List ℕ) (fs : Blanks) (make : Makes fs C) (front xs : List Field) → Tells verb_of fields_of verb fs make front → AreOf fs xs
+    tells_made : (verb : List ℕ) (fs : Blanks) (make : Makes fs C) (front xs : List Field)
+        → Tells verb_of fields_of verb fs make front → AreOf fs xs
         → IsCommand verb_of fields_of (made fs make xs) verb (front ++ xs)
     tells_made verb [] make front [] t a = (make, refl, t.0, t.1 ∙ sym (append-nil front))
     tells_made verb [] make front (x ∷ xs) t a = absurd a
@@ -99,9 +104,13 @@ module _ {C : Type 0} where
     rows_made (row ∷ rows) t verb fields h =
         go (bytes_eq verb row.form.verb) refl h.1 (λ e. rows_made rows t.1 verb fields (h.0, e, h.2))
       where
-        go : (b : Bool) → bytes_eq verb row.form.verb ≡ b → (if b then Some row.form else form_named verb (forms_by rows)) ≡ Some h.0
-            → (form_named verb (forms_by rows) ≡ Some h.0 → IsCommand verb_of fields_of (command_by rows verb fields) verb fields)
-            → IsCommand verb_of fields_of (option_and_then (λ r. made r.form.fields r.make fields) (if b then Some row else row_named verb rows)) verb fields
+        go : (b : Bool) → bytes_eq verb row.form.verb ≡ b
+            → (if b then Some row.form else form_named verb (forms_by rows)) ≡ Some h.0
+            → (form_named verb (forms_by rows) ≡ Some h.0
+            → IsCommand verb_of fields_of (command_by rows verb fields) verb fields)
+            → IsCommand verb_of fields_of
+            (option_and_then (λ r. made r.form.fields r.make fields) (if b then Some row else row_named verb rows))
+            verb fields
         go true is e later =
             let same : row.form ≡ h.0 = ap (λ (form : Option Form). unwrap_or form row.form) e in
             let of : AreOf row.form.fields fields = subst (λ (form : Form). AreOf form.fields fields) (sym same) h.2 in

@@ -31,7 +31,8 @@ abbrev pub forms_by : {C : Type 0} → List (FormRow C) → List Form
 forms_by rows = map (λ row. row.form) rows
 
 -- whatever the values are, the command that they make is of this verb and has them as its fields
-abbrev pub Tells : {C : Type 0} → (C → List ℕ) → (C → List Field) → List ℕ → (fs : Blanks) → Makes fs C → List Field → Type 0
+abbrev pub Tells : {C : Type 0} → (C → List ℕ) → (C → List Field) → List ℕ → (fs : Blanks) → Makes fs C
+    → List Field → Type 0
 Tells verb_of fields_of verb [] command front = (verb_of command ≡ verb) × (fields_of command ≡ front)
 Tells verb_of fields_of verb (f ∷ fs) make front =
     (value : Value f.1) → Tells verb_of fields_of verb fs (make value) (front ++ field_with f.1 value ∷ [])

@@ -58,7 +58,8 @@ Fills forms verb fields = (form : Form) × (form_named verb forms ≡ Some form)
 
 -- what was found is a command of this verb, with these fields
 abbrev pub IsCommand : {C : Type 0} → (C → List ℕ) → (C → List Field) → Option C → List ℕ → List Field → Type 0
-IsCommand {C} verb_of fields_of found verb fields = (c : C) × (found ≡ Some c) × (verb_of c ≡ verb) × (fields_of c ≡ fields)
+IsCommand {C} verb_of fields_of found verb fields =
+    (c : C) × (found ≡ Some c) × (verb_of c ≡ verb) × (fields_of c ≡ fields)
 
 -- ---- a table's names
 

@@ -1,5 +1,6 @@
 -- Which numbers are filed under an index key, and which filings are to be looked at again.
-use Rattle.std.specs.Prelude.{◌≡◌, ◌==◌, ◌&&◌, ◌<◌, ◌^◌, ℕ, Bool, true, false, List, [], ◌∷◌, map, filter, length, Option, Some, None, nat_lt}
+use Rattle.std.specs.Prelude.{◌≡◌, ◌==◌, ◌&&◌, ◌<◌, ◌^◌, ℕ, Bool, true, false, List}
+use Rattle.std.specs.Prelude.{[], ◌∷◌, map, filter, length, Option, Some, None, nat_lt}
 use Rattle.std.specs.List.{list_any}
 use Rattle.std.specs.List.Sorted.{IsStrictlySortedBy}
 use Rattle.std.specs.Ordering.{nat_cmp}
@@ -29,7 +30,8 @@ Rise ns = IsStrictlySortedBy nat_cmp ns
 pub record IsGrown (filings touched more log : List Filing) : Type 0 where
   pub filed : (key number : ℕ) → is_filed key number filings ≡ true → is_filed key number more ≡ true
   pub logged : (key number : ℕ) → is_filed key number touched ≡ true → is_filed key number log ≡ true
-  pub new : (key number : ℕ) → is_filed key number more ≡ true → is_filed key number log ≡ false → is_filed key number filings ≡ true
+  pub new : (key number : ℕ) → is_filed key number more ≡ true → is_filed key number log ≡ false
+      → is_filed key number filings ≡ true
 
 module _ {X : Type 0} where
   -- the rows of these numbers, each under its own
@@ -76,4 +78,5 @@ module _ {X : Type 0} where
         pub complete : AreFiled filings s.rows
         pub complete_before : AreFiled filings s.before
         pub exact : (key number : ℕ) → is_filed key number filings ≡ true → is_filed key number touched ≡ false
-            → (has_key key (table.get s.rows (number ∷ [])) ≡ true) × (has_key key (table.get s.before (number ∷ [])) ≡ true)
+            → (has_key key (table.get s.rows (number ∷ [])) ≡ true)
+            × (has_key key (table.get s.before (number ∷ [])) ≡ true)

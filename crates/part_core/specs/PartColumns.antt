@@ -4,7 +4,8 @@ use Rattle.part_core.specs.declared.flags.Flags.{Flags}
 use Rattle.part_core.specs.declared.part.Part.{Part}
 use Rattle.part_core.specs.declared.column.Column.{Column}
 use Rattle.part_core.specs.declared.column.Column.TheVariants.{Whole, Text}
-use Rattle.part_core.specs.Columns.{◌>>=◌, has, number_at, number_or_none_at, row_text_at, yes_at, number_or_absent, yes_number, is_bit}
+use Rattle.part_core.specs.Columns.{◌>>=◌, has, number_at, number_or_none_at, row_text_at}
+use Rattle.part_core.specs.Columns.{yes_at, number_or_absent, yes_number, is_bit}
 
 -- flags as a number, each a bit of it
 abbrev pub flags_number : Flags → ℕ
@@ -46,4 +47,11 @@ part_from columns = do
   template ← number_or_none_at 3 columns
   flags ← flags_at 4 columns
   retired ← yes_at 5 columns
-  Some (record { number = number; name = name; category = category; template = template; flags = flags; retired = retired })
+  Some (record {
+    number = number;
+    name = name;
+    category = category;
+    template = template;
+    flags = flags;
+    retired = retired;
+  })

@@ -18,9 +18,13 @@ part_forms =
     ∷ record {
       form = record {
         verb = codes "add_part";
-        fields = (codes "name", Text) ∷ (codes "category", MaybeNumber) ∷ (codes "template", MaybeNumber) ∷ (codes "flags", Flags) ∷ [];
+        fields =
+            (codes "name", Text) ∷ (codes "category", MaybeNumber) ∷ (codes "template", MaybeNumber)
+            ∷ (codes "flags", Flags) ∷ [];
       };
-      make = λ name category template flags. AddPart (record { name = name; category = category; template = template; flags = flags });
+      make =
+          λ name category template flags.
+          AddPart (record { name = name; category = category; template = template; flags = flags });
     }
     ∷ record {
       form = record { verb = codes "retire_part"; fields = (codes "part", Number) ∷ [] };
@@ -35,7 +39,8 @@ part_verb (RetirePart part) = codes "retire_part"
 
 abbrev pub part_fields : PartCommand → List Field
 part_fields (AddCategory name parent) = field.Text name ∷ field.MaybeNumber parent ∷ []
-part_fields (AddPart new) = field.Text new.name ∷ field.MaybeNumber new.category ∷ field.MaybeNumber new.template ∷ field.Flags new.flags ∷ []
+part_fields (AddPart new) =
+    field.Text new.name ∷ field.MaybeNumber new.category ∷ field.MaybeNumber new.template ∷ field.Flags new.flags ∷ []
 part_fields (RetirePart part) = field.Number part ∷ []
 
 -- a command is made of its fields again

@@ -1,5 +1,7 @@
--- The slots of a sheet: each key with the row that it has now, and with the one that it had before, where it has changed.
-use Rattle.std.specs.Prelude.{◌≡◌, ◌≢◌, ◌≤◌, ◌||◌, ℕ, zero, suc, Bool, true, List, [], ◌∷◌, Option, Some, None, is_some, map, sum_by, nat_eq, if◌then◌else◌}
+-- The slots of a sheet: each key with the row that it has now, and with the one that it had before, where it has
+-- changed.
+use Rattle.std.specs.Prelude.{◌≡◌, ◌≢◌, ◌≤◌, ◌||◌, ℕ, zero, suc, Bool, true, List, [], ◌∷◌}
+use Rattle.std.specs.Prelude.{Option, Some, None, is_some, map, sum_by, nat_eq, if◌then◌else◌}
 use Rattle.std.specs.List.{All}
 use Rattle.std.specs.FinMap as table
 use Rattle.part_core.specs.Sheet.{IsDistinct, Table, table_of}

@@ -2,7 +2,9 @@
 ghost use Rattle.std.specs.Prelude.{◌≡◌, ◌<◌, IfOk, MatchResult, List, Option, Some, None, option_copied};
 ghost use Rattle.std.specs.String.{string_bytes};
 ghost use Rattle.part_core.specs.declared.column.Column.{Column};
-ghost use Rattle.part_core.specs.Columns.{Finds, is_bit, number_at, number_or_none_at, text_at, text_or_none_at, has, row_text_at, row_text_or_none_at, serial_or_none_at, status_at, day_at, yes_at, yes_number, number_or_absent};
+ghost use Rattle.part_core.specs.Columns.{Finds, is_bit, number_at, number_or_none_at, text_at, text_or_none_at};
+ghost use Rattle.part_core.specs.Columns.{has, row_text_at, row_text_or_none_at, serial_or_none_at, status_at};
+ghost use Rattle.part_core.specs.Columns.{day_at, yes_at, yes_number, number_or_absent};
 
 use crate::day::Day;
 use crate::row::Row;

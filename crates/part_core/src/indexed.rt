@@ -1,5 +1,6 @@
 //! Rows that are found by what stands in them, besides by their number.
-ghost use Rattle.std.specs.Prelude.{◌≡◌, ◌∷◌, [], ℕ, Bool, List, slice_get, option_copied, IfOk, IfSome, OnOk, OnErr, map, filter, nat_lt, sum_by};
+ghost use Rattle.std.specs.Prelude.{◌≡◌, ◌∷◌, [], ℕ, Bool, List, slice_get, option_copied};
+ghost use Rattle.std.specs.Prelude.{IfOk, IfSome, OnOk, OnErr, map, filter, nat_lt, sum_by};
 ghost use Rattle.std.specs.List.{list_any};
 ghost use Rattle.std.specs.FinMap as table;
 ghost use Rattle.part_core.specs.Filled.{filled, StandUnderKeys};

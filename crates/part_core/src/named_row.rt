@@ -1,6 +1,7 @@
 //! Rows with a name, under a parent or at the top: categories and locations.
 ghost use Rattle.std.specs.Prelude.{◌≡◌, ◌↔◌, ◌∷◌, [], IsTrue};
-ghost use Rattle.part_core.specs.NamedRows.{HasParent, has_parent, is_named, named_columns, named_from, named_key, named_keys};
+ghost use Rattle.part_core.specs.NamedRows.{HasParent, has_parent, is_named, named_columns};
+ghost use Rattle.part_core.specs.NamedRows.{named_from, named_key, named_keys};
 ghost use Rattle.part_core.specs.Sheet.{now_of};
 
 use crate::column::{has, number_at, number_or_none_at, row_text_at};

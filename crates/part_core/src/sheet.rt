@@ -11,7 +11,8 @@
 //! the place where they are, so the slot that moves is none that is still to come. They write, sort in place and take
 //! out, which needs no memory, and they touch only the slots that are listed. Each slot has a row or a note, so that
 //! outside of changes there are as many slots as rows.
-ghost use Rattle.std.specs.Prelude.{◌≡◌, ◌↔◌, ◌<◌, ℕ, Bool, length, filter, map, option_copied, IsTrue, OnOk, OnErr, IfOk, IsSome, Some, [], sum_by};
+ghost use Rattle.std.specs.Prelude.{◌≡◌, ◌↔◌, ◌<◌, ℕ, Bool, length, filter, map, option_copied};
+ghost use Rattle.std.specs.Prelude.{IsTrue, OnOk, OnErr, IfOk, IsSome, Some, [], sum_by};
 ghost use Rattle.std.specs.List.{All, list_any};
 ghost use Rattle.std.specs.FinMap as table;
 ghost use Rattle.std.specs.Borrow.{sem};

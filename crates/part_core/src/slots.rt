@@ -1,11 +1,14 @@
 //! The slots of a sheet: what each key has now, and what it had before it was changed.
-ghost use Rattle.std.specs.Prelude.{◌≡◌, ◌↔◌, ◌+◌, ◌^◌, ◌<◌, ◌≤◌, ℕ, List, Bool, IsTrue, length, OnOk, OnErr, IfOk, IfSome, IfNone, IsSome, is_some, Some, None, [], map, filter, sum_by, slice_get, option_copied, vec_capacity, ◌++◌, ◌∷◌};
+ghost use Rattle.std.specs.Prelude.{◌≡◌, ◌↔◌, ◌+◌, ◌^◌, ◌<◌, ◌≤◌, ℕ, List, Bool, IsTrue, length, OnOk};
+ghost use Rattle.std.specs.Prelude.{OnErr, IfOk, IfSome, IfNone, IsSome, is_some, Some, None, [], map};
+ghost use Rattle.std.specs.Prelude.{filter, sum_by, slice_get, option_copied, vec_capacity, ◌++◌, ◌∷◌};
 ghost use Rattle.std.specs.List.{All, list_any};
 ghost use Rattle.std.specs.List.Sorted.{IsPermutation, IsSortedByKey};
 ghost use Rattle.std.specs.FinMap as table;
 ghost use Rattle.part_core.specs.Sheet.{key_cmp, HasKeyAt, IsDifference, IsDistinct, IsEachOnce, given};
 ghost use Rattle.part_core.specs.Select.{IsMeasure, IsTest};
-ghost use Rattle.part_core.specs.Slots.{ArePlaces, AreUsed, IsUnnoted, NoneFrom, noted_at, now_row, row_before, row_found, rows_by, slots_of, table_by};
+ghost use Rattle.part_core.specs.Slots.{ArePlaces, AreUsed, IsUnnoted, NoneFrom, noted_at, now_row};
+ghost use Rattle.part_core.specs.Slots.{row_before, row_found, rows_by, slots_of, table_by};
 
 use crate::row::{Row, RowKey};
 use crate::sheet::Pending;

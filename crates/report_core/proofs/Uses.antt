@@ -26,11 +26,14 @@ pub used_rows : (parts : Parts) (bills : Bills) (number : ℕ) (rows : List Part
     → ((x : Part) → (uses parts bills number x ≡ true) ↔ HasWalk parts bills x.number number)
     → IsWhereUsed parts bills number rows → rows ≡ filter (uses parts bills number) (part_rows parts)
 used_rows parts bills number rows told w =
-    let same : (x : Part) → w.0 x ≡ uses parts bills number x = λ x. both_true (w.0 x) (uses parts bills number x) (λ e. (told x).1 ((w.1 x).0 e)) (λ e. (w.1 x).1 ((told x).0 e)) in
+    let same : (x : Part) → w.0 x ≡ uses parts bills number x =
+    λ x.
+    both_true (w.0 x) (uses parts bills number x) (λ e. (told x).1 ((w.1 x).0 e)) (λ e. (w.1 x).1 ((told x).0 e)) in
     w.2 ∙ (λ i. filter (λ (x : Part). same x i) (part_rows parts))
 
 -- the same for a catalogue and bills that are lent
-pub used_rows_lent : (parts lent_parts : Parts) (bills lent_bills : Bills) (number : ℕ) (rows : List Part) → lent_parts ≡ parts → lent_bills ≡ bills
+pub used_rows_lent : (parts lent_parts : Parts) (bills lent_bills : Bills) (number : ℕ) (rows : List Part)
+    → lent_parts ≡ parts → lent_bills ≡ bills
     → ((x : Part) → (uses parts bills number x ≡ true) ↔ HasWalk parts bills x.number number)
     → IsWhereUsed lent_parts lent_bills number rows → rows ≡ filter (uses parts bills number) (part_rows parts)
 used_rows_lent parts lent_parts bills lent_bills number rows same_parts same_bills told w =

@@ -2,7 +2,8 @@
 use Rattle.std.specs.Prelude.{ℕ, List, [], ◌++◌, codes, decimal, Option, Some, None}
 use Rattle.part_core.specs.declared.part.Part.{Part}
 use Rattle.forest.specs.declared.entry.Kind.{Kind}
-use Rattle.forest.specs.declared.entry.Kind.TheVariants.{Received, Found, Built, Consumed, Shipped, Returned, Written, Moved, Cut, Poured, Installed, TakenOut, Marked}
+use Rattle.forest.specs.declared.entry.Kind.TheVariants.{Received, Found, Built, Consumed, Shipped, Returned}
+use Rattle.forest.specs.declared.entry.Kind.TheVariants.{Written, Moved, Cut, Poured, Installed, TakenOut, Marked}
 use Rattle.forest.specs.declared.place.Place.{Place}
 use Rattle.forest.specs.declared.place.Place.TheVariants.{At, In, Output, Sent, Used, Off, Gone}
 use Rattle.forest.specs.declared.place.Reason.{Reason}

@@ -19,4 +19,6 @@ entry_line entry =
 
 -- none where there is no such item; one that is gone is still there
 abbrev pub history_lines : ℕ → State → Option Lines
-history_lines number s = option_map (λ _. map entry_line (filter (is_entry_on number) (table.values s.stock.history))) (table.get s.stock.items (number ∷ []))
+history_lines number s =
+    option_map (λ _. map entry_line (filter (is_entry_on number) (table.values s.stock.history)))
+    (table.get s.stock.items (number ∷ []))

@@ -27,4 +27,5 @@ ledger_of number name sums =
 
 -- none where there is no such part
 abbrev pub ledger_lines : ℕ → State → Option Lines
-ledger_lines number s = option_map (λ part. ledger_of number part.name (sums_of number s.stock)) (part_in number s.parts)
+ledger_lines number s =
+    option_map (λ part. ledger_of number part.name (sums_of number s.stock)) (part_in number s.parts)

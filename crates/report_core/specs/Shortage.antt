@@ -21,4 +21,5 @@ shortage_line parts row =
 -- none where there is no such build; one that isn't open has no lines
 abbrev pub shortage_lines : ℕ → State → Option Lines
 shortage_lines number s =
-    option_map (λ _. map (shortage_line s.parts) (shortages number s.parts s.bills s.builds s.allocations)) (table.get s.builds (number ∷ []))
+    option_map (λ _. map (shortage_line s.parts) (shortages number s.parts s.bills s.builds s.allocations))
+    (table.get s.builds (number ∷ []))

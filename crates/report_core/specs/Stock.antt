@@ -25,4 +25,5 @@ item_line item =
 
 -- none where there is no such part
 abbrev pub stock_lines : ℕ → State → Option Lines
-stock_lines number s = option_map (λ _. map item_line (filter (is_stock_of number) (table.values s.stock.items))) (part_in number s.parts)
+stock_lines number s =
+    option_map (λ _. map item_line (filter (is_stock_of number) (table.values s.stock.items))) (part_in number s.parts)

@@ -16,4 +16,5 @@ part_line part = decimal part.number ∷ part.name ∷ []
 
 -- none where there is no such part
 abbrev pub where_used_lines : ℕ → State → Option Lines
-where_used_lines number s = option_map (λ _. map part_line (filter (uses s.parts s.bills number) (part_rows s.parts))) (part_in number s.parts)
+where_used_lines number s =
+    option_map (λ _. map part_line (filter (uses s.parts s.bills number) (part_rows s.parts))) (part_in number s.parts)

@@ -1,5 +1,6 @@
 -- Loose items without serial, before and after another item changed.
-use Rattle.std.proofs.Common.{◌≡◌, ℕ, ◌≤◌, Bool, true, false, not, [], ◌∷◌, is_none, is_some, List, refl, sym, ap, ◌∙◌, arith, Option, Some, None, eqb-true}
+use Rattle.std.proofs.Common.{◌≡◌, ℕ, ◌≤◌, Bool, true, false, not, [], ◌∷◌, is_none, is_some}
+use Rattle.std.proofs.Common.{List, refl, sym, ap, ◌∙◌, arith, Option, Some, None, eqb-true}
 use Rattle.std.specs.Prelude.{◌==◌, if◌then◌else◌, unwrap_or}
 use Rattle.std.specs.FinMap as table
 use Rattle.part_core.proofs.Conditions.{not_false}
@@ -35,7 +36,8 @@ no-serial None e = refl
 no-serial (Some x) e = cc
 
 -- what passes these checks is plain
-pub plain-checked : (n : ℕ) (s : Stock) → is_no_item n s ≡ false → not (is_loose n s) ≡ false → is_serialised n s ≡ false → IsPlain n s
+pub plain-checked : (n : ℕ) (s : Stock) → is_no_item n s ≡ false → not (is_loose n s) ≡ false
+    → is_serialised n s ≡ false → IsPlain n s
 plain-checked n s there loose plain = record {
   there = there-checked (table.get s.items (n ∷ [])) there;
   loose = not_false (is_loose n s) loose;
@@ -43,7 +45,8 @@ plain-checked n s there loose plain = record {
 }
 
 -- another item's row is as it was
-pub plain-same : (n : ℕ) (s t : Stock) → table.get t.items (n ∷ []) ≡ table.get s.items (n ∷ []) → IsPlain n s → IsPlain n t
+pub plain-same : (n : ℕ) (s t : Stock) → table.get t.items (n ∷ []) ≡ table.get s.items (n ∷ []) → IsPlain n s
+    → IsPlain n t
 plain-same n s t same h = record {
   there = same ∙ h.there ∙ ap (λ o. Some (item_of o)) (sym same);
   loose = ap (λ o. is_at (item_of o).place) same ∙ h.loose;
@@ -51,7 +54,8 @@ plain-same n s t same h = record {
 }
 
 -- the row that is there is the item of the number
-pub item-at : (n : ℕ) (x : Item) (t : Stock) → table.get t.items (n ∷ []) ≡ Some x → table.get t.items (n ∷ []) ≡ Some (item_at n t)
+pub item-at : (n : ℕ) (x : Item) (t : Stock) → table.get t.items (n ∷ []) ≡ Some x
+    → table.get t.items (n ∷ []) ≡ Some (item_at n t)
 item-at n x t is = is ∙ ap (λ o. Some (item_of o)) (sym is)
 
 pub left-loose : (q : ℕ) (l : Place) → 1 ≤ q → is_at l ≡ true → is_at (place_left q l) ≡ true
@@ -62,7 +66,8 @@ left-loose q l some loose = go (q == 0) refl
     go false e = loose
 
 -- the row has another quantity, but isn't gone
-pub plain-refilled : (n q : ℕ) (x : Item) (t : Stock) → table.get t.items (n ∷ []) ≡ Some (refilled q x) → 1 ≤ q → is_at x.place ≡ true → x.lot.serial ≡ None → IsPlain n t
+pub plain-refilled : (n q : ℕ) (x : Item) (t : Stock) → table.get t.items (n ∷ []) ≡ Some (refilled q x) → 1 ≤ q
+    → is_at x.place ≡ true → x.lot.serial ≡ None → IsPlain n t
 plain-refilled n q x t is some loose plain = record {
   there = item-at n (refilled q x) t is;
   loose = ap (λ o. is_at (item_of o).place) is ∙ left-loose q x.place some loose;
@@ -70,5 +75,6 @@ plain-refilled n q x t is some loose plain = record {
 }
 
 -- what is loose has 1 to the largest quantity
-pub plain-bounds : (n : ℕ) (s : Stock) → IsSound s → IsPlain n s → (1 ≤ (item_at n s).quantity) × ((item_at n s).quantity ≤ largest)
+pub plain-bounds : (n : ℕ) (s : Stock) → IsSound s → IsPlain n s
+    → (1 ≤ (item_at n s).quantity) × ((item_at n s).quantity ≤ largest)
 plain-bounds n s sound h = bounds_at (item_at n s) h.loose (good_at s.items sound.items n (item_at n s) h.there)

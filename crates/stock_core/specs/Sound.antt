@@ -15,7 +15,8 @@ use Rattle.yard_core.specs.Stock.{Stock, IsSound, holds_serial}
 -- no serial stands twice in a family, on items that aren't gone: what was sent, used or written off keeps its own
 abbrev pub SerialsStandOnce : Parts → Stock → Type 0
 SerialsStandOnce parts s =
-    (serial : List ℕ) (family : ℕ) (n m : ℕ) (x y : Item) → table.get s.items (n ∷ []) ≡ Some x → table.get s.items (m ∷ []) ≡ Some y
+    (serial : List ℕ) (family : ℕ) (n m : ℕ) (x y : Item) → table.get s.items (n ∷ []) ≡ Some x
+    → table.get s.items (m ∷ []) ≡ Some y
     → holds_serial serial family parts x ≡ true → holds_serial serial family parts y ≡ true → n ≡ m
 
 -- which numbers are an order's and which a build's: their rows stand in crates above
@@ -73,4 +74,5 @@ IsSoundStockSomehow parts b = (owners : Owners) × IsSoundStock owners parts b
 -- each item that was there is there, and is of the part that it was of
 abbrev pub PartsStay : Stock → Stock → Type 0
 PartsStay old new =
-    (n : ℕ) (x : Item) → table.get old.items (n ∷ []) ≡ Some x → (y : Item) × (table.get new.items (n ∷ []) ≡ Some y) × (y.part ≡ x.part)
+    (n : ℕ) (x : Item) → table.get old.items (n ∷ []) ≡ Some x
+    → (y : Item) × (table.get new.items (n ∷ []) ≡ Some y) × (y.part ≡ x.part)

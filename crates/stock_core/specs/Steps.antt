@@ -14,11 +14,18 @@ use Rattle.yard_core.specs.StockBooks.{StockBooks, with_drawn}
 -- a new item, Okay
 abbrev pub new_item : ℕ → Arrival → ℕ → Option (List ℕ) → Option (List ℕ) → Item
 new_item n a quantity batch serial =
-    record { number = n; part = a.part; lot = record { batch = batch; serial = serial; status = Okay }; quantity = quantity; place = a.place }
+    record {
+      number = n;
+      part = a.part;
+      lot = record { batch = batch; serial = serial; status = Okay };
+      quantity = quantity;
+      place = a.place;
+    }
 
 -- a new item under the next number
 abbrev pub make_one : Arrival → ℕ → Option (List ℕ) → Option (List ℕ) → CivilDay → StockBooks → StockBooks
-make_one a quantity batch serial day b = with_drawn (make a.kind (new_item b.counter.next a quantity batch serial) day b.stock) b
+make_one a quantity batch serial day b =
+    with_drawn (make a.kind (new_item b.counter.next a quantity batch serial) day b.stock) b
 
 -- a new item of a single piece for each serial, in their order
 abbrev pub make_each : Arrival → Option (List ℕ) → List (List ℕ) → CivilDay → StockBooks → StockBooks

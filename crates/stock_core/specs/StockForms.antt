@@ -2,11 +2,14 @@
 use Rattle.std.specs.Prelude.{◌≡◌, ℕ, List, [], ◌∷◌, Some, true, codes, refl}
 use Rattle.part_core.specs.declared.field.Field.{Field}
 use Rattle.part_core.specs.declared.field.Field.TheVariants as field
-use Rattle.part_core.specs.declared.field.FieldKind.TheVariants.{Number, MaybeText, Status, Serials, MaybeSerials, Numbers}
+use Rattle.part_core.specs.declared.field.FieldKind.TheVariants.{Number, MaybeText, Status}
+use Rattle.part_core.specs.declared.field.FieldKind.TheVariants.{Serials, MaybeSerials, Numbers}
 use Rattle.part_core.specs.Forms.{have_distinct}
 use Rattle.part_core.specs.FormTables.{AllTell, FormRow, command_by, forms_by}
 use Rattle.stock_core.specs.declared.stock_command.StockCommand.{StockCommand}
-use Rattle.stock_core.specs.declared.stock_command.StockCommand.TheVariants.{Found, Add, Remove, Count, Transfer, Split, Merge, Serialise, SetStatus, Install, Uninstall, Disassemble, Reinstate}
+use Rattle.stock_core.specs.declared.stock_command.StockCommand.TheVariants.{Found, Add, Remove, Count, Transfer, Split}
+use Rattle.stock_core.specs.declared.stock_command.StockCommand.TheVariants.{Merge, Serialise, SetStatus, Install}
+use Rattle.stock_core.specs.declared.stock_command.StockCommand.TheVariants.{Uninstall, Disassemble, Reinstate}
 
 -- shut, so that no proof above meets the whole table
 unfoldable pub stock_forms : List (FormRow StockCommand)
@@ -14,9 +17,13 @@ stock_forms =
     record {
       form = record {
         verb = codes "found";
-        fields = (codes "part", Number) ∷ (codes "location", Number) ∷ (codes "quantity", Number) ∷ (codes "batch", MaybeText) ∷ (codes "serials", MaybeSerials) ∷ [];
+        fields =
+            (codes "part", Number) ∷ (codes "location", Number) ∷ (codes "quantity", Number)
+            ∷ (codes "batch", MaybeText) ∷ (codes "serials", MaybeSerials) ∷ [];
       };
-      make = λ part location quantity batch serials. Found part location (record { quantity = quantity; batch = batch; serials = serials });
+      make =
+          λ part location quantity batch serials.
+          Found part location (record { quantity = quantity; batch = batch; serials = serials });
     }
     ∷ record {
       form = record { verb = codes "add"; fields = (codes "item", Number) ∷ (codes "quantity", Number) ∷ [] };
@@ -94,7 +101,8 @@ stock_verb (Reinstate item location) = codes "reinstate"
 
 abbrev pub stock_fields : StockCommand → List Field
 stock_fields (Found part location new) =
-    field.Number part ∷ field.Number location ∷ field.Number new.quantity ∷ field.MaybeText new.batch ∷ field.MaybeSerials new.serials ∷ []
+    field.Number part ∷ field.Number location ∷ field.Number new.quantity ∷ field.MaybeText new.batch
+    ∷ field.MaybeSerials new.serials ∷ []
 stock_fields (Add item quantity) = field.Number item ∷ field.Number quantity ∷ []
 stock_fields (Remove item quantity) = field.Number item ∷ field.Number quantity ∷ []
 stock_fields (Count item quantity) = field.Number item ∷ field.Number quantity ∷ []

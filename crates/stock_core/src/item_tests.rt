@@ -5,7 +5,8 @@ ghost use Rattle.forest.specs.Forest.{is_off};
 ghost use Rattle.forest.specs.Rows.{parent_in};
 ghost use Rattle.yard_core.specs.Stock.{item_at};
 ghost use Rattle.yard_core.specs.YardView.{stock_of};
-ghost use Rattle.stock_core.specs.ItemTests.{has_less, has_more, is_loose, is_no_item, is_no_location, is_serialised, part_at, quantity_at, stands_loose};
+ghost use Rattle.stock_core.specs.ItemTests.{has_less, has_more, is_loose, is_no_item, is_no_location};
+ghost use Rattle.stock_core.specs.ItemTests.{is_serialised, part_at, quantity_at, stands_loose};
 
 use part_core::{Id, Quantity};
 use yard_core::{Place, Yard};

@@ -3,7 +3,8 @@
 ghost use Rattle.std.specs.Prelude.{◌≡◌, codes};
 ghost use Rattle.part_core.specs.FormLaws.{rows_fill, rows_made};
 ghost use Rattle.part_core.specs.FormTables.{command_by, forms_by};
-ghost use Rattle.stock_core.specs.StockForms.{stock_back, stock_distinct, stock_fields, stock_forms, stock_told, stock_verb};
+ghost use Rattle.stock_core.specs.StockForms.{stock_back, stock_distinct, stock_fields};
+ghost use Rattle.stock_core.specs.StockForms.{stock_forms, stock_told, stock_verb};
 
 use crate::arrivals::{NewStock, copy_serials};
 use crate::stock_command::StockCommand;

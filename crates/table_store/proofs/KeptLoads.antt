@@ -1,5 +1,6 @@
 -- The rows of `kept` that a load shows are those of the table where no word stands twice.
-use Rattle.std.proofs.Common.{◌≡◌, Vec, Global, ℕ, List, [], ◌∷◌, map, Option, Some, Result, Ok, Err, IfOk, IfErr, Ordering, refl, sym, ap, subst, ◌∙◌}
+use Rattle.std.proofs.Common.{◌≡◌, Vec, Global, ℕ, List, [], ◌∷◌, map, Option, Some, Result}
+use Rattle.std.proofs.Common.{Ok, Err, IfOk, IfErr, Ordering, refl, sym, ap, subst, ◌∙◌}
 use Rattle.std.specs.Prelude.{IsPermutation}
 use Rattle.std.specs.Cmp.{IsTotalOrder}
 use Rattle.std.specs.List.{AllByRecursion}
@@ -36,12 +37,19 @@ abbrev word_cmp : Row × Row → Row × Row → Ordering
 word_cmp a b = row_key_cmp 0 (ascending Binary ∷ []) a.0 b.0
 
 word_cmp_total : IsTotalOrder word_cmp
-word_cmp_total = let total = row_key_cmp_total (ascending Binary ∷ []) 0 in record { antisymm = λ a b. total.antisymm a.0 b.0; trans = λ a b c. total.trans a.0 b.0 c.0; congr = λ a b c. total.congr a.0 b.0 c.0 }
+word_cmp_total =
+    let total = row_key_cmp_total (ascending Binary ∷ []) 0 in
+    record {
+      antisymm = λ a b. total.antisymm a.0 b.0;
+      trans = λ a b c. total.trans a.0 b.0 c.0;
+      congr = λ a b c. total.congr a.0 b.0 c.0;
+    }
 
 pairs-compare : (a b : Row) → word_cmp (paired a) (paired b) ≡ value_cmp (column a 0) (column b 0)
 pairs-compare a b = then-Equal (value_cmp (column a 0) (column b 0))
 
-pairs-above : (r : Row) (rows : List Row) → AllByRecursion (λ q. value_cmp (column r 0) (column q 0) ≡ Less) rows → AllByRecursion (λ p. word_cmp (paired r) p ≡ Less) (map paired rows)
+pairs-above : (r : Row) (rows : List Row) → AllByRecursion (λ q. value_cmp (column r 0) (column q 0) ≡ Less) rows
+    → AllByRecursion (λ p. word_cmp (paired r) p ≡ Less) (map paired rows)
 pairs-above r [] h = tt
 pairs-above r (q ∷ rows) h = (pairs-compare r q ∙ h.0, pairs-above r rows h.1)
 
@@ -49,7 +57,8 @@ pairs-rise : (rows : List Row) → RiseByWord rows → IsAscending (λ a b. word
 pairs-rise [] h = tt
 pairs-rise (r ∷ rows) h = (pairs-above r rows h.0, pairs-rise rows h.1)
 
-tree-pairs : (tree : List Row) → map (λ r. (column r 1 ∷ [], shown_row Kept r)) tree ≡ map paired (map (shown_row Kept) tree)
+tree-pairs : (tree : List Row)
+    → map (λ r. (column r 1 ∷ [], shown_row Kept r)) tree ≡ map paired (map (shown_row Kept) tree)
 tree-pairs [] = refl
 tree-pairs (r ∷ tree) = ap (λ (ps : List (Row × Row)). paired (shown_row Kept r) ∷ ps) (tree-pairs tree)
 
@@ -58,27 +67,35 @@ shown-again [] = refl
 shown-again (r ∷ rows) = ap (λ (rs : List Row). r ∷ rs) (shown-again rows)
 
 -- where the words of one rise, the other shows no other rows
-once-by-word : (tree first second : List Row) → IsByWord tree first → IsByWord tree second → RiseByWord first → second ≡ first
+once-by-word : (tree first second : List Row) → IsByWord tree first → IsByWord tree second → RiseByWord first
+    → second ≡ first
 once-by-word tree first second a b rise =
     let here : IsPermutation (map (λ r. (column r 1 ∷ [], shown_row Kept r)) tree) (map paired first) =
-    subst (λ (ps : List (Row × Row)). IsPermutation ps (map paired first)) (sym (tree-pairs tree)) (IsPermutation-map paired _ _ (loaded-permutes Kept tree first a)) in
+    subst (λ (ps : List (Row × Row)). IsPermutation ps (map paired first)) (sym (tree-pairs tree))
+    (IsPermutation-map paired _ _ (loaded-permutes Kept tree first a)) in
     let same = IsPermutation-trans _ _ _ (IsPermutation-sym _ _ here) b.same in
-    b.shown_are ∙ ap (map (λ (p : Row × Row). p.1)) (sorted_unique word_cmp word_cmp_total (map paired first) b.pairs (pairs-rise first rise) same b.sorted) ∙ shown-again first
+    b.shown_are
+    ∙ ap (map (λ (p : Row × Row). p.1))
+    (sorted_unique word_cmp word_cmp_total (map paired first) b.pairs (pairs-rise first rise) same b.sorted)
+    ∙ shown-again first
 
 -- ---- rows of the machine
 
-module _ {X : Type 0} (row_from : List Column → Option X) (columns : X → List Column) (key_of : X → List ℕ) (suits : SuitKept columns key_of) where
+module _ {X : Type 0} (row_from : List Column → Option X) (columns : X → List Column) (key_of : X → List ℕ)
+    (suits : SuitKept columns key_of) where
   word-is : (x : X) → column (values_of columns x) 0 ≡ Words (key_of x)
   word-is x = ap (λ (cs : List Column). column (map value_of cs) 0) (suits.words x).1
 
-  words-compare : (x y : X) → value_cmp (column (values_of columns x) 0) (column (values_of columns y) 0) ≡ key_cmp (key_of x) (key_of y)
+  words-compare : (x y : X)
+      → value_cmp (column (values_of columns x) 0) (column (values_of columns y) 0) ≡ key_cmp (key_of x) (key_of y)
   words-compare x y = rw (word-is x, word-is y) (value_cmp-Text (key_of x) (key_of y))
 
   told-rise : (xs : List X) → RowsRise key_of xs → RiseByWord (map (values_of columns) xs)
   told-rise [] h = tt
   told-rise (x ∷ xs) h = (each xs h.0, told-rise xs h.1)
     where
-      each : (ys : List X) → AllByRecursion (λ y. key_cmp (key_of x) (key_of y) ≡ Less) ys → AllByRecursion (λ q. value_cmp (column (values_of columns x) 0) (column q 0) ≡ Less) (map (values_of columns) ys)
+      each : (ys : List X) → AllByRecursion (λ y. key_cmp (key_of x) (key_of y) ≡ Less) ys → AllByRecursion
+          (λ q. value_cmp (column (values_of columns x) 0) (column q 0) ≡ Less) (map (values_of columns) ys)
       each [] h = tt
       each (y ∷ ys) h = (words-compare x y ∙ h.0, each ys h.1)
 
@@ -86,33 +103,43 @@ module _ {X : Type 0} (row_from : List Column → Option X) (columns : X → Lis
   rows-rise [] h = tt
   rows-rise (x ∷ xs) h = (each xs h.0, rows-rise xs h.1)
     where
-      each : (ys : List X) → AllByRecursion (λ q. value_cmp (column (values_of columns x) 0) (column q 0) ≡ Less) (map (values_of columns) ys) → AllByRecursion (λ y. key_cmp (key_of x) (key_of y) ≡ Less) ys
+      each : (ys : List X) → AllByRecursion (λ q. value_cmp (column (values_of columns x) 0) (column q 0) ≡ Less)
+          (map (values_of columns) ys) → AllByRecursion (λ y. key_cmp (key_of x) (key_of y) ≡ Less) ys
       each [] h = tt
       each (y ∷ ys) h = (sym (words-compare x y) ∙ h.0, each ys h.1)
 
-  kept-loaded : (tree : List Row) (rows : List X) → IsByWord tree (map (values_of columns) rows) → map (row_of row_from) (map (values_of columns) rows) ≡ map (λ x. Some x) rows
+  kept-loaded : (tree : List Row) (rows : List X) → IsByWord tree (map (values_of columns) rows)
+      → map (row_of row_from) (map (values_of columns) rows) ≡ map (λ x. Some x) rows
       → RiseByWord (map (values_of columns) rows) → AreItsRows row_from columns key_of Kept tree rows
   kept-loaded tree rows loaded read rise =
       its-rows row_from columns key_of Kept tree rows loaded read (values-filled key_of rows (rows-rise rows rise))
-      (λ t own holds. once-by-word tree (map (values_of columns) rows) (map (values_of columns) (values t)) loaded holds rise)
+      (λ t own holds.
+      once-by-word tree (map (values_of columns) rows) (map (values_of columns) (values t)) loaded holds rise)
 
   module _ (tree shown : List Row) (loaded : IsByWord tree shown) where
     -- a tree with a word that stands twice is the table of no rows that stand under their words
     pub repeated-none : ¬ RiseByWord shown → IsTableOfNoneOwn row_from columns key_of Kept tree
     repeated-none falls t own is =
         let rise = told-rise (values t) (values-rise key_of t own) in
-        falls (subst RiseByWord (sym (once-by-word tree (map (values_of columns) (values t)) shown is.holds loaded rise)) rise)
+        falls (subst RiseByWord
+        (sym (once-by-word tree (map (values_of columns) (values t)) shown is.holds loaded rise)) rise)
 
     module _ {E : Type 0} where
-      pub kept-are : (r : Result (Vec X Global) E) → RiseByWord shown → IfOk r (λ rows. map (row_of row_from) shown ≡ map (λ x. Some x) rows.items) → IfOk r (λ rows. shown ≡ map (values_of columns) rows.items)
+      pub kept-are : (r : Result (Vec X Global) E) → RiseByWord shown
+          → IfOk r (λ rows. map (row_of row_from) shown ≡ map (λ x. Some x) rows.items)
+          → IfOk r (λ rows. shown ≡ map (values_of columns) rows.items)
           → IfOk r (λ rows. AreItsRows row_from columns key_of Kept tree rows.items)
       kept-are (Ok rows) rise read told =
-          kept-loaded tree rows.items (subst (IsByWord tree) told loaded) (subst (λ (vs : List Row). map (row_of row_from) vs ≡ map (λ x. Some x) rows.items) told read) (subst RiseByWord told rise)
+          kept-loaded tree rows.items (subst (IsByWord tree) told loaded)
+          (subst (λ (vs : List Row). map (row_of row_from) vs ≡ map (λ x. Some x) rows.items) told read)
+          (subst RiseByWord told rise)
       kept-are (Err e) rise read told = tt
 
-      pub unread-none-own : (r : Result E TableFault) → IfErr r (FailsToRead row_from shown) → IfErr r (λ fault. IsBadRow fault → IsTableOfNoneOwn row_from columns key_of Kept tree)
+      pub unread-none-own : (r : Result E TableFault) → IfErr r (FailsToRead row_from shown)
+          → IfErr r (λ fault. IsBadRow fault → IsTableOfNoneOwn row_from columns key_of Kept tree)
       unread-none-own r failed = go r (unread-none row_from columns Kept tree shown r loaded failed)
         where
-          go : (r : Result E TableFault) → IfErr r (λ fault. IsBadRow fault → IsTableOfNone row_from columns Kept tree) → IfErr r (λ fault. IsBadRow fault → IsTableOfNoneOwn row_from columns key_of Kept tree)
+          go : (r : Result E TableFault) → IfErr r (λ fault. IsBadRow fault → IsTableOfNone row_from columns Kept tree)
+              → IfErr r (λ fault. IsBadRow fault → IsTableOfNoneOwn row_from columns key_of Kept tree)
           go (Ok x) none = tt
           go (Err fault) none = λ bad t own. none bad t

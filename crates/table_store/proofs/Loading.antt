@@ -1,5 +1,6 @@
 -- What the statement that loads a table means, and what it shows.
-use Rattle.std.proofs.Common.{◌≡◌, ◌⊎◌, inl, inr, ℕ, pos, negsuc, List, [], ◌∷◌, map, codes, false, None, refl, sym, ap, subst, ◌∙◌, arith}
+use Rattle.std.proofs.Common.{◌≡◌, ◌⊎◌, inl, inr, ℕ, pos, negsuc, List, [], ◌∷◌, map}
+use Rattle.std.proofs.Common.{codes, false, None, refl, sym, ap, subst, ◌∙◌, arith}
 use Rattle.std.specs.List.{flat_map}
 use Rattle.std.specs.List.Sorted.{IsPermutation}
 use Rattle.sqlite.specs.declared.types.Value.TheVariants.{Null, Int}
@@ -11,14 +12,17 @@ use Rattle.sqlite.specs.Collation.TheVariants.{Binary}
 use Rattle.sqlite_value.specs.Keys.{ascending}
 use Rattle.sqlite.specs.Command.TheVariants.{Select}
 use Rattle.sqlite.specs.Listing.{understood, reads_listing}
-use Rattle.sqlite.specs.State.{State, Shown, ShowsRows, FailsToQuery, FailsToShow, IsNotRun, IsUnchanged, IsRolledBack, CommitsShowing, Survives, HasCleanDisk}
+use Rattle.sqlite.specs.State.{State, Shown, ShowsRows, FailsToQuery, FailsToShow, IsNotRun}
+use Rattle.sqlite.specs.State.{IsUnchanged, IsRolledBack, CommitsShowing, Survives, HasCleanDisk}
 use Rattle.sqlite.specs.declared.error.Error.{Error}
 use Rattle.sqlite.specs.Clock.{timed}
 use Rattle.sqlite.proofs.Callers.{IsPlain, reads_as, never_commits}
 use Rattle.sqlite.proofs.StateLemmas.{survives_weaker}
 use Rattle.sqlite_tied.specs.Compute.{everything}
 use Rattle.table_store.specs.declared.name.TableName.{TableName}
-use Rattle.table_store.specs.declared.name.TableName.TheVariants.{Meta, Categories, Locations, Parts, Lines, Substitutes, Items, History, Orders, OrderLines, Builds, Allocations, Kept}
+use Rattle.table_store.specs.declared.name.TableName.TheVariants.{Meta, Categories, Locations, Parts, Lines}
+use Rattle.table_store.specs.declared.name.TableName.TheVariants.{Substitutes, Items, History, Orders}
+use Rattle.table_store.specs.declared.name.TableName.TheVariants.{OrderLines, Builds, Allocations, Kept}
 use Rattle.table_store.specs.Schema.{position, desk_schema}
 use Rattle.table_store.specs.Texts.{load_text}
 use Rattle.table_store.specs.Values.{places, shown_row, IsByWord, IsLoaded, HasTables}
@@ -28,22 +32,38 @@ use Rattle.table_store.proofs.Ordered.{in_order, loads}
 
 -- the names of the columns
 abbrev headings : TableName → List (List ℕ)
-headings Meta = codes "one" ∷ codes "version" ∷ codes "next" ∷ codes "entries" ∷ codes "max_numbers" ∷ codes "max_entries" ∷ []
+headings Meta =
+    codes "one" ∷ codes "version" ∷ codes "next" ∷ codes "entries" ∷ codes "max_numbers" ∷ codes "max_entries" ∷ []
 headings Categories = codes "id" ∷ codes "name" ∷ codes "parent" ∷ []
 headings Locations = codes "id" ∷ codes "name" ∷ codes "parent" ∷ []
 headings Parts = codes "id" ∷ codes "name" ∷ codes "category" ∷ codes "template" ∷ codes "flags" ∷ codes "retired" ∷ []
 headings Lines = codes "id" ∷ codes "assembly" ∷ codes "component" ∷ codes "quantity" ∷ codes "flags" ∷ []
 headings Substitutes = codes "id" ∷ codes "line" ∷ codes "part" ∷ []
-headings Items = codes "id" ∷ codes "part" ∷ codes "batch" ∷ codes "serial" ∷ codes "status" ∷ codes "quantity" ∷ codes "place" ∷ codes "ref" ∷ []
-headings History = codes "n" ∷ codes "day" ∷ codes "kind" ∷ codes "item" ∷ codes "part" ∷ codes "quantity" ∷ codes "place" ∷ codes "ref" ∷ []
+headings Items =
+    codes "id" ∷ codes "part" ∷ codes "batch" ∷ codes "serial" ∷ codes "status" ∷ codes "quantity" ∷ codes "place"
+    ∷ codes "ref" ∷ []
+headings History =
+    codes "n" ∷ codes "day" ∷ codes "kind" ∷ codes "item" ∷ codes "part" ∷ codes "quantity" ∷ codes "place"
+    ∷ codes "ref" ∷ []
 headings Orders = codes "id" ∷ codes "side" ∷ codes "partner" ∷ codes "state" ∷ []
 headings OrderLines = codes "id" ∷ codes "owner" ∷ codes "part" ∷ codes "quantity" ∷ codes "done" ∷ []
 headings Builds = codes "id" ∷ codes "part" ∷ codes "quantity" ∷ codes "state" ∷ codes "done" ∷ []
-headings Allocations = codes "id" ∷ codes "item" ∷ codes "quantity" ∷ codes "side" ∷ codes "owner" ∷ codes "line" ∷ codes "output" ∷ []
+headings Allocations =
+    codes "id" ∷ codes "item" ∷ codes "quantity" ∷ codes "side" ∷ codes "owner" ∷ codes "line" ∷ codes "output" ∷ []
 headings Kept = codes "word" ∷ codes "command" ∷ codes "answer" ∷ []
 
 abbrev by_word : Query
-by_word = record { from = inner 12 end; filter = []; group = None; project = map (col 1) (places Kept); distinct = false; collations = []; order = (col 1 1, ascending Binary) ∷ []; limit = lit (Int (negsuc 0)); offset = lit (Int (pos 0)) }
+by_word = record {
+  from = inner 12 end;
+  filter = [];
+  group = None;
+  project = map (col 1) (places Kept);
+  distinct = false;
+  collations = [];
+  order = (col 1 1, ascending Binary) ∷ [];
+  limit = lit (Int (negsuc 0));
+  offset = lit (Int (pos 0));
+}
 
 abbrev load_query : TableName → Query
 load_query Kept = by_word
@@ -60,7 +80,8 @@ load_query OrderLines = in_order (position OrderLines) (map (col 1) (places Orde
 load_query Builds = in_order (position Builds) (map (col 1) (places Builds))
 load_query Allocations = in_order (position Allocations) (map (col 1) (places Allocations))
 
-load_is : (table : TableName) → IsCommand (Select (record { lets = []; body = load_query table }) (headings table)) (understood desk_schema (load_text table))
+load_is : (table : TableName) → IsCommand (Select (record { lets = []; body = load_query table }) (headings table))
+    (understood desk_schema (load_text table))
 unfolding understood everything
 load_is Meta = (refl, refl, refl)
 load_is Categories = (refl, refl, refl)
@@ -101,47 +122,90 @@ outputs : (rows : List Row) → map (output by_word) (flat_map (λ r. ([] ∷ r 
 outputs [] = refl
 outputs (r ∷ rows) = ap (λ l. output_of r ∷ l) (outputs rows)
 
-loads_kept : (rows shown : List Row) (db : ℕ → List Row) → db 12 ≡ rows → IsAnswer by_word db [] shown → IsByWord rows shown
+loads_kept : (rows shown : List Row) (db : ℕ → List Row) → db 12 ≡ rows → IsAnswer by_word db [] shown
+    → IsByWord rows shown
 loads_kept rows shown db is a =
-    let kept : a.kept ≡ map output_of rows = a.distinct ∙ ap (map (output by_word)) a.grouped ∙ outputs (db 12) ∙ ap (map output_of) is in
-    record { pairs = a.ordered; same = subst (λ k. IsPermutation k a.ordered) kept a.same; sorted = a.sorted; shown_are = a.shown }
+    let kept : a.kept ≡ map output_of rows =
+    a.distinct ∙ ap (map (output by_word)) a.grouped ∙ outputs (db 12) ∙ ap (map output_of) is in
+    record {
+      pairs = a.ordered;
+      same = subst (λ k. IsPermutation k a.ordered) kept a.same;
+      sorted = a.sorted;
+      shown_are = a.shown;
+    }
 
 -- ---- any table
 
-answer : (table : TableName) (old new : State) (rows : List Row) → HasTables old → Shown (load_text table) [] old new rows → IsAnswer (load_query table) (overlay old.now.trees []) [] rows
+answer : (table : TableName) (old new : State) (rows : List Row) → HasTables old
+    → Shown (load_text table) [] old new rows → IsAnswer (load_query table) (overlay old.now.trees []) [] rows
 answer table old new rows has h =
     let known = of_command _ _ (load_is table) in
-    (reads_as (load_text table) [] old new desk_schema has.schema (Select (record { lets = []; body = load_query table }) (headings table)) known.0 known.1 (unlisted table) rows h).answer Null
+    (reads_as (load_text table) [] old new desk_schema has.schema
+    (Select (record { lets = []; body = load_query table }) (headings table)) known.0 known.1 (unlisted table) rows
+    h).answer Null
 
-pub loads_table : (table : TableName) (old new : State) (rows : List Row) → HasTables old → Shown (load_text table) [] old new rows → IsLoaded table (old.now.trees (position table)) rows
-loads_table Kept old new rows has h = loads_kept (old.now.trees 12) rows (overlay old.now.trees []) refl (answer Kept old new rows has h)
-loads_table Meta old new rows has h = loads (position Meta) (map (col 1) (places Meta)) [] (overlay old.now.trees []) rows (has.shaped Meta).0 (answer Meta old new rows has h)
-loads_table Categories old new rows has h = loads (position Categories) (map (col 1) (places Categories)) [] (overlay old.now.trees []) rows (has.shaped Categories).0 (answer Categories old new rows has h)
-loads_table Locations old new rows has h = loads (position Locations) (map (col 1) (places Locations)) [] (overlay old.now.trees []) rows (has.shaped Locations).0 (answer Locations old new rows has h)
-loads_table Parts old new rows has h = loads (position Parts) (map (col 1) (places Parts)) [] (overlay old.now.trees []) rows (has.shaped Parts).0 (answer Parts old new rows has h)
-loads_table Lines old new rows has h = loads (position Lines) (map (col 1) (places Lines)) [] (overlay old.now.trees []) rows (has.shaped Lines).0 (answer Lines old new rows has h)
-loads_table Substitutes old new rows has h = loads (position Substitutes) (map (col 1) (places Substitutes)) [] (overlay old.now.trees []) rows (has.shaped Substitutes).0 (answer Substitutes old new rows has h)
-loads_table Items old new rows has h = loads (position Items) (map (col 1) (places Items)) [] (overlay old.now.trees []) rows (has.shaped Items).0 (answer Items old new rows has h)
-loads_table History old new rows has h = loads (position History) (map (col 1) (places History)) [] (overlay old.now.trees []) rows (has.shaped History).0 (answer History old new rows has h)
-loads_table Orders old new rows has h = loads (position Orders) (map (col 1) (places Orders)) [] (overlay old.now.trees []) rows (has.shaped Orders).0 (answer Orders old new rows has h)
-loads_table OrderLines old new rows has h = loads (position OrderLines) (map (col 1) (places OrderLines)) [] (overlay old.now.trees []) rows (has.shaped OrderLines).0 (answer OrderLines old new rows has h)
-loads_table Builds old new rows has h = loads (position Builds) (map (col 1) (places Builds)) [] (overlay old.now.trees []) rows (has.shaped Builds).0 (answer Builds old new rows has h)
-loads_table Allocations old new rows has h = loads (position Allocations) (map (col 1) (places Allocations)) [] (overlay old.now.trees []) rows (has.shaped Allocations).0 (answer Allocations old new rows has h)
+pub loads_table : (table : TableName) (old new : State) (rows : List Row) → HasTables old
+    → Shown (load_text table) [] old new rows → IsLoaded table (old.now.trees (position table)) rows
+loads_table Kept old new rows has h =
+    loads_kept (old.now.trees 12) rows (overlay old.now.trees []) refl (answer Kept old new rows has h)
+loads_table Meta old new rows has h =
+    loads (position Meta) (map (col 1) (places Meta)) [] (overlay old.now.trees []) rows (has.shaped Meta).0
+    (answer Meta old new rows has h)
+loads_table Categories old new rows has h =
+    loads (position Categories) (map (col 1) (places Categories)) [] (overlay old.now.trees []) rows
+    (has.shaped Categories).0 (answer Categories old new rows has h)
+loads_table Locations old new rows has h =
+    loads (position Locations) (map (col 1) (places Locations)) [] (overlay old.now.trees []) rows
+    (has.shaped Locations).0 (answer Locations old new rows has h)
+loads_table Parts old new rows has h =
+    loads (position Parts) (map (col 1) (places Parts)) [] (overlay old.now.trees []) rows (has.shaped Parts).0
+    (answer Parts old new rows has h)
+loads_table Lines old new rows has h =
+    loads (position Lines) (map (col 1) (places Lines)) [] (overlay old.now.trees []) rows (has.shaped Lines).0
+    (answer Lines old new rows has h)
+loads_table Substitutes old new rows has h =
+    loads (position Substitutes) (map (col 1) (places Substitutes)) [] (overlay old.now.trees []) rows
+    (has.shaped Substitutes).0 (answer Substitutes old new rows has h)
+loads_table Items old new rows has h =
+    loads (position Items) (map (col 1) (places Items)) [] (overlay old.now.trees []) rows (has.shaped Items).0
+    (answer Items old new rows has h)
+loads_table History old new rows has h =
+    loads (position History) (map (col 1) (places History)) [] (overlay old.now.trees []) rows (has.shaped History).0
+    (answer History old new rows has h)
+loads_table Orders old new rows has h =
+    loads (position Orders) (map (col 1) (places Orders)) [] (overlay old.now.trees []) rows (has.shaped Orders).0
+    (answer Orders old new rows has h)
+loads_table OrderLines old new rows has h =
+    loads (position OrderLines) (map (col 1) (places OrderLines)) [] (overlay old.now.trees []) rows
+    (has.shaped OrderLines).0 (answer OrderLines old new rows has h)
+loads_table Builds old new rows has h =
+    loads (position Builds) (map (col 1) (places Builds)) [] (overlay old.now.trees []) rows (has.shaped Builds).0
+    (answer Builds old new rows has h)
+loads_table Allocations old new rows has h =
+    loads (position Allocations) (map (col 1) (places Allocations)) [] (overlay old.now.trees []) rows
+    (has.shaped Allocations).0 (answer Allocations old new rows has h)
 
-plain : (table : TableName) (s : State) → s.now.schema ≡ desk_schema → IsPlain (understood s.now.schema (load_text table))
+plain : (table : TableName) (s : State) → s.now.schema ≡ desk_schema
+    → IsPlain (understood s.now.schema (load_text table))
 plain table s has = subst (λ d. IsPlain (understood d (load_text table))) (sym has) (of_command _ _ (load_is table)).1
 
-pub loading_changes_nothing : (table : TableName) (old new : State) (rows : List Row) → HasTables old → Shown (load_text table) [] old new rows → IsUnchanged old new
+pub loading_changes_nothing : (table : TableName) (old new : State) (rows : List Row) → HasTables old
+    → Shown (load_text table) [] old new rows → IsUnchanged old new
 unfolding Shown
 loading_changes_nothing table old new rows has h =
     let bare = subst IsPlain h.1.is (plain table old has.schema) in
     (subst (ShowsRows old new (load_text table) h.0 (timed [] h.0.formats h.1.now) rows) bare.0 h.2).3
 
-pub loading_commits_nothing : (table : TableName) (old new : State) → (HasCleanDisk old → HasTables old) → Survives old new (CommitsShowing (load_text table) [] old) → Survives old new (λ _. ⊥)
+pub loading_commits_nothing : (table : TableName) (old new : State) → (HasCleanDisk old → HasTables old)
+    → Survives old new (CommitsShowing (load_text table) [] old) → Survives old new (λ _. ⊥)
 loading_commits_nothing table old new has s =
-    survives_weaker old new _ _ (λ clean db h. never_commits (load_text table) [] old db (plain table old (has (omega (arith, clean, s.clean))).schema) h) s
+    survives_weaker old new _ _
+    (λ clean db h.
+    never_commits (load_text table) [] old db (plain table old (has (omega (arith, clean, s.clean))).schema) h)
+    s
 
-pub loading_fails : (table : TableName) (old new : State) (e : Error) → HasTables old → FailsToQuery (load_text table) [] old new e → IsUnchanged old new ⊎ IsRolledBack old new
+pub loading_fails : (table : TableName) (old new : State) (e : Error) → HasTables old
+    → FailsToQuery (load_text table) [] old new e → IsUnchanged old new ⊎ IsRolledBack old new
 unfolding FailsToQuery IsNotRun
 loading_fails table old new e has (inl h) = elim h [ inl none ↦ inl none.1 | inr fails ↦ inr fails.3 ]
 loading_fails table old new e has (inr h) =

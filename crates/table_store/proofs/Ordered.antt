@@ -32,25 +32,34 @@ module _ (tree : ℕ) (shown : List Term) (params : Row) where
   abbrev made : Row → Output
   made r = (rowid r ∷ [], eval_all shown (params ∷ r ∷ []))
 
-  all_matched : (rows : List Row) → map (output (in_order tree shown)) (flat_map (λ r. (params ∷ r ∷ []) ∷ []) rows) ≡ map made rows
+  all_matched : (rows : List Row)
+      → map (output (in_order tree shown)) (flat_map (λ r. (params ∷ r ∷ []) ∷ []) rows) ≡ map made rows
   all_matched [] = refl
   all_matched (r ∷ rows) = ap (λ l. made r ∷ l) (all_matched rows)
 
-  above_each : (r : Row) (rows : List Row) → AllByRecursion (λ x. value_cmp (rowid r) (rowid x) ≡ Less) rows → AllByRecursion (λ o. output_cmp (in_order tree shown) (made r) o ≡ Less) (map made rows)
+  above_each : (r : Row) (rows : List Row) → AllByRecursion (λ x. value_cmp (rowid r) (rowid x) ≡ Less) rows
+      → AllByRecursion (λ o. output_cmp (in_order tree shown) (made r) o ≡ Less) (map made rows)
   above_each r [] h = tt
   above_each r (x ∷ rows) h = (ap (λ c. ordering_then c Equal) h.0, above_each r rows h.1)
 
-  rising : (rows : List Row) → IsTable rows → IsAscending (λ a b. output_cmp (in_order tree shown) a b ≡ Less) (map made rows)
+  rising : (rows : List Row) → IsTable rows
+      → IsAscending (λ a b. output_cmp (in_order tree shown) a b ≡ Less) (map made rows)
   rising [] h = tt
   rising (r ∷ rows) h = (above_each r rows h.0, rising rows h.1)
 
-  shown_of : (rows : List Row) → map (λ (o : Output). o.1) (map made rows) ≡ map (λ r. eval_all shown (params ∷ r ∷ [])) rows
+  shown_of : (rows : List Row)
+      → map (λ (o : Output). o.1) (map made rows) ≡ map (λ r. eval_all shown (params ∷ r ∷ [])) rows
   shown_of [] = refl
   shown_of (r ∷ rows) = ap (λ l. eval_all shown (params ∷ r ∷ []) ∷ l) (shown_of rows)
 
-  pub loads : (db : Trees) (rows : List Row) → IsTable (db tree) → IsAnswer (in_order tree shown) db params rows → rows ≡ map (λ r. eval_all shown (params ∷ r ∷ [])) (db tree)
+  pub loads : (db : Trees) (rows : List Row) → IsTable (db tree) → IsAnswer (in_order tree shown) db params rows
+      → rows ≡ map (λ r. eval_all shown (params ∷ r ∷ [])) (db tree)
   loads db rows sorted a =
-      let kept : a.kept ≡ map made (db tree) = a.distinct ∙ ap (map (output (in_order tree shown))) a.grouped ∙ all_matched (db tree) in
-      let strict = subst (IsAscending (λ x y. output_cmp (in_order tree shown) x y ≡ Less)) (sym kept) (rising (db tree) sorted) in
-      let same : a.ordered ≡ a.kept = sorted_unique (output_cmp (in_order tree shown)) (output_cmp_total (in_order tree shown)) a.kept a.ordered strict a.same a.sorted in
+      let kept : a.kept ≡ map made (db tree) =
+      a.distinct ∙ ap (map (output (in_order tree shown))) a.grouped ∙ all_matched (db tree) in
+      let strict =
+      subst (IsAscending (λ x y. output_cmp (in_order tree shown) x y ≡ Less)) (sym kept) (rising (db tree) sorted) in
+      let same : a.ordered ≡ a.kept =
+      sorted_unique (output_cmp (in_order tree shown)) (output_cmp_total (in_order tree shown)) a.kept a.ordered strict
+      a.same a.sorted in
       a.shown ∙ ap (map (λ (o : Output). o.1)) (same ∙ kept) ∙ shown_of (db tree)

@@ -1,5 +1,6 @@
 -- What the statement that puts a row means, and what it does to each table.
-use Rattle.std.proofs.Common.{◌≡◌, ◌/◌, length, slice_get, ℕ, ℤ, List, [], ◌∷◌, None, Some, Ok, Err, Result, false, inl, inr, refl, ap, ◌∙◌, arith}
+use Rattle.std.proofs.Common.{◌≡◌, ◌/◌, length, slice_get, ℕ, ℤ, List, [], ◌∷◌, None, Some}
+use Rattle.std.proofs.Common.{Ok, Err, Result, false, inl, inr, refl, ap, ◌∙◌, arith}
 use Rattle.std.specs.List.{list_any}
 use Rattle.std.specs.Prelude.{drop}
 use Rattle.sqlite.specs.declared.types.Value.TheVariants.{Null, Int}
@@ -20,7 +21,9 @@ use Rattle.sqlite_rules.specs.Keys.{shares}
 use Rattle.sqlite_rules.specs.Action.{works}
 use Rattle.sqlite_tied.specs.Compute.{everything}
 use Rattle.table_store.specs.declared.name.TableName.{TableName}
-use Rattle.table_store.specs.declared.name.TableName.TheVariants.{Meta, Categories, Locations, Parts, Lines, Substitutes, Items, History, Orders, OrderLines, Builds, Allocations, Kept}
+use Rattle.table_store.specs.declared.name.TableName.TheVariants.{Meta, Categories, Locations, Parts, Lines}
+use Rattle.table_store.specs.declared.name.TableName.TheVariants.{Substitutes, Items, History, Orders}
+use Rattle.table_store.specs.declared.name.TableName.TheVariants.{OrderLines, Builds, Allocations, Kept}
 use Rattle.table_store.specs.Schema.{position, columns_of, table_of, desk_schema}
 use Rattle.table_store.specs.Texts.{put_text}
 use Rattle.table_store.specs.Values.{TakeAll}
@@ -126,7 +129,9 @@ pub record PutsRow (name : TableName) (params : Row) (id : ℤ) (row : Row) : Ty
 
 -- the key and the other columns' values are a row's
 abbrev pub Plan : TableName → Type 0
-Plan name = (id : ℤ) (rest : Row) → TakeAll (drop 1 (columns_of name)) rest → PutsRow name (Int id ∷ rest) id (Int id ∷ Null ∷ rest)
+Plan name =
+    (id : ℤ) (rest : Row) → TakeAll (drop 1 (columns_of name)) rest
+    → PutsRow name (Int id ∷ rest) id (Int id ∷ Null ∷ rest)
 
 pub meta_plan : Plan Meta
 meta_plan id (a ∷ b ∷ c ∷ d ∷ e ∷ []) all =
@@ -137,7 +142,9 @@ meta_plan id (a ∷ b ∷ c ∷ d ∷ e ∷ []) all =
       command = refl;
       plain = record { there = refl; unlinked = λ keys olds news. refl; unshared = λ new r. refl; uncounted = refl };
       given = refl;
-      cast = ap (λ l. cast_row (table_of Meta) (Int id ∷ Null ∷ l)) (none_mended (Some 0) 1 (drop 1 (columns_of Meta)) (a ∷ b ∷ c ∷ d ∷ e ∷ []) all) ∙ fits;
+      cast =
+          ap (λ l. cast_row (table_of Meta) (Int id ∷ Null ∷ l))
+          (none_mended (Some 0) 1 (drop 1 (columns_of Meta)) (a ∷ b ∷ c ∷ d ∷ e ∷ []) all) ∙ fits;
       fits = fits;
     }
 meta_plan id rest all = absurd (omega (arith, as_many (drop 1 (columns_of Meta)) rest all))
@@ -151,7 +158,9 @@ categories_plan id (a ∷ b ∷ []) all =
       command = refl;
       plain = record { there = refl; unlinked = λ keys olds news. refl; unshared = λ new r. refl; uncounted = refl };
       given = refl;
-      cast = ap (λ l. cast_row (table_of Categories) (Int id ∷ Null ∷ l)) (none_mended (Some 0) 1 (drop 1 (columns_of Categories)) (a ∷ b ∷ []) all) ∙ fits;
+      cast =
+          ap (λ l. cast_row (table_of Categories) (Int id ∷ Null ∷ l))
+          (none_mended (Some 0) 1 (drop 1 (columns_of Categories)) (a ∷ b ∷ []) all) ∙ fits;
       fits = fits;
     }
 categories_plan id rest all = absurd (omega (arith, as_many (drop 1 (columns_of Categories)) rest all))
@@ -165,7 +174,9 @@ locations_plan id (a ∷ b ∷ []) all =
       command = refl;
       plain = record { there = refl; unlinked = λ keys olds news. refl; unshared = λ new r. refl; uncounted = refl };
       given = refl;
-      cast = ap (λ l. cast_row (table_of Locations) (Int id ∷ Null ∷ l)) (none_mended (Some 0) 1 (drop 1 (columns_of Locations)) (a ∷ b ∷ []) all) ∙ fits;
+      cast =
+          ap (λ l. cast_row (table_of Locations) (Int id ∷ Null ∷ l))
+          (none_mended (Some 0) 1 (drop 1 (columns_of Locations)) (a ∷ b ∷ []) all) ∙ fits;
       fits = fits;
     }
 locations_plan id rest all = absurd (omega (arith, as_many (drop 1 (columns_of Locations)) rest all))
@@ -179,7 +190,9 @@ parts_plan id (a ∷ b ∷ c ∷ d ∷ e ∷ []) all =
       command = refl;
       plain = record { there = refl; unlinked = λ keys olds news. refl; unshared = λ new r. refl; uncounted = refl };
       given = refl;
-      cast = ap (λ l. cast_row (table_of Parts) (Int id ∷ Null ∷ l)) (none_mended (Some 0) 1 (drop 1 (columns_of Parts)) (a ∷ b ∷ c ∷ d ∷ e ∷ []) all) ∙ fits;
+      cast =
+          ap (λ l. cast_row (table_of Parts) (Int id ∷ Null ∷ l))
+          (none_mended (Some 0) 1 (drop 1 (columns_of Parts)) (a ∷ b ∷ c ∷ d ∷ e ∷ []) all) ∙ fits;
       fits = fits;
     }
 parts_plan id rest all = absurd (omega (arith, as_many (drop 1 (columns_of Parts)) rest all))
@@ -193,7 +206,9 @@ lines_plan id (a ∷ b ∷ c ∷ d ∷ []) all =
       command = refl;
       plain = record { there = refl; unlinked = λ keys olds news. refl; unshared = λ new r. refl; uncounted = refl };
       given = refl;
-      cast = ap (λ l. cast_row (table_of Lines) (Int id ∷ Null ∷ l)) (none_mended (Some 0) 1 (drop 1 (columns_of Lines)) (a ∷ b ∷ c ∷ d ∷ []) all) ∙ fits;
+      cast =
+          ap (λ l. cast_row (table_of Lines) (Int id ∷ Null ∷ l))
+          (none_mended (Some 0) 1 (drop 1 (columns_of Lines)) (a ∷ b ∷ c ∷ d ∷ []) all) ∙ fits;
       fits = fits;
     }
 lines_plan id rest all = absurd (omega (arith, as_many (drop 1 (columns_of Lines)) rest all))
@@ -207,7 +222,9 @@ substitutes_plan id (a ∷ b ∷ []) all =
       command = refl;
       plain = record { there = refl; unlinked = λ keys olds news. refl; unshared = λ new r. refl; uncounted = refl };
       given = refl;
-      cast = ap (λ l. cast_row (table_of Substitutes) (Int id ∷ Null ∷ l)) (none_mended (Some 0) 1 (drop 1 (columns_of Substitutes)) (a ∷ b ∷ []) all) ∙ fits;
+      cast =
+          ap (λ l. cast_row (table_of Substitutes) (Int id ∷ Null ∷ l))
+          (none_mended (Some 0) 1 (drop 1 (columns_of Substitutes)) (a ∷ b ∷ []) all) ∙ fits;
       fits = fits;
     }
 substitutes_plan id rest all = absurd (omega (arith, as_many (drop 1 (columns_of Substitutes)) rest all))
@@ -221,7 +238,9 @@ items_plan id (a ∷ b ∷ c ∷ d ∷ e ∷ f ∷ g ∷ []) all =
       command = refl;
       plain = record { there = refl; unlinked = λ keys olds news. refl; unshared = λ new r. refl; uncounted = refl };
       given = refl;
-      cast = ap (λ l. cast_row (table_of Items) (Int id ∷ Null ∷ l)) (none_mended (Some 0) 1 (drop 1 (columns_of Items)) (a ∷ b ∷ c ∷ d ∷ e ∷ f ∷ g ∷ []) all) ∙ fits;
+      cast =
+          ap (λ l. cast_row (table_of Items) (Int id ∷ Null ∷ l))
+          (none_mended (Some 0) 1 (drop 1 (columns_of Items)) (a ∷ b ∷ c ∷ d ∷ e ∷ f ∷ g ∷ []) all) ∙ fits;
       fits = fits;
     }
 items_plan id rest all = absurd (omega (arith, as_many (drop 1 (columns_of Items)) rest all))
@@ -235,7 +254,9 @@ history_plan id (a ∷ b ∷ c ∷ d ∷ e ∷ f ∷ g ∷ []) all =
       command = refl;
       plain = record { there = refl; unlinked = λ keys olds news. refl; unshared = λ new r. refl; uncounted = refl };
       given = refl;
-      cast = ap (λ l. cast_row (table_of History) (Int id ∷ Null ∷ l)) (none_mended (Some 0) 1 (drop 1 (columns_of History)) (a ∷ b ∷ c ∷ d ∷ e ∷ f ∷ g ∷ []) all) ∙ fits;
+      cast =
+          ap (λ l. cast_row (table_of History) (Int id ∷ Null ∷ l))
+          (none_mended (Some 0) 1 (drop 1 (columns_of History)) (a ∷ b ∷ c ∷ d ∷ e ∷ f ∷ g ∷ []) all) ∙ fits;
       fits = fits;
     }
 history_plan id rest all = absurd (omega (arith, as_many (drop 1 (columns_of History)) rest all))
@@ -249,7 +270,9 @@ orders_plan id (a ∷ b ∷ c ∷ []) all =
       command = refl;
       plain = record { there = refl; unlinked = λ keys olds news. refl; unshared = λ new r. refl; uncounted = refl };
       given = refl;
-      cast = ap (λ l. cast_row (table_of Orders) (Int id ∷ Null ∷ l)) (none_mended (Some 0) 1 (drop 1 (columns_of Orders)) (a ∷ b ∷ c ∷ []) all) ∙ fits;
+      cast =
+          ap (λ l. cast_row (table_of Orders) (Int id ∷ Null ∷ l))
+          (none_mended (Some 0) 1 (drop 1 (columns_of Orders)) (a ∷ b ∷ c ∷ []) all) ∙ fits;
       fits = fits;
     }
 orders_plan id rest all = absurd (omega (arith, as_many (drop 1 (columns_of Orders)) rest all))
@@ -263,7 +286,9 @@ order_lines_plan id (a ∷ b ∷ c ∷ d ∷ []) all =
       command = refl;
       plain = record { there = refl; unlinked = λ keys olds news. refl; unshared = λ new r. refl; uncounted = refl };
       given = refl;
-      cast = ap (λ l. cast_row (table_of OrderLines) (Int id ∷ Null ∷ l)) (none_mended (Some 0) 1 (drop 1 (columns_of OrderLines)) (a ∷ b ∷ c ∷ d ∷ []) all) ∙ fits;
+      cast =
+          ap (λ l. cast_row (table_of OrderLines) (Int id ∷ Null ∷ l))
+          (none_mended (Some 0) 1 (drop 1 (columns_of OrderLines)) (a ∷ b ∷ c ∷ d ∷ []) all) ∙ fits;
       fits = fits;
     }
 order_lines_plan id rest all = absurd (omega (arith, as_many (drop 1 (columns_of OrderLines)) rest all))
@@ -277,7 +302,9 @@ builds_plan id (a ∷ b ∷ c ∷ d ∷ []) all =
       command = refl;
       plain = record { there = refl; unlinked = λ keys olds news. refl; unshared = λ new r. refl; uncounted = refl };
       given = refl;
-      cast = ap (λ l. cast_row (table_of Builds) (Int id ∷ Null ∷ l)) (none_mended (Some 0) 1 (drop 1 (columns_of Builds)) (a ∷ b ∷ c ∷ d ∷ []) all) ∙ fits;
+      cast =
+          ap (λ l. cast_row (table_of Builds) (Int id ∷ Null ∷ l))
+          (none_mended (Some 0) 1 (drop 1 (columns_of Builds)) (a ∷ b ∷ c ∷ d ∷ []) all) ∙ fits;
       fits = fits;
     }
 builds_plan id rest all = absurd (omega (arith, as_many (drop 1 (columns_of Builds)) rest all))
@@ -291,7 +318,9 @@ allocations_plan id (a ∷ b ∷ c ∷ d ∷ e ∷ f ∷ []) all =
       command = refl;
       plain = record { there = refl; unlinked = λ keys olds news. refl; unshared = λ new r. refl; uncounted = refl };
       given = refl;
-      cast = ap (λ l. cast_row (table_of Allocations) (Int id ∷ Null ∷ l)) (none_mended (Some 0) 1 (drop 1 (columns_of Allocations)) (a ∷ b ∷ c ∷ d ∷ e ∷ f ∷ []) all) ∙ fits;
+      cast =
+          ap (λ l. cast_row (table_of Allocations) (Int id ∷ Null ∷ l))
+          (none_mended (Some 0) 1 (drop 1 (columns_of Allocations)) (a ∷ b ∷ c ∷ d ∷ e ∷ f ∷ []) all) ∙ fits;
       fits = fits;
     }
 allocations_plan id rest all = absurd (omega (arith, as_many (drop 1 (columns_of Allocations)) rest all))

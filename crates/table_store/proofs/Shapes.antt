@@ -4,7 +4,9 @@ use Rattle.sqlite.specs.Table.{Table}
 use Rattle.table_store.specs.Schema.{table_of}
 use Rattle.table_store.specs.Shape.{IsNumbered, IsWorded, IsKeyed, HasNoRule, HasParts}
 use Rattle.table_store.specs.declared.name.TableName.{TableName}
-use Rattle.table_store.specs.declared.name.TableName.TheVariants.{Meta, Categories, Locations, Parts, Lines, Substitutes, Items, History, Orders, OrderLines, Builds, Allocations, Kept}
+use Rattle.table_store.specs.declared.name.TableName.TheVariants.{Meta, Categories, Locations, Parts, Lines}
+use Rattle.table_store.specs.declared.name.TableName.TheVariants.{Substitutes, Items, History, Orders}
+use Rattle.table_store.specs.declared.name.TableName.TheVariants.{OrderLines, Builds, Allocations, Kept}
 
 pub keyed_by_number : (name : TableName) (t : Table) → name ≢ Kept → IsKeyed name t ↔ IsNumbered t
 keyed_by_number Kept t other = absurd (other refl)
@@ -21,7 +23,8 @@ keyed_by_number OrderLines t other = (λ h. h, λ h. h)
 keyed_by_number Builds t other = (λ h. h, λ h. h)
 keyed_by_number Allocations t other = (λ h. h, λ h. h)
 
-same_table : (t u : Table) → t.name ≡ u.name → t.tree ≡ u.tree → t.columns ≡ u.columns → t.key ≡ u.key → t.primary ≡ u.primary → t.uniques ≡ u.uniques → t.orders ≡ u.orders → t.checks ≡ u.checks
+same_table : (t u : Table) → t.name ≡ u.name → t.tree ≡ u.tree → t.columns ≡ u.columns → t.key ≡ u.key
+    → t.primary ≡ u.primary → t.uniques ≡ u.uniques → t.orders ≡ u.orders → t.checks ≡ u.checks
     → t.references ≡ u.references → t.computed ≡ u.computed → t.stamps ≡ u.stamps → t.is_counted ≡ u.is_counted → t ≡ u
 same_table t u a b c d e f g h i j k l =
     ap (λ x. record t { name = x }) a
@@ -29,9 +32,24 @@ same_table t u a b c d e f g h i j k l =
     ∙ ap (λ x. record t { name = u.name; tree = u.tree; columns = x }) c
     ∙ ap (λ x. record t { name = u.name; tree = u.tree; columns = u.columns; key = x }) d
     ∙ ap (λ x. record t { name = u.name; tree = u.tree; columns = u.columns; key = u.key; primary = x }) e
-    ∙ ap (λ x. record t { name = u.name; tree = u.tree; columns = u.columns; key = u.key; primary = u.primary; uniques = x }) f
-    ∙ ap (λ x. record u { orders = x; checks = t.checks; references = t.references; computed = t.computed; stamps = t.stamps; is_counted = t.is_counted }) g
-    ∙ ap (λ x. record u { checks = x; references = t.references; computed = t.computed; stamps = t.stamps; is_counted = t.is_counted }) h
+    ∙ ap
+    (λ x. record t { name = u.name; tree = u.tree; columns = u.columns; key = u.key; primary = u.primary; uniques = x })
+    f
+    ∙ ap (λ x. record u {
+      orders = x;
+      checks = t.checks;
+      references = t.references;
+      computed = t.computed;
+      stamps = t.stamps;
+      is_counted = t.is_counted;
+    }) g
+    ∙ ap (λ x. record u {
+      checks = x;
+      references = t.references;
+      computed = t.computed;
+      stamps = t.stamps;
+      is_counted = t.is_counted;
+    }) h
     ∙ ap (λ x. record u { references = x; computed = t.computed; stamps = t.stamps; is_counted = t.is_counted }) i
     ∙ ap (λ x. record u { computed = x; stamps = t.stamps; is_counted = t.is_counted }) j
     ∙ ap (λ x. record u { stamps = x; is_counted = t.is_counted }) k
@@ -55,40 +73,126 @@ rule_free Allocations = record { checks = refl; references = refl; computed = re
 rule_free Kept = record { checks = refl; references = refl; computed = refl; stamps = refl; counted = refl }
 
 own_parts : (name : TableName) → HasParts name (table_of name)
-own_parts Meta = record { named = record { name_is = refl; tree = refl; columns = refl }; keyed = record { key = refl; primary = refl; uniques = refl; orders = refl }; bare = rule_free Meta }
-own_parts Categories = record { named = record { name_is = refl; tree = refl; columns = refl }; keyed = record { key = refl; primary = refl; uniques = refl; orders = refl }; bare = rule_free Categories }
-own_parts Locations = record { named = record { name_is = refl; tree = refl; columns = refl }; keyed = record { key = refl; primary = refl; uniques = refl; orders = refl }; bare = rule_free Locations }
-own_parts Parts = record { named = record { name_is = refl; tree = refl; columns = refl }; keyed = record { key = refl; primary = refl; uniques = refl; orders = refl }; bare = rule_free Parts }
-own_parts Lines = record { named = record { name_is = refl; tree = refl; columns = refl }; keyed = record { key = refl; primary = refl; uniques = refl; orders = refl }; bare = rule_free Lines }
-own_parts Substitutes = record { named = record { name_is = refl; tree = refl; columns = refl }; keyed = record { key = refl; primary = refl; uniques = refl; orders = refl }; bare = rule_free Substitutes }
-own_parts Items = record { named = record { name_is = refl; tree = refl; columns = refl }; keyed = record { key = refl; primary = refl; uniques = refl; orders = refl }; bare = rule_free Items }
-own_parts History = record { named = record { name_is = refl; tree = refl; columns = refl }; keyed = record { key = refl; primary = refl; uniques = refl; orders = refl }; bare = rule_free History }
-own_parts Orders = record { named = record { name_is = refl; tree = refl; columns = refl }; keyed = record { key = refl; primary = refl; uniques = refl; orders = refl }; bare = rule_free Orders }
-own_parts OrderLines = record { named = record { name_is = refl; tree = refl; columns = refl }; keyed = record { key = refl; primary = refl; uniques = refl; orders = refl }; bare = rule_free OrderLines }
-own_parts Builds = record { named = record { name_is = refl; tree = refl; columns = refl }; keyed = record { key = refl; primary = refl; uniques = refl; orders = refl }; bare = rule_free Builds }
-own_parts Allocations = record { named = record { name_is = refl; tree = refl; columns = refl }; keyed = record { key = refl; primary = refl; uniques = refl; orders = refl }; bare = rule_free Allocations }
-own_parts Kept = record { named = record { name_is = refl; tree = refl; columns = refl }; keyed = record { key = refl; primary = refl; uniques = refl; orders = refl }; bare = rule_free Kept }
+own_parts Meta = record {
+  named = record { name_is = refl; tree = refl; columns = refl };
+  keyed = record { key = refl; primary = refl; uniques = refl; orders = refl };
+  bare = rule_free Meta;
+}
+own_parts Categories = record {
+  named = record { name_is = refl; tree = refl; columns = refl };
+  keyed = record { key = refl; primary = refl; uniques = refl; orders = refl };
+  bare = rule_free Categories;
+}
+own_parts Locations = record {
+  named = record { name_is = refl; tree = refl; columns = refl };
+  keyed = record { key = refl; primary = refl; uniques = refl; orders = refl };
+  bare = rule_free Locations;
+}
+own_parts Parts = record {
+  named = record { name_is = refl; tree = refl; columns = refl };
+  keyed = record { key = refl; primary = refl; uniques = refl; orders = refl };
+  bare = rule_free Parts;
+}
+own_parts Lines = record {
+  named = record { name_is = refl; tree = refl; columns = refl };
+  keyed = record { key = refl; primary = refl; uniques = refl; orders = refl };
+  bare = rule_free Lines;
+}
+own_parts Substitutes = record {
+  named = record { name_is = refl; tree = refl; columns = refl };
+  keyed = record { key = refl; primary = refl; uniques = refl; orders = refl };
+  bare = rule_free Substitutes;
+}
+own_parts Items = record {
+  named = record { name_is = refl; tree = refl; columns = refl };
+  keyed = record { key = refl; primary = refl; uniques = refl; orders = refl };
+  bare = rule_free Items;
+}
+own_parts History = record {
+  named = record { name_is = refl; tree = refl; columns = refl };
+  keyed = record { key = refl; primary = refl; uniques = refl; orders = refl };
+  bare = rule_free History;
+}
+own_parts Orders = record {
+  named = record { name_is = refl; tree = refl; columns = refl };
+  keyed = record { key = refl; primary = refl; uniques = refl; orders = refl };
+  bare = rule_free Orders;
+}
+own_parts OrderLines = record {
+  named = record { name_is = refl; tree = refl; columns = refl };
+  keyed = record { key = refl; primary = refl; uniques = refl; orders = refl };
+  bare = rule_free OrderLines;
+}
+own_parts Builds = record {
+  named = record { name_is = refl; tree = refl; columns = refl };
+  keyed = record { key = refl; primary = refl; uniques = refl; orders = refl };
+  bare = rule_free Builds;
+}
+own_parts Allocations = record {
+  named = record { name_is = refl; tree = refl; columns = refl };
+  keyed = record { key = refl; primary = refl; uniques = refl; orders = refl };
+  bare = rule_free Allocations;
+}
+own_parts Kept = record {
+  named = record { name_is = refl; tree = refl; columns = refl };
+  keyed = record { key = refl; primary = refl; uniques = refl; orders = refl };
+  bare = rule_free Kept;
+}
 
-numbered_is : (t u : Table) → IsNumbered t → IsNumbered u → HasNoRule t → HasNoRule u → t.name ≡ u.name → t.tree ≡ u.tree → t.columns ≡ u.columns → t ≡ u
-numbered_is t u a b p q name tree columns = same_table t u name tree columns (a.key ∙ sym b.key) (a.primary ∙ sym b.primary) (a.uniques ∙ sym b.uniques) (a.orders ∙ sym b.orders) (p.checks ∙ sym q.checks) (p.references ∙ sym q.references) (p.computed ∙ sym q.computed) (p.stamps ∙ sym q.stamps) (p.counted ∙ sym q.counted)
+numbered_is : (t u : Table) → IsNumbered t → IsNumbered u → HasNoRule t → HasNoRule u → t.name ≡ u.name
+    → t.tree ≡ u.tree → t.columns ≡ u.columns → t ≡ u
+numbered_is t u a b p q name tree columns =
+    same_table t u name tree columns (a.key ∙ sym b.key) (a.primary ∙ sym b.primary) (a.uniques ∙ sym b.uniques)
+    (a.orders ∙ sym b.orders) (p.checks ∙ sym q.checks) (p.references ∙ sym q.references) (p.computed ∙ sym q.computed)
+    (p.stamps ∙ sym q.stamps) (p.counted ∙ sym q.counted)
 
-worded_is : (t u : Table) → IsWorded t → IsWorded u → HasNoRule t → HasNoRule u → t.name ≡ u.name → t.tree ≡ u.tree → t.columns ≡ u.columns → t ≡ u
-worded_is t u a b p q name tree columns = same_table t u name tree columns (a.key ∙ sym b.key) (a.primary ∙ sym b.primary) (a.uniques ∙ sym b.uniques) (a.orders ∙ sym b.orders) (p.checks ∙ sym q.checks) (p.references ∙ sym q.references) (p.computed ∙ sym q.computed) (p.stamps ∙ sym q.stamps) (p.counted ∙ sym q.counted)
+worded_is : (t u : Table) → IsWorded t → IsWorded u → HasNoRule t → HasNoRule u → t.name ≡ u.name → t.tree ≡ u.tree
+    → t.columns ≡ u.columns → t ≡ u
+worded_is t u a b p q name tree columns =
+    same_table t u name tree columns (a.key ∙ sym b.key) (a.primary ∙ sym b.primary) (a.uniques ∙ sym b.uniques)
+    (a.orders ∙ sym b.orders) (p.checks ∙ sym q.checks) (p.references ∙ sym q.references) (p.computed ∙ sym q.computed)
+    (p.stamps ∙ sym q.stamps) (p.counted ∙ sym q.counted)
 
 parts_are : (name : TableName) (t : Table) → HasParts name t → t ≡ table_of name
-parts_are Kept t h = worded_is t (table_of Kept) h.keyed (own_parts Kept).keyed h.bare (rule_free Kept) h.named.name_is h.named.tree h.named.columns
-parts_are Meta t h = numbered_is t (table_of Meta) h.keyed (own_parts Meta).keyed h.bare (rule_free Meta) h.named.name_is h.named.tree h.named.columns
-parts_are Categories t h = numbered_is t (table_of Categories) h.keyed (own_parts Categories).keyed h.bare (rule_free Categories) h.named.name_is h.named.tree h.named.columns
-parts_are Locations t h = numbered_is t (table_of Locations) h.keyed (own_parts Locations).keyed h.bare (rule_free Locations) h.named.name_is h.named.tree h.named.columns
-parts_are Parts t h = numbered_is t (table_of Parts) h.keyed (own_parts Parts).keyed h.bare (rule_free Parts) h.named.name_is h.named.tree h.named.columns
-parts_are Lines t h = numbered_is t (table_of Lines) h.keyed (own_parts Lines).keyed h.bare (rule_free Lines) h.named.name_is h.named.tree h.named.columns
-parts_are Substitutes t h = numbered_is t (table_of Substitutes) h.keyed (own_parts Substitutes).keyed h.bare (rule_free Substitutes) h.named.name_is h.named.tree h.named.columns
-parts_are Items t h = numbered_is t (table_of Items) h.keyed (own_parts Items).keyed h.bare (rule_free Items) h.named.name_is h.named.tree h.named.columns
-parts_are History t h = numbered_is t (table_of History) h.keyed (own_parts History).keyed h.bare (rule_free History) h.named.name_is h.named.tree h.named.columns
-parts_are Orders t h = numbered_is t (table_of Orders) h.keyed (own_parts Orders).keyed h.bare (rule_free Orders) h.named.name_is h.named.tree h.named.columns
-parts_are OrderLines t h = numbered_is t (table_of OrderLines) h.keyed (own_parts OrderLines).keyed h.bare (rule_free OrderLines) h.named.name_is h.named.tree h.named.columns
-parts_are Builds t h = numbered_is t (table_of Builds) h.keyed (own_parts Builds).keyed h.bare (rule_free Builds) h.named.name_is h.named.tree h.named.columns
-parts_are Allocations t h = numbered_is t (table_of Allocations) h.keyed (own_parts Allocations).keyed h.bare (rule_free Allocations) h.named.name_is h.named.tree h.named.columns
+parts_are Kept t h =
+    worded_is t (table_of Kept) h.keyed (own_parts Kept).keyed h.bare (rule_free Kept) h.named.name_is h.named.tree
+    h.named.columns
+parts_are Meta t h =
+    numbered_is t (table_of Meta) h.keyed (own_parts Meta).keyed h.bare (rule_free Meta) h.named.name_is h.named.tree
+    h.named.columns
+parts_are Categories t h =
+    numbered_is t (table_of Categories) h.keyed (own_parts Categories).keyed h.bare (rule_free Categories)
+    h.named.name_is h.named.tree h.named.columns
+parts_are Locations t h =
+    numbered_is t (table_of Locations) h.keyed (own_parts Locations).keyed h.bare (rule_free Locations) h.named.name_is
+    h.named.tree h.named.columns
+parts_are Parts t h =
+    numbered_is t (table_of Parts) h.keyed (own_parts Parts).keyed h.bare (rule_free Parts) h.named.name_is h.named.tree
+    h.named.columns
+parts_are Lines t h =
+    numbered_is t (table_of Lines) h.keyed (own_parts Lines).keyed h.bare (rule_free Lines) h.named.name_is h.named.tree
+    h.named.columns
+parts_are Substitutes t h =
+    numbered_is t (table_of Substitutes) h.keyed (own_parts Substitutes).keyed h.bare (rule_free Substitutes)
+    h.named.name_is h.named.tree h.named.columns
+parts_are Items t h =
+    numbered_is t (table_of Items) h.keyed (own_parts Items).keyed h.bare (rule_free Items) h.named.name_is h.named.tree
+    h.named.columns
+parts_are History t h =
+    numbered_is t (table_of History) h.keyed (own_parts History).keyed h.bare (rule_free History) h.named.name_is
+    h.named.tree h.named.columns
+parts_are Orders t h =
+    numbered_is t (table_of Orders) h.keyed (own_parts Orders).keyed h.bare (rule_free Orders) h.named.name_is
+    h.named.tree h.named.columns
+parts_are OrderLines t h =
+    numbered_is t (table_of OrderLines) h.keyed (own_parts OrderLines).keyed h.bare (rule_free OrderLines)
+    h.named.name_is h.named.tree h.named.columns
+parts_are Builds t h =
+    numbered_is t (table_of Builds) h.keyed (own_parts Builds).keyed h.bare (rule_free Builds) h.named.name_is
+    h.named.tree h.named.columns
+parts_are Allocations t h =
+    numbered_is t (table_of Allocations) h.keyed (own_parts Allocations).keyed h.bare (rule_free Allocations)
+    h.named.name_is h.named.tree h.named.columns
 
 pub table_by_parts : (name : TableName) (t : Table) → HasParts name t ↔ (t ≡ table_of name)
 table_by_parts name t = (parts_are name t, λ e. subst (HasParts name) (sym e) (own_parts name))

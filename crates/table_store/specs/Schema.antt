@@ -11,7 +11,9 @@ use Rattle.sqlite_schema.specs.declared.schema.Column.{Column}
 use Rattle.sqlite_schema.specs.declared.schema.Index.{Index}
 use Rattle.sqlite_schema.specs.declared.schema.Stamps.{Stamps}
 use Rattle.table_store.specs.declared.name.TableName.{TableName}
-use Rattle.table_store.specs.declared.name.TableName.TheVariants.{Meta, Categories, Locations, Parts, Lines, Substitutes, Items, History, Orders, OrderLines, Builds, Allocations, Kept}
+use Rattle.table_store.specs.declared.name.TableName.TheVariants.{Meta, Categories, Locations, Parts, Lines}
+use Rattle.table_store.specs.declared.name.TableName.TheVariants.{Substitutes, Items, History, Orders}
+use Rattle.table_store.specs.declared.name.TableName.TheVariants.{OrderLines, Builds, Allocations, Kept}
 
 -- the place of a table among the thirteen, which is also its tree's number
 abbrev pub position : TableName → ℕ
@@ -46,7 +48,8 @@ name_of Kept = codes "kept"
 
 -- a column of a STRICT table, without a default
 abbrev pub column_of : Kind → Bool → List ℕ → Column
-column_of kind not_null name = record { name = name; kind = kind; is_strict = true; not_null = not_null; default = Null; collation = Binary }
+column_of kind not_null name =
+    record { name = name; kind = kind; is_strict = true; not_null = not_null; default = Null; collation = Binary }
 
 -- the whole number that is the primary key, which is never NULL though the column doesn't say so
 abbrev key : List ℕ → Column
@@ -65,18 +68,34 @@ abbrev text_or_null : List ℕ → Column
 text_or_null = column_of Text false
 
 abbrev pub columns_of : TableName → List Column
-columns_of Meta = key (codes "one") ∷ number (codes "version") ∷ number (codes "next") ∷ number (codes "entries") ∷ number (codes "max_numbers") ∷ number (codes "max_entries") ∷ []
+columns_of Meta =
+    key (codes "one") ∷ number (codes "version") ∷ number (codes "next") ∷ number (codes "entries")
+    ∷ number (codes "max_numbers") ∷ number (codes "max_entries") ∷ []
 columns_of Categories = key (codes "id") ∷ text (codes "name") ∷ number_or_null (codes "parent") ∷ []
 columns_of Locations = key (codes "id") ∷ text (codes "name") ∷ number_or_null (codes "parent") ∷ []
-columns_of Parts = key (codes "id") ∷ text (codes "name") ∷ number_or_null (codes "category") ∷ number_or_null (codes "template") ∷ number (codes "flags") ∷ number (codes "retired") ∷ []
-columns_of Lines = key (codes "id") ∷ number (codes "assembly") ∷ number (codes "component") ∷ number (codes "quantity") ∷ number (codes "flags") ∷ []
+columns_of Parts =
+    key (codes "id") ∷ text (codes "name") ∷ number_or_null (codes "category") ∷ number_or_null (codes "template")
+    ∷ number (codes "flags") ∷ number (codes "retired") ∷ []
+columns_of Lines =
+    key (codes "id") ∷ number (codes "assembly") ∷ number (codes "component") ∷ number (codes "quantity")
+    ∷ number (codes "flags") ∷ []
 columns_of Substitutes = key (codes "id") ∷ number (codes "line") ∷ number (codes "part") ∷ []
-columns_of Items = key (codes "id") ∷ number (codes "part") ∷ text_or_null (codes "batch") ∷ text_or_null (codes "serial") ∷ number (codes "status") ∷ number (codes "quantity") ∷ number (codes "place") ∷ number (codes "ref") ∷ []
-columns_of History = key (codes "n") ∷ text (codes "day") ∷ number (codes "kind") ∷ number (codes "item") ∷ number (codes "part") ∷ number (codes "quantity") ∷ number (codes "place") ∷ number (codes "ref") ∷ []
+columns_of Items =
+    key (codes "id") ∷ number (codes "part") ∷ text_or_null (codes "batch") ∷ text_or_null (codes "serial")
+    ∷ number (codes "status") ∷ number (codes "quantity") ∷ number (codes "place") ∷ number (codes "ref") ∷ []
+columns_of History =
+    key (codes "n") ∷ text (codes "day") ∷ number (codes "kind") ∷ number (codes "item") ∷ number (codes "part")
+    ∷ number (codes "quantity") ∷ number (codes "place") ∷ number (codes "ref") ∷ []
 columns_of Orders = key (codes "id") ∷ number (codes "side") ∷ text (codes "partner") ∷ number (codes "state") ∷ []
-columns_of OrderLines = key (codes "id") ∷ number (codes "owner") ∷ number (codes "part") ∷ number (codes "quantity") ∷ number (codes "done") ∷ []
-columns_of Builds = key (codes "id") ∷ number (codes "part") ∷ number (codes "quantity") ∷ number (codes "state") ∷ number (codes "done") ∷ []
-columns_of Allocations = key (codes "id") ∷ number (codes "item") ∷ number (codes "quantity") ∷ number (codes "side") ∷ number (codes "owner") ∷ number (codes "line") ∷ number (codes "output") ∷ []
+columns_of OrderLines =
+    key (codes "id") ∷ number (codes "owner") ∷ number (codes "part") ∷ number (codes "quantity")
+    ∷ number (codes "done") ∷ []
+columns_of Builds =
+    key (codes "id") ∷ number (codes "part") ∷ number (codes "quantity") ∷ number (codes "state")
+    ∷ number (codes "done") ∷ []
+columns_of Allocations =
+    key (codes "id") ∷ number (codes "item") ∷ number (codes "quantity") ∷ number (codes "side")
+    ∷ number (codes "owner") ∷ number (codes "line") ∷ number (codes "output") ∷ []
 columns_of Kept = text (codes "word") ∷ text (codes "command") ∷ text (codes "answer") ∷ []
 
 -- no default reads the time
@@ -101,7 +120,12 @@ keyed name tree columns = record {
 }
 
 abbrev pub table_of : TableName → Table
-table_of Kept = record (keyed (name_of Kept) (position Kept) (columns_of Kept)) { key = None; primary = 1 ∷ []; uniques = (1 ∷ []) ∷ []; orders = plain ∷ [] }
+table_of Kept = record (keyed (name_of Kept) (position Kept) (columns_of Kept)) {
+  key = None;
+  primary = 1 ∷ [];
+  uniques = (1 ∷ []) ∷ [];
+  orders = plain ∷ [];
+}
 table_of Meta = keyed (name_of Meta) (position Meta) (columns_of Meta)
 table_of Categories = keyed (name_of Categories) (position Categories) (columns_of Categories)
 table_of Locations = keyed (name_of Locations) (position Locations) (columns_of Locations)
@@ -117,14 +141,27 @@ table_of Allocations = keyed (name_of Allocations) (position Allocations) (colum
 
 -- the index that the database makes for the words of `kept`
 abbrev pub kept_index : Index
-kept_index = record { name = codes "sqlite_autoindex_kept_1"; tree = 13; table = 12; columns = 1 ∷ []; order = plain; is_unique = true }
+kept_index = record {
+  name = codes "sqlite_autoindex_kept_1";
+  tree = 13;
+  table = 12;
+  columns = 1 ∷ [];
+  order = plain;
+  is_unique = true;
+}
 
 abbrev pub all_names : List TableName
-all_names = Meta ∷ Categories ∷ Locations ∷ Parts ∷ Lines ∷ Substitutes ∷ Items ∷ History ∷ Orders ∷ OrderLines ∷ Builds ∷ Allocations ∷ Kept ∷ []
+all_names =
+    Meta ∷ Categories ∷ Locations ∷ Parts ∷ Lines ∷ Substitutes ∷ Items ∷ History ∷ Orders ∷ OrderLines ∷ Builds
+    ∷ Allocations ∷ Kept ∷ []
 
 -- the schema once so many of the tables are made, in their order
 abbrev pub schema_up_to : ℕ → Schema
-schema_up_to count = record { tables = map table_of (take count all_names); indexes = if nat_lt 12 count then kept_index ∷ [] else []; views = [] }
+schema_up_to count = record {
+  tables = map table_of (take count all_names);
+  indexes = if nat_lt 12 count then kept_index ∷ [] else [];
+  views = [];
+}
 
 abbrev pub desk_schema : Schema
 desk_schema = schema_up_to 13

@@ -17,7 +17,9 @@ use Rattle.sqlite_schema.specs.declared.schema.Column.{Column}
 use Rattle.sqlite_trees.specs.View.{IsShaped}
 use Rattle.sqlite_trees.specs.declared.store.Shape.TheVariants.{Table}
 use Rattle.table_store.specs.declared.name.TableName.{TableName}
-use Rattle.table_store.specs.declared.name.TableName.TheVariants.{Meta, Categories, Locations, Parts, Lines, Substitutes, Items, History, Orders, OrderLines, Builds, Allocations, Kept}
+use Rattle.table_store.specs.declared.name.TableName.TheVariants.{Meta, Categories, Locations, Parts, Lines}
+use Rattle.table_store.specs.declared.name.TableName.TheVariants.{Substitutes, Items, History, Orders}
+use Rattle.table_store.specs.declared.name.TableName.TheVariants.{OrderLines, Builds, Allocations, Kept}
 use Rattle.table_store.specs.Schema.{position, columns_of, desk_schema}
 
 -- a column of this kind, NOT NULL or not, takes the value as it is
@@ -40,7 +42,8 @@ IsRow Kept _ = ⊥
 IsRow table (Int id ∷ rest) = TakeAll (drop 1 (columns_of table)) rest
 IsRow table _ = ⊥
 
--- The table's rows with this one, in place of the one that had its key. The database numbers the rows of `kept`, and refuses a word that is there.
+-- The table's rows with this one, in place of the one that had its key. The database numbers the rows of `kept`, and
+-- refuses a word that is there.
 abbrev pub with_row : TableName → Row → List Row → List Row
 with_row Kept values rows = put_row (Int (next_rowid rows) ∷ values) rows
 with_row table (Int id ∷ rest) rows = put_row (Int id ∷ Null ∷ rest) (without_rowid id rows)
@@ -61,7 +64,8 @@ AreDropped Substitutes = ⊤
 AreDropped Allocations = ⊤
 AreDropped _ = ⊥
 
--- where the database has the columns of a row: first the key, which a table under a whole number has as the row's own number
+-- where the database has the columns of a row: first the key, which a table under a whole number has as the row's own
+-- number
 abbrev pub places : TableName → List ℕ
 places Meta = 0 ∷ 2 ∷ 3 ∷ 4 ∷ 5 ∷ 6 ∷ []
 places Categories = 0 ∷ 2 ∷ 3 ∷ []

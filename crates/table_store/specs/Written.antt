@@ -31,8 +31,8 @@ tree_of table s = s.now.trees (position table)
 abbrev pub Writes : TableName → State → State → Type 0
 Writes table old new = HasSet table (tree_of table new) old new
 
--- what a fault leaves of a call that writes rows of a table: one of the database may have undone the transaction, and else
--- it is still open, and no other table has changed
+-- what a fault leaves of a call that writes rows of a table: one of the database may have undone the transaction, and
+-- else it is still open, and no other table has changed
 abbrev pub MayStop : TableName → State → State → TableFault → Type 0
 MayStop table old new (Store failed) = IsBack old new ⊎ Writes table old new
 MayStop table old new _ = Writes table old new

@@ -8,7 +8,8 @@ ghost use Rattle.part_core.specs.Filled.{StandUnderKeys};
 ghost use Rattle.part_core.specs.Sheet.{Table, given, now_of};
 ghost use Rattle.table_store.specs.Transactions.{IsOfMemoryOrStore, MayUndo};
 ghost use Rattle.table_store.specs.declared.name.TableName.TheVariants.{Kept};
-ghost use Rattle.table_store.specs.Written.{tree_of, IsReady, IsTableOf, MayStop, Writes, SuitKept, KeptTakes, StayAsTheyAre, AreNew, changes_of, given_all};
+ghost use Rattle.table_store.specs.Written.{tree_of, IsReady, IsTableOf, MayStop, Writes, SuitKept};
+ghost use Rattle.table_store.specs.Written.{KeptTakes, StayAsTheyAre, AreNew, changes_of, given_all};
 
 use crate::fault::TableFault;
 use crate::name::TableName;

@@ -1,5 +1,6 @@
 //! Rows of the machine are read from the tables.
-ghost use Rattle.std.specs.Prelude.{◌≡◌, ◌↔◌, ◌⊎◌, ◌∷◌, ◌++◌, [], IfOk, IfErr, OnOk, OnErr, IsTrue, MatchResult, ℕ, List, Some, map};
+ghost use Rattle.std.specs.Prelude.{◌≡◌, ◌↔◌, ◌⊎◌, ◌∷◌, ◌++◌, [], IfOk, IfErr, OnOk};
+ghost use Rattle.std.specs.Prelude.{OnErr, IsTrue, MatchResult, ℕ, List, Some, map};
 ghost use Rattle.sqlite.specs.Held.{state};
 ghost use Rattle.sqlite.specs.State.{HasCleanDisk, IsUnchanged, IsRolledBack, Survives};
 ghost use Rattle.std.specs.declared.cmp.Ordering.TheVariants.{Less};
@@ -8,7 +9,8 @@ ghost use Rattle.sqlite_value.specs.Value.{owned};
 ghost use Rattle.sqlite_value.specs.declared.value.Value.TheVariants.{Int, Text};
 ghost use Rattle.part_core.specs.Columns.{Finds, Misses};
 ghost use Rattle.table_store.specs.Faults.{NamesTable};
-ghost use Rattle.table_store.specs.Stored.{column_of, columns_in, row_of, values_of, AreLoaded, FailsToLoad, FailsToRead};
+ghost use Rattle.table_store.specs.Stored.{column_of, columns_in, row_of, values_of};
+ghost use Rattle.table_store.specs.Stored.{AreLoaded, FailsToLoad, FailsToRead};
 ghost use Rattle.table_store.specs.Transactions.{IsBadRow, IsOfReading, IsOfStore, MayUndo};
 ghost use Rattle.table_store.specs.Values.{HasTables, RiseByWord};
 ghost use Rattle.table_store.specs.Written.{tree_of, AreItsRows, IsTableOfNone, IsTableOfNoneOwn, Suits, SuitKept};

@@ -1,5 +1,6 @@
 //! The changes of a sheet go into its table.
-ghost use Rattle.std.specs.Prelude.{◌≡◌, ◌⊎◌, ◌∷◌, ◌<◌, ◌^◌, [], ℕ, Some, map, IfErr, IfOk, OnOk, OnErr, All, option_copied};
+ghost use Rattle.std.specs.Prelude.{◌≡◌, ◌⊎◌, ◌∷◌, ◌<◌, ◌^◌, [], ℕ, Some, map};
+ghost use Rattle.std.specs.Prelude.{IfErr, IfOk, OnOk, OnErr, All, option_copied};
 ghost use Rattle.std.specs.FinMap.{insert, remove};
 ghost use Rattle.sqlite.specs.Held.{state};
 ghost use Rattle.sqlite.specs.State.{HasCleanDisk, KeepsCommit, Survives};
@@ -13,7 +14,8 @@ ghost use Rattle.part_core.specs.Sheet.{Table, given, now_of};
 ghost use Rattle.table_store.specs.Stored.{value_of, column_of, columns_in};
 ghost use Rattle.table_store.specs.Transactions.{IsOfMemoryOrStore, IsOfStore, MayUndo};
 ghost use Rattle.table_store.specs.Values.{AreDropped};
-ghost use Rattle.table_store.specs.Written.{tree_of, IsReady, IsTableOf, MayStop, Writes, Suits, Takes, changes_of, given_all};
+ghost use Rattle.table_store.specs.Written.{tree_of, IsReady, IsTableOf, MayStop};
+ghost use Rattle.table_store.specs.Written.{Writes, Suits, Takes, changes_of, given_all};
 
 use crate::fault::TableFault;
 use crate::name::TableName;

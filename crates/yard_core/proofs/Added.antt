@@ -1,5 +1,6 @@
 -- Sums over rows.
-use Rattle.std.proofs.Common.{◌≡◌, ℕ, ◌+◌, Bool, true, false, cond, List, [], ◌∷◌, refl, ap, sym, ◌∙◌, arith, Option, Some, None, eqb-true}
+use Rattle.std.proofs.Common.{◌≡◌, ℕ, ◌+◌, Bool, true, false, cond, List, [], ◌∷◌}
+use Rattle.std.proofs.Common.{refl, ap, sym, ◌∙◌, arith, Option, Some, None, eqb-true}
 use Rattle.std.specs.Prelude.{◌==◌, ◌&&◌, if◌then◌else◌, filter}
 use Rattle.std.proofs.lemmas.Bool.{eqb-false}
 use Rattle.forest.specs.declared.item.Item.{Item}
@@ -20,24 +21,29 @@ abbrev pub summed : (Item → ℕ) → List Item → ℕ
 summed v [] = 0
 summed v (x ∷ xs) = v x + summed v xs
 
-pub added-same : (p : Item → Bool) (v u : Item → ℕ) (xs : List Item) → ((x : Item) → v x ≡ u x) → added p v xs ≡ added p u xs
+pub added-same : (p : Item → Bool) (v u : Item → ℕ) (xs : List Item) → ((x : Item) → v x ≡ u x)
+    → added p v xs ≡ added p u xs
 added-same p v u [] h = refl
 added-same p v u (x ∷ xs) h = rw (h x, added-same p v u xs h) refl
 
-pub added-split : (p : Item → Bool) (v u : Item → ℕ) (xs : List Item) → added p (λ x. v x + u x) xs ≡ added p v xs + added p u xs
+pub added-split : (p : Item → Bool) (v u : Item → ℕ) (xs : List Item)
+    → added p (λ x. v x + u x) xs ≡ added p v xs + added p u xs
 added-split p v u [] = refl
 added-split p v u (x ∷ xs) = go (p x) (added-split p v u xs)
   where
     go : (b : Bool) → added p (λ x. v x + u x) xs ≡ added p v xs + added p u xs
-        → (if b then v x + u x else 0) + added p (λ x. v x + u x) xs ≡ (if b then v x else 0) + added p v xs + ((if b then u x else 0) + added p u xs)
+        → (if b then v x + u x else 0) + added p (λ x. v x + u x) xs
+        ≡ (if b then v x else 0) + added p v xs + ((if b then u x else 0) + added p u xs)
     go true ih = omega (arith, ih)
     go false ih = omega (arith, ih)
 
-pub added-summed : (p : Item → Bool) (v u : Item → ℕ) (xs : List Item) → added p v xs + summed u xs ≡ summed (λ x. (if p x then v x else 0) + u x) xs
+pub added-summed : (p : Item → Bool) (v u : Item → ℕ) (xs : List Item)
+    → added p v xs + summed u xs ≡ summed (λ x. (if p x then v x else 0) + u x) xs
 added-summed p v u [] = refl
 added-summed p v u (x ∷ xs) = omega (arith, added-summed p v u xs)
 
-pub added-alone : (p : Item → Bool) (v : Item → ℕ) (xs : List Item) → added p v xs ≡ summed (λ x. if p x then v x else 0) xs
+pub added-alone : (p : Item → Bool) (v : Item → ℕ) (xs : List Item)
+    → added p v xs ≡ summed (λ x. if p x then v x else 0) xs
 added-alone p v [] = refl
 added-alone p v (x ∷ xs) = omega (arith, added-alone p v xs)
 
@@ -50,20 +56,25 @@ pub weigh-trees_from : (w : Node → ℕ) (look : ℕ → Trees) (p : Item → B
 weigh-trees_from w look p [] = refl
 weigh-trees_from w look p (x ∷ xs) = go (p x) (weigh-trees_from w look p xs)
   where
-    go : (b : Bool) → weigh w (trees_from look (filter p xs)) ≡ added p (λ x. w (node_of x) + weigh w (look x.number)) xs
+    go : (b : Bool)
+        → weigh w (trees_from look (filter p xs)) ≡ added p (λ x. w (node_of x) + weigh w (look x.number)) xs
         → weigh w (trees_from look (cond b (x ∷ filter p xs) (filter p xs)))
-        ≡ (if b then w (node_of x) + weigh w (look x.number) else 0) + added p (λ x. w (node_of x) + weigh w (look x.number)) xs
+        ≡ (if b then w (node_of x) + weigh w (look x.number) else 0)
+        + added p (λ x. w (node_of x) + weigh w (look x.number)) xs
     go true ih = omega (arith, ih)
     go false ih = omega (arith, ih)
 
 pub held-roots : (at : Place → Bool) (w : Node → ℕ) (look : ℕ → Trees) (p : Item → Bool) (xs : List Item)
-    → held at w (roots_from look (filter p xs)) ≡ added (λ x. p x && at x.place) (λ x. w (node_of x) + weigh w (look x.number)) xs
+    → held at w (roots_from look (filter p xs))
+    ≡ added (λ x. p x && at x.place) (λ x. w (node_of x) + weigh w (look x.number)) xs
 held-roots at w look p [] = refl
 held-roots at w look p (x ∷ xs) = go (p x) (at x.place) refl (held-roots at w look p xs)
   where
-    go : (b c : Bool) → at x.place ≡ c → held at w (roots_from look (filter p xs)) ≡ added (λ x. p x && at x.place) (λ x. w (node_of x) + weigh w (look x.number)) xs
+    go : (b c : Bool) → at x.place ≡ c → held at w (roots_from look (filter p xs))
+        ≡ added (λ x. p x && at x.place) (λ x. w (node_of x) + weigh w (look x.number)) xs
         → held at w (roots_from look (cond b (x ∷ filter p xs) (filter p xs)))
-        ≡ (if b && c then w (node_of x) + weigh w (look x.number) else 0) + added (λ x. p x && at x.place) (λ x. w (node_of x) + weigh w (look x.number)) xs
+        ≡ (if b && c then w (node_of x) + weigh w (look x.number) else 0)
+        + added (λ x. p x && at x.place) (λ x. w (node_of x) + weigh w (look x.number)) xs
     go true true e ih = rw e (omega (arith, ih))
     go true false e ih = rw e (omega (arith, ih))
     go false c e ih = omega (arith, ih)
@@ -131,9 +142,11 @@ with_one p v y ys (x ∷ xs) a =
     go (p y) (one_more p y ys (v x) a (parent_in x.place)) (with_one p v y ys xs a)
   where
     go : (b : Bool)
-        → (if b then (if lies_to y.number (parent_in x.place) then v x else 0) else 0) + (if over_is ys p x then v x else 0) ≡ (if over_is (y ∷ ys) p x then v x else 0)
+        → (if b then (if lies_to y.number (parent_in x.place) then v x else 0) else 0)
+        + (if over_is ys p x then v x else 0) ≡ (if over_is (y ∷ ys) p x then v x else 0)
         → (if b then added (lies_in y.number) v xs else 0) + added (over_is ys p) v xs ≡ added (over_is (y ∷ ys) p) v xs
-        → (if b then (if lies_in y.number x then v x else 0) + added (lies_in y.number) v xs else 0) + ((if over_is ys p x then v x else 0) + added (over_is ys p) v xs)
+        → (if b then (if lies_in y.number x then v x else 0) + added (lies_in y.number) v xs else 0)
+        + ((if over_is ys p x then v x else 0) + added (over_is ys p) v xs)
         ≡ (if over_is (y ∷ ys) p x then v x else 0) + added (over_is (y ∷ ys) p) v xs
     go true e ih = rw (lies_in-is y.number x) (omega (arith, e, ih))
     go false e ih = omega (arith, e, ih)
@@ -150,4 +163,5 @@ added-none p v (x ∷ xs) h = rw (h x, added-none p v xs h) refl
 pub exchange : (p : Item → Bool) (v : Item → ℕ) (xs ys : List Item) → Rising ys
     → added p (λ y. added (lies_in y.number) v xs) ys ≡ added (over_is ys p) v xs
 exchange p v xs [] r = sym (added-none (over_is [] p) v xs (λ x. none_over p (parent_in x.place)))
-exchange p v xs (y ∷ ys) r = ap (λ n. (if p y then added (lies_in y.number) v xs else 0) + n) (exchange p v xs ys r.1) ∙ with_one p v y ys xs r.0
+exchange p v xs (y ∷ ys) r =
+    ap (λ n. (if p y then added (lies_in y.number) v xs else 0) + n) (exchange p v xs ys r.1) ∙ with_one p v y ys xs r.0

@@ -13,12 +13,14 @@ use Rattle.yard_core.specs.Stock.{AreHeld, AreItems, IsHeld, IsItem}
 use Rattle.yard_core.proofs.Below.{seen}
 
 module _ {X : Type 0} (P : X → Type 0) where
-  pub all-seen : (rows : List (Bor X)) → ((k : ℕ) (r : Bor X) → k < length rows → P (get_or rows k r).now) → All P (seen rows)
+  pub all-seen : (rows : List (Bor X)) → ((k : ℕ) (r : Bor X) → k < length rows → P (get_or rows k r).now)
+      → All P (seen rows)
   all-seen [] h k d lt = absurd (omega (arith, lt))
   all-seen (x ∷ xs) h zero d lt = h 0 x (omega arith)
   all-seen (x ∷ xs) h (suc k) d lt = all-seen xs (λ j r le. h (suc j) r (omega (arith, le))) k d (omega (arith, lt))
 
-  pub all-at : (rows : List (Bor X)) → All P (seen rows) → (k : ℕ) (r : Bor X) → k < length rows → P (get_or rows k r).now
+  pub all-at : (rows : List (Bor X)) → All P (seen rows) → (k : ℕ) (r : Bor X) → k < length rows
+      → P (get_or rows k r).now
   all-at [] all k r lt = absurd (omega (arith, lt))
   all-at (x ∷ xs) all zero r lt = all 0 x.now (omega arith)
   all-at (x ∷ xs) all (suc k) r lt = all-at xs (λ j d le. all (suc j) d (omega (arith, le))) k r (omega (arith, lt))
@@ -37,7 +39,10 @@ module _ {X : Type 0} (P : X → Type 0) where
 
   -- by index or by key
   pub all-each : (t : Table X) → All P (table.values t) ↔ EachRow P t
-  all-each t = (λ all. (each-iff P t).0 (all-Stands (table.values t) all), λ each. Stands-all (table.values t) ((each-iff P t).1 each))
+  all-each t = (
+    λ all. (each-iff P t).0 (all-Stands (table.values t) all),
+    λ each. Stands-all (table.values t) ((each-iff P t).1 each),
+  )
 
 pub all-items : (xs : List Item) → All IsItem xs → AreItems xs
 all-items [] all = tt

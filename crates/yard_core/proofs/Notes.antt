@@ -23,7 +23,8 @@ below n m lt = ap (λ o. ordering_then o Equal) (sym (nat_cmp_is n m Less lt))
 
 IsPast-run : (n k : ℕ) (es : List Entry) → IsRun k es → k + length es ≤ n → IsPast (n ∷ []) (keyed (λ e. e.number) es)
 IsPast-run n k [] run le = tt
-IsPast-run n k (e ∷ es) run le = (above n e.number (omega (arith, run.0, le)), IsPast-run n (k + 1) es run.1 (omega (arith, le)))
+IsPast-run n k (e ∷ es) run le =
+    (above n e.number (omega (arith, run.0, le)), IsPast-run n (k + 1) es run.1 (omega (arith, le)))
 
 pub IsRun-push : (k : ℕ) (es : List Entry) (e : Entry) → IsRun k es → e.number ≡ k + length es → IsRun k (es ++ e ∷ [])
 IsRun-push k [] e run is = (omega (arith, is), tt)
@@ -38,11 +39,13 @@ module _ (t : Table Entry) (h : IsHistory t) (e : Entry) (next : e.number ≡ 1 
   entries-push =
       table.entries-insert keys_total t (e.number ∷ []) e
       ∙ ap (put key_cmp (e.number ∷ []) e) h.own
-      ∙ put-last (e.number ∷ []) e (keyed (λ e. e.number) (table.values t)) (IsPast-run e.number 1 (table.values t) h.run (omega (arith, next)))
+      ∙ put-last (e.number ∷ []) e (keyed (λ e. e.number) (table.values t))
+      (IsPast-run e.number 1 (table.values t) h.run (omega (arith, next)))
       ∙ sym (map-append (λ (e : Entry). (e.number ∷ [], e)) (table.values t) (e ∷ []))
 
   pub values-push : table.values (table.insert t (e.number ∷ []) e) ≡ table.values t ++ e ∷ []
-  values-push = ap (map (λ (e : List ℕ × Entry). e.1)) entries-push ∙ values-keyed (λ e. e.number) (table.values t ++ e ∷ [])
+  values-push =
+      ap (map (λ (e : List ℕ × Entry). e.1)) entries-push ∙ values-keyed (λ e. e.number) (table.values t ++ e ∷ [])
 
   pub IsHistory-push : IsHistory (table.insert t (e.number ∷ []) e)
   IsHistory-push = record {
@@ -51,15 +54,24 @@ module _ (t : Table Entry) (h : IsHistory t) (e : Entry) (next : e.number ≡ 1 
   }
 
 -- the history after more entries
-pub put_all-history : (t : Table Entry) (n : ℕ) (day : CivilDay) (es : List Note) → IsHistory t → n ≡ 1 + length (table.values t)
-    → IsHistory (put_all (numbered n day es) t) × (table.values (put_all (numbered n day es) t) ≡ table.values t ++ numbered n day es)
+pub put_all-history : (t : Table Entry) (n : ℕ) (day : CivilDay) (es : List Note) → IsHistory t
+    → n ≡ 1 + length (table.values t)
+    → IsHistory (put_all (numbered n day es) t)
+    × (table.values (put_all (numbered n day es) t) ≡ table.values t ++ numbered n day es)
 put_all-history t n day [] h next = (h, sym (append-nil (table.values t)))
 put_all-history t n day (e ∷ es) h next =
     let x : Entry = record { number = n; day = day; note = e } in
     let pushed = values-push t h x next in
-    let len : length (table.values (table.insert t (n ∷ []) x)) ≡ length (table.values t) + 1 = ap length pushed ∙ length-append (table.values t) (x ∷ []) in
-    let rest = put_all-history (table.insert t (n ∷ []) x) (n + 1) day es (IsHistory-push t h x next) (omega (arith, len, next)) in
-    (rest.0, rest.1 ∙ ap (λ l. l ++ numbered (n + 1) day es) pushed ∙ append_assoc (table.values t) (x ∷ []) (numbered (n + 1) day es))
+    let len : length (table.values (table.insert t (n ∷ []) x)) ≡ length (table.values t) + 1 =
+    ap length pushed ∙ length-append (table.values t) (x ∷ []) in
+    let rest =
+    put_all-history (table.insert t (n ∷ []) x) (n + 1) day es (IsHistory-push t h x next)
+    (omega (arith, len, next)) in (
+      rest.0,
+      rest.1
+          ∙ ap (λ l. l ++ numbered (n + 1) day es) pushed
+          ∙ append_assoc (table.values t) (x ∷ []) (numbered (n + 1) day es),
+    )
 
 pub notes-numbered : (n : ℕ) (day : CivilDay) (es : List Note) → map (λ (e : Entry). e.note) (numbered n day es) ≡ es
 notes-numbered n day [] = refl
@@ -69,6 +81,11 @@ notes-numbered n day (e ∷ es) = ap (λ l. e ∷ l) (notes-numbered (n + 1) day
 pub notes-recorded : (s : Stock) (day : CivilDay) (es : List Note) → IsHistory s.history
     → IsHistory (recorded_in day es s).history × (notes (recorded_in day es s) ≡ notes s ++ es)
 notes-recorded s day es h =
-    let len : table.len s.history ≡ length (table.values s.history) = table.len-entries s.history ∙ sym (length-map (table.entries s.history) (λ e. e.1)) in
-    let all = put_all-history s.history (next_entry s) day es h (omega (arith, len)) in
-    (all.0, ap (map (λ (e : Entry). e.note)) all.1 ∙ map-append (λ (e : Entry). e.note) (table.values s.history) (numbered (next_entry s) day es) ∙ ap (λ l. notes s ++ l) (notes-numbered (next_entry s) day es))
+    let len : table.len s.history ≡ length (table.values s.history) =
+    table.len-entries s.history ∙ sym (length-map (table.entries s.history) (λ e. e.1)) in
+    let all = put_all-history s.history (next_entry s) day es h (omega (arith, len)) in (
+      all.0,
+      ap (map (λ (e : Entry). e.note)) all.1
+          ∙ map-append (λ (e : Entry). e.note) (table.values s.history) (numbered (next_entry s) day es)
+          ∙ ap (λ l. notes s ++ l) (notes-numbered (next_entry s) day es),
+    )

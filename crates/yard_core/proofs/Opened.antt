@@ -45,10 +45,12 @@ numbers_rise [] r = tt
 numbers_rise (x ∷ xs) r = (numbers_above x.number xs r.0, numbers_rise xs r.1)
 
 -- items under their own numbers are in order of number
-pub rows_by_number : (t : Table Item) → table.entries t ≡ by_number (table.values t) → climbs.IsByNumber (table.values t)
+pub rows_by_number : (t : Table Item) → table.entries t ≡ by_number (table.values t)
+    → climbs.IsByNumber (table.values t)
 rows_by_number t own = numbers_rise (table.values t) (by_number-rises t own)
 
-pub own_by_number : (t : Table Item) → StandUnderKeys (λ (i : Item). i.number ∷ []) t → climbs.IsByNumber (table.values t)
+pub own_by_number : (t : Table Item) → StandUnderKeys (λ (i : Item). i.number ∷ []) t
+    → climbs.IsByNumber (table.values t)
 own_by_number t own = rows_by_number t (own-keyed (λ (i : Item). i.number) t own)
 
 -- ---- the whole
@@ -60,7 +62,8 @@ Decides b P = IsTrue b ↔ P
 decides_also : {P Q : Type 0} (b : Bool) → Decides b P → P ↔ Q → Decides b Q
 decides_also b d e = (λ t. e.0 (d.0 t), λ q. d.1 (e.1 q))
 
-pub sound_iff : (s : Stock) → StandUnderKeys (λ i. i.number ∷ []) s.items → StandUnderKeys (λ e. e.number ∷ []) s.history
+pub sound_iff : (s : Stock) → StandUnderKeys (λ i. i.number ∷ []) s.items
+    → StandUnderKeys (λ e. e.number ∷ []) s.history
     → AreSoundRows s.items (table.values s.items) (table.values s.history) ↔ IsSound s
 sound_iff s items history = (
   λ a. record {
@@ -68,7 +71,13 @@ sound_iff s items history = (
     history = record { run = a.run; own = own-keyed (λ e. e.number) s.history history };
     balanced = a.balanced;
   },
-  λ b. record { items = b.items.items; held = b.items.held; flat = b.items.flat; run = b.history.run; balanced = b.balanced },
+  λ b. record {
+    items = b.items.items;
+    held = b.items.held;
+    flat = b.items.flat;
+    run = b.history.run;
+    balanced = b.balanced;
+  },
 )
 
 pub locations_iff : (next : ℕ) (s : Stock) → 1 ≤ next → StandUnderKeys (λ l. l.number ∷ []) s.locations
@@ -79,19 +88,27 @@ locations_iff next s some own = (
     rows = λ k l at. let row = each k l at in record { own = own k l at; some = row.some; drawn = row.drawn };
     parents = λ k l at. (each k l at).parent;
   },
-  λ sound. (all-each (IsSoundLocation next s) s.locations).1 (λ k l at. let row = sound.rows k l at in record { some = row.some; drawn = row.drawn; parent = sound.parents k l at }),
+  λ sound. (all-each (IsSoundLocation next s) s.locations).1
+      (λ k l at. let row = sound.rows k l at in
+      record { some = row.some; drawn = row.drawn; parent = sound.parents k l at }),
 )
 
 -- what was found of rows that are those of the tables
-pub sound_from : (s : Stock) → StandUnderKeys (λ i. i.number ∷ []) s.items → StandUnderKeys (λ e. e.number ∷ []) s.history
-    → (t : Table Item) (rows : List Item) (entries : List Entry) (sound : Bool) → t ≡ s.items → rows ≡ table.values s.items → entries ≡ table.values s.history
+pub sound_from : (s : Stock) → StandUnderKeys (λ i. i.number ∷ []) s.items
+    → StandUnderKeys (λ e. e.number ∷ []) s.history
+    → (t : Table Item) (rows : List Item) (entries : List Entry) (sound : Bool) → t ≡ s.items
+    → rows ≡ table.values s.items → entries ≡ table.values s.history
     → IsTrue sound ↔ AreSoundRows t rows entries → IsTrue sound ↔ IsSound s
 sound_from s items history t rows entries sound same_t same_rows same_entries d =
     let in_t = subst (λ u. Decides sound (AreSoundRows u rows entries)) same_t d in
     let in_rows = subst (λ xs. Decides sound (AreSoundRows s.items xs entries)) same_rows in_t in
-    let in_entries = subst (λ es. Decides sound (AreSoundRows s.items (table.values s.items) es)) same_entries in_rows in
+    let in_entries =
+    subst (λ es. Decides sound (AreSoundRows s.items (table.values s.items) es)) same_entries in_rows in
     decides_also sound in_entries (sound_iff s items history)
 
 pub locations_from : (next : ℕ) (s : Stock) → 1 ≤ next → StandUnderKeys (λ l. l.number ∷ []) s.locations
-    → (rows : List Location) (sound : Bool) → rows ≡ table.values s.locations → IsTrue sound ↔ All (IsSoundLocation next s) rows → IsTrue sound ↔ AreSoundLocations next s
-locations_from next s some own rows sound same d = decides_also sound (subst (λ xs. Decides sound (All (IsSoundLocation next s) xs)) same d) (locations_iff next s some own)
+    → (rows : List Location) (sound : Bool) → rows ≡ table.values s.locations
+    → IsTrue sound ↔ All (IsSoundLocation next s) rows → IsTrue sound ↔ AreSoundLocations next s
+locations_from next s some own rows sound same d =
+    decides_also sound (subst (λ xs. Decides sound (All (IsSoundLocation next s) xs)) same d)
+    (locations_iff next s some own)

@@ -22,10 +22,14 @@ module _ {X : Type 0} where
   none_below k (e ∷ es) a = ap (λ o. cond (is_eq o) (Some e.1) (find_in k es)) a.0 ∙ none_below k es a.1
 
   -- what is found behind the first entry is found
-  found-later : (e : List ℕ × X) (es : List (List ℕ × X)) → AreAbove any e.0 es → (k : List ℕ) (x : X) → find_in k es ≡ Some x → find_in k (e ∷ es) ≡ Some x
+  found-later : (e : List ℕ × X) (es : List (List ℕ × X)) → AreAbove any e.0 es → (k : List ℕ) (x : X)
+      → find_in k es ≡ Some x → find_in k (e ∷ es) ≡ Some x
   found-later e es a k x f =
       elim (key_eq k e.0) as (λ b. key_eq k e.0 ≡ b → cond b (Some e.1) (find_in k es) ≡ Some x) [
-        | true ↦ λ t. let bad : None ≡ Some x = sym (none_below e.0 es a) ∙ ap (λ q. find_in q es) (sym (key_eq-true k e.0 t)) ∙ f in cc
+        | true ↦
+            λ t. let bad : None ≡ Some x =
+            sym (none_below e.0 es a) ∙ ap (λ q. find_in q es) (sym (key_eq-true k e.0 t)) ∙ f in
+            cc
         | false ↦ λ t. f
       ] refl
 
@@ -40,11 +44,13 @@ module _ {X : Type 0} where
     abbrev own_key : X → List ℕ
     own_key x = number x ∷ []
 
-    keyed-entries : (es : List (List ℕ × X)) → Rises any es → ((k : List ℕ) (x : X) → find_in k es ≡ Some x → k ≡ own_key x) → es ≡ keyed number (map (λ e. e.1) es)
+    keyed-entries : (es : List (List ℕ × X)) → Rises any es
+        → ((k : List ℕ) (x : X) → find_in k es ≡ Some x → k ≡ own_key x) → es ≡ keyed number (map (λ e. e.1) es)
     keyed-entries [] r own = refl
     keyed-entries (e ∷ es) r own =
         let here : e.0 ≡ own_key e.1 = own e.0 e.1 (ap (λ b. cond b (Some e.1) (find_in e.0 es)) (key_eq-self e.0)) in
-        ap (λ k. (k, e.1) ∷ es) here ∙ ap (λ l. (own_key e.1, e.1) ∷ l) (keyed-entries es r.1 (λ k x f. own k x (found-later e es r.0 k x f)))
+        ap (λ k. (k, e.1) ∷ es) here
+        ∙ ap (λ l. (own_key e.1, e.1) ∷ l) (keyed-entries es r.1 (λ k x f. own k x (found-later e es r.0 k x f)))
 
     -- rows under their own numbers are the entries
     pub own-keyed : (t : Table X) → StandUnderKeys own_key t → table.entries t ≡ keyed number (table.values t)
@@ -53,7 +59,8 @@ module _ {X : Type 0} where
     found-own : (xs : List X) (k : List ℕ) (x : X) → find_in k (keyed number xs) ≡ Some x → k ≡ own_key x
     found-own [] k x e = cc
     found-own (y ∷ ys) k x e =
-        elim (key_eq k (own_key y)) as (λ b. key_eq k (own_key y) ≡ b → cond b (Some y) (find_in k (keyed number ys)) ≡ Some x → k ≡ own_key x) [
+        elim (key_eq k (own_key y))
+        as (λ b. key_eq k (own_key y) ≡ b → cond b (Some y) (find_in k (keyed number ys)) ≡ Some x → k ≡ own_key x) [
           | true ↦ λ t h. key_eq-true k (own_key y) t ∙ ap own_key (same y x h)
           | false ↦ λ t h. found-own ys k x h
         ] refl e

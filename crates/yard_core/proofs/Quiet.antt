@@ -1,5 +1,6 @@
 -- Changes of items that leave the outputs of builds as they are.
-use Rattle.std.proofs.Common.{◌≡◌, ℕ, ◌+◌, Bool, true, false, List, [], ◌∷◌, Option, Some, None, refl, sym, ap, ◌∙◌, arith, eqb-true}
+use Rattle.std.proofs.Common.{◌≡◌, ℕ, ◌+◌, Bool, true, false, List, [], ◌∷◌, Option}
+use Rattle.std.proofs.Common.{Some, None, refl, sym, ap, ◌∙◌, arith, eqb-true}
 use Rattle.std.specs.Prelude.{◌==◌, if◌then◌else◌, sum_by, unwrap_or}
 use Rattle.std.specs.FinMap as table
 use Rattle.std.proofs.lemmas.List.Sums.{sum_by-cons}
@@ -40,17 +41,20 @@ none-out n x e = go x.place e
     go (Off l) e = refl
     go Gone e = refl
 
-sum-set_row : (f : Item → ℕ) (x old : Item) (xs : List Item) → row_at x.number xs ≡ Some old → sum_by f (set_row x xs) + f old ≡ sum_by f xs + f x
+sum-set_row : (f : Item → ℕ) (x old : Item) (xs : List Item) → row_at x.number xs ≡ Some old
+    → sum_by f (set_row x xs) + f old ≡ sum_by f xs + f x
 sum-set_row f x old [] e = cc
 sum-set_row f x old (y ∷ ys) e = go (y.number == x.number) e (sum-set_row f x old ys)
   where
-    go : (b : Bool) → (if b then Some y else row_at x.number ys) ≡ Some old → (row_at x.number ys ≡ Some old → sum_by f (set_row x ys) + f old ≡ sum_by f ys + f x)
+    go : (b : Bool) → (if b then Some y else row_at x.number ys) ≡ Some old
+        → (row_at x.number ys ≡ Some old → sum_by f (set_row x ys) + f old ≡ sum_by f ys + f x)
         → sum_by f (if b then x ∷ ys else y ∷ set_row x ys) + f old ≡ sum_by f (y ∷ ys) + f x
     go true e ih = let same : y ≡ old = cc in omega (arith, sum_by-cons f x ys, sum_by-cons f y ys, ap f same)
     go false e ih = omega (arith, ih e, sum_by-cons f y (set_row x ys), sum_by-cons f y ys)
 
 -- another row in the place of one: so much comes, and so much goes
-sum-put : (n : ℕ) (x old : Item) (t : Table Item) → table.entries t ≡ keyed (λ i. i.number) (table.values t) → table.get t (x.number ∷ []) ≡ Some old
+sum-put : (n : ℕ) (x old : Item) (t : Table Item) → table.entries t ≡ keyed (λ i. i.number) (table.values t)
+    → table.get t (x.number ∷ []) ≡ Some old
     → amounts n (table.insert t (x.number ∷ []) x) + amount_out n old ≡ amounts n t + amount_out n x
 sum-put n x old t own is =
     ap (λ xs. sum_by (amount_out n) xs + amount_out n old) (values-changed x old t own is)
@@ -72,7 +76,8 @@ module _ (x : Item) (t : Table Item) (out : is_output x.place ≡ false) where
     where
       go : (c : Bool) → (x.number == k) ≡ c → table.get u (k ∷ []) ≡ table.get t (k ∷ [])
       go true same =
-          let is : table.get u (k ∷ []) ≡ Some x = ap (λ j. table.get u (j ∷ [])) (sym (eqb-true x.number k same)) ∙ get-own x.number x t in
+          let is : table.get u (k ∷ []) ≡ Some x =
+          ap (λ j. table.get u (j ∷ [])) (sym (eqb-true x.number k same)) ∙ get-own x.number x t in
           absurd (clash build x.place out (sym (ap place_of is) ∙ e))
       go false other = get-other x.number k x t other
 
@@ -81,28 +86,36 @@ module _ (x : Item) (t : Table Item) (out : is_output x.place ≡ false) where
   leaves-new new = record {
     was = row-was;
     stays = λ k build e. stays k build e (x.number == k) refl;
-    sums = λ n. (let more = sum-insert_new (amount_out n) t (x.number ∷ []) x new in omega (arith, more, none-out n x out));
+    sums =
+        λ n.
+        (let more = sum-insert_new (amount_out n) t (x.number ∷ []) x new in omega (arith, more, none-out n x out));
   }
     where
-      stays : (k build : ℕ) → place_at k t ≡ Output build → (c : Bool) → (x.number == k) ≡ c → table.get u (k ∷ []) ≡ table.get t (k ∷ [])
+      stays : (k build : ℕ) → place_at k t ≡ Output build → (c : Bool) → (x.number == k) ≡ c
+          → table.get u (k ∷ []) ≡ table.get t (k ∷ [])
       stays k build e true same =
-          let none : table.get t (k ∷ []) ≡ None = ap (λ j. table.get t (j ∷ [])) (sym (eqb-true x.number k same)) ∙ new in
+          let none : table.get t (k ∷ []) ≡ None =
+          ap (λ j. table.get t (j ∷ [])) (sym (eqb-true x.number k same)) ∙ new in
           absurd (clash build (place_of None) refl (sym (ap place_of none) ∙ e))
       stays k build e false other = get-other x.number k x t other
 
   -- a row in the place of one that was no output, either
-  pub leaves-kept : (old : Item) → table.entries t ≡ keyed (λ i. i.number) (table.values t) → table.get t (x.number ∷ []) ≡ Some old → is_output old.place ≡ false → LeavesOutputs t u
+  pub leaves-kept : (old : Item) → table.entries t ≡ keyed (λ i. i.number) (table.values t)
+      → table.get t (x.number ∷ []) ≡ Some old → is_output old.place ≡ false → LeavesOutputs t u
   leaves-kept old own is old_out = record {
     was = row-was;
     stays = λ k build e. stays k build e (x.number == k) refl;
     sums = λ n. omega (arith, sum-put n x old t own is, none-out n x out, none-out n old old_out);
   }
     where
-      stays : (k build : ℕ) → place_at k t ≡ Output build → (c : Bool) → (x.number == k) ≡ c → table.get u (k ∷ []) ≡ table.get t (k ∷ [])
+      stays : (k build : ℕ) → place_at k t ≡ Output build → (c : Bool) → (x.number == k) ≡ c
+          → table.get u (k ∷ []) ≡ table.get t (k ∷ [])
       stays k build e true same =
-          let here : table.get t (k ∷ []) ≡ Some old = ap (λ j. table.get t (j ∷ [])) (sym (eqb-true x.number k same)) ∙ is in
+          let here : table.get t (k ∷ []) ≡ Some old =
+          ap (λ j. table.get t (j ∷ [])) (sym (eqb-true x.number k same)) ∙ is in
           absurd (clash build old.place old_out (sym (ap place_of here) ∙ e))
       stays k build e false other = get-other x.number k x t other
 
-  pub leaves-changed : (old : Item) → IsItemTable t → table.get t (x.number ∷ []) ≡ Some old → is_output old.place ≡ false → LeavesOutputs t u
+  pub leaves-changed : (old : Item) → IsItemTable t → table.get t (x.number ∷ []) ≡ Some old
+      → is_output old.place ≡ false → LeavesOutputs t u
   leaves-changed old h is old_out = leaves-kept old h.own is old_out

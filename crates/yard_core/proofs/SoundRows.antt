@@ -6,7 +6,8 @@ use Rattle.part_core.specs.NamedRows.{HasParent}
 use Rattle.part_core.specs.Rows.{IsThere}
 use Rattle.part_core.proofs.Conditions.{none-holds}
 use Rattle.part_core.proofs.NamedRows.{parents-new}
-use Rattle.part_core.proofs.RowLemmas.{each-insert, each-so, right-empty, right-later, right-new, row_there, same_digit, there, there-insert, each-empty}
+use Rattle.part_core.proofs.RowLemmas.{each-insert, each-so, right-empty, right-later, right-new}
+use Rattle.part_core.proofs.RowLemmas.{row_there, same_digit, there, there-insert, each-empty}
 use Rattle.part_core.proofs.SoundRows.{named_there}
 use Rattle.yard_core.specs.AddLocation.{add_location, add_location_checks}
 use Rattle.yard_core.specs.StockBooks.{StockBooks}
@@ -18,7 +19,8 @@ use Rattle.yard_core.specs.declared.yard_command.YardCommand.{YardCommand}
 use Rattle.yard_core.specs.declared.yard_command.YardCommand.TheVariants.{AddLocation}
 
 -- other tables, and more numbers drawn
-pub locations-later : (next more : ℕ) (s t : Stock) → t.locations ≡ s.locations → next ≤ more → AreSoundLocations next s → AreSoundLocations more t
+pub locations-later : (next more : ℕ) (s t : Stock) → t.locations ≡ s.locations → next ≤ more → AreSoundLocations next s
+    → AreSoundLocations more t
 locations-later next more s t same le sound = rw same (record {
   some = omega (arith, sound.some, le);
   rows = right-later (λ (l : Location). l.number) next more s.locations le sound.rows;
@@ -26,22 +28,30 @@ locations-later next more s t same le sound = rw same (record {
 })
 
 pub locations-nothing : (next : ℕ) → 1 ≤ next → AreSoundLocations next empty_stock
-locations-nothing next some = record { some = some; rows = right-empty (λ (l : Location). l.number) next; parents = each-empty (HasParent table.empty) }
+locations-nothing next some = record {
+  some = some;
+  rows = right-empty (λ (l : Location). l.number) next;
+  parents = each-empty (HasParent table.empty);
+}
 
 module _ (name : List ℕ) (parent : Option ℕ) (b : StockBooks) (sound : AreSoundLocations b.counter.next b.stock) where
   abbrev row : Location
   row = record { number = b.counter.next; name = name; parent = parent }
 
-  pub sound-add_location : first (add_location_checks name parent b) ≡ None → AreSoundLocations (b.counter.next + 1) (add_location name parent b).stock
+  pub sound-add_location : first (add_location_checks name parent b) ≡ None
+      → AreSoundLocations (b.counter.next + 1) (add_location name parent b).stock
   sound-add_location e = record {
     some = omega arith;
     rows = right-new (λ (l : Location). l.number) b.counter.next row b.stock.locations refl sound.some sound.rows;
     parents = parents-new b.counter.next name parent b.stock.locations sound.rows
-        (λ n is. let x = named_there parent (λ m. has_location m b.stock) n is (none-holds (add_location_checks name parent b) e).0 in there b.stock.locations n x.0 x.1)
+        (λ n is. let x =
+        named_there parent (λ m. has_location m b.stock) n is (none-holds (add_location_checks name parent b) e).0 in
+        there b.stock.locations n x.0 x.1)
         sound.parents;
   }
 
-pub sound-effect : (c : YardCommand) (b : StockBooks) → AreSoundLocations b.counter.next b.stock → first (checks c b) ≡ None
+pub sound-effect : (c : YardCommand) (b : StockBooks) → AreSoundLocations b.counter.next b.stock
+    → first (checks c b) ≡ None
     → AreSoundLocations (effect c b).counter.next (effect c b).stock × (b.counter.next ≤ (effect c b).counter.next)
 sound-effect (AddLocation name parent) b sound e = (sound-add_location name parent b sound e, omega arith)
 

@@ -16,7 +16,8 @@ use Rattle.yard_core.specs.declared.yard_command.YardCommand.TheVariants.{AddLoc
 
 pub stay-put_rows : (rows : List Item) (t : Table Item) → StayThere t (put_rows rows t)
 stay-put_rows [] t k h = h
-stay-put_rows (x ∷ xs) t k h = stay-put_rows xs (table.insert t (x.number ∷ []) x) k (stay-insert t (x.number ∷ []) x k h)
+stay-put_rows (x ∷ xs) t k h =
+    stay-put_rows xs (table.insert t (x.number ∷ []) x) k (stay-insert t (x.number ∷ []) x k h)
 
 pub stay-put_all : (es : List Entry) (t : Table Entry) → StayThere t (put_all es t)
 stay-put_all [] t k h = h
@@ -34,7 +35,8 @@ stay-more s t u first second = record {
   history = λ k h. second.history k (first.history k h);
 }
 
-pub stay-moved : (rows : List Item) (notes : List Note) (day : CivilDay) (s : Stock) → AllStay s (moved rows notes day s)
+pub stay-moved : (rows : List Item) (notes : List Note) (day : CivilDay) (s : Stock)
+    → AllStay s (moved rows notes day s)
 stay-moved rows notes day s = record {
   locations = λ k h. h;
   items = stay-put_rows rows s.items;
@@ -46,7 +48,9 @@ stay-change c day s = stay-moved (map row_of (c.roots ++ c.leaves)) c.notes day 
 
 pub rows-stay : RowsStay
 rows-stay (AddLocation name parent) b = record {
-  locations = stay-insert b.stock.locations (b.counter.next ∷ []) (record { number = b.counter.next; name = name; parent = parent });
+  locations =
+      stay-insert b.stock.locations (b.counter.next ∷ [])
+      (record { number = b.counter.next; name = name; parent = parent });
   items = λ k h. h;
   history = λ k h. h;
 }

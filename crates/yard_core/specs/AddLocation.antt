@@ -11,7 +11,8 @@ use Rattle.yard_core.specs.Stock.{Stock, has_location}
 
 -- the stock with a location under that number
 abbrev pub with_location : ℕ → List ℕ → Option ℕ → Stock → Stock
-with_location n name parent s = record s { locations = table.insert s.locations (n ∷ []) (record { number = n; name = name; parent = parent }) }
+with_location n name parent s =
+    record s { locations = table.insert s.locations (n ∷ []) (record { number = n; name = name; parent = parent }) }
 
 -- a location under the next number
 abbrev pub add_location : List ℕ → Option ℕ → StockBooks → StockBooks

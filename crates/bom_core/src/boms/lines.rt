@@ -6,7 +6,8 @@ ghost use Rattle.part_core.specs.Rows.{IsThere};
 ghost use Rattle.part_core.specs.Sheet.{now_of};
 ghost use Rattle.part_core.specs.declared.refusal.Refusal.{Refusal};
 ghost use Rattle.bom_core.specs.BomsView.{bill_books, bill_books_before, bills_before, bills_of};
-ghost use Rattle.bom_core.specs.Lines.{add_line, add_line_checks, drop_line_checks, removed_all, substitutes_of, with_line, without_line};
+ghost use Rattle.bom_core.specs.Lines.{add_line, add_line_checks, drop_line_checks};
+ghost use Rattle.bom_core.specs.Lines.{removed_all, substitutes_of, with_line, without_line};
 ghost use Rattle.bom_core.specs.Sound.{IsSoundBill};
 ghost use Rattle.bom_core.specs.Walks.{contains_itself};
 

@@ -8,7 +8,8 @@ ghost use Rattle.part_core.specs.declared.refusal.Refusal.{Refusal};
 ghost use Rattle.bom_core.specs.BomsView.{bill_books, bill_books_before, bills_before, bills_of};
 ghost use Rattle.bom_core.specs.Changes.{has_row, is_line_open, row_is};
 ghost use Rattle.bom_core.specs.Sound.{IsSoundBill};
-ghost use Rattle.bom_core.specs.Substitutes.{add_substitute, add_substitute_checks, drop_substitute_checks, is_fitting, substitute_row_checks, with_substitute, without_substitute};
+ghost use Rattle.bom_core.specs.Substitutes.{add_substitute, add_substitute_checks, drop_substitute_checks};
+ghost use Rattle.bom_core.specs.Substitutes.{is_fitting, substitute_row_checks, with_substitute, without_substitute};
 ghost use Rattle.bom_core.specs.Walks.{contains_itself};
 
 use crate::boms::Boms;

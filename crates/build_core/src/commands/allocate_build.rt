@@ -9,7 +9,8 @@ ghost use Rattle.alloc_core.specs.AllocationsView.{allocations_before, allocatio
 ghost use Rattle.alloc_core.specs.Allotting.{new_allocation};
 ghost use Rattle.alloc_core.specs.declared.purpose.Purpose.TheVariants as purpose;
 ghost use Rattle.yard_core.specs.YardView.{stock_of};
-ghost use Rattle.build_core.specs.AllocateBuild.{allocate_build, allocate_build_checks, is_no_named, is_other_output, wanted};
+ghost use Rattle.build_core.specs.AllocateBuild.{allocate_build, allocate_build_checks};
+ghost use Rattle.build_core.specs.AllocateBuild.{is_no_named, is_other_output, wanted};
 ghost use Rattle.build_core.specs.BuildBooks.{AreSoundSomehow, Does, build_books, build_books_before};
 
 use crate::build_books::finish;

@@ -1,7 +1,8 @@
 //! A new part, in a category or none, and a variant of its template where it names one.
 ghost use Rattle.std.specs.Prelude.{◌≡◌};
 ghost use Rattle.part_core.specs.Acts.{Acts};
-ghost use Rattle.part_core.specs.AddPart.{add_part, add_part_checks, is_no_template, is_part_named, is_template_retired, is_template_variant};
+ghost use Rattle.part_core.specs.AddPart.{add_part, add_part_checks, is_no_template};
+ghost use Rattle.part_core.specs.AddPart.{is_part_named, is_template_retired, is_template_variant};
 ghost use Rattle.part_core.specs.Catalogue.{is_missing, part_in};
 ghost use Rattle.part_core.specs.CatalogueView.{parts_of, register_before, register_of};
 

@@ -3,7 +3,8 @@
 ghost use Rattle.std.specs.Prelude.{◌≡◌, ◌↔◌, ℕ, IsTrue, IfOk, map};
 ghost use Rattle.yard_core.specs.Climbs.{IsByNumber, in_rows};
 ghost use Rattle.yard_core.specs.Shares.{Agree};
-ghost use Rattle.yard_core.specs.Equations.{AreBalanced, entry_share, is_counted, is_left, is_right, item_share, place_up, shares_of};
+ghost use Rattle.yard_core.specs.Equations.{AreBalanced, entry_share, is_counted, is_left};
+ghost use Rattle.yard_core.specs.Equations.{is_right, item_share, place_up, shares_of};
 
 use crate::opening::shares::{Share, agree};
 use crate::opening::trees::row_of;

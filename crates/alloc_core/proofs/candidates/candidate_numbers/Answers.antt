@@ -9,5 +9,7 @@ pub returns : goal.returns
 returns c =
     c.in_ok-extend_from_slice-2.ensures.items
     ∙ ap (λ ns. ns ++ c.as_slice-2.result.now) c.in_ok-extend_from_slice.ensures.items
-    ∙ candidates-found c.args.with_substitutes (parts_of c.args.catalogue.now) (bills_of c.args.boms.now) c.args.line.now (stock_of c.args.yard.now) c.in_ok-numbers.numbers.items _ _
-    c.in_ok-numbers.ensures (c.as_slice.ensures.value ∙ c.in_ok-variants.ensures) (c.as_slice-2.ensures.value ∙ c.in_ok-others.ensures)
+    ∙ candidates-found c.args.with_substitutes (parts_of c.args.catalogue.now) (bills_of c.args.boms.now)
+    c.args.line.now (stock_of c.args.yard.now) c.in_ok-numbers.numbers.items _ _
+    c.in_ok-numbers.ensures (c.as_slice.ensures.value ∙ c.in_ok-variants.ensures)
+    (c.as_slice-2.ensures.value ∙ c.in_ok-others.ensures)

@@ -7,10 +7,14 @@ use Rattle.alloc_core.proofs.candidates.in_order.Goals as goal
 
 pub loop-number-preserved : goal.loop-number-preserved
 loop-number-preserved c =
-    among-put c.loop-number.sorted c.insert.new.self _ c.in_ok-insert.ensures.updates.0 c.args.numbers.now c.loop-number.number-index 0 c.loop-number-test.true refl c.loop-number.invariant
+    among-put c.loop-number.sorted c.insert.new.self _ c.in_ok-insert.ensures.updates.0 c.args.numbers.now
+    c.loop-number.number-index 0 c.loop-number-test.true refl c.loop-number.invariant
 
 pub returns-clause-same : goal.returns-clause-same
 returns-clause-same c =
     let is : IfOk c.collect.result (λ sorted. sorted.items ≡ c.loop-number.sorted.keys) = search rules in
     IfOk-weaker c.collect.result _ _
-    (λ sorted h n. ap (is_among n) h ∙ c.loop-number.invariant n ∙ ap (is_among n) (take_all c.loop-number.number-index c.args.numbers.now c.loop-number-test.false)) is
+    (λ sorted h n. ap (is_among n) h
+    ∙ c.loop-number.invariant n
+    ∙ ap (is_among n) (take_all c.loop-number.number-index c.args.numbers.now c.loop-number-test.false))
+    is

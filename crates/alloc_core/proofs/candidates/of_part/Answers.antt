@@ -8,5 +8,6 @@ use Rattle.alloc_core.proofs.candidates.of_part.Goals as goal
 pub returns : goal.returns
 returns c =
     IfOk-weaker c.serving.result _ _
-    (λ numbers h. h ∙ part-found c.args.part (stock_of c.args.yard.now) c.as_slice.result.now (ap (map (λ (r : Bor Item). r.now)) c.as_slice.ensures.value ∙ c.in_ok-items.ensures))
+    (λ numbers h. h ∙ part-found c.args.part (stock_of c.args.yard.now) c.as_slice.result.now
+    (ap (map (λ (r : Bor Item). r.now)) c.as_slice.ensures.value ∙ c.in_ok-items.ensures))
     c.serving.ensures

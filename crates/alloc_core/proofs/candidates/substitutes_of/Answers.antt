@@ -9,7 +9,9 @@ use Rattle.alloc_core.proofs.candidates.substitutes_of.Goals as goal
 
 pub returns : goal.returns
 returns c =
-    let is : map (λ (r : Bor Substitute). r.now) c.in_ok-rows.rows.items ≡ substitutes_on c.args.line (bills_of c.args.boms.now) = search rules in
+    let is : map (λ (r : Bor Substitute). r.now) c.in_ok-rows.rows.items
+    ≡ substitutes_on c.args.line (bills_of c.args.boms.now) = search rules in
     IfOk-weaker c.parts_named.result _ _
-    (λ parts h. h ∙ named-lent (λ (x : Substitute). x.part) c.as_slice.result.now _ (ap (map (λ (r : Bor Substitute). r.now)) c.as_slice.ensures.value ∙ is))
+    (λ parts h. h ∙ named-lent (λ (x : Substitute). x.part) c.as_slice.result.now _
+    (ap (map (λ (r : Bor Substitute). r.now)) c.as_slice.ensures.value ∙ is))
     c.parts_named.ensures

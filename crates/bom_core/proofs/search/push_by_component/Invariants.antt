@@ -7,5 +7,7 @@ use Rattle.bom_core.proofs.search.push_by_component.Given as goal
 
 abbrev pub invariant-loop-line : goal.invariant-loop-line
 invariant-loop-line l =
-    push_all l.seen.keys (flat_map (assemblies (part_rows (parts_of l.fn.catalogue))) (map (λ x. x.now) (drop l.line-index l.line-items)))
-    ≡ push_all l.initial.seen.keys (flat_map (assemblies (part_rows (parts_of l.fn.catalogue))) (map (λ x. x.now) l.line-items))
+    push_all l.seen.keys
+    (flat_map (assemblies (part_rows (parts_of l.fn.catalogue))) (map (λ x. x.now) (drop l.line-index l.line-items)))
+    ≡ push_all l.initial.seen.keys
+    (flat_map (assemblies (part_rows (parts_of l.fn.catalogue))) (map (λ x. x.now) l.line-items))

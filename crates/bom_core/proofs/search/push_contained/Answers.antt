@@ -10,11 +10,16 @@ use Rattle.bom_core.proofs.search.push_contained.Goals as goal
 
 pub loop-line-preserved : goal.loop-line-preserved
 loop-line-preserved c =
-    let added : Line → List ℕ = fitting (part_rows (parts_of c.args.catalogue.now)) (substitute_rows (bills_of c.args.boms.now)) in
-    row_added c.deref-line-items.result.now c.loop-line.line-index c.loop-line.seen.keys _ added c.loop-line.invariant _ c.loop-line-test.true _ c.in_ok-push_fitting.ensures
+    let added : Line → List ℕ =
+    fitting (part_rows (parts_of c.args.catalogue.now)) (substitute_rows (bills_of c.args.boms.now)) in
+    row_added c.deref-line-items.result.now c.loop-line.line-index c.loop-line.seen.keys _ added c.loop-line.invariant _
+    c.loop-line-test.true _ c.in_ok-push_fitting.ensures
 
 pub returns : goal.returns
 returns c =
-    let added : Line → List ℕ = fitting (part_rows (parts_of c.args.catalogue.now)) (substitute_rows (bills_of c.args.boms.now)) in
-    rows_added c.deref-line-items.result.now c.loop-line.line-index c.loop-line.seen.keys _ added c.loop-line.invariant c.loop-line-test.false
-    ∙ ap (λ (xs : List Line). push_all c.args.seen.now.keys (flat_map added xs)) (ap (λ (xs : List (Bor Line)). map (λ x. x.now) xs) c.deref-line-items.ensures.value ∙ c.in_ok-covering.ensures)
+    let added : Line → List ℕ =
+    fitting (part_rows (parts_of c.args.catalogue.now)) (substitute_rows (bills_of c.args.boms.now)) in
+    rows_added c.deref-line-items.result.now c.loop-line.line-index c.loop-line.seen.keys _ added c.loop-line.invariant
+    c.loop-line-test.false
+    ∙ ap (λ (xs : List Line). push_all c.args.seen.now.keys (flat_map added xs))
+    (ap (λ (xs : List (Bor Line)). map (λ x. x.now) xs) c.deref-line-items.ensures.value ∙ c.in_ok-covering.ensures)

@@ -12,7 +12,8 @@ loop-at-init c =
     let parts = parts_of c.args.catalogue.now in
     let bills = bills_of c.args.boms.now in
     let next = next_parts c.args.direction parts bills in (
-      search-start (is_next c.args.direction parts bills) c.args.start next (among-next_parts c.args.direction parts bills c.args.boms.now.numbered) _
+      search-start (is_next c.args.direction parts bills) c.args.start next
+          (among-next_parts c.args.direction parts bills c.args.boms.now.numbered) _
           (c.in_ok-push_next.ensures ∙ ap (λ (l : List ℕ). push_all l (next c.args.start)) c.new-seen.ensures.empty),
       omega arith,
     )
@@ -22,8 +23,10 @@ loop-at-preserved c =
     let parts = parts_of c.args.catalogue.now in
     let bills = bills_of c.args.boms.now in
     let lt : c.loop-at.at < length c.loop-at.seen.keys = search rules in (
-      search-more (is_next c.args.direction parts bills) c.args.start (next_parts c.args.direction parts bills) (among-next_parts c.args.direction parts bills c.args.boms.now.numbered)
-          c.loop-at.seen.keys _ c.loop-at.at (get_or c.as_slice.result.now c.loop-at.at 0) c.loop-at.invariant.0 lt (ap (λ (l : List ℕ). get_or l c.loop-at.at 0) c.as_slice.ensures.keys) c.in_ok-push_next-2.ensures,
+      search-more (is_next c.args.direction parts bills) c.args.start (next_parts c.args.direction parts bills)
+          (among-next_parts c.args.direction parts bills c.args.boms.now.numbered)
+          c.loop-at.seen.keys _ c.loop-at.at (get_or c.as_slice.result.now c.loop-at.at 0) c.loop-at.invariant.0 lt
+          (ap (λ (l : List ℕ). get_or l c.loop-at.at 0) c.as_slice.ensures.keys) c.in_ok-push_next-2.ensures,
       search rules,
     )
 
@@ -32,7 +35,8 @@ returns c =
     let parts = parts_of c.args.catalogue.now in
     let bills = bills_of c.args.boms.now in
     let low = c.loop-at.invariant.1 in
-    search-done (is_next c.args.direction parts bills) c.args.start (next_parts c.args.direction parts bills) (among-next_parts c.args.direction parts bills c.args.boms.now.numbered)
+    search-done (is_next c.args.direction parts bills) c.args.start (next_parts c.args.direction parts bills)
+    (among-next_parts c.args.direction parts bills c.args.boms.now.numbered)
     c.loop-at.seen.keys c.loop-at.at c.loop-at.invariant.0 (elim c.loop-at-test.branch [
       | else-loop-at-test w ↦ let end = w.loop-at-test.false in absurd (omega arith)
       | then-loop-at-test+then-at-len w ↦ let end : length c.loop-at.seen.keys ≤ c.loop-at.at = search rules in end

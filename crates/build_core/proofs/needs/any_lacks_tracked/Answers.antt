@@ -14,6 +14,8 @@ use Rattle.build_core.proofs.needs.any_lacks_tracked.Goals as goal
 pub returns : goal.returns
 returns c =
     let test = λ (l : Line). is_tracked (parts_of c.args.catalogue.now) l && not l.flags.optional
-    && is_below_need l c.args.build.now (Some c.args.output) (allocations_now c.args.allocations.now) (stock_of c.args.yard.now) in
-    any_from_yields_List (λ (l : Bor Line). test l.now) _ _ _ c.any.ensures.ran (YieldsList-from_slice c.args.lines.now cc) (λ x b q k. search (rules, tests))
+    && is_below_need l c.args.build.now (Some c.args.output) (allocations_now c.args.allocations.now)
+    (stock_of c.args.yard.now) in
+    any_from_yields_List (λ (l : Bor Line). test l.now) _ _ _ c.any.ensures.ran
+    (YieldsList-from_slice c.args.lines.now cc) (λ x b q k. search (rules, tests))
     ∙ any-seen test c.args.lines.now

@@ -15,5 +15,6 @@ pub returns : goal.returns
 returns c =
     let test = λ (l : Line). is_untracked (parts_of c.args.catalogue.now) l && not l.flags.optional
     && is_below_need l c.args.build.now None (allocations_now c.args.allocations.now) (stock_of c.args.yard.now) in
-    any_from_yields_List (λ (l : Bor Line). test l.now) _ _ _ c.any.ensures.ran (YieldsList-from_slice c.args.lines.now cc) (λ x b q k. search (rules, tests))
+    any_from_yields_List (λ (l : Bor Line). test l.now) _ _ _ c.any.ensures.ran
+    (YieldsList-from_slice c.args.lines.now cc) (λ x b q k. search (rules, tests))
     ∙ any-seen test c.args.lines.now

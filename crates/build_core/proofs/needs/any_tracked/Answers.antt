@@ -12,5 +12,6 @@ pub returns : goal.returns
 returns c =
     let parts = parts_of c.args.catalogue.now in
     let test = λ (l : Bor Line). is_tracked parts l.now in
-    any_from_yields_List test _ _ _ c.any.ensures.ran (YieldsList-from_slice c.args.lines.now cc) (λ x b q k. search (rules, tests))
+    any_from_yields_List test _ _ _ c.any.ensures.ran (YieldsList-from_slice c.args.lines.now cc)
+    (λ x b q k. search (rules, tests))
     ∙ any-seen (is_tracked parts) c.args.lines.now

@@ -11,9 +11,11 @@ use Rattle.build_core.proofs.shortage.shortages_of.Goals as goal
 
 pub returns : goal.returns
 returns c =
-    let row : Line → Shortage = shortage_of (parts_of c.args.catalogue.now) c.args.build.now (allocations_now c.args.allocations.now) in
+    let row : Line → Shortage =
+    shortage_of (parts_of c.args.catalogue.now) c.args.build.now (allocations_now c.args.allocations.now) in
     let counts : Line → Bool = λ l. not l.flags.consumable in
     IfOk-weaker c.rows_of.result _ _
     (λ rows h. h ∙ told-lent row counts c.as_slice.result.now
-    ∙ ap (λ (ls : List Line). map row (filter counts ls)) (ap (map (λ (l : Bor Line). l.now)) c.as_slice.ensures.value ∙ c.in_ok-lines.ensures))
+    ∙ ap (λ (ls : List Line). map row (filter counts ls))
+    (ap (map (λ (l : Bor Line). l.now)) c.as_slice.ensures.value ∙ c.in_ok-lines.ensures))
     c.rows_of.ensures

@@ -11,4 +11,6 @@ returns-in-Ok-clause-alone g c none honest =
     (subst (λ conn. IsCopied conn c.in-Ok.files) c.close.ensures (c.in-Ok.ensures.copied honest))
 
 pub returns-in-Ok-clause-quiet : goal.returns-in-Ok-clause-quiet
-returns-in-Ok-clause-quiet g c = let ok = c.in-Ok.ensures.ok in (ok.0, ok.1, subst (λ conn. IsClosed conn ok.0) c.close.ensures ok.2)
+returns-in-Ok-clause-quiet g c =
+    let ok = c.in-Ok.ensures.ok in
+    (ok.0, ok.1, subst (λ conn. IsClosed conn ok.0) c.close.ensures ok.2)

@@ -3,11 +3,13 @@ use Rattle.desk_app.proofs.Taking.{may_be_new}
 use Rattle.desk_app.proofs.file.make_desk.Goals as goal
 
 pub returns-in-Ok-clause-new : goal.returns-in-Ok-clause-new
-returns-in-Ok-clause-new g c = record { limits = c.args.limits; largest = c.requires.largest; state = c.in-Ok.ensures.new }
+returns-in-Ok-clause-new g c =
+    record { limits = c.args.limits; largest = c.requires.largest; state = c.in-Ok.ensures.new }
 
 pub returns-in-Err-clause-crash : goal.returns-in-Err-clause-crash
 returns-in-Err-clause-crash g c clean trees found =
     elim (c.in-Err.ensures.crash clean trees found) [
       | inl before ↦ inl before
-      | inr made ↦ inr (may_be_new c.args.limits c.requires.largest trees c.in-Err.fault c.from.result c.from.ensures made)
+      | inr made ↦
+          inr (may_be_new c.args.limits c.requires.largest trees c.in-Err.fault c.from.result c.from.ensures made)
     ]

@@ -9,7 +9,11 @@ pub returns-in_err-send-clause-stopped : goal.returns-in_err-send-clause-stopped
 returns-in_err-send-clause-stopped g c =
     let sent = rw c.as_bytes.ensures.value at c.in_err-send.ensures.front in
     let reading = import c.args.kind c.args.document.now c.args.day c.args.bytes.now in
-    if_err_as (λ stop. ImportStopped stop reading (g.W.Write.contents c.args.writer.now) (g.W.Write.contents c.send.new.writer) (g.B.Books.state_in c.args.books.now) (g.B.Books.state_in c.tell_import.new.books))
+    if_err_as
+    (λ stop. ImportStopped stop reading (g.W.Write.contents c.args.writer.now) (g.W.Write.contents c.send.new.writer)
+    (g.B.Books.state_in c.args.books.now) (g.B.Books.state_in c.tell_import.new.books))
     c.from_residual-in_err-send.result c.in_err-send.field-0.0 c.from_residual-in_err-send.ensures.1
-    (import_written c.in_err-send.field-0.0 reading (g.W.Write.contents c.args.writer.now) (g.W.Write.contents c.send.new.writer) (g.B.Books.state_in c.args.books.now) (g.B.Books.state_in c.tell_import.new.books)
+    (import_written c.in_err-send.field-0.0 reading (g.W.Write.contents c.args.writer.now)
+    (g.W.Write.contents c.send.new.writer)
+    (g.B.Books.state_in c.args.books.now) (g.B.Books.state_in c.tell_import.new.books)
     (string_bytes c.in_ok-told.told.text) c.in_ok-told.told.fine sent.1 sent.0 c.in_ok-told.ensures.ok sent.3)

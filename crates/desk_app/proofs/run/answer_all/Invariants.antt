@@ -5,7 +5,10 @@ use Rattle.desk_app.proofs.run.answer_all.Given as goal
 
 abbrev pub invariant-loop-number : goal.invariant-loop-number
 invariant-loop-number g l = record {
-  running : Running (g.R.Read.remaining l.initial.reader) (left (g.R.Read.remaining l.reader) l.lines) (g.W.Write.contents l.initial.writer) (g.W.Write.contents l.writer) (g.B.Books.state_in l.initial.books) (g.B.Books.state_in l.books) l.number l.all;
+  running :
+      Running (g.R.Read.remaining l.initial.reader) (left (g.R.Read.remaining l.reader) l.lines)
+      (g.W.Write.contents l.initial.writer) (g.W.Write.contents l.writer) (g.B.Books.state_in l.initial.books)
+      (g.B.Books.state_in l.books) l.number l.all;
   kept : g.B.Books.are_kept l.books;
   stays_open : g.B.Books.failure_of l.initial.books ≡ None → g.B.Books.failure_of l.books ≡ None;
 }

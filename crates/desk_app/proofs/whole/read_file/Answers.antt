@@ -10,13 +10,15 @@ returns-then-len-eq16777217-clause-bytes g c =
     let t = c.in_ok-take_read.ensures in
     let full : length c.take_read.new.bytes.items ≡ 16777217 = search rules in
     gathers_full (g.R.Read.remaining c.args.reader.now) _ c.take_read.new.bytes.items
-    (gathers_more (g.R.Read.remaining c.args.reader.now) _ (g.R.Read.remaining c.fill.new.reader) c.loop-bytes.bytes.items c.take_read.new.bytes.items (unread c.fill.new.self) (unread c.take_read.new.self)
+    (gathers_more (g.R.Read.remaining c.args.reader.now) _ (g.R.Read.remaining c.fill.new.reader)
+    c.loop-bytes.bytes.items c.take_read.new.bytes.items (unread c.fill.new.self) (unread c.take_read.new.self)
     i.gathers c.in_ok-fill.ensures.bytes t.bytes t.left)
     full
 
 pub returns-then-len-eq16777217-clause-imported : goal.returns-then-len-eq16777217-clause-imported
 returns-then-len-eq16777217-clause-imported g c =
-    imported_as_whole (g.R.Read.remaining c.args.reader.now) c.take_read.new.bytes.items (returns-then-len-eq16777217-clause-bytes g c)
+    imported_as_whole (g.R.Read.remaining c.args.reader.now) c.take_read.new.bytes.items
+    (returns-then-len-eq16777217-clause-bytes g c)
 
 pub loop-bytes-preserved : goal.loop-bytes-preserved
 loop-bytes-preserved g c =
@@ -24,14 +26,17 @@ loop-bytes-preserved g c =
     let t = c.in_ok-take_read.ensures in
     record {
       short = subst (λ v. length v ≤ 16777217) (sym t.bytes) (length-enough _);
-      gathers = gathers_more (g.R.Read.remaining c.args.reader.now) _ (g.R.Read.remaining c.fill.new.reader) c.loop-bytes.bytes.items c.take_read.new.bytes.items (unread c.fill.new.self) (unread c.take_read.new.self)
+      gathers =
+          gathers_more (g.R.Read.remaining c.args.reader.now) _ (g.R.Read.remaining c.fill.new.reader)
+          c.loop-bytes.bytes.items c.take_read.new.bytes.items (unread c.fill.new.self) (unread c.take_read.new.self)
           i.gathers c.in_ok-fill.ensures.bytes t.bytes t.left;
     }
 
 pub returns-clause-bytes : goal.returns-clause-bytes
 returns-clause-bytes g c =
     let i = c.loop-bytes.invariant in
-    gathers_end (g.R.Read.remaining c.args.reader.now) _ _ c.loop-bytes.bytes.items i.gathers c.in_ok-fill.ensures.bytes (c.in_ok-fill.ensures.end c.if-branch.false) i.short
+    gathers_end (g.R.Read.remaining c.args.reader.now) _ _ c.loop-bytes.bytes.items i.gathers c.in_ok-fill.ensures.bytes
+    (c.in_ok-fill.ensures.end c.if-branch.false) i.short
 
 pub returns-clause-imported : goal.returns-clause-imported
 returns-clause-imported g c =

@@ -12,20 +12,31 @@ returns c =
     let export = c.in_ok-export_command.ensures in
     let import = c.in_ok-import_command.ensures in
     let places : Places = record { reports = report.0; tables = export.0; kinds = import.0 } in
-    let quiet_is : app_of c.disable_help_subcommand.result ≡ on_top (λ shape. record shape { disable_help_subcommand = true }) (new_app (codes "invdesk")) =
+    let quiet_is : app_of c.disable_help_subcommand.result
+    ≡ on_top (λ shape. record shape { disable_help_subcommand = true }) (new_app (codes "invdesk")) =
     ap app_of_fields c.disable_help_subcommand.ensures
-    ∙ ap (on_top (λ shape. record shape { disable_help_subcommand = true })) (ap app_of_fields c.about.ensures ∙ c.new.ensures.app) in
+    ∙ ap (on_top (λ shape. record shape { disable_help_subcommand = true }))
+    (ap app_of_fields c.about.ensures ∙ c.new.ensures.app) in
     let top_is : app_of c.version.result ≡ top_line = ap app_of_fields c.version.ensures
     ∙ ap (on_top (λ shape. record shape { has_version = true })) quiet_is in
     let run : App = with_subcommand top_line run_line.top in
     let with_report : App = with_subcommand run (report_line report.0).top in
     let with_export : App = with_subcommand with_report (export_line export.0).top in
     let with_import : App = with_subcommand with_export (import_line import.0).top in
-    let one = line_added c.version.result c.in_ok-run_command.field-0 c.in_ok-subcommand.field-0 top_line run_line c.in_ok-subcommand.ensures refl top_is c.in_ok-run_command.ensures in
-    let two = line_added c.in_ok-subcommand.field-0 c.in_ok-report_command.field-0 c.in_ok-subcommand-2.field-0 run (report_line report.0) c.in_ok-subcommand-2.ensures refl one report.1 in
-    let three = line_added c.in_ok-subcommand-2.field-0 c.in_ok-export_command.field-0 c.in_ok-subcommand-3.field-0 with_report (export_line export.0) c.in_ok-subcommand-3.ensures refl two export.1 in
-    let four = line_added c.in_ok-subcommand-3.field-0 c.in_ok-import_command.field-0 c.in_ok-subcommand-4.field-0 with_export (import_line import.0) c.in_ok-subcommand-4.ensures refl three import.1 in
+    let one =
+    line_added c.version.result c.in_ok-run_command.field-0 c.in_ok-subcommand.field-0 top_line run_line
+    c.in_ok-subcommand.ensures refl top_is c.in_ok-run_command.ensures in
+    let two =
+    line_added c.in_ok-subcommand.field-0 c.in_ok-report_command.field-0 c.in_ok-subcommand-2.field-0 run
+    (report_line report.0) c.in_ok-subcommand-2.ensures refl one report.1 in
+    let three =
+    line_added c.in_ok-subcommand-2.field-0 c.in_ok-export_command.field-0 c.in_ok-subcommand-3.field-0 with_report
+    (export_line export.0) c.in_ok-subcommand-3.ensures refl two export.1 in
+    let four =
+    line_added c.in_ok-subcommand-3.field-0 c.in_ok-import_command.field-0 c.in_ok-subcommand-4.field-0 with_export
+    (import_line import.0) c.in_ok-subcommand-4.ensures refl three import.1 in
     IfOk-weaker c.subcommand-5.result _ _ (λ r added. (
       places,
-      line_added c.in_ok-subcommand-4.field-0 c.in_ok-serve_command.field-0 r with_import serve_line added refl four c.in_ok-serve_command.ensures,
+      line_added c.in_ok-subcommand-4.field-0 c.in_ok-serve_command.field-0 r with_import serve_line added refl four
+          c.in_ok-serve_command.ensures,
     )) c.subcommand-5.ensures

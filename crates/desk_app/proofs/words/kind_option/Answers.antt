@@ -12,7 +12,10 @@ returns c =
     record {
       rule = (
         names,
-        ap rule_of c.help.ensures ∙ rule_among c.option.result c.value_parser.result c.as_slice.result (option_rule (codes "kind")) c.value_parser.ensures.others given.0 given.1 given.2 c.option.ensures.rule,
+        ap rule_of c.help.ensures ∙ rule_among c.option.result c.value_parser.result c.as_slice.result
+            (option_rule (codes "kind")) c.value_parser.ensures.others given.0 given.1 given.2 c.option.ensures.rule,
       );
-      local = ap (λ (a : Arg). a.global) c.help.ensures ∙ (ap (λ (a : Arg). a.global) c.value_parser.ensures.others ∙ c.option.ensures.local);
+      local =
+          ap (λ (a : Arg). a.global) c.help.ensures
+          ∙ (ap (λ (a : Arg). a.global) c.value_parser.ensures.others ∙ c.option.ensures.local);
     }

@@ -4,7 +4,8 @@ use Rattle.desk_app.proofs.Parsed.{failed, free_line, parsed, refused}
 use Rattle.desk_app.proofs.words.parse.Goals as goal
 
 pub returns-in_err-command : goal.returns-in_err-command
-returns-in_err-command g c = refused (map g.S.AsStr.text c.args.words.now) c.from_residual.result c.from_residual.ensures.1
+returns-in_err-command g c =
+    refused (map g.S.AsStr.text c.args.words.now) c.from_residual.result c.from_residual.ensures.1
 
 pub returns-in_err-matches : goal.returns-in_err-matches
 returns-in_err-matches g c =

@@ -3,7 +3,8 @@ use Rattle.std.specs.Prelude.{◌≢◌}
 use Rattle.clap.specs.Words.{kind_of}
 use Rattle.clap.specs.declared.error.kind.ErrorKind.TheVariants.{OutOfMemory}
 use Rattle.desk_app.specs.Words.{IsShown, faults}
-use Rattle.desk_app.proofs.Faulty.{found, no_run, is_help, is_version, not_free, versions_not_free, shown_remembers, run_is_task}
+use Rattle.desk_app.proofs.Faulty.{found, no_run, is_help, is_version, not_free}
+use Rattle.desk_app.proofs.Faulty.{versions_not_free, shown_remembers, run_is_task}
 use Rattle.desk_app.proofs.RunOn.{no_run_on, no_run_with, run_on_task, run_with_task}
 use Rattle.desk_app.proofs.Told.{told_answers, told_runs, told_runs_on}
 use Rattle.desk_app.proofs.words.read_words.Goals as goal
@@ -15,8 +16,12 @@ returns-in-Ok g c =
     record {
       answers = (p.places, told_answers p.places words _ c.told_by.result p.fails p.desk_task c.told_by.ensures);
       runs = λ h. told_runs _ c.told_by.result (p.desk_task ∙ run_is_task p.places words h) c.told_by.ensures;
-      runs_on = λ name file h. told_runs_on file _ c.told_by.result (p.desk_task ∙ run_on_task p.places words name file h) c.told_by.ensures;
-      runs_with = λ name file path h. told_runs_on file _ c.told_by.result (p.desk_task ∙ run_with_task p.places words name file path h) c.told_by.ensures;
+      runs_on =
+          λ name file h.
+          told_runs_on file _ c.told_by.result (p.desk_task ∙ run_on_task p.places words name file h) c.told_by.ensures;
+      runs_with =
+          λ name file path h. told_runs_on file _ c.told_by.result
+          (p.desk_task ∙ run_with_task p.places words name file path h) c.told_by.ensures;
       helps = λ h. absurd (not_free p.places words p.fails h);
       versions = λ h. absurd (versions_not_free p.places words p.fails h);
     }

@@ -9,13 +9,25 @@ use Rattle.desk_app.proofs.words.serve_command.Goals as goal
 
 pub returns : goal.returns
 returns c =
-    let line_is : app_of c.after_help.result ≡ new_app (codes "serve") = ap app_of_fields c.after_help.ensures ∙ ap app_of_fields c.about.ensures ∙ c.new.ensures.app in
-    let port_is : rule_of c.help-port.result ≡ option_rule (codes "port") = ap rule_of c.help-port.ensures ∙ c.option.ensures.rule in
-    let port_local : c.help-port.result.global ≡ false = ap (λ (a : Arg). a.global) c.help-port.ensures ∙ c.option.ensures.local in
-    let count_is : rule_of c.help-count.result ≡ option_rule (codes "count") = ap rule_of c.help-count.ensures ∙ c.option-2.ensures.rule in
-    let count_local : c.help-count.result.global ≡ false = ap (λ (a : Arg). a.global) c.help-count.ensures ∙ c.option-2.ensures.local in
+    let line_is : app_of c.after_help.result ≡ new_app (codes "serve") =
+    ap app_of_fields c.after_help.ensures ∙ ap app_of_fields c.about.ensures ∙ c.new.ensures.app in
+    let port_is : rule_of c.help-port.result ≡ option_rule (codes "port") =
+    ap rule_of c.help-port.ensures ∙ c.option.ensures.rule in
+    let port_local : c.help-port.result.global ≡ false =
+    ap (λ (a : Arg). a.global) c.help-port.ensures ∙ c.option.ensures.local in
+    let count_is : rule_of c.help-count.result ≡ option_rule (codes "count") =
+    ap rule_of c.help-count.ensures ∙ c.option-2.ensures.rule in
+    let count_local : c.help-count.result.global ≡ false =
+    ap (λ (a : Arg). a.global) c.help-count.ensures ∙ c.option-2.ensures.local in
     let one : App = with_rule (new_app (codes "serve")) file_rule in
     let two : App = with_rule one (option_rule (codes "port")) in
-    let one_is = rule_added c.after_help.result c.file.result c.in_ok-arg.field-0 (new_app (codes "serve")) file_rule c.in_ok-arg.ensures c.file.ensures.local line_is c.file.ensures.rule in
-    let two_is = rule_added c.in_ok-arg.field-0 c.help-port.result c.in_ok-arg-2.field-0 one (option_rule (codes "port")) c.in_ok-arg-2.ensures port_local one_is port_is in
-    IfOk-weaker c.arg-3.result _ _ (λ r added. rule_added c.in_ok-arg-2.field-0 c.help-count.result r two (option_rule (codes "count")) added count_local two_is count_is) c.arg-3.ensures
+    let one_is =
+    rule_added c.after_help.result c.file.result c.in_ok-arg.field-0 (new_app (codes "serve")) file_rule
+    c.in_ok-arg.ensures c.file.ensures.local line_is c.file.ensures.rule in
+    let two_is =
+    rule_added c.in_ok-arg.field-0 c.help-port.result c.in_ok-arg-2.field-0 one (option_rule (codes "port"))
+    c.in_ok-arg-2.ensures port_local one_is port_is in
+    IfOk-weaker c.arg-3.result _ _
+    (λ r added. rule_added c.in_ok-arg-2.field-0 c.help-count.result r two (option_rule (codes "count")) added
+    count_local two_is count_is)
+    c.arg-3.ensures

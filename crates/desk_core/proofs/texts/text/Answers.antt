@@ -10,4 +10,5 @@ returns g c =
     let forms = g.C.Formed.forms_of in
     let verb = g.C.Formed.verb_of c.args.command.now in
     let fields = g.C.Formed.fields_of c.args.command.now in
-    IfOk-map c.to_string.result c.to_string.ensures.text (λ text e. e (ap has_float same ∙ data_float forms verb fields) ∙ ap compact_text same)
+    IfOk-map c.to_string.result c.to_string.ensures.text
+    (λ text e. e (ap has_float same ∙ data_float forms verb fields) ∙ ap compact_text same)

@@ -5,4 +5,6 @@ use Rattle.desk_http.specs.Plans.{is_named}
 use Rattle.desk_http.proofs.body_length.has_field.Given as goal
 
 abbrev pub invariant-loop-span : goal.invariant-loop-span
-invariant-loop-span l = list_any (is_named l.name) (map (header_bytes l.head) l.spans) ≡ list_any (is_named l.name) (map (header_bytes l.head) (drop l.span-index l.spans))
+invariant-loop-span l =
+    list_any (is_named l.name) (map (header_bytes l.head) l.spans)
+    ≡ list_any (is_named l.name) (map (header_bytes l.head) (drop l.span-index l.spans))

@@ -4,4 +4,15 @@ use Rattle.desk_http.proofs.response.statuses_are_named.Goals as goal
 
 pub returns : goal.returns
 unfolding digits
-returns c = record { ok = refl; bad_request = refl; not_found = refl; not_allowed = refl; conflict = refl; length_required = refl; body_too_large = refl; head_too_large = refl; server_error = refl; unavailable = refl }
+returns c = record {
+  ok = refl;
+  bad_request = refl;
+  not_found = refl;
+  not_allowed = refl;
+  conflict = refl;
+  length_required = refl;
+  body_too_large = refl;
+  head_too_large = refl;
+  server_error = refl;
+  unavailable = refl;
+}

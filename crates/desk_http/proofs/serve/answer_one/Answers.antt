@@ -13,9 +13,12 @@ returns-in-TooLong-clause-serves g c =
     let rest = g.R.Read.remaining c.receive_head.new.reader in
     let bytes = c.receive_head.new.bytes.items in
     moved performs (IsReceivedFrom TooLong (all_of rest bytes)) (IsReceived first)
-    (is_of_all first rest bytes TooLong (rw c.new-bytes.ensures.items at c.in_ok-receive_head.ensures.bytes) (rw c.in-TooLong.is at c.in_ok-receive_head.ensures.head))
-    c.args.service.now c.args.service.now (g.W.Write.contents c.args.writer.now) (g.W.Write.contents c.reject.new.writer) c.reject.result
-    (rejected performs (IsReceivedFrom TooLong (all_of rest bytes)) HeadTooLarge c.args.service.now (g.W.Write.contents c.args.writer.now) (g.W.Write.contents c.reject.new.writer) c.reject.result
+    (is_of_all first rest bytes TooLong (rw c.new-bytes.ensures.items at c.in_ok-receive_head.ensures.bytes)
+    (rw c.in-TooLong.is at c.in_ok-receive_head.ensures.head))
+    c.args.service.now c.args.service.now (g.W.Write.contents c.args.writer.now)
+    (g.W.Write.contents c.reject.new.writer) c.reject.result
+    (rejected performs (IsReceivedFrom TooLong (all_of rest bytes)) HeadTooLarge c.args.service.now
+    (g.W.Write.contents c.args.writer.now) (g.W.Write.contents c.reject.new.writer) c.reject.result
     (is_too_long (all_of rest bytes)) c.reject.ensures)
 
 pub returns-clause-serves : goal.returns-clause-serves
@@ -25,6 +28,8 @@ returns-clause-serves g c =
     let rest = g.R.Read.remaining c.receive_head.new.reader in
     let bytes = c.receive_head.new.bytes.items in
     moved performs (IsReceivedFrom (Head c.in-Head.n) (all_of rest bytes)) (IsReceived first)
-    (is_of_all first rest bytes (Head c.in-Head.n) (rw c.new-bytes.ensures.items at c.in_ok-receive_head.ensures.bytes) (rw c.in-Head.is at c.in_ok-receive_head.ensures.head))
-    c.args.service.now c.serve_head.new.service (g.W.Write.contents c.args.writer.now) (g.W.Write.contents c.serve_head.new.writer) c.serve_head.result
+    (is_of_all first rest bytes (Head c.in-Head.n) (rw c.new-bytes.ensures.items at c.in_ok-receive_head.ensures.bytes)
+    (rw c.in-Head.is at c.in_ok-receive_head.ensures.head))
+    c.args.service.now c.serve_head.new.service (g.W.Write.contents c.args.writer.now)
+    (g.W.Write.contents c.serve_head.new.writer) c.serve_head.result
     c.serve_head.ensures.serves

@@ -5,4 +5,6 @@ use Rattle.desk_store.proofs.export.write_meta.Goals as goal
 pub returns : goal.returns
 returns c =
     let told = c.as_slice.ensures.value ∙ c.in_ok-columns.ensures.columns in
-    subst (λ fields. OnOk c.write_columns.result (WritesLines c.args.writer.now c.write_columns.new.writer (row_line fields))) told c.write_columns.ensures
+    subst
+    (λ fields. OnOk c.write_columns.result (WritesLines c.args.writer.now c.write_columns.new.writer (row_line fields)))
+    told c.write_columns.ensures

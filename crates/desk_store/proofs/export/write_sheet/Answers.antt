@@ -7,4 +7,6 @@ pub returns : goal.returns
 returns g c =
     let writer = c.args.writer.now in
     let told = ap (map (λ (row : Bor _). row.now)) c.as_slice.ensures.value ∙ c.in_ok-rows.ensures in
-    subst (λ rows. OnOk c.write_rows.result (WritesLines writer c.write_rows.new.writer (lines_of g.R.Stored.columns_of rows))) told c.write_rows.ensures
+    subst (λ rows.
+    OnOk c.write_rows.result (WritesLines writer c.write_rows.new.writer (lines_of g.R.Stored.columns_of rows)))
+    told c.write_rows.ensures

@@ -16,8 +16,12 @@ returns-in-Err g c =
     let trees = old.now.trees in
     record {
       gives = λ clean. tt;
-      why = λ clean. subst (WhyUnread trees) (sym c.from.ensures) (why-broken trees Kept c.in-Err.fault c.in-Err.ensures.fault (c.in-Err.ensures.none clean) c.in-Err.ensures.named);
+      why =
+          λ clean. subst (WhyUnread trees) (sym c.from.ensures)
+          (why-broken trees Kept c.in-Err.fault c.in-Err.ensures.fault (c.in-Err.ensures.none clean)
+          c.in-Err.ensures.named);
       same = λ clean. tt;
-      failed = λ clean. may_undo old (state g.S.Store c.load_kept.new.conn) c.in-Err.fault (c.in-Err.ensures.failed clean);
+      failed =
+          λ clean. may_undo old (state g.S.Store c.load_kept.new.conn) c.in-Err.fault (c.in-Err.ensures.failed clean);
       crash = c.load_kept.ensures.crash;
     }

@@ -11,6 +11,10 @@ pub returns-in-None-clause-row : goal.returns-in-None-clause-row
 returns-in-None-clause-row g c =
     let a = state g.S.Store c.args.conn.now in
     let b = state g.S.Store c.load_meta.new.conn in
-    reads-why (λ trees found. IsMetaRow trees found.0) (WhyBut IsOfOtherVersion) a b (Damaged None) (has-read IsMetaRow (WhyBut IsOfOtherVersion) a b c.in_ok-row.row c.in_ok-row.ensures) (λ clean.
-    let row = c.in_ok-row.ensures.gives clean in
-    (no_limits a.now.trees c.in_ok-row.row row (λ fits. true≢false (sym (c.in-None.ensures.fits.1 fits))), tt, row.this))
+    reads-why (λ trees found. IsMetaRow trees found.0) (WhyBut IsOfOtherVersion) a b (Damaged None)
+    (has-read IsMetaRow (WhyBut IsOfOtherVersion) a b c.in_ok-row.row c.in_ok-row.ensures) (λ clean.
+    let row = c.in_ok-row.ensures.gives clean in (
+      no_limits a.now.trees c.in_ok-row.row row (λ fits. true≢false (sym (c.in-None.ensures.fits.1 fits))),
+      tt,
+      row.this,
+    ))

@@ -15,8 +15,11 @@ use Rattle.desk_store.proofs.load.load_meta.Goals as goal
 pub returns-in-Ok : goal.returns-in-Ok
 returns-in-Ok g c =
     let old = state g.S.Store c.args.conn.now in
-    meta-read old (state g.S.Store c.load_sheet.new.conn) c.as_slice.result.now (record { same = c.in-Ok.ensures.same; crash = c.load_sheet.ensures.crash })
-    (λ clean. subst (λ (rows : List MetaRow). AreTheRows meta_from meta_columns (λ row. row.one ∷ []) Meta (old.now.trees (position Meta)) rows) (sym c.as_slice.ensures.value)
+    meta-read old (state g.S.Store c.load_sheet.new.conn) c.as_slice.result.now
+    (record { same = c.in-Ok.ensures.same; crash = c.load_sheet.ensures.crash })
+    (λ clean. subst (λ (rows : List MetaRow).
+    AreTheRows meta_from meta_columns (λ row. row.one ∷ []) Meta (old.now.trees (position Meta)) rows)
+    (sym c.as_slice.ensures.value)
     (record { loaded = c.in-Ok.ensures.loaded clean; its = c.in-Ok.ensures.rows clean number_digits meta-suits }))
     c.meta_in.result c.meta_in.ensures.alone c.meta_in.ensures.one c.meta_in.ensures.version c.meta_in.ensures.why
 
@@ -26,7 +29,9 @@ returns-in-Err g c =
     let new = state g.S.Store c.load_sheet.new.conn in
     record {
       gives = λ clean. tt;
-      why = λ clean. subst (WhyBut IsOfOtherVersion old.now.trees) (sym c.from.ensures) (meta-unread old new c.in-Err.fault (c.in-Err.ensures.failed clean) c.in-Err.ensures.named);
+      why =
+          λ clean. subst (WhyBut IsOfOtherVersion old.now.trees) (sym c.from.ensures)
+          (meta-unread old new c.in-Err.fault (c.in-Err.ensures.failed clean) c.in-Err.ensures.named);
       same = λ clean. tt;
       failed = λ clean. fails_to_load meta_from Meta old new c.in-Err.fault (c.in-Err.ensures.failed clean);
       crash = c.load_sheet.ensures.crash;

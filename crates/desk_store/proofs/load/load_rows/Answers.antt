@@ -15,9 +15,13 @@ returns-in-Err g c =
       gives = λ clean. tt;
       why = λ clean.
           subst (WhyUnread trees) (sym c.from.ensures)
-          (why-broken trees c.args.table c.in-Err.fault (of-reading g.R.Stored.row_from c.args.table old new c.in-Err.fault (c.in-Err.ensures.failed clean))
-          (λ bad. c.requires.breaks trees (c.in-Err.ensures.none clean number_digits c.requires.suits bad)) c.in-Err.ensures.named);
+          (why-broken trees c.args.table c.in-Err.fault
+          (of-reading g.R.Stored.row_from c.args.table old new c.in-Err.fault (c.in-Err.ensures.failed clean))
+          (λ bad. c.requires.breaks trees (c.in-Err.ensures.none clean number_digits c.requires.suits bad))
+          c.in-Err.ensures.named);
       same = λ clean. tt;
-      failed = λ clean. fails_to_load g.R.Stored.row_from c.args.table old new c.in-Err.fault (c.in-Err.ensures.failed clean);
+      failed =
+          λ clean.
+          fails_to_load g.R.Stored.row_from c.args.table old new c.in-Err.fault (c.in-Err.ensures.failed clean);
       crash = c.load_sheet.ensures.crash;
     }

@@ -12,7 +12,9 @@ returns-in_ok-rollback-in-Err-Memory-clause-memory g c clean same =
     let d2 = state g.S.Store c.rollback.new.conn in
     let clean1 : HasCleanDisk d1 = omega (arith, clean, c.rollback.ensures.crash.clean) in
     let clean0 : HasCleanDisk d0 = omega (arith, clean1, c.write.ensures.crash.clean) in
-    undone (state_before c.args.shop.now) d0 d1 d2 (λ db up may. g.met.S.Store.settled c.rollback.new.conn.store db up may) (c.requires.books clean0) (c.in-Err-Memory.ensures.commit clean1)
+    undone (state_before c.args.shop.now) d0 d1 d2
+    (λ db up may. g.met.S.Store.settled c.rollback.new.conn.store db up may) (c.requires.books clean0)
+    (c.in-Err-Memory.ensures.commit clean1)
     (c.rollback.ensures.back clean) (c.in_ok-rollback-in-Err-Memory.ensures.open clean)
 
 pub returns-in_err-rollback-in-Err-Memory-clause-free : goal.returns-in_err-rollback-in-Err-Memory-clause-free

@@ -16,17 +16,20 @@ pub write_kept-requires-clause-ready : goal.write_kept-requires-clause-ready
 write_kept-requires-clause-ready g c clean = (c.requires.under_way clean).ready
 
 pub write_kept-requires-clause-own : goal.write_kept-requires-clause-own
-write_kept-requires-clause-own g c = own_words c.answers.result.now c.args.shop.now.answers c.answers.ensures c.requires.follows.after.answers
+write_kept-requires-clause-own g c =
+    own_words c.answers.result.now c.args.shop.now.answers c.answers.ensures c.requires.follows.after.answers
 
 pub write_kept-requires-clause-small : goal.write_kept-requires-clause-small
 write_kept-requires-clause-small g c = small_answers _
 
 pub write_kept-requires-clause-added : goal.write_kept-requires-clause-added
-write_kept-requires-clause-added g c = answers_stay c.answers.result.now c.args.shop.now.answers c.answers.ensures c.requires.follows.stays.answers
+write_kept-requires-clause-added g c =
+    answers_stay c.answers.result.now c.args.shop.now.answers c.answers.ensures c.requires.follows.stays.answers
 
 pub write_kept-requires-clause-before : goal.write_kept-requires-clause-before
 write_kept-requires-clause-before g c clean =
-    before_there c.answers.result.now c.args.shop.now.answers c.answers.ensures (tree_of Kept (state g.S.Store c.args.conn.now)) ((c.requires.under_way clean).midway.left Kept (omega arith))
+    before_there c.answers.result.now c.args.shop.now.answers c.answers.ensures
+    (tree_of Kept (state g.S.Store c.args.conn.now)) ((c.requires.under_way clean).midway.left Kept (omega arith))
 
 pub returns : goal.returns
 returns g c =
@@ -37,7 +40,9 @@ returns g c =
     record {
       under_way = λ clean.
           let clean0 : HasCleanDisk d = omega (arith, clean, c.write_kept.ensures.crash.clean) in
-          both_ok c.write_kept.result (λ set written. one_written old new Kept d e (c.requires.under_way clean0) set (now_there c.answers.result.now c.args.shop.now.answers c.answers.ensures (tree_of Kept e) written))
+          both_ok c.write_kept.result
+          (λ set written. one_written old new Kept d e (c.requires.under_way clean0) set
+          (now_there c.answers.result.now c.args.shop.now.answers c.answers.ensures (tree_of Kept e) written))
           (c.write_kept.ensures.set clean) (c.write_kept.ensures.written clean);
       commit = c.write_kept.ensures.commit;
       fault = c.write_kept.ensures.fault;

@@ -20,7 +20,8 @@ pub write_row-requires-clause-ready : goal.write_row-requires-clause-ready
 write_row-requires-clause-ready g c clean = (c.requires.under_way clean).ready
 
 pub write_row-requires-clause-small : goal.write_row-requires-clause-small
-write_row-requires-clause-small g c = subst (λ (m : MetaRow). All IsSmall (meta_columns m)) (sym c.of.ensures) c.requires.follows.counted
+write_row-requires-clause-small g c =
+    subst (λ (m : MetaRow). All IsSmall (meta_columns m)) (sym c.of.ensures) c.requires.follows.counted
 
 pub returns : goal.returns
 returns g c =
@@ -32,9 +33,15 @@ returns g c =
       under_way = λ clean.
           let clean0 : HasCleanDisk d = omega (arith, clean, c.write_row.ensures.crash.clean) in
           let way = c.requires.under_way clean0 in
-          both_ok c.write_row.result (λ set put. one_written old new Meta d e way set (meta_there (tree_of Meta e) old new c.of.result c.of.ensures put))
-          (c.write_row.ensures.set clean) (c.write_row.ensures.put clean (only (meta_of old)) (own_meta (meta_of old)) (way.midway.left Meta (omega arith)));
-      commit = λ clean. keeps_row Meta d e c.write_row.result (c.write_row.ensures.set clean) (c.write_row.ensures.failed clean);
+          both_ok c.write_row.result
+          (λ set put.
+          one_written old new Meta d e way set (meta_there (tree_of Meta e) old new c.of.result c.of.ensures put))
+          (c.write_row.ensures.set clean)
+          (c.write_row.ensures.put clean (only (meta_of old)) (own_meta (meta_of old))
+          (way.midway.left Meta (omega arith)));
+      commit =
+          λ clean.
+          keeps_row Meta d e c.write_row.result (c.write_row.ensures.set clean) (c.write_row.ensures.failed clean);
       fault = c.write_row.ensures.fault;
       crash = c.write_row.ensures.crash;
     }

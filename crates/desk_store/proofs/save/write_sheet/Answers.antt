@@ -23,7 +23,8 @@ write_pending-requires-clause-stays g c = c.requires.sheet.stays
 
 pub write_pending-requires-clause-before : goal.write_pending-requires-clause-before
 write_pending-requires-clause-before g c clean =
-    c.requires.sheet.was (tree_of c.args.table (state g.S.Store c.args.conn.now)) ((c.requires.under_way clean).midway.left c.args.table (omega arith))
+    c.requires.sheet.was (tree_of c.args.table (state g.S.Store c.args.conn.now))
+    ((c.requires.under_way clean).midway.left c.args.table (omega arith))
 
 pub returns : goal.returns
 returns g c =
@@ -34,7 +35,9 @@ returns g c =
     record {
       under_way = λ clean.
           let clean0 : HasCleanDisk d = omega (arith, clean, c.write_pending.ensures.crash.clean) in
-          both_ok c.write_pending.result (λ set written. one_written old new c.args.table d e (c.requires.under_way clean0) set (c.requires.sheet.is (tree_of c.args.table e) written))
+          both_ok c.write_pending.result
+          (λ set written. one_written old new c.args.table d e (c.requires.under_way clean0) set
+          (c.requires.sheet.is (tree_of c.args.table e) written))
           (c.write_pending.ensures.set clean) (c.write_pending.ensures.written clean);
       commit = c.write_pending.ensures.commit;
       fault = c.write_pending.ensures.fault;

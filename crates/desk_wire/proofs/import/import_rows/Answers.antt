@@ -8,4 +8,5 @@ pub returns-in-Err-Wrong : goal.returns-in-Err-Wrong
 returns-in-Err-Wrong c =
     let fits : nat_le (length c.args.bytes.now) 16777216 ≡ true = grind (arith, nat_tests) in
     let (bad, rest, e, h, is) = rw c.in-Err-Wrong.field-0-is at c.in-Err-Wrong.ensures in
-    import-untold c.args.kind c.args.document.now c.args.day c.args.bytes.now (left c.records_of-reader.result) bad rest fits c.records_of-reader.ensures.left e h
+    import-untold c.args.kind c.args.document.now c.args.day c.args.bytes.now (left c.records_of-reader.result) bad rest
+    fits c.records_of-reader.ensures.left e h

@@ -18,9 +18,11 @@ returns c =
     let second : iter_rest (zip_second start) ≡ outcomes = search rules in
     let front = Zip-so_far c.loop-number.yielded start c.loop-number.number-iterator c.loop-number.yielded_by in
     let none : c.next.result ≡ None = cc in
-    let ended = either_empty_from_Zip c.loop-number.number-iterator c.next.new.self c.next.result none c.next.ensures.steps in
+    let ended =
+    either_empty_from_Zip c.loop-number.number-iterator c.next.new.self c.next.result none c.next.ensures.steps in
     let left : (drop n numbers ≡ []) ⊎ (drop n outcomes ≡ []) = elim ended [
       | inl e ↦ inl (sym (front.0 ∙ ap (drop n) first) ∙ e)
       | inr e ↦ inr (sym (front.1 ∙ ap (drop n) second) ∙ e)
     ] in
-    all-told (drop n numbers) (drop n outcomes) (import_text numbers outcomes) (string_bytes c.loop-number.text) left c.loop-number.invariant
+    all-told (drop n numbers) (drop n outcomes) (import_text numbers outcomes) (string_bytes c.loop-number.text) left
+    c.loop-number.invariant

@@ -22,7 +22,9 @@ returns-clause-places g c =
     let h : Held g.row.R.Denot = record { row = Some c.args.row; before = Some None } in
     let none = sym (find-lookup digits _ g.met.R.Key.RowKey.exact es c.args.key) ∙ c.requires.absent in
     let is = c.in_ok-insert.ensures.entries ∙ insert_entry-new _ c.args.slots.now c.args.key h none in
-    rw (is, c.push_within.ensures.items, c.len-i.ensures.len) (places-added digits es c.args.key h c.requires.distinct c.requires.absent c.args.changed.now.items c.requires.places refl)
+    rw (is, c.push_within.ensures.items, c.len-i.ensures.len)
+    (places-added digits es c.args.key h c.requires.distinct c.requires.absent c.args.changed.now.items
+    c.requires.places refl)
 
 pub returns-clause-rows : goal.returns-clause-rows
 returns-clause-rows g c =

@@ -15,12 +15,18 @@ returns-then-had_row g c =
     let w = c.restore.new.held in
     let s = slot_of_value digits es c.args.i h c.index_mut.ensures.value in
     let same = same_held _ _ (sym c.index.ensures ∙ c.index_mut.ensures.value) in
-    let had : is_some (row_before h) ≡ true = subst (λ (x : Held g.row.R.Denot). is_some (row_before x) ≡ true) same (sym c.had_row.ensures ∙ c.if-had_row.true) in
+    let had : is_some (row_before h) ≡ true =
+    subst (λ (x : Held g.row.R.Denot). is_some (row_before x) ≡ true) same
+    (sym c.had_row.ensures ∙ c.if-had_row.true) in
     record {
       distinct = distinct-written digits es c.args.i s.0 h w s.1 c.requires.distinct;
-      used = used-written digits es c.args.i s.0 h w s.1 (used-row w.row w.before (ap is_some c.restore.ensures.now ∙ had)) c.requires.used;
+      used =
+          used-written digits es c.args.i s.0 h w s.1 (used-row w.row w.before (ap is_some c.restore.ensures.now ∙ had))
+          c.requires.used;
       noted = unnoted-written digits es c.args.i s.0 h w s.1 (ap noted c.restore.ensures.before);
-      before = rows-same digits es c.args.i s.0 h w s.1 c.requires.distinct row_before (ap (λ b. first_of b w.row) c.restore.ensures.before ∙ c.restore.ensures.now);
+      before =
+          rows-same digits es c.args.i s.0 h w s.1 c.requires.distinct row_before
+          (ap (λ b. first_of b w.row) c.restore.ensures.before ∙ c.restore.ensures.now);
     }
 
 pub returns-else-had_row : goal.returns-else-had_row
@@ -34,5 +40,7 @@ returns-else-had_row g c =
       distinct = distinct-taken (slots_of digits es) _ s.0 h c.requires.distinct moved;
       used = used-taken (slots_of digits es) _ s.0 h moved c.requires.used;
       noted = c.take_out.ensures.noted;
-      before = table-taken (slots_of digits es) _ s.0 h c.requires.distinct moved row_before (none_is (row_before h) (sym c.had_row.ensures ∙ c.if-had_row.false));
+      before =
+          table-taken (slots_of digits es) _ s.0 h c.requires.distinct moved row_before
+          (none_is (row_before h) (sym c.had_row.ensures ∙ c.if-had_row.false));
     }

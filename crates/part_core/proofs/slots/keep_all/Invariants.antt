@@ -12,7 +12,9 @@ invariant-loop-i g l =
       used : AreUsed (slots_of g.R.Key.RowKey.digits l.slots.entries);
       places : ArePlaces l.changed.items (slots_of g.R.Key.RowKey.digits l.slots.entries);
       up : IsNonDecreasing l.changed.items;
-      rows : table_by now_row (slots_of g.R.Key.RowKey.digits l.slots.entries) ≡ table_by now_row (slots_of g.R.Key.RowKey.digits l.fn.slots.entries);
+      rows :
+          table_by now_row (slots_of g.R.Key.RowKey.digits l.slots.entries)
+          ≡ table_by now_row (slots_of g.R.Key.RowKey.digits l.fn.slots.entries);
     }
 
 abbrev pub decreases-loop-i : goal.decreases-loop-i

@@ -15,7 +15,8 @@ returns-then-is_some g c =
     let w : Held g.row.R.Denot = record { row = h.row; before = None } in
     let s = slot_of_value digits es c.args.i h c.index_mut-held.ensures.value in
     let same = same_held _ _ (sym c.index.ensures ∙ c.index_mut-held.ensures.value) in
-    let some : is_some h.row ≡ true = subst (λ (x : Held g.row.R.Denot). is_some x.row ≡ true) same (sym c.is_some.ensures ∙ c.if-is_some.true) in
+    let some : is_some h.row ≡ true =
+    subst (λ (x : Held g.row.R.Denot). is_some x.row ≡ true) same (sym c.is_some.ensures ∙ c.if-is_some.true) in
     record {
       distinct = distinct-written digits es c.args.i s.0 h w s.1 c.requires.distinct;
       used = used-written digits es c.args.i s.0 h w s.1 (used-row h.row None some) c.requires.used;
@@ -34,5 +35,7 @@ returns-else-is_some g c =
       distinct = distinct-taken (slots_of digits es) _ s.0 h c.requires.distinct moved;
       used = used-taken (slots_of digits es) _ s.0 h moved c.requires.used;
       noted = c.take_out.ensures.noted;
-      rows = table-taken (slots_of digits es) _ s.0 h c.requires.distinct moved now_row (none_is h.row (sym c.is_some.ensures ∙ c.if-is_some.false));
+      rows =
+          table-taken (slots_of digits es) _ s.0 h c.requires.distinct moved now_row
+          (none_is h.row (sym c.is_some.ensures ∙ c.if-is_some.false));
     }

@@ -21,14 +21,16 @@ returns-then-is_none-clause-places g c =
     let es = c.args.slots.now.entries in
     let s = slot_of_value digits es c.args.i c.index_mut-held.result.now c.index_mut-held.ensures.value in
     rw c.push_within.ensures.items
-    (places-pushed digits es c.args.i s.0 c.index_mut-held.result.now _ s.1 c.args.changed.now.items c.requires.places (newly_noted c.index_mut-held.result.now.before c.is_none.result c.is_none.ensures c.if-is_none.true) refl)
+    (places-pushed digits es c.args.i s.0 c.index_mut-held.result.now _ s.1 c.args.changed.now.items c.requires.places
+    (newly_noted c.index_mut-held.result.now.before c.is_none.result c.is_none.ensures c.if-is_none.true) refl)
 
 pub returns-then-is_none-clause-rows : goal.returns-then-is_none-clause-rows
 returns-then-is_none-clause-rows g c k key =
     let digits = g.R.Key.RowKey.digits in
     let es = c.args.slots.now.entries in
     let at = slot_of_key digits es c.args.i k c.index_mut-held.result.now c.index_mut-held.ensures.value key in
-    rows-written digits es c.args.i k c.index_mut-held.result.now _ at c.requires.distinct now_row ∙ ap (λ o. given k o (table_by now_row (slots_of digits es))) c.replace-before.ensures.after
+    rows-written digits es c.args.i k c.index_mut-held.result.now _ at c.requires.distinct now_row
+    ∙ ap (λ o. given k o (table_by now_row (slots_of digits es))) c.replace-before.ensures.after
 
 pub returns-then-is_none-clause-before : goal.returns-then-is_none-clause-before
 returns-then-is_none-clause-before g c =
@@ -36,14 +38,17 @@ returns-then-is_none-clause-before g c =
     let es = c.args.slots.now.entries in
     let s = slot_of_value digits es c.args.i c.index_mut-held.result.now c.index_mut-held.ensures.value in
     rows-same digits es c.args.i s.0 c.index_mut-held.result.now _ s.1 c.requires.distinct row_before
-    (c.replace-before.ensures.value ∙ sym (before-newly c.index_mut-held.result.now.before c.index_mut-held.result.now.row c.is_none.result c.is_none.ensures c.if-is_none.true))
+    (c.replace-before.ensures.value ∙ sym
+    (before-newly c.index_mut-held.result.now.before c.index_mut-held.result.now.row c.is_none.result c.is_none.ensures
+    c.if-is_none.true))
 
 pub returns-then-is_none-clause-had : goal.returns-then-is_none-clause-had
 returns-then-is_none-clause-had g c k key =
     let digits = g.R.Key.RowKey.digits in
     let es = c.args.slots.now.entries in
     let at = slot_of_key digits es c.args.i k c.index_mut-held.result.now c.index_mut-held.ensures.value key in
-    c.is_some-had.ensures ∙ sym (ap is_some (get-slot now_row (slots_of digits es) c.args.i k c.index_mut-held.result.now c.requires.distinct at))
+    c.is_some-had.ensures ∙ sym
+    (ap is_some (get-slot now_row (slots_of digits es) c.args.i k c.index_mut-held.result.now c.requires.distinct at))
 
 pub returns-else-is_none-clause-distinct : goal.returns-else-is_none-clause-distinct
 returns-else-is_none-clause-distinct g c =
@@ -64,7 +69,8 @@ returns-else-is_none-clause-rows g c k key =
     let digits = g.R.Key.RowKey.digits in
     let es = c.args.slots.now.entries in
     let at = slot_of_key digits es c.args.i k c.index_mut-held.result.now c.index_mut-held.ensures.value key in
-    rows-written digits es c.args.i k c.index_mut-held.result.now _ at c.requires.distinct now_row ∙ ap (λ o. given k o (table_by now_row (slots_of digits es))) c.replace-before.ensures.after
+    rows-written digits es c.args.i k c.index_mut-held.result.now _ at c.requires.distinct now_row
+    ∙ ap (λ o. given k o (table_by now_row (slots_of digits es))) c.replace-before.ensures.after
 
 pub returns-else-is_none-clause-before : goal.returns-else-is_none-clause-before
 returns-else-is_none-clause-before g c =
@@ -79,14 +85,16 @@ returns-else-is_none-clause-had g c k key =
     let digits = g.R.Key.RowKey.digits in
     let es = c.args.slots.now.entries in
     let at = slot_of_key digits es c.args.i k c.index_mut-held.result.now c.index_mut-held.ensures.value key in
-    c.is_some-had.ensures ∙ sym (ap is_some (get-slot now_row (slots_of digits es) c.args.i k c.index_mut-held.result.now c.requires.distinct at))
+    c.is_some-had.ensures ∙ sym
+    (ap is_some (get-slot now_row (slots_of digits es) c.args.i k c.index_mut-held.result.now c.requires.distinct at))
 
 pub returns-then-is_none-clause-used : goal.returns-then-is_none-clause-used
 returns-then-is_none-clause-used g c =
     let digits = g.R.Key.RowKey.digits in
     let es = c.args.slots.now.entries in
     let s = slot_of_value digits es c.args.i c.index_mut-held.result.now c.index_mut-held.ensures.value in
-    used-written digits es c.args.i s.0 c.index_mut-held.result.now _ s.1 (used-noted c.replace-before.new.dest (Some c.replace-before.result) refl) c.requires.used
+    used-written digits es c.args.i s.0 c.index_mut-held.result.now _ s.1
+    (used-noted c.replace-before.new.dest (Some c.replace-before.result) refl) c.requires.used
 
 pub returns-else-is_none-clause-used : goal.returns-else-is_none-clause-used
 returns-else-is_none-clause-used g c =
@@ -94,4 +102,6 @@ returns-else-is_none-clause-used g c =
     let es = c.args.slots.now.entries in
     let s = slot_of_value digits es c.args.i c.index_mut-held.result.now c.index_mut-held.ensures.value in
     used-written digits es c.args.i s.0 c.index_mut-held.result.now _ s.1
-    (used-noted c.replace-before.new.dest c.index_mut-held.result.now.before (c.is_none.ensures ∙ ap not c.if-is_none.false)) c.requires.used
+    (used-noted c.replace-before.new.dest c.index_mut-held.result.now.before
+    (c.is_none.ensures ∙ ap not c.if-is_none.false))
+    c.requires.used

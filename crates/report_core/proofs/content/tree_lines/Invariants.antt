@@ -8,4 +8,5 @@ use Rattle.report_core.proofs.content.tree_lines.Given as goal
 -- the lines so far and those of what is left are all lines
 abbrev pub invariant-loop-inside : goal.invariant-loop-inside
 invariant-loop-inside l = let line = node_line (parts_of l.catalogue) in
-    lines_of l.lines.items ++ map line (shown_content (drop l.inside-index l.content)) ≡ line (l.item, 1) ∷ map line (shown_content l.content)
+    lines_of l.lines.items ++ map line (shown_content (drop l.inside-index l.content))
+    ≡ line (l.item, 1) ∷ map line (shown_content l.content)

@@ -7,5 +7,6 @@ use Rattle.report_core.proofs.stock.item_lines.Given as goal
 -- the lines so far and those of what is left are all lines
 abbrev pub invariant-loop-item : goal.invariant-loop-item
 invariant-loop-item l =
-    lines_of l.lines.items ++ map item_line (filter (λ i. not (is_gone i.place)) (map (λ i. i.now) (drop l.item-index l.items)))
+    lines_of l.lines.items
+    ++ map item_line (filter (λ i. not (is_gone i.place)) (map (λ i. i.now) (drop l.item-index l.items)))
     ≡ map item_line (filter (λ i. not (is_gone i.place)) (map (λ i. i.now) l.items))

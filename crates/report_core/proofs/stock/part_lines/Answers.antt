@@ -6,4 +6,6 @@ use Rattle.report_core.proofs.stock.part_lines.Goals as goal
 
 pub returns : goal.returns
 returns c =
-    IfOk-map c.item_lines.result c.item_lines.ensures (λ lines told. lines_left c.args.part (table.values (stock_of c.args.yard.now).items) c.as_slice.result.now c.in_ok-items.items.items _ c.as_slice.ensures.value c.in_ok-items.ensures told)
+    IfOk-map c.item_lines.result c.item_lines.ensures
+    (λ lines told. lines_left c.args.part (table.values (stock_of c.args.yard.now).items) c.as_slice.result.now
+    c.in_ok-items.items.items _ c.as_slice.ensures.value c.in_ok-items.ensures told)

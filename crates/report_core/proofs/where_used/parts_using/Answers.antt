@@ -12,4 +12,6 @@ returns c =
     let s = state_of c.args.shop.now in
     let n = c.args.number in
     let told = λ (x : Part). c.uses_tells_walks.ensures s c.requires n x in
-    IfOk-map c.where_used.result c.where_used.ensures (λ rows w. used_rows_lent s.parts _ s.bills _ n _ (ap parts_of c.catalogue.ensures) (ap bills_of c.boms.ensures) told w)
+    IfOk-map c.where_used.result c.where_used.ensures
+    (λ rows w.
+    used_rows_lent s.parts _ s.bills _ n _ (ap parts_of c.catalogue.ensures) (ap bills_of c.boms.ensures) told w)

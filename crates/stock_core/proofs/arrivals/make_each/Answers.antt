@@ -13,9 +13,12 @@ loop-serial-preserved c =
     let b = stock_books_of c.loop-serial.yard c.loop-serial.counter in
     let new = stock_books_of c.make_one.new.yard c.make_one.new.counter in
     let rest : List (List ℕ) = drop (i + 1) serials in
-    let here = next-serial serials i c.serial-item.result x c.loop-serial-test.true c.serial-item.is c.in_ok-own.ensures in
+    let here =
+    next-serial serials i c.serial-item.result x c.loop-serial-test.true c.serial-item.is c.in_ok-own.ensures in
     record {
-      room = room-made a 1 c.args.batch.now (Some x) c.args.day (length rest) b new (room-rest x rest (drop i serials) b here c.loop-serial.invariant.room)
+      room =
+          room-made a 1 c.args.batch.now (Some x) c.args.day (length rest) b new
+          (room-rest x rest (drop i serials) b here c.loop-serial.invariant.room)
           c.in_ok-make_one.ensures.sound c.in_ok-make_one.ensures.ok;
       rest = ap (make_each a c.args.batch.now rest c.args.day) c.in_ok-make_one.ensures.ok
           ∙ sym (ap (λ l. make_each a c.args.batch.now l c.args.day b) here) ∙ c.loop-serial.invariant.rest;

@@ -8,6 +8,8 @@ abbrev pub invariant-loop-serial : goal.invariant-loop-serial
 invariant-loop-serial l =
     record {
       room : HasRoom (length (drop l.serial-index l.serials)) (stock_books_of l.yard l.counter);
-      rest : make_each l.arrival l.batch (drop l.serial-index l.serials) l.day (stock_books_of l.yard l.counter) ≡ make_each l.arrival l.batch l.serials l.day (stock_books_of l.initial.yard l.initial.counter);
+      rest :
+          make_each l.arrival l.batch (drop l.serial-index l.serials) l.day (stock_books_of l.yard l.counter)
+          ≡ make_each l.arrival l.batch l.serials l.day (stock_books_of l.initial.yard l.initial.counter);
       before : stock_books_before l.yard l.counter ≡ stock_books_before l.initial.yard l.initial.counter;
     }

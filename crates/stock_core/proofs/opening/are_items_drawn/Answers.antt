@@ -11,5 +11,7 @@ pub returns : goal.returns
 returns c =
     let s = stock_of c.args.yard.now in
     let rows : map (λ (x : Bor Item). x.now) c.as_slice.result.now ≡ table.values s.items =
-    ap (map (λ (x : Bor Item). x.now)) c.as_slice.ensures.value ∙ c.in_ok-items.ensures ∙ ap (λ t. table.values (now_of t)) c.items.ensures in
+    ap (map (λ (x : Bor Item). x.now)) c.as_slice.ensures.value
+    ∙ c.in_ok-items.ensures
+    ∙ ap (λ t. table.values (now_of t)) c.items.ensures in
     drawn_from c.args.next s c.requires _ _ rows c.are_drawn.ensures

@@ -16,14 +16,21 @@ pub are_sound_rows-requires : goal.are_sound_rows-requires
 are_sound_rows-requires g c =
     let s = stock_of c.args.yard.now in
     let rows : map (λ (x : Bor Item). x.now) c.as_slice.result.now ≡ table.values s.items =
-    ap (map (λ (x : Bor Item). x.now)) c.as_slice.ensures.value ∙ c.in_ok-items.ensures ∙ ap (λ t. table.values (now_of t)) c.items.ensures in
+    ap (map (λ (x : Bor Item). x.now)) c.as_slice.ensures.value
+    ∙ c.in_ok-items.ensures
+    ∙ ap (λ t. table.values (now_of t)) c.items.ensures in
     subst IsByNumber (sym rows) (rows_by_number s.items c.requires.stock.items.own)
 
 pub returns : goal.returns
 returns g c =
     let s = stock_of c.args.yard.now in
     let rows : map (λ (x : Bor Item). x.now) c.as_slice.result.now ≡ table.values s.items =
-    ap (map (λ (x : Bor Item). x.now)) c.as_slice.ensures.value ∙ c.in_ok-items.ensures ∙ ap (λ t. table.values (now_of t)) c.items.ensures in
+    ap (map (λ (x : Bor Item). x.now)) c.as_slice.ensures.value
+    ∙ c.in_ok-items.ensures
+    ∙ ap (λ t. table.values (now_of t)) c.items.ensures in
     let entries : map (λ (x : Bor Entry). x.now) c.as_slice-2.result.now ≡ table.values s.history =
-    ap (map (λ (x : Bor Entry). x.now)) c.as_slice-2.ensures.value ∙ c.in_ok-entries.ensures ∙ ap (λ t. table.values (now_of t)) c.whole_history.ensures in
-    stock_from (g.W.KnowsOwners.owners_of c.args.owners.now) (parts_of c.args.catalogue.now) (stock_books_of c.args.yard.now c.args.counter.now) c.requires _ _ _ rows entries c.in_ok-sound.ensures
+    ap (map (λ (x : Bor Entry). x.now)) c.as_slice-2.ensures.value
+    ∙ c.in_ok-entries.ensures
+    ∙ ap (λ t. table.values (now_of t)) c.whole_history.ensures in
+    stock_from (g.W.KnowsOwners.owners_of c.args.owners.now) (parts_of c.args.catalogue.now)
+    (stock_books_of c.args.yard.now c.args.counter.now) c.requires _ _ _ rows entries c.in_ok-sound.ensures

@@ -7,7 +7,8 @@ use Rattle.stock_core.proofs.pieces.cut_each.Goals as goal
 pub loop-serial-init : goal.loop-serial-init
 loop-serial-init c = record {
   room = c.requires.room;
-  pieces = pieces-whole c.args.item c.args.serials.now (stock_books_of c.args.yard.now c.args.counter.now) c.requires.whole;
+  pieces =
+      pieces-whole c.args.item c.args.serials.now (stock_books_of c.args.yard.now c.args.counter.now) c.requires.whole;
   rest = refl;
   before = refl;
 }
@@ -19,9 +20,12 @@ cut_off-requires c =
     let x = c.in_ok-own.own in
     let b = stock_books_of c.loop-serial.yard c.loop-serial.counter in
     let rest : List (List ℕ) = drop (i + 1) serials in
-    let here = next-serial serials i c.serial-item.result x c.loop-serial-test.true c.serial-item.is c.in_ok-own.ensures in
+    let here =
+    next-serial serials i c.serial-item.result x c.loop-serial-test.true c.serial-item.is c.in_ok-own.ensures in
     record {
-      can = can-cut c.args.item (Some x) (length rest) b (room-rest x rest (drop i serials) b here c.loop-serial.invariant.room)
+      can =
+          can-cut c.args.item (Some x) (length rest) b
+          (room-rest x rest (drop i serials) b here c.loop-serial.invariant.room)
           (whole-pieces c.args.item x rest (drop i serials) b here c.loop-serial.invariant.pieces) refl;
     }
 
@@ -34,12 +38,18 @@ loop-serial-preserved c =
     let b = stock_books_of c.loop-serial.yard c.loop-serial.counter in
     let new = stock_books_of c.cut_off.new.yard c.cut_off.new.counter in
     let rest : List (List ℕ) = drop (i + 1) serials in
-    let here = next-serial serials i c.serial-item.result x c.loop-serial-test.true c.serial-item.is c.in_ok-own.ensures in
+    let here =
+    next-serial serials i c.serial-item.result x c.loop-serial-test.true c.serial-item.is c.in_ok-own.ensures in
     let room = room-rest x rest (drop i serials) b here c.loop-serial.invariant.room in
     let whole = whole-pieces n x rest (drop i serials) b here c.loop-serial.invariant.pieces in
     record {
-      room = room-cut n 1 (Some x) c.args.day (length rest) b new whole.there room c.in_ok-cut_off.ensures.sound c.in_ok-cut_off.ensures.ok;
+      room =
+          room-cut n 1 (Some x) c.args.day (length rest) b new whole.there room c.in_ok-cut_off.ensures.sound
+          c.in_ok-cut_off.ensures.ok;
       pieces = pieces-cut n (Some x) c.args.day rest b new room whole c.in_ok-cut_off.ensures.ok;
-      rest = ap (cut_each n rest c.args.day) c.in_ok-cut_off.ensures.ok ∙ sym (ap (λ l. cut_each n l c.args.day b) here) ∙ c.loop-serial.invariant.rest;
+      rest =
+          ap (cut_each n rest c.args.day) c.in_ok-cut_off.ensures.ok
+          ∙ sym (ap (λ l. cut_each n l c.args.day b) here)
+          ∙ c.loop-serial.invariant.rest;
       before = c.in_ok-cut_off.ensures.before ∙ c.loop-serial.invariant.before;
     }

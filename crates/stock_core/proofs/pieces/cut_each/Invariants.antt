@@ -10,6 +10,8 @@ invariant-loop-serial l =
     record {
       room : HasRoom (length (drop l.serial-index l.serials)) (stock_books_of l.yard l.counter);
       pieces : HasPieces l.item (drop l.serial-index l.serials) (stock_books_of l.yard l.counter);
-      rest : cut_each l.item (drop l.serial-index l.serials) l.day (stock_books_of l.yard l.counter) ≡ cut_each l.item l.serials l.day (stock_books_of l.initial.yard l.initial.counter);
+      rest :
+          cut_each l.item (drop l.serial-index l.serials) l.day (stock_books_of l.yard l.counter)
+          ≡ cut_each l.item l.serials l.day (stock_books_of l.initial.yard l.initial.counter);
       before : stock_books_before l.yard l.counter ≡ stock_books_before l.initial.yard l.initial.counter;
     }

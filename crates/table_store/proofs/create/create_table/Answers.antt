@@ -6,23 +6,28 @@ use Rattle.table_store.proofs.create.create_table.Goals as goal
 
 pub returns-in-Ok-clause-made : goal.returns-in-Ok-clause-made
 returns-in-Ok-clause-made g c clean =
-    (makes_one c.args.table (state g.S.Store c.args.conn.now) (state g.S.Store c.execute.new.self) c.in-Ok.field-0 (c.requires (omega (arith, clean, c.execute.ensures.survives.clean)))
+    (makes_one c.args.table (state g.S.Store c.args.conn.now) (state g.S.Store c.execute.new.self) c.in-Ok.field-0
+    (c.requires (omega (arith, clean, c.execute.ensures.survives.clean)))
     (rw (c.create_text.ensures) at (c.in-Ok.ensures.runs clean))).0
 
 pub returns-in-Ok-clause-kept : goal.returns-in-Ok-clause-kept
 returns-in-Ok-clause-kept g c clean =
-    (makes_one c.args.table (state g.S.Store c.args.conn.now) (state g.S.Store c.execute.new.self) c.in-Ok.field-0 (c.requires (omega (arith, clean, c.execute.ensures.survives.clean)))
+    (makes_one c.args.table (state g.S.Store c.args.conn.now) (state g.S.Store c.execute.new.self) c.in-Ok.field-0
+    (c.requires (omega (arith, clean, c.execute.ensures.survives.clean)))
     (rw (c.create_text.ensures) at (c.in-Ok.ensures.runs clean))).1
 
 pub returns-in-Ok-clause-crash : goal.returns-in-Ok-clause-crash
 returns-in-Ok-clause-crash g c =
-    creating_commits_nothing c.args.table (state g.S.Store c.args.conn.now) (state g.S.Store c.execute.new.self) c.requires (rw (c.create_text.ensures) at c.execute.ensures.survives)
+    creating_commits_nothing c.args.table (state g.S.Store c.args.conn.now) (state g.S.Store c.execute.new.self)
+    c.requires (rw (c.create_text.ensures) at c.execute.ensures.survives)
 
 pub returns-in-Err-clause-kept : goal.returns-in-Err-clause-kept
 returns-in-Err-clause-kept g c clean =
     keeps_commit (state g.S.Store c.args.conn.now) (state g.S.Store c.execute.new.self)
-    (as_before_or_undone c.create_text.result.now [] (state g.S.Store c.args.conn.now) (state g.S.Store c.execute.new.self) c.in-Err.error (c.in-Err.ensures.runs clean))
+    (as_before_or_undone c.create_text.result.now [] (state g.S.Store c.args.conn.now)
+    (state g.S.Store c.execute.new.self) c.in-Err.error (c.in-Err.ensures.runs clean))
 
 pub returns-in-Err-clause-crash : goal.returns-in-Err-clause-crash
 returns-in-Err-clause-crash g c =
-    creating_commits_nothing c.args.table (state g.S.Store c.args.conn.now) (state g.S.Store c.execute.new.self) c.requires (rw (c.create_text.ensures) at c.execute.ensures.survives)
+    creating_commits_nothing c.args.table (state g.S.Store c.args.conn.now) (state g.S.Store c.execute.new.self)
+    c.requires (rw (c.create_text.ensures) at c.execute.ensures.survives)

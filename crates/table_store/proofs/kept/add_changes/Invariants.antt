@@ -13,5 +13,7 @@ invariant-loop-change g l =
     record {
       crash : Survives old now (λ _. ⊥);
       adding : HasCleanDisk now
-          → IsAdding (IsTableOf g.R.Stored.row_from g.R.Stored.columns_of Kept) g.R.Row.key_of (changes_of g.R.Key.RowKey.digits (drop l.change-index l.changes)) (changes_of g.R.Key.RowKey.digits l.changes) old now;
+          → IsAdding (IsTableOf g.R.Stored.row_from g.R.Stored.columns_of Kept) g.R.Row.key_of
+          (changes_of g.R.Key.RowKey.digits (drop l.change-index l.changes))
+          (changes_of g.R.Key.RowKey.digits l.changes) old now;
     }

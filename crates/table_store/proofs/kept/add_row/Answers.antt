@@ -11,7 +11,9 @@ use Rattle.table_store.proofs.KeptChanges.{row-added}
 use Rattle.table_store.proofs.kept.add_row.Goals as goal
 
 pub returns-clause-set : goal.returns-clause-set
-returns-clause-set g c clean = writes c.put_row.result Kept _ (state g.S.Store c.args.conn.now) (state g.S.Store c.put_row.new.conn) (c.put_row.ensures.put clean)
+returns-clause-set g c clean =
+    writes c.put_row.result Kept _ (state g.S.Store c.args.conn.now) (state g.S.Store c.put_row.new.conn)
+    (c.put_row.ensures.put clean)
 
 pub returns-clause-put : goal.returns-clause-put
 returns-clause-put g c clean rows own none before =
@@ -19,9 +21,17 @@ returns-clause-put g c clean rows own none before =
     let written : columns ≡ g.R.Stored.columns_of c.args.row.now = c.in_ok-columns.ensures.columns in
     let old = state g.S.Store c.args.conn.now in
     let new = state g.S.Store c.put_row.new.conn in
-    let reads : IsRead g.R.Stored.row_from g.R.Stored.columns_of c.args.row.now = row_kept g.R.Stored.row_from g.R.Stored.columns_of c.args.row.now c.as_slice.result.now (c.as_slice.ensures.value ∙ written) c.in_ok-values.ensures.read
-    (subst (λ cs. g.R.Stored.row_from cs ≡ Some c.args.row.now) (sym c.as_slice.ensures.value) c.in_ok-columns.ensures.read) in
-    table-put g.R.Stored.row_from g.R.Stored.columns_of Kept (tree_of Kept old) (tree_of Kept new) rows before (g.R.Row.key_of c.args.row.now) c.put_row.result c.args.row.now reads
+    let reads : IsRead g.R.Stored.row_from g.R.Stored.columns_of c.args.row.now =
+    row_kept g.R.Stored.row_from g.R.Stored.columns_of c.args.row.now c.as_slice.result.now
+    (c.as_slice.ensures.value ∙ written) c.in_ok-values.ensures.read
+    (subst (λ cs. g.R.Stored.row_from cs ≡ Some c.args.row.now) (sym c.as_slice.ensures.value)
+    c.in_ok-columns.ensures.read) in
+    table-put g.R.Stored.row_from g.R.Stored.columns_of Kept (tree_of Kept old) (tree_of Kept new) rows before
+    (g.R.Row.key_of c.args.row.now) c.put_row.result c.args.row.now reads
     (row-added g.R.Stored.columns_of g.R.Row.key_of c.requires.suits old new c.put_row.result
-    c.args.row.now (bound c.as_slice-2.result.now) (c.requires.ready (omega (arith, clean, c.put_row.ensures.crash.clean))).0.0
-    (ap bound c.as_slice-2.ensures.value ∙ c.in_ok-values.ensures.values ∙ ap (map value_of) (c.as_slice.ensures.value ∙ written)) (c.put_row.ensures.put clean) rows own none before.holds)
+    c.args.row.now (bound c.as_slice-2.result.now)
+    (c.requires.ready (omega (arith, clean, c.put_row.ensures.crash.clean))).0.0
+    (ap bound c.as_slice-2.ensures.value
+    ∙ c.in_ok-values.ensures.values
+    ∙ ap (map value_of) (c.as_slice.ensures.value ∙ written))
+    (c.put_row.ensures.put clean) rows own none before.holds)

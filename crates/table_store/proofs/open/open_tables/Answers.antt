@@ -5,14 +5,19 @@ use Rattle.table_store.proofs.Opening.{own_told, tables_told, harmless_by}
 use Rattle.table_store.proofs.open.open_tables.Goals as goal
 
 pub returns-in-Ok-clause-tables : goal.returns-in-Ok-clause-tables
-returns-in-Ok-clause-tables g c = tables_told (state g.S.Store) c.compared.result c.in-Ok.conn c.compared.ensures.same c.compared.ensures.desk c.in-Ok.ensures.shaped
+returns-in-Ok-clause-tables g c =
+    tables_told (state g.S.Store) c.compared.result c.in-Ok.conn c.compared.ensures.same c.compared.ensures.desk
+    c.in-Ok.ensures.shaped
 
 pub returns-in-Ok-clause-own : goal.returns-in-Ok-clause-own
 returns-in-Ok-clause-own g c =
-    own_told (state g.S.Store) c.compared.result c.in-Ok.conn (state g.S.Store c.args.conn).committed.trees c.compared.ensures.same c.compared.ensures.desk c.in-Ok.ensures.sound
+    own_told (state g.S.Store) c.compared.result c.in-Ok.conn (state g.S.Store c.args.conn).committed.trees
+    c.compared.ensures.same c.compared.ensures.desk c.in-Ok.ensures.sound
     (λ clean. c.in-Ok.ensures.same clean ∙ c.given_back.ensures.trees (c.in-Ok.ensures.live clean))
 
 pub returns-in-Ok-clause-harmless : goal.returns-in-Ok-clause-harmless
 returns-in-Ok-clause-harmless g c =
-    harmless_by g.S.Store.view g.S.Store.recovers c.compared.result (doubt (state g.S.Store c.in-Ok.conn).is_clean) (state g.S.Store c.in-Ok.conn).may_leave (state g.S.Store c.args.conn).may_leave
-    c.compared.ensures.clean c.compared.ensures.harmless (λ clean trees h. c.given_back.ensures.left trees (c.in-Ok.ensures.left clean trees h))
+    harmless_by g.S.Store.view g.S.Store.recovers c.compared.result (doubt (state g.S.Store c.in-Ok.conn).is_clean)
+    (state g.S.Store c.in-Ok.conn).may_leave (state g.S.Store c.args.conn).may_leave
+    c.compared.ensures.clean c.compared.ensures.harmless
+    (λ clean trees h. c.given_back.ensures.left trees (c.in-Ok.ensures.left clean trees h))

@@ -17,7 +17,8 @@ returns-in-Ok-clause-shaped g c clean table there =
     let schema = (state g.S.Store c.in-Ok.conn).now.schema in
     let lists = subst (IsSound schema) same (opens.1 opens.0.is_open).0 in
     subst (λ (trees : Trees). IsShaped shape.Table (trees table.tree)) (sym same)
-    (tables_ordered (g.S.Store.view database) schema (g.met.S.Store.ordered database sound) (g.met.S.Alter.listed database sound) lists table there)
+    (tables_ordered (g.S.Store.view database) schema (g.met.S.Store.ordered database sound)
+    (g.met.S.Alter.listed database sound) lists table there)
 
 pub returns-in-Ok-clause-left : goal.returns-in-Ok-clause-left
 returns-in-Ok-clause-left g c clean db leaves =
@@ -26,6 +27,11 @@ returns-in-Ok-clause-left g c clean db leaves =
     let sound = sym (c.if-is_broken.ensures unspoilt) in
     let opens = (c.in-Ok.ensures.opens clean).0 in
     let last = g.met.S.Store.settled c.in-Ok.conn.store db opens.is_open leaves in
-    let here = sym (ap (λ (d : Database). d.trees) opens.clean) ∙ c.in-Ok.ensures.trees clean ∙ (c.requires unspoilt sound).clean in
-    let is_open = open_if_sound (g.S.Store.view database).is_open (g.S.Store.view database).is_broken (g.met.S.Store.broken_if_shut database) sound in
+    let here =
+    sym (ap (λ (d : Database). d.trees) opens.clean)
+    ∙ c.in-Ok.ensures.trees clean
+    ∙ (c.requires unspoilt sound).clean in
+    let is_open =
+    open_if_sound (g.S.Store.view database).is_open (g.S.Store.view database).is_broken
+    (g.met.S.Store.broken_if_shut database) sound in
     subst (g.S.Store.recovers database) (sym (last ∙ here)) (g.met.S.Store.stays database is_open)

@@ -6,4 +6,5 @@ use Rattle.table_store.proofs.read.has_no_row.Goals as goal
 
 pub returns-clause-value : goal.returns-clause-value
 returns-clause-value g c clean =
-    no-rows c.args.table (tree_of c.args.table (state g.S.Store c.args.conn.now)) c.in_ok-load_rows.field-0.items c.is_empty.result (c.in_ok-load_rows.ensures.loaded clean) (c.is_empty.ensures ∙ ap (λ n. n == 0) (search rules))
+    no-rows c.args.table (tree_of c.args.table (state g.S.Store c.args.conn.now)) c.in_ok-load_rows.field-0.items
+    c.is_empty.result (c.in_ok-load_rows.ensures.loaded clean) (c.is_empty.ensures ∙ ap (λ n. n == 0) (search rules))

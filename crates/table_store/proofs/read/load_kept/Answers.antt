@@ -9,17 +9,23 @@ use Rattle.table_store.proofs.read.load_kept.Goals as goal
 pub returns-then-not-are_words_rising-clause-none : goal.returns-then-not-are_words_rising-clause-none
 returns-then-not-are_words_rising-clause-none g c clean bad =
     let tree = tree_of Kept (state g.S.Store c.args.conn.now) in
-    repeated-none g.R.Stored.row_from g.R.Stored.columns_of g.R.Row.key_of c.requires.suits tree c.as_slice.result.now (subst (IsByWord tree) (sym c.as_slice.ensures.value) (c.in_ok-kept.ensures.loaded clean))
+    repeated-none g.R.Stored.row_from g.R.Stored.columns_of g.R.Row.key_of c.requires.suits tree c.as_slice.result.now
+    (subst (IsByWord tree) (sym c.as_slice.ensures.value) (c.in_ok-kept.ensures.loaded clean))
     (λ h. true≢false (sym (c.if-not-are_words_rising.ensures.1 h)))
 
 pub returns-clause-rows : goal.returns-clause-rows
 returns-clause-rows g c clean =
     let tree = tree_of Kept (state g.S.Store c.args.conn.now) in
-    kept-are g.R.Stored.row_from g.R.Stored.columns_of g.R.Row.key_of c.requires.suits tree c.as_slice-2.result.now (subst (IsByWord tree) (sym c.as_slice-2.ensures.value) (c.in_ok-kept.ensures.loaded clean))
-    c.rows_of.result (subst RiseByWord (c.as_slice.ensures.value ∙ sym c.as_slice-2.ensures.value) (c.if-not-are_words_rising.ensures.0 refl)) c.rows_of.ensures.read c.rows_of.ensures.told
+    kept-are g.R.Stored.row_from g.R.Stored.columns_of g.R.Row.key_of c.requires.suits tree c.as_slice-2.result.now
+    (subst (IsByWord tree) (sym c.as_slice-2.ensures.value) (c.in_ok-kept.ensures.loaded clean))
+    c.rows_of.result
+    (subst RiseByWord (c.as_slice.ensures.value ∙ sym c.as_slice-2.ensures.value)
+    (c.if-not-are_words_rising.ensures.0 refl))
+    c.rows_of.ensures.read c.rows_of.ensures.told
 
 pub returns-clause-none : goal.returns-clause-none
 returns-clause-none g c clean =
     let tree = tree_of Kept (state g.S.Store c.args.conn.now) in
-    unread-none-own g.R.Stored.row_from g.R.Stored.columns_of g.R.Row.key_of c.requires.suits tree c.as_slice-2.result.now (subst (IsByWord tree) (sym c.as_slice-2.ensures.value) (c.in_ok-kept.ensures.loaded clean))
+    unread-none-own g.R.Stored.row_from g.R.Stored.columns_of g.R.Row.key_of c.requires.suits tree
+    c.as_slice-2.result.now (subst (IsByWord tree) (sym c.as_slice-2.ensures.value) (c.in_ok-kept.ensures.loaded clean))
     c.rows_of.result c.rows_of.ensures.failed

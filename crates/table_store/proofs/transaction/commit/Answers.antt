@@ -7,21 +7,27 @@ use Rattle.table_store.proofs.transaction.commit.Goals as goal
 
 pub returns-in-Ok-clause-committed : goal.returns-in-Ok-clause-committed
 returns-in-Ok-clause-committed g c clean =
-    (commits (state g.S.Store c.args.conn.now) (state g.S.Store c.execute.new.self) (Ok c.in-Ok.field-0) (c.requires (omega (arith, c.execute.ensures.survives.clean))) (c.in-Ok.ensures.runs clean)).0
+    (commits (state g.S.Store c.args.conn.now) (state g.S.Store c.execute.new.self) (Ok c.in-Ok.field-0)
+    (c.requires (omega (arith, c.execute.ensures.survives.clean))) (c.in-Ok.ensures.runs clean)).0
 
 pub returns-in-Ok-clause-tables : goal.returns-in-Ok-clause-tables
 returns-in-Ok-clause-tables g c clean has =
-    same_tables (state g.S.Store c.args.conn.now) (state g.S.Store c.execute.new.self) (commits (state g.S.Store c.args.conn.now) (state g.S.Store c.execute.new.self) (Ok c.in-Ok.field-0) (c.requires (omega (arith, c.execute.ensures.survives.clean))) (c.in-Ok.ensures.runs clean)).0.now_is has
+    same_tables (state g.S.Store c.args.conn.now) (state g.S.Store c.execute.new.self)
+    (commits (state g.S.Store c.args.conn.now) (state g.S.Store c.execute.new.self) (Ok c.in-Ok.field-0)
+    (c.requires (omega (arith, c.execute.ensures.survives.clean))) (c.in-Ok.ensures.runs clean)).0.now_is has
 
 pub returns-in-Ok-clause-crash : goal.returns-in-Ok-clause-crash
 returns-in-Ok-clause-crash g c =
-    survives_weaker (state g.S.Store c.args.conn.now) (state g.S.Store c.execute.new.self) _ _ (λ _ db h. commits_all _ db h) c.execute.ensures.survives
+    survives_weaker (state g.S.Store c.args.conn.now) (state g.S.Store c.execute.new.self) _ _
+    (λ _ db h. commits_all _ db h) c.execute.ensures.survives
 
 pub returns-in-Err-clause-stopped : goal.returns-in-Err-clause-stopped
 returns-in-Err-clause-stopped g c clean =
     subst (StopsBy (state g.S.Store c.args.conn.now) (state g.S.Store c.execute.new.self)) (sym c.new.ensures)
-    (commits (state g.S.Store c.args.conn.now) (state g.S.Store c.execute.new.self) (Err c.in-Err.error) (c.requires (omega (arith, c.execute.ensures.survives.clean))) (c.in-Err.ensures.runs clean)).1
+    (commits (state g.S.Store c.args.conn.now) (state g.S.Store c.execute.new.self) (Err c.in-Err.error)
+    (c.requires (omega (arith, c.execute.ensures.survives.clean))) (c.in-Err.ensures.runs clean)).1
 
 pub returns-in-Err-clause-crash : goal.returns-in-Err-clause-crash
 returns-in-Err-clause-crash g c =
-    survives_weaker (state g.S.Store c.args.conn.now) (state g.S.Store c.execute.new.self) _ _ (λ _ db h. commits_all _ db h) c.execute.ensures.survives
+    survives_weaker (state g.S.Store c.args.conn.now) (state g.S.Store c.execute.new.self) _ _
+    (λ _ db h. commits_all _ db h) c.execute.ensures.survives

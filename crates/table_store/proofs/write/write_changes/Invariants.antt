@@ -13,5 +13,6 @@ invariant-loop-change g l =
     record {
       crash : Survives old now (λ _. ⊥);
       midway : HasCleanDisk now
-          → IsMidway (IsTableOf g.R.Stored.row_from g.R.Stored.columns_of l.table) g.R.Row.key_of l.table (changes_of number_digits (drop l.change-index l.changes)) (changes_of number_digits l.changes) old now;
+          → IsMidway (IsTableOf g.R.Stored.row_from g.R.Stored.columns_of l.table) g.R.Row.key_of l.table
+          (changes_of number_digits (drop l.change-index l.changes)) (changes_of number_digits l.changes) old now;
     }

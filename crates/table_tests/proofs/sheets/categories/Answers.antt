@@ -17,8 +17,11 @@ key row = row.number ∷ []
 pub returns-clause-own : goal.returns-clause-own
 unfolding key
 returns-clause-own c =
-    subst (StandUnderKeys key) (sym c.in_ok-put-2.ensures.ok) (own-put named_columns key (now_of c.put.new.self) c.in_ok-first.first
-    (subst (StandUnderKeys key) (sym c.in_ok-put.ensures.ok) (own-put named_columns key (now_of c.new-sheet.result) c.in_ok-later.later (subst (StandUnderKeys key) (sym c.new-sheet.ensures.rows) (filled-own key [])))))
+    subst (StandUnderKeys key) (sym c.in_ok-put-2.ensures.ok)
+    (own-put named_columns key (now_of c.put.new.self) c.in_ok-first.first
+    (subst (StandUnderKeys key) (sym c.in_ok-put.ensures.ok)
+    (own-put named_columns key (now_of c.new-sheet.result) c.in_ok-later.later
+    (subst (StandUnderKeys key) (sym c.new-sheet.ensures.rows) (filled-own key [])))))
 
 IsLow : Category → Type 0
 IsLow row = All IsSmall (named_columns row)
@@ -26,5 +29,9 @@ IsLow row = All IsSmall (named_columns row)
 pub returns-clause-small : goal.returns-clause-small
 unfolding IsLow
 returns-clause-small c =
-    subst (EachRow IsLow) (sym c.in_ok-put-2.ensures.ok) (each-insert IsLow (now_of c.put.new.self) (c.in_ok-first.first.number ∷ []) c.in_ok-first.first c.in_ok-first.ensures
-    (subst (EachRow IsLow) (sym c.in_ok-put.ensures.ok) (each-insert IsLow (now_of c.new-sheet.result) (c.in_ok-later.later.number ∷ []) c.in_ok-later.later c.in_ok-later.ensures (subst (EachRow IsLow) (sym c.new-sheet.ensures.rows) (each-empty IsLow)))))
+    subst (EachRow IsLow) (sym c.in_ok-put-2.ensures.ok)
+    (each-insert IsLow (now_of c.put.new.self) (c.in_ok-first.first.number ∷ []) c.in_ok-first.first
+    c.in_ok-first.ensures
+    (subst (EachRow IsLow) (sym c.in_ok-put.ensures.ok)
+    (each-insert IsLow (now_of c.new-sheet.result) (c.in_ok-later.later.number ∷ []) c.in_ok-later.later
+    c.in_ok-later.ensures (subst (EachRow IsLow) (sym c.new-sheet.ensures.rows) (each-empty IsLow)))))

@@ -18,24 +18,33 @@ IsLow : Category → Type 0
 IsLow row = All IsSmall (named_columns row)
 
 -- the rows are those before, with one more row in its place
-is-put : (now mid old : Table Category) (row : Category) → now ≡ insert mid (row.number ∷ []) row → mid ≡ old → now ≡ insert old (row.number ∷ []) row
+is-put : (now mid old : Table Category) (row : Category) → now ≡ insert mid (row.number ∷ []) row → mid ≡ old
+    → now ≡ insert old (row.number ∷ []) row
 is-put now mid old row put same = put ∙ ap (λ (t : Table Category). insert t (row.number ∷ []) row) same
 
 pub returns-clause-own : goal.returns-clause-own
 unfolding key
 returns-clause-own c =
     let old = now_of c.args.sheet.now in
-    subst (StandUnderKeys key) (sym (is-put (now_of c.put.new.self) (now_of c.keep.new.self) old c.in_ok-row.row c.in_ok-put.ensures.ok c.keep.ensures.rows)) (own-put named_columns key old c.in_ok-row.row c.requires.own)
+    subst (StandUnderKeys key)
+    (sym (is-put (now_of c.put.new.self) (now_of c.keep.new.self) old c.in_ok-row.row c.in_ok-put.ensures.ok
+    c.keep.ensures.rows))
+    (own-put named_columns key old c.in_ok-row.row c.requires.own)
 
 pub returns-clause-small : goal.returns-clause-small
 unfolding IsLow
 returns-clause-small c =
     let old = now_of c.args.sheet.now in
-    subst (EachRow IsLow) (sym (is-put (now_of c.put.new.self) (now_of c.keep.new.self) old c.in_ok-row.row c.in_ok-put.ensures.ok c.keep.ensures.rows))
+    subst (EachRow IsLow)
+    (sym (is-put (now_of c.put.new.self) (now_of c.keep.new.self) old c.in_ok-row.row c.in_ok-put.ensures.ok
+    c.keep.ensures.rows))
     (each-insert IsLow old (c.in_ok-row.row.number ∷ []) c.in_ok-row.row c.in_ok-row.ensures c.requires.small)
 
 pub returns-clause-stays : goal.returns-clause-stays
 returns-clause-stays c =
     let old = now_of c.args.sheet.now in
     subst (λ before. StayThere before (now_of c.put.new.self)) (sym (c.put.ensures.before ∙ c.keep.ensures.before))
-    (subst (StayThere old) (sym (is-put (now_of c.put.new.self) (now_of c.keep.new.self) old c.in_ok-row.row c.in_ok-put.ensures.ok c.keep.ensures.rows)) (stay-insert old (c.in_ok-row.row.number ∷ []) c.in_ok-row.row))
+    (subst (StayThere old)
+    (sym (is-put (now_of c.put.new.self) (now_of c.keep.new.self) old c.in_ok-row.row c.in_ok-put.ensures.ok
+    c.keep.ensures.rows))
+    (stay-insert old (c.in_ok-row.row.number ∷ []) c.in_ok-row.row))

@@ -10,8 +10,11 @@ use Rattle.alloc_core.proofs.allocations.Allocations.allot.Given as goal
 abbrev pub invariant-loop-item : goal.invariant-loop-item
 invariant-loop-item l =
     record {
-      left : allot_in_turn (for_line l.build l.line) (drop l.item-index l.items) l.left (stock_of l.yard) (allotments_of l.self l.counter)
-          ≡ allot_in_turn (for_line l.build l.line) l.items l.missing (stock_of l.yard) (allotments_of l.initial.self l.initial.counter);
+      left :
+          allot_in_turn (for_line l.build l.line) (drop l.item-index l.items) l.left (stock_of l.yard)
+          (allotments_of l.self l.counter)
+          ≡ allot_in_turn (for_line l.build l.line) l.items l.missing (stock_of l.yard)
+          (allotments_of l.initial.self l.initial.counter);
       before : allocations_before l.self ≡ allocations_before l.initial.self;
       counter_before : numbering_before l.counter ≡ numbering_before l.initial.counter;
     }

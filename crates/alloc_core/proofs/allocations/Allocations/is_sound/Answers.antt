@@ -20,8 +20,14 @@ pub returns : goal.returns
 returns c =
     let t = allocations_now c.args.self.now in
     let s = stock_of c.args.yard.now in
-    let drawn = subst (λ n. StandRight (λ (a : Allocation). a.number) n t) c.next.ensures (c.are_drawn.ensures.0 c.if-not-are_drawn.false) in
+    let drawn =
+    subst (λ n. StandRight (λ (a : Allocation). a.number) n t) c.next.ensures
+    (c.are_drawn.ensures.0 c.if-not-are_drawn.false) in
     let each = c.are_sound_rows.ensures.0 c.if-not-are_sound_rows.false in (
-      λ b. record { rows = drawn; each = each; within = within-all t s c.requires each (c.are_items_covered.ensures.0 b) },
+      λ b. record {
+        rows = drawn;
+        each = each;
+        within = within-all t s c.requires each (c.are_items_covered.ensures.0 b);
+      },
       λ sound. c.are_items_covered.ensures.1 (covered-each t s c.requires sound.within),
     )

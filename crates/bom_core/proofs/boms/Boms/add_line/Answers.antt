@@ -13,6 +13,7 @@ returns-in-Some-clause-acts c =
     let parts = parts_of c.args.catalogue.now in
     let after = add_line c.args.new (bill_books c.args.self.now c.args.counter.now) in (
       first-before (line_row_checks c.args.new c.args.open_parts.now parts)
-          ((contains_itself parts after.bills, Cycle) ∷ (passes_limit after.counter, Full) ∷ []) c.in-Some.refusal (sym c.in-Some.ensures),
+          ((contains_itself parts after.bills, Cycle) ∷ (passes_limit after.counter, Full) ∷ []) c.in-Some.refusal
+          (sym c.in-Some.ensures),
       refl,
     )

@@ -12,7 +12,9 @@ pub returns-in-Some-clause-acts : goal.returns-in-Some-clause-acts
 returns-in-Some-clause-acts c =
     let parts = parts_of c.args.catalogue.now in
     let after = add_substitute c.args.line c.args.part (bill_books c.args.self.now c.args.counter.now) in (
-      first-before (substitute_row_checks c.args.line c.args.part c.args.open_parts.now parts (bills_of c.args.self.now))
-          ((contains_itself parts after.bills, Cycle) ∷ (passes_limit after.counter, Full) ∷ []) c.in-Some.refusal (sym c.in-Some.ensures),
+      first-before
+          (substitute_row_checks c.args.line c.args.part c.args.open_parts.now parts (bills_of c.args.self.now))
+          ((contains_itself parts after.bills, Cycle) ∷ (passes_limit after.counter, Full) ∷ []) c.in-Some.refusal
+          (sym c.in-Some.ensures),
       refl,
     )

@@ -15,8 +15,13 @@ returns c =
     let t = (bills_of c.args.self.now).substitutes in
     let numbers = c.in_ok-numbers.numbers in
     let rows : map (λ (x : Bor Substitute). x.now) c.deref.result.now ≡ table.values t =
-    ap (map (λ (x : Bor Substitute). x.now)) c.deref.ensures.value ∙ (rw c.rows.ensures.value at (c.in_ok-rows.ensures (λ _. true) (search rules) ∙ filter_all _)) in
-    let once = each-once t numbers (subst (λ (xs : List Substitute). AreNumbersOf xs numbers) rows c.in_ok-numbers.ensures) in
-    let tested = each-tested (λ (x : Substitute). is_number_found x.number (get same_pair numbers (x.line, x.part))) _ t (λ x. (λ h. h, λ h. h)) c.any.result
-    (rw c.rows-2.ensures.value at (c.any.ensures (λ x. not (is_number_found x.number (get same_pair numbers (x.line, x.part)))) (search rules))) in
+    ap (map (λ (x : Bor Substitute). x.now)) c.deref.ensures.value
+    ∙ (rw c.rows.ensures.value at (c.in_ok-rows.ensures (λ _. true) (search rules) ∙ filter_all _)) in
+    let once =
+    each-once t numbers (subst (λ (xs : List Substitute). AreNumbersOf xs numbers) rows c.in_ok-numbers.ensures) in
+    let tested =
+    each-tested (λ (x : Substitute). is_number_found x.number (get same_pair numbers (x.line, x.part))) _ t
+    (λ x. (λ h. h, λ h. h)) c.any.result
+    (rw c.rows-2.ensures.value
+    at (c.any.ensures (λ x. not (is_number_found x.number (get same_pair numbers (x.line, x.part)))) (search rules))) in
     (λ none. once.0 (tested.0 none), λ all. tested.1 (once.1 all))

@@ -18,11 +18,17 @@ loop-row-init c =
 pub loop-row-preserved : goal.loop-row-preserved
 loop-row-preserved c =
     let lent : List (Bor Line) → List Line = map (λ l. l.now) in
-    covering-more (bills_of c.args.self.now).lines c.args.self.now.numbered c.args.role c.args.part c.deref-row-items.result.now c.loop-row.row-index _ c.row-item.result c.loop-row-test.true c.row-item.is
-    (lent c.loop-row.lines.items) (lent c.in_ok-inherited.inherited.items) _ c.loop-row.invariant c.in_ok-inherited.ensures
-    (c.in_ok-lines-2.ensures ∙ ap (λ ls. merged (lent ls) (lent c.deref-in-loop-row.result.now)) c.deref.ensures.value ∙ ap (λ ls. merged (lent c.loop-row.lines.items) (lent ls)) c.deref-in-loop-row.ensures.value)
+    covering-more (bills_of c.args.self.now).lines c.args.self.now.numbered c.args.role c.args.part
+    c.deref-row-items.result.now c.loop-row.row-index _ c.row-item.result c.loop-row-test.true c.row-item.is
+    (lent c.loop-row.lines.items) (lent c.in_ok-inherited.inherited.items) _ c.loop-row.invariant
+    c.in_ok-inherited.ensures
+    (c.in_ok-lines-2.ensures
+    ∙ ap (λ ls. merged (lent ls) (lent c.deref-in-loop-row.result.now)) c.deref.ensures.value
+    ∙ ap (λ ls. merged (lent c.loop-row.lines.items) (lent ls)) c.deref-in-loop-row.ensures.value)
 
 pub returns : goal.returns
 returns c =
-    covering-all (bills_of c.args.self.now).lines c.args.self.now.numbered c.args.role c.args.part c.deref-row-items.result.now c.loop-row.row-index (part_rows (parts_of c.args.catalogue.now)) c.loop-row-test.false
-    (ap (λ (rows : List (Bor Part)). rows_now rows) c.deref-row-items.ensures.value ∙ c.in_ok-numbered.ensures) _ c.loop-row.invariant
+    covering-all (bills_of c.args.self.now).lines c.args.self.now.numbered c.args.role c.args.part
+    c.deref-row-items.result.now c.loop-row.row-index (part_rows (parts_of c.args.catalogue.now)) c.loop-row-test.false
+    (ap (λ (rows : List (Bor Part)). rows_now rows) c.deref-row-items.ensures.value ∙ c.in_ok-numbered.ensures) _
+    c.loop-row.invariant

@@ -11,10 +11,15 @@ returns c none =
     let ranks = ranks_at c.args.ranks.now in
     let parts = parts_of c.args.catalogue.now in
     let bills = bills_of c.args.self.now in
-    let bounded = each-tested (is_bounded ranks) (λ x. is_bounded ranks x ≡ true) parts.parts (λ x. (λ h. h, λ h. h)) c.any.result
+    let bounded =
+    each-tested (is_bounded ranks) (λ x. is_bounded ranks x ≡ true) parts.parts (λ x. (λ h. h, λ h. h)) c.any.result
     (rw c.parts.ensures.value at (c.any.ensures (λ x. not (is_bounded ranks x)) (search rules))) in
-    let falling = each-tested (is_falling ranks) (λ x. is_falling ranks x ≡ true) bills.lines (λ x. (λ h. h, λ h. h)) c.any-2.result
+    let falling =
+    each-tested (is_falling ranks) (λ x. is_falling ranks x ≡ true) bills.lines (λ x. (λ h. h, λ h. h)) c.any-2.result
     (rw c.rows.ensures.value at (c.any-2.ensures (λ x. not (is_falling ranks x)) (search rules))) in
-    let below = each-tested (is_below ranks bills) (λ x. is_below ranks bills x ≡ true) bills.substitutes (λ x. (λ h. h, λ h. h)) c.any-3.result
+    let below =
+    each-tested (is_below ranks bills) (λ x. is_below ranks bills x ≡ true) bills.substitutes (λ x. (λ h. h, λ h. h))
+    c.any-3.result
     (rw c.rows-2.ensures.value at (c.any-3.ensures (λ x. not (is_below ranks bills x)) (search rules))) in
-    falling-acyclic ranks parts bills c.args.self.now.numbered (bounded.0 (ap not c.if-any.false)) (falling.0 (ap not c.if-any-2.false)) (below.0 none)
+    falling-acyclic ranks parts bills c.args.self.now.numbered (bounded.0 (ap not c.if-any.false))
+    (falling.0 (ap not c.if-any-2.false)) (below.0 none)

@@ -16,13 +16,21 @@ pub returns-then-fits_in_own : goal.returns-then-fits_in_own
 returns-then-fits_in_own c =
     let parts = part_rows (parts_of c.args.catalogue.now) in
     let lines = line_rows (bills_of c.args.self.now) in
-    c.if-fits_in_own.true ∙ sym (or_left _ _ (sym c.fits_in_own.ensures ∙ c.if-fits_in_own.true)) ∙ fits-split parts lines c.args.assembly (λ l. not l.flags.consumable) (λ l. fits_line parts (substitute_rows (bills_of c.args.self.now)) l c.args.part)
+    c.if-fits_in_own.true
+    ∙ sym (or_left _ _ (sym c.fits_in_own.ensures ∙ c.if-fits_in_own.true))
+    ∙ fits-split parts lines c.args.assembly (λ l. not l.flags.consumable)
+    (λ l. fits_line parts (substitute_rows (bills_of c.args.self.now)) l c.args.part)
 
 pub returns-else-fits_in_own : goal.returns-else-fits_in_own
 returns-else-fits_in_own c =
     let parts = part_rows (parts_of c.args.catalogue.now) in
     let lines = line_rows (bills_of c.args.self.now) in
     let fitting = installs parts (substitute_rows (bills_of c.args.self.now)) c.args.part in
-    let by_row = λ (x : Part). (x.number == c.args.assembly) && list_any (λ l. is_for_variants Assembly x.template l && fitting l) lines in
-    c.any_at.ensures by_row (λ x b r. let e : b ≡ by_row r.shown.now = search rules in e ∙ ap by_row r.shows) (λ x h. ap (λ n. n ∷ []) (eqb-true _ _ (and_parts (x.number == c.args.assembly) _ h).0))
-    ∙ sym (ap (λ b. b || list_any by_row parts) (sym c.fits_in_own.ensures ∙ c.if-fits_in_own.false)) ∙ fits-split parts lines c.args.assembly (λ l. not l.flags.consumable) (λ l. fits_line parts (substitute_rows (bills_of c.args.self.now)) l c.args.part)
+    let by_row =
+    λ (x : Part).
+    (x.number == c.args.assembly) && list_any (λ l. is_for_variants Assembly x.template l && fitting l) lines in
+    c.any_at.ensures by_row (λ x b r. let e : b ≡ by_row r.shown.now = search rules in e ∙ ap by_row r.shows)
+    (λ x h. ap (λ n. n ∷ []) (eqb-true _ _ (and_parts (x.number == c.args.assembly) _ h).0))
+    ∙ sym (ap (λ b. b || list_any by_row parts) (sym c.fits_in_own.ensures ∙ c.if-fits_in_own.false))
+    ∙ fits-split parts lines c.args.assembly (λ l. not l.flags.consumable)
+    (λ l. fits_line parts (substitute_rows (bills_of c.args.self.now)) l c.args.part)

@@ -10,5 +10,7 @@ use Rattle.bom_core.proofs.boms.Boms.fits_in_template.Goals as goal
 
 pub returns-in-None : goal.returns-in-None
 returns-in-None c =
-    let fitting = installs (part_rows (parts_of c.args.catalogue.now)) (substitute_rows (bills_of c.args.self.now)) c.args.part in
-    sym (any-none _ (λ l. ap (λ b. b && fitting l) (for_no_variants Assembly c.args.template c.in-None.is l)) (line_rows (bills_of c.args.self.now)))
+    let fitting =
+    installs (part_rows (parts_of c.args.catalogue.now)) (substitute_rows (bills_of c.args.self.now)) c.args.part in
+    sym (any-none _ (λ l. ap (λ b. b && fitting l) (for_no_variants Assembly c.args.template c.in-None.is l))
+    (line_rows (bills_of c.args.self.now)))

@@ -9,5 +9,6 @@ use Rattle.bom_core.proofs.boms.Boms.have_components.Goals as goal
 pub returns : goal.returns
 returns c =
     let rows = (parts_of c.args.catalogue.now).parts in
-    each-tested (λ x. has_row rows x.component) _ (bills_of c.args.self.now).lines (λ x. has_row-is rows x.component) c.any.result
+    each-tested (λ x. has_row rows x.component) _ (bills_of c.args.self.now).lines (λ x. has_row-is rows x.component)
+    c.any.result
     (rw c.rows.ensures.value at (c.any.ensures (λ x. not (has_row rows x.component)) (search rules)))

@@ -8,5 +8,6 @@ use Rattle.bom_core.proofs.boms.Boms.have_lines.Goals as goal
 pub returns : goal.returns
 returns c =
     let rows = (bills_of c.args.self.now).lines in
-    each-tested (λ x. has_row rows x.line) _ (bills_of c.args.self.now).substitutes (λ x. has_row-is rows x.line) c.any.result
+    each-tested (λ x. has_row rows x.line) _ (bills_of c.args.self.now).substitutes (λ x. has_row-is rows x.line)
+    c.any.result
     (rw c.rows.ensures.value at (c.any.ensures (λ x. not (has_row rows x.line)) (search rules)))

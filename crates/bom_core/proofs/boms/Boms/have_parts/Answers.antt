@@ -9,5 +9,6 @@ use Rattle.bom_core.proofs.boms.Boms.have_parts.Goals as goal
 pub returns : goal.returns
 returns c =
     let rows = (parts_of c.args.catalogue.now).parts in
-    each-tested (λ x. has_row rows x.part) _ (bills_of c.args.self.now).substitutes (λ x. has_row-is rows x.part) c.any.result
+    each-tested (λ x. has_row rows x.part) _ (bills_of c.args.self.now).substitutes (λ x. has_row-is rows x.part)
+    c.any.result
     (rw c.rows.ensures.value at (c.any.ensures (λ x. not (has_row rows x.part)) (search rules)))

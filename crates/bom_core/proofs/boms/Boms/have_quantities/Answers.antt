@@ -7,4 +7,5 @@ use Rattle.bom_core.proofs.boms.Boms.have_quantities.Goals as goal
 
 pub returns : goal.returns
 returns c =
-    each-tested has_quantity _ (bills_of c.args.self.now).lines has_quantity-is c.any.result (rw c.rows.ensures.value at (c.any.ensures (λ x. not (has_quantity x)) (search rules)))
+    each-tested has_quantity _ (bills_of c.args.self.now).lines has_quantity-is c.any.result
+    (rw c.rows.ensures.value at (c.any.ensures (λ x. not (has_quantity x)) (search rules)))

@@ -6,4 +6,7 @@ use Rattle.bom_core.proofs.LookUps.{filed-of_part}
 use Rattle.bom_core.proofs.boms.Boms.substitutes_by.Goals as goal
 
 pub returns : goal.returns
-returns c = IfOk-map c.select_under.result c.select_under.ensures (λ rows e. e (λ (s : Substitute). s.part == c.args.part) (search rules) (filed-of_part c.args.part c.of_part_key.result c.of_part_key.ensures))
+returns c =
+    IfOk-map c.select_under.result c.select_under.ensures
+    (λ rows e. e (λ (s : Substitute). s.part == c.args.part) (search rules)
+    (filed-of_part c.args.part c.of_part_key.result c.of_part_key.ensures))

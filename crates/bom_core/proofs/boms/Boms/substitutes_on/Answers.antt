@@ -6,4 +6,7 @@ use Rattle.bom_core.proofs.LookUps.{filed-on_line}
 use Rattle.bom_core.proofs.boms.Boms.substitutes_on.Goals as goal
 
 pub returns : goal.returns
-returns c = IfOk-map c.select_under.result c.select_under.ensures (λ rows e. e (λ (s : Substitute). s.line == c.args.line) (search rules) (filed-on_line c.args.line c.on_line_key.result c.on_line_key.ensures))
+returns c =
+    IfOk-map c.select_under.result c.select_under.ensures
+    (λ rows e. e (λ (s : Substitute). s.line == c.args.line) (search rules)
+    (filed-on_line c.args.line c.on_line_key.result c.on_line_key.ensures))

@@ -10,7 +10,10 @@ use Rattle.bom_core.proofs.boms.sound.numbers_of.Goals as goal
 pub loop-row-init : goal.loop-row-init
 loop-row-init c = record {
   there = λ k r lt. absurd (omega arith);
-  found = λ q n e. (let none : get same_pair c.new-numbers.result q ≡ None = ap (lookup (same_pair q)) c.new-numbers.ensures.empty in cc);
+  found =
+      λ q n e.
+      (let none : get same_pair c.new-numbers.result q ≡ None = ap (lookup (same_pair q)) c.new-numbers.ensures.empty in
+      cc);
 }
 
 pub loop-row-preserved : goal.loop-row-preserved
@@ -23,12 +26,16 @@ loop-row-preserved c =
     let old = λ (q : Pair). get same_pair c.loop-row.numbers q in
     let new = λ (q : Pair). get same_pair c.insert.new.self q in
     record {
-      there = there-step rows i (get_or rows i d) lt is old new c.in_ok-insert.ensures.updates.0 c.loop-row.invariant.there;
-      found = found-step rows i (get_or rows i d) lt is old new c.in_ok-insert.ensures.updates.0 c.loop-row.invariant.found;
+      there =
+          there-step rows i (get_or rows i d) lt is old new c.in_ok-insert.ensures.updates.0 c.loop-row.invariant.there;
+      found =
+          found-step rows i (get_or rows i d) lt is old new c.in_ok-insert.ensures.updates.0 c.loop-row.invariant.found;
     }
 
 pub returns : goal.returns
 returns c = record {
-  there = there-all c.args.substitutes.now (λ (q : Pair). get same_pair c.loop-row.numbers q) (λ k r lt. c.loop-row.invariant.there k r (omega arith));
+  there =
+      there-all c.args.substitutes.now (λ (q : Pair). get same_pair c.loop-row.numbers q)
+      (λ k r lt. c.loop-row.invariant.there k r (omega arith));
   found = c.loop-row.invariant.found;
 }

@@ -35,7 +35,8 @@ returns-then-not-are_right_meant c =
     let b = build_books c.args.self.now c.args.allocations.now c.args.yard.now c.args.counter.now in (
       λ no. (let e : false ≡ true = no in cc),
       λ sound.
-          let each : EachRow (λ a. is_right_meant parts bills b.builds b.allocations b.books.stock a ≡ true) b.allocations =
+          let each : EachRow (λ a. is_right_meant parts bills b.builds b.allocations b.books.stock a ≡ true)
+          b.allocations =
           (λ k a at. (right_meant-is parts bills b a).1 (sound.each_allocation k a at)) in
           let no : false ≡ true = sym c.if-not-are_right_meant.true ∙ c.are_right_meant.ensures.1 each in
           cc,

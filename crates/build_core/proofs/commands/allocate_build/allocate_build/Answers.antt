@@ -30,4 +30,5 @@ put_meant-made-requires-clause-named c =
     let last = is_no_item w.item s || is_no_named w.output s in
     let lines = or_none (is_no_build w.build b) (is_none (line_in w.line bills) || last) (none-holds checks e).0 in
     let items = or_none (is_none (line_in w.line bills)) last lines.1 in
-    named-some b.books.counter.next w.output s c.requires.sound.3.stock.items.rows (or_none (is_no_item w.item s) (is_no_named w.output s) items.1).1
+    named-some b.books.counter.next w.output s c.requires.sound.3.stock.items.rows
+    (or_none (is_no_item w.item s) (is_no_named w.output s) items.1).1

@@ -11,5 +11,7 @@ use Rattle.build_core.proofs.commands.auto_allocate.lacks_of.Goals as goal
 pub returns : goal.returns
 returns c =
     let served : Line → Bool = is_served c.args.with_optional (parts_of c.args.catalogue.now) in
-    let need : Line → Need = need_for c.args.build.now (allocations_now c.args.allocations.now) (stock_of c.args.yard.now) in
-    lines-passed served need c.args.lines.now c.loop-line.line-index c.loop-line.lacks.items _ c.loop-line.invariant c.loop-line-test.false
+    let need : Line → Need =
+    need_for c.args.build.now (allocations_now c.args.allocations.now) (stock_of c.args.yard.now) in
+    lines-passed served need c.args.lines.now c.loop-line.line-index c.loop-line.lacks.items _ c.loop-line.invariant
+    c.loop-line-test.false

@@ -9,5 +9,7 @@ use Rattle.build_core.proofs.commands.auto_allocate.lacks_of.Given as goal
 abbrev pub invariant-loop-line : goal.invariant-loop-line
 invariant-loop-line l =
     needs_of l.lacks.items
-    ++ map (need_for l.build (allocations_now l.allocations) (stock_of l.yard)) (filter (is_served l.with_optional (parts_of l.catalogue)) (map (λ x. x.now) (drop l.line-index l.lines)))
-    ≡ map (need_for l.build (allocations_now l.allocations) (stock_of l.yard)) (filter (is_served l.with_optional (parts_of l.catalogue)) (map (λ x. x.now) l.lines))
+    ++ map (need_for l.build (allocations_now l.allocations) (stock_of l.yard))
+    (filter (is_served l.with_optional (parts_of l.catalogue)) (map (λ x. x.now) (drop l.line-index l.lines)))
+    ≡ map (need_for l.build (allocations_now l.allocations) (stock_of l.yard))
+    (filter (is_served l.with_optional (parts_of l.catalogue)) (map (λ x. x.now) l.lines))

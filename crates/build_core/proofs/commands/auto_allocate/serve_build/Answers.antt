@@ -24,8 +24,10 @@ serve_each-requires-clause-lines c =
     let t = allocations_now c.args.allocations.now in
     let s = stock_of c.args.yard.now in
     let is = ap needs_of c.as_slice-2.ensures.value
-    ∙ needs-told c.args.with_optional parts bills c.in-Some.row.now t s _ c.as_slice.result.now c.in_ok-lacks.ensures (ap (map (λ (l : Bor Line). l.now)) c.as_slice.ensures.value ∙ c.in_ok-lines.ensures) in
-    subst (AreLines bills) (sym is) (needs-lines c.args.with_optional parts bills c.args.counter.now.next c.requires.bill c.in-Some.row.now t s)
+    ∙ needs-told c.args.with_optional parts bills c.in-Some.row.now t s _ c.as_slice.result.now c.in_ok-lacks.ensures
+    (ap (map (λ (l : Bor Line). l.now)) c.as_slice.ensures.value ∙ c.in_ok-lines.ensures) in
+    subst (AreLines bills) (sym is)
+    (needs-lines c.args.with_optional parts bills c.args.counter.now.next c.requires.bill c.in-Some.row.now t s)
 
 pub returns-clause-ok : goal.returns-clause-ok
 returns-clause-ok c =
@@ -34,13 +36,18 @@ returns-clause-ok c =
     let t = allocations_now c.args.allocations.now in
     let s = stock_of c.args.yard.now in
     let b = build_books c.args.builds.now c.args.allocations.now c.args.yard.now c.args.counter.now in
-    let row : c.in-Some.row.now ≡ build_at c.args.build b = row-here c.args.build b c.in-Some.row.now c.in-Some.ensures in
+    let row : c.in-Some.row.now ≡ build_at c.args.build b =
+    row-here c.args.build b c.in-Some.row.now c.in-Some.ensures in
     let is : needs_of c.as_slice-2.result.now ≡ needs c.args.with_optional parts bills (build_at c.args.build b) b =
     ap needs_of c.as_slice-2.ensures.value
-    ∙ needs-told c.args.with_optional parts bills c.in-Some.row.now t s _ c.as_slice.result.now c.in_ok-lacks.ensures (ap (map (λ (l : Bor Line). l.now)) c.as_slice.ensures.value ∙ c.in_ok-lines.ensures)
+    ∙ needs-told c.args.with_optional parts bills c.in-Some.row.now t s _ c.as_slice.result.now c.in_ok-lacks.ensures
+    (ap (map (λ (l : Bor Line). l.now)) c.as_slice.ensures.value ∙ c.in_ok-lines.ensures)
     ∙ ap (λ (x : Build). needs c.args.with_optional parts bills x b) row in
     on_ok_weaker c.serve_each.result
-    (λ h. ap (with_allotments b) (h ∙ ap (λ (ns : List Need). allot_lines c.args.with_substitutes parts bills s c.args.build ns (allotments_of c.args.allocations.now c.args.counter.now)) is))
+    (λ h. ap (with_allotments b)
+    (h ∙ ap (λ (ns : List Need). allot_lines c.args.with_substitutes parts bills s c.args.build ns
+    (allotments_of c.args.allocations.now c.args.counter.now))
+    is))
     c.serve_each.ensures.ok
 
 pub returns-clause-full : goal.returns-clause-full
@@ -50,10 +57,15 @@ returns-clause-full c = λ e.
     let t = allocations_now c.args.allocations.now in
     let s = stock_of c.args.yard.now in
     let b = build_books c.args.builds.now c.args.allocations.now c.args.yard.now c.args.counter.now in
-    let row : c.in-Some.row.now ≡ build_at c.args.build b = row-here c.args.build b c.in-Some.row.now c.in-Some.ensures in
+    let row : c.in-Some.row.now ≡ build_at c.args.build b =
+    row-here c.args.build b c.in-Some.row.now c.in-Some.ensures in
     let is : needs_of c.as_slice-2.result.now ≡ needs c.args.with_optional parts bills (build_at c.args.build b) b =
     ap needs_of c.as_slice-2.ensures.value
-    ∙ needs-told c.args.with_optional parts bills c.in-Some.row.now t s _ c.as_slice.result.now c.in_ok-lacks.ensures (ap (map (λ (l : Bor Line). l.now)) c.as_slice.ensures.value ∙ c.in_ok-lines.ensures)
+    ∙ needs-told c.args.with_optional parts bills c.in-Some.row.now t s _ c.as_slice.result.now c.in_ok-lacks.ensures
+    (ap (map (λ (l : Bor Line). l.now)) c.as_slice.ensures.value ∙ c.in_ok-lines.ensures)
     ∙ ap (λ (x : Build). needs c.args.with_optional parts bills x b) row in
-    subst (λ (ns : List Need). passes_limit (allot_lines c.args.with_substitutes parts bills s c.args.build ns (allotments_of c.args.allocations.now c.args.counter.now)).counter ≡ true) is
+    subst (λ (ns : List Need). passes_limit
+    (allot_lines c.args.with_substitutes parts bills s c.args.build ns
+    (allotments_of c.args.allocations.now c.args.counter.now)).counter ≡ true)
+    is
     (c.serve_each.ensures.full e)

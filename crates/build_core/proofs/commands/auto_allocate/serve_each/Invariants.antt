@@ -14,8 +14,11 @@ use Rattle.build_core.proofs.commands.auto_allocate.serve_each.Given as goal
 abbrev pub invariant-loop-lack : goal.invariant-loop-lack
 invariant-loop-lack l =
     record {
-      left : allot_lines l.with_substitutes (parts_of l.catalogue) (bills_of l.boms) (stock_of l.yard) l.build (needs_of (drop l.lack-index l.lacks)) (allotments_of l.allocations l.counter)
-          ≡ allot_lines l.with_substitutes (parts_of l.catalogue) (bills_of l.boms) (stock_of l.yard) l.build (needs_of l.lacks) (allotments_of l.initial.allocations l.initial.counter);
+      left :
+          allot_lines l.with_substitutes (parts_of l.catalogue) (bills_of l.boms) (stock_of l.yard) l.build
+          (needs_of (drop l.lack-index l.lacks)) (allotments_of l.allocations l.counter)
+          ≡ allot_lines l.with_substitutes (parts_of l.catalogue) (bills_of l.boms) (stock_of l.yard) l.build
+          (needs_of l.lacks) (allotments_of l.initial.allocations l.initial.counter);
       drawn : AreDrawn (allotments_of l.allocations l.counter);
       before : allocations_before l.allocations ≡ allocations_before l.initial.allocations;
       counter_before : numbering_before l.counter ≡ numbering_before l.initial.counter;

@@ -15,9 +15,12 @@ loop-output-init c =
     let b = build_books c.args.builds.now c.args.allocations.now c.args.yard.now c.args.counter.now in
     let n = c.args.build in
     let sound = c.requires.sound in
-    let rows : c.deref-output-items.result.now ≡ outputs_of n b.books.stock = c.deref-output-items.ensures.value ∙ c.in_ok-outputs.ensures in
+    let rows : c.deref-output-items.result.now ≡ outputs_of n b.books.stock =
+    c.deref-output-items.ensures.value ∙ c.in_ok-outputs.ensures in
     record {
-      left = subst (λ (xs : List ℕ). IsClearing n c.args.day xs xs b.books b.books) (sym rows) (clearing-all n c.args.day sound.0 sound.1 sound.2 b sound.3 c.requires.checked);
+      left =
+          subst (λ (xs : List ℕ). IsClearing n c.args.day xs xs b.books b.books) (sym rows)
+          (clearing-all n c.args.day sound.0 sound.1 sound.2 b sound.3 c.requires.checked);
       before = refl;
     }
 
@@ -28,7 +31,8 @@ lift-requires-clause-can c =
     let old = stock_books_of c.args.yard.now c.args.counter.now in
     let b = stock_books_of c.loop-output.yard c.args.counter.now in
     can-clear c.args.build c.args.day xs (get_or xs i 0) (drop (i + 1) xs) old b
-    (subst (λ (ys : List ℕ). IsClearing c.args.build c.args.day xs ys old b) (drop_more xs i 0 c.loop-output-test.true) c.loop-output.invariant.left)
+    (subst (λ (ys : List ℕ). IsClearing c.args.build c.args.day xs ys old b) (drop_more xs i 0 c.loop-output-test.true)
+    c.loop-output.invariant.left)
 
 pub lift-requires-clause-room : goal.lift-requires-clause-room
 lift-requires-clause-room c =
@@ -37,7 +41,8 @@ lift-requires-clause-room c =
     let old = stock_books_of c.args.yard.now c.args.counter.now in
     let b = stock_books_of c.loop-output.yard c.args.counter.now in
     room-clear c.args.build c.args.day xs (get_or xs i 0) (drop (i + 1) xs) old b
-    (subst (λ (ys : List ℕ). IsClearing c.args.build c.args.day xs ys old b) (drop_more xs i 0 c.loop-output-test.true) c.loop-output.invariant.left)
+    (subst (λ (ys : List ℕ). IsClearing c.args.build c.args.day xs ys old b) (drop_more xs i 0 c.loop-output-test.true)
+    c.loop-output.invariant.left)
     c.args.counter.now.limits.entries_within
 
 pub loop-output-preserved : goal.loop-output-preserved
@@ -48,7 +53,8 @@ loop-output-preserved c =
     let b = stock_books_of c.loop-output.yard c.args.counter.now in
     record {
       left = clearing-one c.args.build c.args.day xs (get_or xs i 0) (drop (i + 1) xs) old b
-          (subst (λ (ys : List ℕ). IsClearing c.args.build c.args.day xs ys old b) (drop_more xs i 0 c.loop-output-test.true) c.loop-output.invariant.left)
+          (subst (λ (ys : List ℕ). IsClearing c.args.build c.args.day xs ys old b)
+          (drop_more xs i 0 c.loop-output-test.true) c.loop-output.invariant.left)
           (stock_books_of c.lift.new.self c.args.counter.now) (ap (λ s. with_stock s b) c.in_ok-lift.ensures.ok);
       before = c.in_ok-lift.ensures.before ∙ c.loop-output.invariant.before;
     }
@@ -62,6 +68,9 @@ returns-clause-ok c =
     let day = c.args.day in
     let s = stock_of c.loop-output.yard in
     let rows : xs ≡ outputs_of n b.books.stock = c.deref-output-items.ensures.value ∙ c.in_ok-outputs.ensures in
-    let stock = sym (ap (λ (ys : List ℕ). lift_each ys Gone day s) (drop_all i xs c.loop-output-test.false)) ∙ c.loop-output.invariant.left.same
+    let stock =
+    sym (ap (λ (ys : List ℕ). lift_each ys Gone day s) (drop_all i xs c.loop-output-test.false))
+    ∙ c.loop-output.invariant.left.same
     ∙ ap (λ (ys : List ℕ). lift_each ys Gone day b.books.stock) rows in
-    same-books _ _ _ _ _ _ (ap (λ (x : BuildBooks). x.builds) c.in_ok-change_state.ensures.ok) c.in_ok-release_for.ensures.ok (ap (λ t. with_stock t b.books) stock)
+    same-books _ _ _ _ _ _ (ap (λ (x : BuildBooks). x.builds) c.in_ok-change_state.ensures.ok)
+    c.in_ok-release_for.ensures.ok (ap (λ t. with_stock t b.books) stock)

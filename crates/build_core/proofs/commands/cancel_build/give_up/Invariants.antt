@@ -7,6 +7,8 @@ use Rattle.build_core.proofs.commands.cancel_build.give_up.Given as goal
 abbrev pub invariant-loop-output : goal.invariant-loop-output
 invariant-loop-output l =
     record {
-      left : IsClearing l.build l.day l.output-items (drop l.output-index l.output-items) (stock_books_of l.initial.yard l.counter) (stock_books_of l.yard l.counter);
+      left :
+          IsClearing l.build l.day l.output-items (drop l.output-index l.output-items)
+          (stock_books_of l.initial.yard l.counter) (stock_books_of l.yard l.counter);
       before : stock_before l.yard ≡ stock_before l.initial.yard;
     }

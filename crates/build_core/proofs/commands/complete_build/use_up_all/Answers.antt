@@ -20,7 +20,8 @@ loop-row-init c =
     let n = c.args.build in
     let day = c.args.day in
     let sound = c.requires.sound in
-    let rows : seen c.deref-row-items.result.now ≡ build_rows n b = ap seen c.deref-row-items.ensures.value ∙ c.in_ok-rows.ensures in
+    let rows : seen c.deref-row-items.result.now ≡ build_rows n b =
+    ap seen c.deref-row-items.ensures.value ∙ c.in_ok-rows.ensures in
     record {
       left = subst (λ (xs : List Allocation). IsLeft (used_for n day) day (quiet_beside b.books) xs xs b.books b.books)
           (sym rows) (left-start n day sound.0 sound.1 sound.2 b sound.3 c.requires.there);
@@ -34,8 +35,11 @@ use_up-used-requires-clause-can c = λ more room.
     let go = used_for c.args.build c.args.day in
     let old = stock_books_of c.args.yard.now c.args.counter.now in
     let b = stock_books_of c.loop-row.yard c.loop-row.counter in
-    let left = left-from go c.args.day (quiet_beside old) rows i c.row-item.result old b c.loop-row-test.true c.row-item.is c.loop-row.invariant.left in
-    left-cut go c.args.day (quiet_beside old) (seen rows) c.row-item.result.now (seen (drop (i + 1) rows)) old b left more room c.loop-row.counter.limits.entries_within
+    let left =
+    left-from go c.args.day (quiet_beside old) rows i c.row-item.result old b c.loop-row-test.true c.row-item.is
+    c.loop-row.invariant.left in
+    left-cut go c.args.day (quiet_beside old) (seen rows) c.row-item.result.now (seen (drop (i + 1) rows)) old b left
+    more room c.loop-row.counter.limits.entries_within
 
 pub returns-in-Err-clause-full : goal.returns-in-Err-clause-full
 returns-in-Err-clause-full c = λ e.
@@ -48,9 +52,12 @@ returns-in-Err-clause-full c = λ e.
     let old = stock_books_of c.args.yard.now c.args.counter.now in
     let b = stock_books_of c.loop-row.yard c.loop-row.counter in
     let are : seen rows ≡ build_rows n before = ap seen c.deref-row-items.ensures.value ∙ c.in_ok-rows.ensures in
-    let left = left-from go day (quiet_beside old) rows i c.row-item.result old b c.loop-row-test.true c.row-item.is c.loop-row.invariant.left in
+    let left =
+    left-from go day (quiet_beside old) rows i c.row-item.result old b c.loop-row-test.true c.row-item.is
+    c.loop-row.invariant.left in
     ap (λ (xs : List Allocation). is_full (serve_each go day xs old)) (sym are)
-    ∙ left-full go day (quiet_beside old) (seen rows) c.row-item.result.now (seen (drop (i + 1) rows)) old b left (c.use_up-used.ensures.full (c.in-Err.is ∙ e))
+    ∙ left-full go day (quiet_beside old) (seen rows) c.row-item.result.now (seen (drop (i + 1) rows)) old b left
+    (c.use_up-used.ensures.full (c.in-Err.is ∙ e))
 
 pub loop-row-preserved : goal.loop-row-preserved
 loop-row-preserved c =
@@ -59,10 +66,15 @@ loop-row-preserved c =
     let go = used_for c.args.build c.args.day in
     let old = stock_books_of c.args.yard.now c.args.counter.now in
     let b = stock_books_of c.loop-row.yard c.loop-row.counter in
-    let left = left-from go c.args.day (quiet_beside old) rows i c.row-item.result old b c.loop-row-test.true c.row-item.is c.loop-row.invariant.left in
+    let left =
+    left-from go c.args.day (quiet_beside old) rows i c.row-item.result old b c.loop-row-test.true c.row-item.is
+    c.loop-row.invariant.left in
     record {
-      left = left-one go c.args.day (quiet_beside old) (seen rows) c.row-item.result.now (seen (drop (i + 1) rows)) old b left
-          (stock_books_of c.use_up-used.new.yard c.use_up-used.new.counter) c.in_default.ensures.ok c.in_default.ensures.within;
+      left =
+          left-one go c.args.day (quiet_beside old) (seen rows) c.row-item.result.now
+          (seen (drop (i + 1) rows)) old b left
+          (stock_books_of c.use_up-used.new.yard c.use_up-used.new.counter) c.in_default.ensures.ok
+          c.in_default.ensures.within;
       before = c.use_up-used.ensures.before ∙ c.loop-row.invariant.before;
     }
 
@@ -84,5 +96,6 @@ returns-clause-ok c =
 pub returns-clause-within : goal.returns-clause-within
 returns-clause-within c =
     let b = stock_books_of c.loop-row.yard c.loop-row.counter in
-    let numbers : b.counter.next ≤ b.counter.limits.numbers + 1 = omega (arith, c.largest.ensures.next, c.largest.ensures.value) in
+    let numbers : b.counter.next ≤ b.counter.limits.numbers + 1 =
+    omega (arith, c.largest.ensures.next, c.largest.ensures.value) in
     within-limits b numbers c.loop-row.invariant.left.within

@@ -24,15 +24,21 @@ make_new-requires-clause-room c =
     let b = build_books c.args.builds.now c.args.allocations.now c.args.yard.now c.args.counter.now in
     let n = c.args.build in
     let new = c.args.new.now in
-    let holds = none-holds (new_outputs_checks n new c.args.day (parts_of c.args.catalogue.now) (bills_of c.args.boms.now) b) c.requires.checked in
+    let holds =
+    none-holds (new_outputs_checks n new c.args.day (parts_of c.args.catalogue.now) (bills_of c.args.boms.now) b)
+    c.requires.checked in
     let named = or_none (is_bad_quantity new.quantity) (given are_many new.serials) holds.1.0 in
     let items = c.requires.sound.3.stock.items in
-    room-few (count_of new.serials) 0 b.books (new_outputs n new c.args.day b).books items (omega (arith, c.args.counter.now.limits.entries_within)) (few-named new.serials named.1)
+    room-few (count_of new.serials) 0 b.books (new_outputs n new c.args.day b).books items
+    (omega (arith, c.args.counter.now.limits.entries_within)) (few-named new.serials named.1)
     (uses-begun n (build_at n b).part new c.args.day b.books items.stock.history) holds.1.1.1.1.1.1.1.1.0
 
 pub make_new-requires-clause-quantity : goal.make_new-requires-clause-quantity
 make_new-requires-clause-quantity c =
     let b = build_books c.args.builds.now c.args.allocations.now c.args.yard.now c.args.counter.now in
     let new = c.args.new.now in
-    let holds = none-holds (new_outputs_checks c.args.build new c.args.day (parts_of c.args.catalogue.now) (bills_of c.args.boms.now) b) c.requires.checked in
+    let holds =
+    none-holds
+    (new_outputs_checks c.args.build new c.args.day (parts_of c.args.catalogue.now) (bills_of c.args.boms.now) b)
+    c.requires.checked in
     good-quantity new.quantity (or_none (is_bad_quantity new.quantity) (given are_many new.serials) holds.1.0).0

@@ -16,5 +16,7 @@ returns c day =
     let n = c.args.build in
     let new = c.args.new.now in
     c.lacks_room.ensures
-    ∙ ap (λ k. lacks k b.books.counter || nat_lt b.books.counter.limits.entries (entries_in b.books + 0)) c.count_of.ensures
-    ∙ full-used (count_of new.serials) 0 b.books (new_outputs n new day b).books (uses-begun n (build_at n b).part new day b.books c.requires.stock.history)
+    ∙ ap (λ k. lacks k b.books.counter || nat_lt b.books.counter.limits.entries (entries_in b.books + 0))
+    c.count_of.ensures
+    ∙ full-used (count_of new.serials) 0 b.books (new_outputs n new day b).books
+    (uses-begun n (build_at n b).part new day b.books c.requires.stock.history)

@@ -13,5 +13,7 @@ returns c day =
     let b = build_books c.args.builds.now c.args.allocations.now c.args.yard.now c.args.counter.now in
     let n = c.args.output in
     c.lacks_room.ensures
-    ∙ ap (λ k. lacks 0 b.books.counter || nat_lt b.books.counter.limits.entries (entries_in b.books + k)) c.in_ok-entries.ensures
-    ∙ full-used 0 (scrapped_entries n b.books) b.books (scrap_output n day b).books (uses-scrapped n day b.books c.requires.sound.3.stock.items.stock.history)
+    ∙ ap (λ k. lacks 0 b.books.counter || nat_lt b.books.counter.limits.entries (entries_in b.books + k))
+    c.in_ok-entries.ensures
+    ∙ full-used 0 (scrapped_entries n b.books) b.books (scrap_output n day b).books
+    (uses-scrapped n day b.books c.requires.sound.3.stock.items.stock.history)

@@ -12,5 +12,6 @@ lift-requires-clause-room c =
     let n = c.args.output in
     let day = c.args.day in
     let holds = none-holds (scrap_output_checks n day b) c.requires.checked in
-    room-left 0 (scrapped_entries n b.books) b.books (scrap_output n day b).books (uses-scrapped n day b.books c.requires.sound.3.stock.items.stock.history)
+    room-left 0 (scrapped_entries n b.books) b.books (scrap_output n day b).books
+    (uses-scrapped n day b.books c.requires.sound.3.stock.items.stock.history)
     (omega (arith, c.args.counter.now.limits.entries_within)) holds.1.1.0

@@ -7,7 +7,9 @@ abbrev pub invariant-loop-found : goal.invariant-loop-found
 invariant-loop-found g l = record {
   short : length l.line.items ≤ 65537;
   reads : l.self.reads ≤ l.initial.self.reads;
-  partway : Partway (left (g.R.Read.remaining l.initial.reader) l.initial.self) l.found l.line.items (left (g.R.Read.remaining l.reader) l.self);
+  partway :
+      Partway (left (g.R.Read.remaining l.initial.reader) l.initial.self) l.found l.line.items
+      (left (g.R.Read.remaining l.reader) l.self);
 }
 
 abbrev pub decreases-loop-found : goal.decreases-loop-found

@@ -6,8 +6,11 @@ use Rattle.desk_core.proofs.shop.Shop.act.Goals as goal
 
 pub act-requires-in-Order-clause-sound : goal.act-requires-in-Order-clause-sound
 act-requires-in-Order-clause-sound c =
-    let sound = c.requires.sound in
-    (is_build (state_of c.args.self.now), parts_of c.args.self.now.catalogue, record { stock = sound.stock; allocations = sound.allocations; orders = sound.orders })
+    let sound = c.requires.sound in (
+      is_build (state_of c.args.self.now),
+      parts_of c.args.self.now.catalogue,
+      record { stock = sound.stock; allocations = sound.allocations; orders = sound.orders },
+    )
 
 pub act-requires-in-Build-clause-sound : goal.act-requires-in-Build-clause-sound
 act-requires-in-Build-clause-sound c =

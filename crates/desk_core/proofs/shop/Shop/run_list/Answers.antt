@@ -12,11 +12,14 @@ loop-request-preserved c =
     let requests = c.args.requests.now in
     let outcomes = c.loop-request.outcomes.items in
     let request = c.request-item.result in
-    let more : take (i + 1) requests ≡ take i requests ++ request ∷ [] = take_more requests i request c.loop-request-test.true ∙ ap (λ x. take i requests ++ x ∷ []) (sym c.request-item.is) in
+    let more : take (i + 1) requests ≡ take i requests ++ request ∷ [] =
+    take_more requests i request c.loop-request-test.true
+    ∙ ap (λ x. take i requests ++ x ∷ []) (sym c.request-item.is) in
     let long : length (take i requests) ≡ length outcomes = grind (arith, common_steps) in
     record {
       ran = rw (c.push_reserved.ensures.items, more)
-          (run-push (state_of c.args.self.now) (take i requests) outcomes (state_of c.loop-request.self) request c.decide-outcome.result _ long c.loop-request.invariant.ran c.decide-outcome.ensures.decides);
+          (run-push (state_of c.args.self.now) (take i requests) outcomes (state_of c.loop-request.self) request
+          c.decide-outcome.result _ long c.loop-request.invariant.ran c.decide-outcome.ensures.decides);
       count = grind (arith, common_steps, c.push_reserved.ensures.items);
       room = grind (arith, common_steps);
       sound = c.decide-outcome.ensures.sound;
@@ -25,13 +28,23 @@ loop-request-preserved c =
 pub returns-clause-drawn : goal.returns-clause-drawn
 returns-clause-drawn c =
     let outcomes = c.loop-request.outcomes.items in
-    let all : take c.loop-request.request-index c.args.requests.now ≡ c.args.requests.now = take_all c.loop-request.request-index c.args.requests.now (omega arith) in
-    subst (λ rs. AreDrawn (state_of c.args.self.now).counter.next (ids_of (answers_of (state_of c.args.self.now) (answered rs outcomes))) (state_of c.loop-request.self).counter.next) all
-    (told_in (state_of c.args.self.now) c.requires (answered (take c.loop-request.request-index c.args.requests.now) outcomes) (state_of c.loop-request.self) (told outcomes) c.loop-request.invariant.ran).drawn
+    let all : take c.loop-request.request-index c.args.requests.now ≡ c.args.requests.now =
+    take_all c.loop-request.request-index c.args.requests.now (omega arith) in
+    subst (λ rs. AreDrawn (state_of c.args.self.now).counter.next
+    (ids_of (answers_of (state_of c.args.self.now) (answered rs outcomes))) (state_of c.loop-request.self).counter.next)
+    all
+    (told_in (state_of c.args.self.now) c.requires
+    (answered (take c.loop-request.request-index c.args.requests.now) outcomes)
+    (state_of c.loop-request.self) (told outcomes) c.loop-request.invariant.ran).drawn
 
 pub returns-clause-written : goal.returns-clause-written
 returns-clause-written c =
     let outcomes = c.loop-request.outcomes.items in
-    let all : take c.loop-request.request-index c.args.requests.now ≡ c.args.requests.now = take_all c.loop-request.request-index c.args.requests.now (omega arith) in
-    subst (λ rs. entries_in (state_of c.loop-request.self) ≡ entries_in (state_of c.args.self.now) + entries_of (answers_of (state_of c.args.self.now) (answered rs outcomes))) all
-    (told_in (state_of c.args.self.now) c.requires (answered (take c.loop-request.request-index c.args.requests.now) outcomes) (state_of c.loop-request.self) (told outcomes) c.loop-request.invariant.ran).written
+    let all : take c.loop-request.request-index c.args.requests.now ≡ c.args.requests.now =
+    take_all c.loop-request.request-index c.args.requests.now (omega arith) in
+    subst (λ rs. entries_in (state_of c.loop-request.self)
+    ≡ entries_in (state_of c.args.self.now) + entries_of (answers_of (state_of c.args.self.now) (answered rs outcomes)))
+    all
+    (told_in (state_of c.args.self.now) c.requires
+    (answered (take c.loop-request.request-index c.args.requests.now) outcomes)
+    (state_of c.loop-request.self) (told outcomes) c.loop-request.invariant.ran).written

@@ -12,9 +12,11 @@ returns-in-Ok-load-clause-desk g c = record {
   sound = c.in-Ok-load.ensures.sound;
   free = λ clean.
       let read = c.in-Ok-load.ensures.read in
-      (read.same clean).0.mode ∙ (c.in-Ok.ensures.rest (was-clean (state g.S.Store c.in-Ok.opened) (state g.S.Store c.load.new.conn) _ read.crash clean)).free;
+      (read.same clean).0.mode ∙ (c.in-Ok.ensures.rest
+      (was-clean (state g.S.Store c.in-Ok.opened) (state g.S.Store c.load.new.conn) _ read.crash clean)).free;
   books = λ _ clean.
-      opened-books g.S.Store g.met.S.Store.settled c.in-Ok.opened c.load.new.conn c.in-Ok-load.shop c.in-Ok-load.ensures.read c.in-Ok.ensures.rest c.in-Ok.ensures.tables clean;
+      opened-books g.S.Store g.met.S.Store.settled c.in-Ok.opened c.load.new.conn c.in-Ok-load.shop
+      c.in-Ok-load.ensures.read c.in-Ok.ensures.rest c.in-Ok.ensures.tables clean;
 }
 
 pub returns-in-Err-load-clause-why : goal.returns-in-Err-load-clause-why
@@ -24,7 +26,8 @@ returns-in-Err-load-clause-why g c clean =
     let clean1 : HasCleanDisk loaded = omega (arith, clean, c.into_store.ensures.quiet.clean) in
     let read = c.in-Err-load.ensures.read in
     let clean0 : HasCleanDisk opened = was-clean opened loaded _ read.crash clean1 in
-    why_not opened.now.trees (state g.S.Store c.args.conn).committed.trees c.in-Err-load.fault (c.in-Ok.ensures.same clean0) (c.in-Ok.ensures.own clean0) (read.why clean1)
+    why_not opened.now.trees (state g.S.Store c.args.conn).committed.trees c.in-Err-load.fault
+    (c.in-Ok.ensures.same clean0) (c.in-Ok.ensures.own clean0) (read.why clean1)
 
 pub returns-in-Ok-load-clause-found : goal.returns-in-Ok-load-clause-found
 returns-in-Ok-load-clause-found g c clean =

@@ -9,4 +9,5 @@ pub save-requires-clause-stays : goal.save-requires-clause-stays
 save-requires-clause-stays g c =
     let old = state_of c.args.self.now.shop in
     let mid = state_of c.accept.new.self in
-    subst (λ (s : State). AllStay s mid) (sym c.accept.ensures.before) (accepted_stays old mid c.args.request.now c.accept.result c.accept.ensures.accepts)
+    subst (λ (s : State). AllStay s mid) (sym c.accept.ensures.before)
+    (accepted_stays old mid c.args.request.now c.accept.result c.accept.ensures.accepts)

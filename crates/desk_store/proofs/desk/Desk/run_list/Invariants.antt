@@ -21,5 +21,6 @@ invariant-loop-request g l =
       room : length l.requests ≤ vec_capacity l.outcomes;
       closes : Closes (is_some l.fn.self.failed) outcomes (is_some l.self.failed);
       left : l.fn.self.failed ≡ None → HasCleanDisk (state g.S.Store l.self.conn) → (trees : Trees)
-          → (state g.S.Store l.self.conn).may_leave trees → AreLeft (state_of l.self.shop) (stopped_at requests outcomes) trees;
+          → (state g.S.Store l.self.conn).may_leave trees
+          → AreLeft (state_of l.self.shop) (stopped_at requests outcomes) trees;
     }

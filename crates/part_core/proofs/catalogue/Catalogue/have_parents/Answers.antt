@@ -7,4 +7,5 @@ use Rattle.part_core.proofs.catalogue.Catalogue.have_parents.Goals as goal
 pub returns : goal.returns
 returns c =
     let rows = (parts_of c.args.self.now).categories in
-    each-tested (has_parent rows) _ rows (has_parent-is rows) c.any.result (rw c.rows.ensures.value at (c.any.ensures (λ x. not (has_parent rows x)) (search rules)))
+    each-tested (has_parent rows) _ rows (has_parent-is rows) c.any.result
+    (rw c.rows.ensures.value at (c.any.ensures (λ x. not (has_parent rows x)) (search rules)))

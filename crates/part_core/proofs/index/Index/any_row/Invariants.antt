@@ -12,5 +12,6 @@ invariant-loop-filing g l =
     record {
       callable : goal.F-IsAlwaysCallable g l.test;
       left : (p : g.row.R.Denot → Bool) → IsTest g.F.Fn l.test p
-          → list_any p (of_rows (rows_at (now_of l.sheet) (numbers_of l.filing-iterator))) ≡ list_any p (of_rows (rows_at (now_of l.sheet) (numbers_of (filed_under l.key l.self.filings.keys))));
+          → list_any p (of_rows (rows_at (now_of l.sheet) (numbers_of l.filing-iterator)))
+          ≡ list_any p (of_rows (rows_at (now_of l.sheet) (numbers_of (filed_under l.key l.self.filings.keys))));
     }

@@ -7,5 +7,7 @@ abbrev pub invariant-loop-place : goal.invariant-loop-place
 invariant-loop-place g l =
     record {
       grown : IsGrown l.fn.self.filings.keys l.fn.self.touched.items l.self.filings.keys l.self.touched.items;
-      filed : (j : ℕ) → j < l.place → is_filed (get_or (g.R.Indexed.index_keys l.row) j 0) l.number l.self.filings.keys ≡ true;
+      filed :
+          (j : ℕ) → j < l.place
+          → is_filed (get_or (g.R.Indexed.index_keys l.row) j 0) l.number l.self.filings.keys ≡ true;
     }

@@ -12,6 +12,7 @@ invariant-loop-filed g l =
     record {
       callable : goal.F-IsAlwaysCallable g l.test;
       found : (p : g.row.R.Denot → Bool) → IsTest g.F.Fn l.test p
-          → map (λ r. r.now) l.found.items ++ filter p (of_rows (rows_at (now_of l.sheet) (numbers_of l.filed-iterator)))
+          → map (λ r. r.now) l.found.items
+          ++ filter p (of_rows (rows_at (now_of l.sheet) (numbers_of l.filed-iterator)))
           ≡ filter p (of_rows (rows_at (now_of l.sheet) (numbers_of (filed_under l.key l.self.filings.keys))));
     }

@@ -3,7 +3,8 @@ use Rattle.part_core.specs.Index.{IsIndex}
 use Rattle.part_core.proofs.index.Index.sweep.Given as goal
 
 abbrev pub invariant-loop-filing : goal.invariant-loop-filing
-invariant-loop-filing g l = IsIndex g.R.Indexed.index_keys g.R.Row.key_of l.sheet l.self.filings.keys l.self.touched.items
+invariant-loop-filing g l =
+    IsIndex g.R.Indexed.index_keys g.R.Row.key_of l.sheet l.self.filings.keys l.self.touched.items
 
 abbrev pub decreases-loop-filing : goal.decreases-loop-filing
 decreases-loop-filing g l = length l.self.touched.items

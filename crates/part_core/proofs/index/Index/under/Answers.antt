@@ -10,8 +10,11 @@ pub returns-clause-filed : goal.returns-clause-filed
 returns-clause-filed c =
     let fs = c.args.self.now.filings.keys in
     c.range.ensures.between c.new.ensures.exhausted
-    ∙ ap (λ first. filter (range_contains filing_cmp (Included first) (Included (range_inclusive_end c.new.result))) fs) c.new.ensures.start
-    ∙ ap (λ last. filter (range_contains filing_cmp (Included (record { key = c.args.key; number = 0 })) (Included last)) fs) c.new.ensures.end
+    ∙ ap (λ first. filter (range_contains filing_cmp (Included first) (Included (range_inclusive_end c.new.result))) fs)
+    c.new.ensures.start
+    ∙ ap
+    (λ last. filter (range_contains filing_cmp (Included (record { key = c.args.key; number = 0 })) (Included last)) fs)
+    c.new.ensures.end
     ∙ between-under c.args.key fs
 
 pub returns-clause-rise : goal.returns-clause-rise

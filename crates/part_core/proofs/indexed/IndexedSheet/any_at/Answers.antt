@@ -13,10 +13,15 @@ returns-in-Some g c = λ p is of_number.
     let t = now_of s in
     let n = c.args.number in
     let row = sym c.in-Some.ensures in
-    let answer : c.test.result ≡ p c.in-Some.row.now = is c.in-Some.row.now c.test.result (record { shown = _; shows = refl; says = record { met = c.test.ensures } }) in
+    let answer : c.test.result ≡ p c.in-Some.row.now =
+    is c.in-Some.row.now c.test.result (record { shown = _; shows = refl; says = record { met = c.test.ensures } }) in
     answer
-    ∙ sym (any-with_row p (n ∷ []) (table.get t (n ∷ [])) [] ∙ ap (λ o. passes p o || false) row ∙ or_false (p c.in-Some.row.now))
-    ∙ any-filed p t (n ∷ []) (Rise-one n) (row-at g.R.Indexed.index_keys g.R.Row.key_of s c.self.inside.index.filings.keys c.self.inside.index.touched.items c.self.invariant n p of_number)
+    ∙ sym (any-with_row p (n ∷ []) (table.get t (n ∷ [])) []
+    ∙ ap (λ o. passes p o || false) row
+    ∙ or_false (p c.in-Some.row.now))
+    ∙ any-filed p t (n ∷ []) (Rise-one n)
+    (row-at g.R.Indexed.index_keys g.R.Row.key_of s c.self.inside.index.filings.keys c.self.inside.index.touched.items
+    c.self.invariant n p of_number)
     ∙ ap (λ s. list_any p (table.values (now_of s))) c.self.view_is
 
 pub returns : goal.returns
@@ -26,5 +31,7 @@ returns g c = λ p is of_number.
     let n = c.args.number in
     let row = sym c.in-None.ensures in
     sym (any-with_row p (n ∷ []) (table.get t (n ∷ [])) [] ∙ ap (λ o. passes p o || false) row)
-    ∙ any-filed p t (n ∷ []) (Rise-one n) (row-at g.R.Indexed.index_keys g.R.Row.key_of s c.self.inside.index.filings.keys c.self.inside.index.touched.items c.self.invariant n p of_number)
+    ∙ any-filed p t (n ∷ []) (Rise-one n)
+    (row-at g.R.Indexed.index_keys g.R.Row.key_of s c.self.inside.index.filings.keys c.self.inside.index.touched.items
+    c.self.invariant n p of_number)
     ∙ ap (λ s. list_any p (table.values (now_of s))) c.self.view_is

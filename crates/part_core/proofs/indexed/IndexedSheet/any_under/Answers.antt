@@ -13,5 +13,6 @@ returns g c = λ p is under.
     let fs = c.self.inside.index.filings.keys in
     c.any_row.ensures.any p is
     ∙ any-filed p (now_of s) (numbers_of (filed_under c.args.key fs)) c.any_row.ensures.rise
-    (row-covered g.R.Indexed.index_keys g.R.Row.key_of s fs c.self.inside.index.touched.items c.self.invariant c.args.key p under)
+    (row-covered g.R.Indexed.index_keys g.R.Row.key_of s fs c.self.inside.index.touched.items c.self.invariant
+    c.args.key p under)
     ∙ ap (λ s. list_any p (table.values (now_of s))) c.self.view_is

@@ -7,7 +7,8 @@ use Rattle.part_core.proofs.indexed.IndexedSheet.get.Goals as goal
 pub returns-clause-own : goal.returns-clause-own
 returns-clause-own g c =
     let key = c.args.number ∷ [] in
-    elim c.get.result as (λ o. option_copied o ≡ table.get (now_of c.self.inside.sheet) key → IfSome o (λ row. g.R.Row.key_of row.now ≡ c.args.number ∷ [])) [
+    elim c.get.result as (λ o. option_copied o ≡ table.get (now_of c.self.inside.sheet) key
+    → IfSome o (λ row. g.R.Row.key_of row.now ≡ c.args.number ∷ [])) [
       | None ↦ λ e. tt
       | Some row ↦ λ e. let o = c.self.invariant.own key row.now (sym e) in o.own ∙ sym o.under
     ] c.get.ensures

@@ -19,13 +19,21 @@ invariant_of-self-2 g c =
     let fs = c.touch.new.self.filings.keys in
     let ts = c.touch.new.self.touched.items in
     let own : key_of row ≡ n ∷ [] = sym c.in_ok-own_number.ensures in
-    let filed = IsIndex-grown keys key_of s c.self.inside.index.filings.keys c.self.inside.index.touched.items c.self.invariant c.file.new.self.filings.keys c.file.new.self.touched.items c.file.ensures.grown in
-    let noted = IsIndex-grown keys key_of s c.file.new.self.filings.keys c.file.new.self.touched.items filed fs ts c.touch.ensures.grown in
-    elim c.put.result as (λ r. OnOk r (now_of t ≡ table.insert (now_of s) (key_of row) row) → OnErr r (t ≡ s) → IsIndex keys key_of t fs ts) [
+    let filed =
+    IsIndex-grown keys key_of s c.self.inside.index.filings.keys c.self.inside.index.touched.items c.self.invariant
+    c.file.new.self.filings.keys c.file.new.self.touched.items c.file.ensures.grown in
+    let noted =
+    IsIndex-grown keys key_of s c.file.new.self.filings.keys c.file.new.self.touched.items filed fs ts
+    c.touch.ensures.grown in
+    elim c.put.result as (λ r.
+    OnOk r (now_of t ≡ table.insert (now_of s) (key_of row) row) → OnErr r (t ≡ s) → IsIndex keys key_of t fs ts) [
       | Ok u ↦ λ put err.
           IsIndex-given keys key_of s fs ts noted n (Some row) t c.put.ensures.before
-          (λ k. ap (λ m. table.get m k) put ∙ table.get-insert keys_total (now_of s) (key_of row) row k ∙ ap (λ q. cond (key_eq k q) (Some row) (table.get (now_of s) k)) own)
-          (λ x same. subst (StandsOwn keys key_of (n ∷ [])) (same_row row x same) (record { number = n; own = own; under = refl; fits = c.file.ensures.fits; few = c.in_ok-file.ensures.few }))
+          (λ k. ap (λ m. table.get m k) put
+          ∙ table.get-insert keys_total (now_of s) (key_of row) row k
+          ∙ ap (λ q. cond (key_eq k q) (Some row) (table.get (now_of s) k)) own)
+          (λ x same. subst (StandsOwn keys key_of (n ∷ [])) (same_row row x same)
+          (record { number = n; own = own; under = refl; fits = c.file.ensures.fits; few = c.in_ok-file.ensures.few }))
           (λ key has. c.touch.ensures.grown.filed key n (c.in_ok-file.ensures.filed key has))
           c.in_ok-touch.ensures.logged
       | Err e ↦ λ put err. subst (λ u. IsIndex keys key_of u fs ts) (sym err) noted

@@ -16,8 +16,11 @@ invariant_of-self-2 g c =
     let n = c.args.number in
     let fs = c.touch.new.self.filings.keys in
     let ts = c.touch.new.self.touched.items in
-    let noted = IsIndex-grown keys key_of s c.self.inside.index.filings.keys c.self.inside.index.touched.items c.self.invariant fs ts c.touch.ensures.grown in
-    elim c.remove.result as (λ r. OnOk r (now_of t ≡ table.remove (now_of s) (n ∷ [])) → OnErr r (t ≡ s) → IsIndex keys key_of t fs ts) [
+    let noted =
+    IsIndex-grown keys key_of s c.self.inside.index.filings.keys c.self.inside.index.touched.items c.self.invariant fs
+    ts c.touch.ensures.grown in
+    elim c.remove.result
+    as (λ r. OnOk r (now_of t ≡ table.remove (now_of s) (n ∷ [])) → OnErr r (t ≡ s) → IsIndex keys key_of t fs ts) [
       | Ok u ↦ λ gone err.
           IsIndex-given keys key_of s fs ts noted n None t c.remove.ensures.before
           (λ k. ap (λ m. table.get m k) gone ∙ table.get-remove keys_total (now_of s) (n ∷ []) k)

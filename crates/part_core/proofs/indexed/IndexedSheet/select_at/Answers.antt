@@ -19,7 +19,9 @@ returns-in-Some g c =
     IfOk-weaker c.passing.result _ _ (λ rows found p is of_number.
     found p is
     ∙ sym (ap (λ o. filter p (of_rows (with_row (n ∷ []) o []))) row)
-    ∙ selected-filed p t (n ∷ []) (Rise-one n) (row-at g.R.Indexed.index_keys g.R.Row.key_of s c.self.inside.index.filings.keys c.self.inside.index.touched.items c.self.invariant n p of_number)
+    ∙ selected-filed p t (n ∷ []) (Rise-one n)
+    (row-at g.R.Indexed.index_keys g.R.Row.key_of s c.self.inside.index.filings.keys c.self.inside.index.touched.items
+    c.self.invariant n p of_number)
     ∙ ap (λ s. filter p (table.values (now_of s))) c.self.view_is) c.passing.ensures
 
 pub returns-in-None : goal.returns-in-None
@@ -30,5 +32,7 @@ returns-in-None g c = λ p is of_number.
     let row = sym c.in-None.ensures in
     ap (map (λ (r : Bor g.row.R.Denot). r.now)) c.new.ensures.items
     ∙ sym (ap (λ o. filter p (of_rows (with_row (n ∷ []) o []))) row)
-    ∙ selected-filed p t (n ∷ []) (Rise-one n) (row-at g.R.Indexed.index_keys g.R.Row.key_of s c.self.inside.index.filings.keys c.self.inside.index.touched.items c.self.invariant n p of_number)
+    ∙ selected-filed p t (n ∷ []) (Rise-one n)
+    (row-at g.R.Indexed.index_keys g.R.Row.key_of s c.self.inside.index.filings.keys c.self.inside.index.touched.items
+    c.self.invariant n p of_number)
     ∙ ap (λ s. filter p (table.values (now_of s))) c.self.view_is

@@ -15,5 +15,6 @@ returns g c =
     IfOk-weaker c.find_rows.result _ _ (λ rows found p is under.
     found p is
     ∙ selected-filed p (now_of s) (numbers_of (filed_under c.args.key fs)) c.find_rows.ensures.rise
-    (row-covered g.R.Indexed.index_keys g.R.Row.key_of s fs c.self.inside.index.touched.items c.self.invariant c.args.key p under)
+    (row-covered g.R.Indexed.index_keys g.R.Row.key_of s fs c.self.inside.index.touched.items c.self.invariant
+    c.args.key p under)
     ∙ ap (λ s. filter p (table.values (now_of s))) c.self.view_is) c.find_rows.ensures.found

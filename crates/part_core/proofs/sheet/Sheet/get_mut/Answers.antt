@@ -16,7 +16,10 @@ unreachable-requires g c =
     let k = digits c.args.key in
     let h = c.index_mut-held.result.now in
     let at = slot_of_key digits es c.in_ok-i.i k h c.index_mut-held.ensures.value c.in_ok-i.ensures.found in
-    let none = ap (λ m. table.get m k) (sym (c.note.ensures.rows ∙ ap now_of c.self.view_is)) ∙ get-slot now_row (slots_of digits es) c.in_ok-i.i k h c.note.ensures.distinct at ∙ c.in-None.is in
+    let none =
+    ap (λ m. table.get m k) (sym (c.note.ensures.rows ∙ ap now_of c.self.view_is))
+    ∙ get-slot now_row (slots_of digits es) c.in_ok-i.i k h c.note.ensures.distinct at
+    ∙ c.in-None.is in
     let some = rw none at c.requires in cc
 
 pub invariant_of-self-lent : goal.invariant_of-self-lent
@@ -37,8 +40,14 @@ invariant_of-self-lent g c x =
       distinct = distinct-written digits es i k h w at d;
       used = used-written digits es i k h w at refl c.note.ensures.used;
       places = places-same digits es i k h w at c.note.new.changed.items c.note.ensures.places refl;
-      len = c.self.invariant.len ∙ ap table.len (sym c.note.ensures.rows) ∙ sym (ap table.len (rows-written digits es i k h w at d now_row) ∙ len-put_same m k x _ some refl);
-      length_before = c.self.invariant.length_before ∙ ap table.len (sym c.note.ensures.before) ∙ sym (ap table.len (rows-same digits es i k h w at d row_before (before-noted h.before (Some x) h.row one)));
+      len =
+          c.self.invariant.len
+          ∙ ap table.len (sym c.note.ensures.rows)
+          ∙ sym (ap table.len (rows-written digits es i k h w at d now_row) ∙ len-put_same m k x _ some refl);
+      length_before =
+          c.self.invariant.length_before
+          ∙ ap table.len (sym c.note.ensures.before)
+          ∙ sym (ap table.len (rows-same digits es i k h w at d row_before (before-noted h.before (Some x) h.row one)));
     })
 
 pub returns : goal.returns
@@ -56,13 +65,20 @@ returns g c =
       (
         refl,
         λ x _. record {
-          now = rw c.in-Some.is (rows-written digits es i k h (put x) at d now_row ∙ ap (λ m. table.insert m k x) before);
-          before = rw c.in-Some.is (rows-same digits es i k h (put x) at d row_before (before-noted h.before (Some x) h.row one) ∙ c.note.ensures.before ∙ ap (λ s. s.before) c.self.view_is);
+          now =
+              rw c.in-Some.is (rows-written digits es i k h (put x) at d now_row ∙ ap (λ m. table.insert m k x) before);
+          before =
+              rw c.in-Some.is
+              (rows-same digits es i k h (put x) at d row_before (before-noted h.before (Some x) h.row one)
+              ∙ c.note.ensures.before
+              ∙ ap (λ s. s.before) c.self.view_is);
         },
         tt,
       ),
       record {
         writes_back = tt;
-        value = rw c.in-Some.is (ap (λ m. table.get m k) (sym before) ∙ get-slot now_row (slots_of digits es) i k h d at ∙ c.in-Some.is);
+        value =
+            rw c.in-Some.is
+            (ap (λ m. table.get m k) (sym before) ∙ get-slot now_row (slots_of digits es) i k h d at ∙ c.in-Some.is);
       },
     )

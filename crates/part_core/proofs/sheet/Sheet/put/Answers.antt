@@ -8,7 +8,13 @@ use Rattle.part_core.proofs.sheet.Sheet.put.Goals as goal
 pub overflow_add-self : goal.overflow_add-self
 overflow_add-self g c =
     let es = slots_of g.R.Key.RowKey.digits c.self.inside.slots.entries in
-    omega (arith, c.self.invariant.len, len-table now_row es, length-slots g.R.Key.RowKey.digits c.self.inside.slots.entries, c.rewrite.ensures.few)
+    omega (
+      arith,
+      c.self.invariant.len,
+      len-table now_row es,
+      length-slots g.R.Key.RowKey.digits c.self.inside.slots.entries,
+      c.rewrite.ensures.few,
+    )
 
 pub invariant_of-self-then-not-rewrite : goal.invariant_of-self-then-not-rewrite
 invariant_of-self-then-not-rewrite g c =
@@ -19,7 +25,8 @@ invariant_of-self-then-not-rewrite g c =
       used = c.rewrite.ensures.used;
       places = c.rewrite.ensures.places;
       len = ap (λ n. n + 1) c.self.invariant.len
-          ∙ sym (ap table.len (c.rewrite.ensures.rows k c.in-Some.ensures.found) ∙ len-put_new m k c.args.row c.rewrite.result (c.rewrite.ensures.had k c.in-Some.ensures.found) c.if-not-rewrite.true);
+          ∙ sym (ap table.len (c.rewrite.ensures.rows k c.in-Some.ensures.found) ∙ len-put_new m k c.args.row
+          c.rewrite.result (c.rewrite.ensures.had k c.in-Some.ensures.found) c.if-not-rewrite.true);
       length_before = c.self.invariant.length_before ∙ ap table.len (sym c.rewrite.ensures.before);
     }
 
@@ -32,14 +39,21 @@ invariant_of-self-else-not-rewrite g c =
       used = c.rewrite.ensures.used;
       places = c.rewrite.ensures.places;
       len = c.self.invariant.len
-          ∙ sym (ap table.len (c.rewrite.ensures.rows k c.in-Some.ensures.found) ∙ len-put_same m k c.args.row c.rewrite.result (c.rewrite.ensures.had k c.in-Some.ensures.found) c.if-not-rewrite.false);
+          ∙ sym (ap table.len (c.rewrite.ensures.rows k c.in-Some.ensures.found) ∙ len-put_same m k c.args.row
+          c.rewrite.result (c.rewrite.ensures.had k c.in-Some.ensures.found) c.if-not-rewrite.false);
       length_before = c.self.invariant.length_before ∙ ap table.len (sym c.rewrite.ensures.before);
     }
 
 pub overflow_add-self-in-None : goal.overflow_add-self-in-None
 overflow_add-self-in-None g c =
     let es = slots_of g.R.Key.RowKey.digits c.self.inside.slots.entries in
-    omega (arith, c.self.invariant.len, len-table now_row es, length-slots g.R.Key.RowKey.digits c.self.inside.slots.entries, c.add.ensures.few)
+    omega (
+      arith,
+      c.self.invariant.len,
+      len-table now_row es,
+      length-slots g.R.Key.RowKey.digits c.self.inside.slots.entries,
+      c.add.ensures.few,
+    )
 
 pub invariant_of-self-in-None : goal.invariant_of-self-in-None
 invariant_of-self-in-None g c =
@@ -51,6 +65,8 @@ invariant_of-self-in-None g c =
       distinct = c.add.ensures.distinct;
       used = c.add.ensures.used;
       places = c.add.ensures.places;
-      len = ap (λ n. n + 1) c.self.invariant.len ∙ sym (ap table.len c.in_ok-add-in-None.ensures.rows ∙ len-put_new m k c.args.row _ none refl);
+      len =
+          ap (λ n. n + 1) c.self.invariant.len
+          ∙ sym (ap table.len c.in_ok-add-in-None.ensures.rows ∙ len-put_new m k c.args.row _ none refl);
       length_before = c.self.invariant.length_before ∙ ap table.len (sym c.add.ensures.before);
     }

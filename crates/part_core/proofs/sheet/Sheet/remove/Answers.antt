@@ -21,7 +21,8 @@ invariant_of-self-then-rewrite g c =
       used = c.rewrite.ensures.used;
       places = c.rewrite.ensures.places;
       len = ap (λ n. n - 1) c.self.invariant.len
-          ∙ sym (ap table.len (c.rewrite.ensures.rows k c.in-Some.ensures.found) ∙ len-removed m k c.rewrite.result (c.rewrite.ensures.had k c.in-Some.ensures.found) c.if-rewrite.true);
+          ∙ sym (ap table.len (c.rewrite.ensures.rows k c.in-Some.ensures.found)
+          ∙ len-removed m k c.rewrite.result (c.rewrite.ensures.had k c.in-Some.ensures.found) c.if-rewrite.true);
       length_before = c.self.invariant.length_before ∙ ap table.len (sym c.rewrite.ensures.before);
     }
 
@@ -34,7 +35,8 @@ invariant_of-self-else-rewrite g c =
       used = c.rewrite.ensures.used;
       places = c.rewrite.ensures.places;
       len = c.self.invariant.len
-          ∙ sym (ap table.len (c.rewrite.ensures.rows k c.in-Some.ensures.found) ∙ len-not_removed m k c.rewrite.result (c.rewrite.ensures.had k c.in-Some.ensures.found) c.if-rewrite.false);
+          ∙ sym (ap table.len (c.rewrite.ensures.rows k c.in-Some.ensures.found)
+          ∙ len-not_removed m k c.rewrite.result (c.rewrite.ensures.had k c.in-Some.ensures.found) c.if-rewrite.false);
       length_before = c.self.invariant.length_before ∙ ap table.len (sym c.rewrite.ensures.before);
     }
 
@@ -42,4 +44,6 @@ pub returns-in_default-clause-ok : goal.returns-in_default-clause-ok
 returns-in_default-clause-ok g c =
     let k = g.R.Key.RowKey.digits c.args.key.now in
     let es = slots_of g.R.Key.RowKey.digits c.self.inside.slots.entries in
-    rw (← c.self.view_is) (sym (remove-absent (table_by now_row es) k (get-no_slot now_row es k c.self.invariant.distinct c.in_default.ensures.absent)))
+    rw (← c.self.view_is)
+    (sym (remove-absent (table_by now_row es) k
+    (get-no_slot now_row es k c.self.invariant.distinct c.in_default.ensures.absent)))

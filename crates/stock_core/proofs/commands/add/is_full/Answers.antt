@@ -9,4 +9,5 @@ use Rattle.stock_core.proofs.commands.add.is_full.Goals as goal
 pub returns : goal.returns
 returns c day =
     let b = stock_books_of c.args.yard.now c.args.counter.now in
-    c.lacks_room.ensures ∙ full-used 0 1 b (add c.args.item c.args.quantity day b) (uses-change (grow_change c.args.quantity (tree_of c.args.item b.stock)) day b c.requires.stock.history)
+    c.lacks_room.ensures ∙ full-used 0 1 b (add c.args.item c.args.quantity day b)
+    (uses-change (grow_change c.args.quantity (tree_of c.args.item b.stock)) day b c.requires.stock.history)

@@ -12,4 +12,5 @@ returns c day =
     let b = stock_books_of c.args.yard.now c.args.counter.now in
     c.lacks_room.ensures
     ∙ ap (λ e. lacks 0 b.counter || nat_lt b.counter.limits.entries (entries_in b + e)) c.in_ok-entries.ensures
-    ∙ full-used 0 (count_entries c.args.item c.args.quantity b.stock) b (count c.args.item c.args.quantity day b) (uses-count c.args.item c.args.quantity day b c.requires.sound)
+    ∙ full-used 0 (count_entries c.args.item c.args.quantity b.stock) b (count c.args.item c.args.quantity day b)
+    (uses-count c.args.item c.args.quantity day b c.requires.sound)

@@ -14,6 +14,11 @@ pub make_new-requires-clause-room : goal.make_new-requires-clause-room
 make_new-requires-clause-room c =
     let b = stock_books_of c.args.yard.now c.args.counter.now in
     let new = c.args.new.now in
-    let holds = none-holds (found_checks c.args.part c.args.location new c.args.day (parts_of c.args.catalogue.now) b) c.requires.checked in
-    room-checked (count_of new.serials) b (found c.args.part c.args.location new c.args.day b) c.requires.sound (omega (arith, c.args.counter.now.limits.entries_within))
-    (uses-make_new (record { kind = kind.Found; place = At c.args.location; part = c.args.part }) new c.args.day b refl c.requires.sound.stock.history) holds.1.1.1.1.1.1.0
+    let holds =
+    none-holds (found_checks c.args.part c.args.location new c.args.day (parts_of c.args.catalogue.now) b)
+    c.requires.checked in
+    room-checked (count_of new.serials) b (found c.args.part c.args.location new c.args.day b) c.requires.sound
+    (omega (arith, c.args.counter.now.limits.entries_within))
+    (uses-make_new (record { kind = kind.Found; place = At c.args.location; part = c.args.part }) new c.args.day b refl
+    c.requires.sound.stock.history)
+    holds.1.1.1.1.1.1.0

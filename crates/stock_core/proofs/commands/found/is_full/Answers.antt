@@ -18,4 +18,5 @@ returns c day =
     c.lacks_room.ensures
     ∙ ap (λ n. lacks n b.counter || nat_lt b.counter.limits.entries (entries_in b + n)) c.count_of-count.ensures
     ∙ full-used count count b (found c.args.part c.args.location c.args.new.now day b)
-    (uses-make_new (record { kind = kind.Found; place = At c.args.location; part = c.args.part }) c.args.new.now day b refl c.requires.stock.history)
+    (uses-make_new (record { kind = kind.Found; place = At c.args.location; part = c.args.part }) c.args.new.now day b
+    refl c.requires.stock.history)

@@ -9,5 +9,6 @@ use Rattle.stock_core.proofs.commands.merge.is_one_missing.Goals as goal
 pub returns-else-is_no_item : goal.returns-else-is_no_item
 returns-else-is_no_item c =
     let s = stock_of c.args.yard.now in
-    any_from_yields_List (λ n. is_no_item n s) _ _ _ c.any.ensures.ran (YieldsList-from_slice c.args.items.now cc) (λ x b q k. search (rules, tests))
+    any_from_yields_List (λ n. is_no_item n s) _ _ _ c.any.ensures.ran (YieldsList-from_slice c.args.items.now cc)
+    (λ x b q k. search (rules, tests))
     ∙ ap (λ b. b || list_any (λ n. is_no_item n s) c.args.items.now) (sym c.if-is_no_item.false ∙ c.is_no_item.ensures)

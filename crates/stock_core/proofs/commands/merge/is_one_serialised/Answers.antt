@@ -9,5 +9,7 @@ use Rattle.stock_core.proofs.commands.merge.is_one_serialised.Goals as goal
 pub returns-else-is_serialised : goal.returns-else-is_serialised
 returns-else-is_serialised c =
     let s = stock_of c.args.yard.now in
-    any_from_yields_List (λ n. is_serialised n s) _ _ _ c.any.ensures.ran (YieldsList-from_slice c.args.items.now cc) (λ x b q k. search (rules, tests))
-    ∙ ap (λ b. b || list_any (λ n. is_serialised n s) c.args.items.now) (sym c.if-is_serialised.false ∙ c.is_serialised.ensures)
+    any_from_yields_List (λ n. is_serialised n s) _ _ _ c.any.ensures.ran (YieldsList-from_slice c.args.items.now cc)
+    (λ x b q k. search (rules, tests))
+    ∙ ap (λ b. b || list_any (λ n. is_serialised n s) c.args.items.now)
+    (sym c.if-is_serialised.false ∙ c.is_serialised.ensures)

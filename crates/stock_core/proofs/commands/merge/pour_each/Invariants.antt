@@ -12,6 +12,8 @@ invariant-loop-item l =
       sound : IsSound (stock_of l.yard);
       pours : ArePourable l.into (drop l.item-index l.items) (stock_of l.yard);
       room : next_entry (stock_of l.yard) + length (drop l.item-index l.items) < 2 ^ 64;
-      rest : pour_each (drop l.item-index l.items) l.into l.day (stock_of l.yard) ≡ pour_each l.items l.into l.day (stock_of l.initial.yard);
+      rest :
+          pour_each (drop l.item-index l.items) l.into l.day (stock_of l.yard)
+          ≡ pour_each l.items l.into l.day (stock_of l.initial.yard);
       before : stock_books_before l.yard l.counter ≡ stock_books_before l.initial.yard l.counter;
     }

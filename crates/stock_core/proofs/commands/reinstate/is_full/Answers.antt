@@ -14,5 +14,6 @@ returns c day =
     let b = stock_books_of c.args.yard.now c.args.counter.now in
     c.lacks_room.ensures
     ∙ ap (λ e. lacks 0 b.counter || nat_lt b.counter.limits.entries (entries_in b + e)) c.in_ok-entries.ensures
-    ∙ full-used 0 (length (lift_notes c.args.item (At c.args.location) b.stock)) b (reinstate c.args.item c.args.location day b)
+    ∙ full-used 0 (length (lift_notes c.args.item (At c.args.location) b.stock)) b
+    (reinstate c.args.item c.args.location day b)
     (uses-reinstate c.args.item c.args.location day b c.requires.sound.stock.history)

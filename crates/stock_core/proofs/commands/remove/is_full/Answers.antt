@@ -15,16 +15,20 @@ use Rattle.stock_core.proofs.Uses.{Uses, entries-off, full-used, uses-as, uses-c
 use Rattle.stock_core.proofs.commands.remove.is_full.Goals as goal
 
 -- one entry, whether the item goes whole or gets less
-uses-remove : (n q : ℕ) (day : CivilDay) (b : StockBooks) → AreSoundItems b → is_loose n b.stock ≡ true → has_content n b.stock ≡ false → Uses 0 1 b (remove n q day b)
+uses-remove : (n q : ℕ) (day : CivilDay) (b : StockBooks) → AreSoundItems b → is_loose n b.stock ≡ true
+    → has_content n b.stock ≡ false → Uses 0 1 b (remove n q day b)
 uses-remove n q day b sound loose empty = go (is_serialised n b.stock)
   where
-    go : (s : Bool) → Uses 0 1 b (with_stock (if s then lift n (Off Removed) day b.stock else shrink Removed n q day b.stock) b)
+    go : (s : Bool)
+        → Uses 0 1 b (with_stock (if s then lift n (Off Removed) day b.stock else shrink Removed n q day b.stock) b)
     go true =
-        uses-as 0 0 (length (lift_notes n (Off Removed) b.stock)) 1 b (with_stock (lift n (Off Removed) day b.stock) b) refl (entries-off n Removed b.stock sound.stock.items loose empty)
+        uses-as 0 0 (length (lift_notes n (Off Removed) b.stock)) 1 b (with_stock (lift n (Off Removed) day b.stock) b)
+        refl (entries-off n Removed b.stock sound.stock.items loose empty)
         (uses-change (lift_change (Off Removed) (tree_of n b.stock)) day b sound.stock.history)
     go false = uses-change (shrink_change Removed q (tree_of n b.stock)) day b sound.stock.history
 
 pub returns : goal.returns
 returns c day =
     let b = stock_books_of c.args.yard.now c.args.counter.now in
-    c.lacks_room.ensures ∙ full-used 0 1 b (remove c.args.item c.args.quantity day b) (uses-remove c.args.item c.args.quantity day b c.requires.sound c.requires.loose c.requires.empty)
+    c.lacks_room.ensures ∙ full-used 0 1 b (remove c.args.item c.args.quantity day b)
+    (uses-remove c.args.item c.args.quantity day b c.requires.sound c.requires.loose c.requires.empty)

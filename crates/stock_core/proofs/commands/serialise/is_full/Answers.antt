@@ -7,5 +7,6 @@ use Rattle.stock_core.proofs.commands.serialise.is_full.Goals as goal
 pub returns : goal.returns
 returns c day =
     let b = stock_books_of c.args.yard.now c.args.counter.now in
-    c.lacks_room.ensures ∙ full-used (length c.args.serials.now) (length c.args.serials.now) b (serialise c.args.item c.args.serials.now day b)
+    c.lacks_room.ensures ∙ full-used (length c.args.serials.now) (length c.args.serials.now) b
+    (serialise c.args.item c.args.serials.now day b)
     (uses-cut_each c.args.item c.args.serials.now day b c.requires.stock.history)

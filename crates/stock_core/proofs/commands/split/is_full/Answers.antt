@@ -8,4 +8,5 @@ use Rattle.stock_core.proofs.commands.split.is_full.Goals as goal
 pub returns : goal.returns
 returns c day =
     let b = stock_books_of c.args.yard.now c.args.counter.now in
-    c.lacks_room.ensures ∙ full-used 1 1 b (split c.args.item c.args.quantity day b) (uses-cut_off c.args.item c.args.quantity None day b c.requires.stock.history)
+    c.lacks_room.ensures ∙ full-used 1 1 b (split c.args.item c.args.quantity day b)
+    (uses-cut_off c.args.item c.args.quantity None day b c.requires.stock.history)

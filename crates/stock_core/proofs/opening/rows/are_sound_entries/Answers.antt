@@ -9,7 +9,9 @@ use Rattle.stock_core.proofs.opening.rows.are_sound_entries.Goals as goal
 
 pub returns-then-not-is_sound_entry : goal.returns-then-not-is_sound_entry
 returns-then-not-is_sound_entry g c =
-    let P = IsSoundEntry (g.W.KnowsOwners.owners_of c.args.owners.now) (parts_of c.args.catalogue.now) (stock_of c.args.yard.now) in (
+    let P =
+    IsSoundEntry (g.W.KnowsOwners.owners_of c.args.owners.now) (parts_of c.args.catalogue.now)
+    (stock_of c.args.yard.now) in (
       λ no. (let e : false ≡ true = no in cc),
       λ all.
           let here = all-at P c.args.entries.now all c.loop-entry.entry-index c.entry-item.result (omega arith) in
@@ -20,5 +22,7 @@ returns-then-not-is_sound_entry g c =
 
 pub returns : goal.returns
 returns g c =
-    let P = IsSoundEntry (g.W.KnowsOwners.owners_of c.args.owners.now) (parts_of c.args.catalogue.now) (stock_of c.args.yard.now) in
+    let P =
+    IsSoundEntry (g.W.KnowsOwners.owners_of c.args.owners.now) (parts_of c.args.catalogue.now)
+    (stock_of c.args.yard.now) in
     (λ _. all-seen P c.args.entries.now (λ k r lt. c.loop-entry.invariant k r (omega arith)), λ _. refl)

@@ -7,4 +7,6 @@ use Rattle.forest.specs.declared.entry.Entry.{Entry}
 use Rattle.stock_core.proofs.opening.rows.are_sound_entries.Given as goal
 
 abbrev pub invariant-loop-entry : goal.invariant-loop-entry
-invariant-loop-entry g l = (k : ℕ) (r : Bor Entry) → k < l.entry-index → IsSoundEntry (g.W.KnowsOwners.owners_of l.owners) (parts_of l.catalogue) (stock_of l.yard) (get_or l.entries k r).now
+invariant-loop-entry g l =
+    (k : ℕ) (r : Bor Entry) → k < l.entry-index → IsSoundEntry (g.W.KnowsOwners.owners_of l.owners)
+    (parts_of l.catalogue) (stock_of l.yard) (get_or l.entries k r).now

@@ -9,7 +9,9 @@ use Rattle.stock_core.proofs.opening.rows.are_sound_items.Goals as goal
 
 pub returns-then-not-is_sound_item : goal.returns-then-not-is_sound_item
 returns-then-not-is_sound_item g c =
-    let P = IsSoundItem (g.W.KnowsOwners.owners_of c.args.owners.now) (parts_of c.args.catalogue.now) (stock_of c.args.yard.now) in (
+    let P =
+    IsSoundItem (g.W.KnowsOwners.owners_of c.args.owners.now) (parts_of c.args.catalogue.now)
+    (stock_of c.args.yard.now) in (
       λ no. (let e : false ≡ true = no in cc),
       λ all.
           let here = all-at P c.args.items.now all c.loop-item.item-index c.item-item.result (omega arith) in
@@ -20,5 +22,7 @@ returns-then-not-is_sound_item g c =
 
 pub returns : goal.returns
 returns g c =
-    let P = IsSoundItem (g.W.KnowsOwners.owners_of c.args.owners.now) (parts_of c.args.catalogue.now) (stock_of c.args.yard.now) in
+    let P =
+    IsSoundItem (g.W.KnowsOwners.owners_of c.args.owners.now) (parts_of c.args.catalogue.now)
+    (stock_of c.args.yard.now) in
     (λ _. all-seen P c.args.items.now (λ k r lt. c.loop-item.invariant k r (omega arith)), λ _. refl)

@@ -7,4 +7,6 @@ use Rattle.forest.specs.declared.item.Item.{Item}
 use Rattle.stock_core.proofs.opening.rows.are_sound_items.Given as goal
 
 abbrev pub invariant-loop-item : goal.invariant-loop-item
-invariant-loop-item g l = (k : ℕ) (r : Bor Item) → k < l.item-index → IsSoundItem (g.W.KnowsOwners.owners_of l.owners) (parts_of l.catalogue) (stock_of l.yard) (get_or l.items k r).now
+invariant-loop-item g l =
+    (k : ℕ) (r : Bor Item) → k < l.item-index
+    → IsSoundItem (g.W.KnowsOwners.owners_of l.owners) (parts_of l.catalogue) (stock_of l.yard) (get_or l.items k r).now

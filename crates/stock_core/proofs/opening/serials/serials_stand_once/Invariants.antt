@@ -12,6 +12,11 @@ use Rattle.stock_core.proofs.opening.serials.serials_stand_once.Given as goal
 
 abbrev pub invariant-loop-i : goal.invariant-loop-i
 invariant-loop-i l = record {
-  taken : (f : ℕ) (s : Bor (List ℕ)) → hash.contains (λ x y. nat_eq x.0 y.0 && bytes_eq x.1.now y.1.now) l.taken (f, s) ≡ list_any (holds_serial s.now f (parts_of l.catalogue)) (map (λ x. x.now) (take l.i l.rows));
-  fresh : (k : ℕ) (r : Bor Item) (f : ℕ) (s : List ℕ) → k < l.i → held_key (parts_of l.catalogue) (get_or l.rows k r).now ≡ Some (f, s) → list_any (holds_serial s f (parts_of l.catalogue)) (map (λ x. x.now) (take k l.rows)) ≡ false;
+  taken :
+      (f : ℕ) (s : Bor (List ℕ)) → hash.contains (λ x y. nat_eq x.0 y.0 && bytes_eq x.1.now y.1.now) l.taken (f, s)
+      ≡ list_any (holds_serial s.now f (parts_of l.catalogue)) (map (λ x. x.now) (take l.i l.rows));
+  fresh :
+      (k : ℕ) (r : Bor Item) (f : ℕ) (s : List ℕ) → k < l.i
+      → held_key (parts_of l.catalogue) (get_or l.rows k r).now ≡ Some (f, s)
+      → list_any (holds_serial s f (parts_of l.catalogue)) (map (λ x. x.now) (take k l.rows)) ≡ false;
 }

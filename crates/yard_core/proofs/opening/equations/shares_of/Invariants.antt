@@ -8,4 +8,5 @@ invariant-loop-entry l = l.shares.items ≡ map (entry_share l.equation) (map (�
 
 abbrev pub invariant-loop-item : goal.invariant-loop-item
 invariant-loop-item l =
-    l.shares.items ≡ map (entry_share l.equation) (map (λ x. x.now) l.entries) ++ map (item_share l.equation (in_rows (map (λ x. x.now) l.rows))) (map (λ x. x.now) (take l.item-index l.rows))
+    l.shares.items ≡ map (entry_share l.equation) (map (λ x. x.now) l.entries)
+    ++ map (item_share l.equation (in_rows (map (λ x. x.now) l.rows))) (map (λ x. x.now) (take l.item-index l.rows))

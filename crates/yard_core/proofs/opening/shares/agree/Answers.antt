@@ -13,7 +13,8 @@ overflow_add-right c =
     let k = (slice_index_or c.args.shares.now c.loop-share.share-index d).part in
     let sum = c.loop-share.invariant.right k in
     let fits = c.loop-share.invariant.right_fits k in
-    let had : c.total_of-before.result.right ≡ (total_or_none (tree.get nat_cmp c.loop-share.totals k)).right = ap (λ (t : Total). t.right) c.total_of-before.ensures in
+    let had : c.total_of-before.result.right ≡ (total_or_none (tree.get nat_cmp c.loop-share.totals k)).right =
+    ap (λ (t : Total). t.right) c.total_of-before.ensures in
     omega (arith, sum, fits, had)
 
 pub loop-share-preserved : goal.loop-share-preserved
@@ -28,10 +29,17 @@ loop-share-preserved c =
     let l_fits : c.from.result < 18446744073709551616 = omega arith in
     let r_fits : c.from-in-loop-share.result < 18446744073709551616 = omega arith in
     record {
-      left = left_step f g ss i d c.total_of-before.result c.from.result c.from-in-loop-share.result lt c.total_of-before.ensures c.from.ensures c.from-in-loop-share.ensures step c.loop-share.invariant.left;
-      right = right_step f g ss i d c.total_of-before.result c.from.result c.from-in-loop-share.result lt c.total_of-before.ensures c.from.ensures c.from-in-loop-share.ensures step c.loop-share.invariant.right;
-      left_fits = lefts_fit ss i d 18446744073709551616 c.from.result lt c.from.ensures l_fits c.loop-share.invariant.left_fits;
-      right_fits = rights_fit ss i d 18446744073709551616 c.from-in-loop-share.result lt c.from-in-loop-share.ensures r_fits c.loop-share.invariant.right_fits;
+      left =
+          left_step f g ss i d c.total_of-before.result c.from.result c.from-in-loop-share.result lt
+          c.total_of-before.ensures c.from.ensures c.from-in-loop-share.ensures step c.loop-share.invariant.left;
+      right =
+          right_step f g ss i d c.total_of-before.result c.from.result c.from-in-loop-share.result lt
+          c.total_of-before.ensures c.from.ensures c.from-in-loop-share.ensures step c.loop-share.invariant.right;
+      left_fits =
+          lefts_fit ss i d 18446744073709551616 c.from.result lt c.from.ensures l_fits c.loop-share.invariant.left_fits;
+      right_fits =
+          rights_fit ss i d 18446744073709551616 c.from-in-loop-share.result lt c.from-in-loop-share.ensures r_fits
+          c.loop-share.invariant.right_fits;
     }
 
 pub returns : goal.returns

@@ -14,4 +14,6 @@ invariant-loop-share l = record {
 }
 
 abbrev pub invariant-loop-share-2 : goal.invariant-loop-share-2
-invariant-loop-share-2 l = (k : ℕ) (s : Share) → k < l.share-index → lefts (get_or l.shares k s).part l.shares ≡ rights (get_or l.shares k s).part l.shares
+invariant-loop-share-2 l =
+    (k : ℕ) (s : Share) → k < l.share-index
+    → lefts (get_or l.shares k s).part l.shares ≡ rights (get_or l.shares k s).part l.shares

@@ -11,5 +11,7 @@ pub returns : goal.returns
 returns c =
     let s = stock_of c.args.self.now in
     let rows : map (λ (x : Bor Location). x.now) c.as_slice.result.now ≡ table.values s.locations =
-    ap (map (λ (x : Bor Location). x.now)) c.as_slice.ensures.value ∙ c.in_ok-rows.ensures ∙ ap (λ t. table.values (now_of t)) c.rows.ensures.value in
+    ap (map (λ (x : Bor Location). x.now)) c.as_slice.ensures.value
+    ∙ c.in_ok-rows.ensures
+    ∙ ap (λ t. table.values (now_of t)) c.rows.ensures.value in
     locations_from c.args.next s (omega arith) c.rows.ensures.own _ _ rows c.is_each_location_sound.ensures

@@ -12,7 +12,8 @@ returns-then-not-is_location_sound c =
       λ no. (let e : false ≡ true = no in cc),
       λ all.
           let here = all-at P c.args.rows.now all c.loop-location.location-index c.location-item.result (omega arith) in
-          let good : P c.location-item.result.now = subst (λ (r : Bor Location). P r.now) (sym c.location-item.is) here in
+          let good : P c.location-item.result.now =
+          subst (λ (r : Bor Location). P r.now) (sym c.location-item.is) here in
           let no : false ≡ true = sym c.if-not-is_location_sound.true ∙ c.is_location_sound.ensures.1 good in
           cc,
     )

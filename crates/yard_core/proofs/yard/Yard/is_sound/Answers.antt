@@ -13,13 +13,19 @@ pub are_sound_rows-requires : goal.are_sound_rows-requires
 are_sound_rows-requires c =
     let s = stock_of c.args.self.now in
     let rows : map (λ (x : Bor Item). x.now) c.as_slice.result.now ≡ table.values s.items =
-    ap (map (λ (x : Bor Item). x.now)) c.as_slice.ensures.value ∙ c.in_ok-rows.ensures ∙ ap (λ t. table.values (now_of t)) c.rows-items.ensures.value in
+    ap (map (λ (x : Bor Item). x.now)) c.as_slice.ensures.value
+    ∙ c.in_ok-rows.ensures
+    ∙ ap (λ t. table.values (now_of t)) c.rows-items.ensures.value in
     subst IsByNumber (sym rows) (own_by_number s.items c.rows-items.ensures.own)
 
 pub returns : goal.returns
 returns c =
     let s = stock_of c.args.self.now in
     let rows : map (λ (x : Bor Item). x.now) c.as_slice.result.now ≡ table.values s.items =
-    ap (map (λ (x : Bor Item). x.now)) c.as_slice.ensures.value ∙ c.in_ok-rows.ensures ∙ ap (λ t. table.values (now_of t)) c.rows-items.ensures.value in
-    let entries : map (λ (x : Bor Entry). x.now) c.as_slice-2.result.now ≡ table.values s.history = ap (map (λ (x : Bor Entry). x.now)) c.as_slice-2.ensures.value ∙ c.in_ok-entries.ensures in
-    sound_from s c.rows-items.ensures.own c.requires _ _ _ _ (ap now_of c.rows-items.ensures.value) rows entries c.in_ok-sound.ensures
+    ap (map (λ (x : Bor Item). x.now)) c.as_slice.ensures.value
+    ∙ c.in_ok-rows.ensures
+    ∙ ap (λ t. table.values (now_of t)) c.rows-items.ensures.value in
+    let entries : map (λ (x : Bor Entry). x.now) c.as_slice-2.result.now ≡ table.values s.history =
+    ap (map (λ (x : Bor Entry). x.now)) c.as_slice-2.ensures.value ∙ c.in_ok-entries.ensures in
+    sound_from s c.rows-items.ensures.own c.requires _ _ _ _ (ap now_of c.rows-items.ensures.value) rows entries
+    c.in_ok-sound.ensures
