@@ -139,6 +139,21 @@ fn load_bills<S: Alter>(
     Ok((lines, substitutes))
 }
 
+/// The rows of the catalogue and of the bills.
+fn load_parts<S: Alter>(
+    alloc: Global,
+    conn: &mut Connection<S>,
+) -> Result<(Vec<Category>, Vec<Part>, Vec<Line>, Vec<Substitute>), OpenFault>
+    requires { HasCleanDisk (state S.Store conn.old) → HasTables (state S.Store conn.old) }
+    ensures { Reads (λ trees rows. ArePartRows trees rows.0.items rows.1.items
+        × AreBillRows trees rows.2.items rows.3.items) WhyUnread
+        (state S.Store conn.old) (state S.Store conn.new) result }
+{
+    let (categories, parts) = load_catalogue(alloc, conn)?;
+    let (lines, substitutes) = load_bills(alloc, conn)?;
+    Ok((categories, parts, lines, substitutes))
+}
+
 /// The rows of the stock.
 fn load_stock<S: Alter>(
     alloc: Global,
@@ -212,8 +227,7 @@ fn load_sheets<S: Alter>(
     ensures limits { IfOk result (λ tables. tables.limits ≡ limits) }
 {
     let (orders, order_lines, builds, allocations) = load_orders(alloc, conn)?;
-    let (categories, parts) = load_catalogue(alloc, conn)?;
-    let (lines, substitutes) = load_bills(alloc, conn)?;
+    let (categories, parts, lines, substitutes) = load_parts(alloc, conn)?;
     let (locations, items, history) = load_stock(alloc, conn)?;
     let answers = load_answers(alloc, conn)?;
     Ok(Tables {
