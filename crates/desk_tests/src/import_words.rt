@@ -26,8 +26,9 @@ fn told(alloc: Global, task: &Task<'_>) -> Result<String, AllocError> {
             path,
         } => {
             format!(in alloc;
-                "import {file} {kind:?} {} {day:?} {path}",
-                document.as_str()
+                "import {file} {kind:?} {} {} {path}",
+                document.as_str(),
+                day.text(alloc)?
             )
         }
         Task::Serve {
