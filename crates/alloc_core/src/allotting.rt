@@ -78,7 +78,8 @@ fn put_some(
     ensures full { result ≡ Err faults.Full → passes_limit
         (allocate_some (for_line build line) item quantity
         (allotments_of allocations.old counter.old)).counter ≡ true }
-    ensures allocations_before { allocations_before allocations.new ≡ allocations_before allocations.old }
+    ensures allocations_before { allocations_before allocations.new
+        ≡ allocations_before allocations.old }
     ensures counter_before { numbering_before counter.new ≡ numbering_before counter.old }
 {
     if quantity == 0 {

@@ -42,7 +42,8 @@ pub fn act(
         let after = effect command.now b in
         Acts (checks command.now open_parts.now (parts_of catalogue.now) b)
         (after, answer_of b after) b result (bill_books boms.new counter.new) }
-    ensures before { bill_books_before boms.new counter.new ≡ bill_books_before boms.old counter.old }
+    ensures before { bill_books_before boms.new counter.new
+        ≡ bill_books_before boms.old counter.old }
 {
     match command {
         BomCommand::AddLine(new) => {

@@ -105,7 +105,8 @@ impl Lines {
     #[tactic(auto, unfolding(crate::specs::Cuts::enough))]
     pub fn take_read(&mut self, bytes: &mut Vec<u8>) -> Result<(), AllocError>
         requires { length bytes.old.items ≤ 16777217 }
-        ensures bytes { OnOk result (bytes.new.items ≡ enough (bytes.old.items ++ unread self.old)) }
+        ensures bytes { OnOk result (bytes.new.items
+            ≡ enough (bytes.old.items ++ unread self.old)) }
         ensures left { OnOk result (unread self.new ≡ []) }
         ensures reads { self.new.reads ≡ self.old.reads }
         ensures spent { OnOk result (self.new.at ≡ self.new.filled) }

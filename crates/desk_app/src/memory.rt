@@ -17,10 +17,12 @@ use std::io::{Read, Write};
 pub fn run_in_memory<R: Read, W: Write>(alloc: Global, reader: &mut R, writer: &mut W) -> RunEnd
     ensures done { (all : Bool) → result ≡ RunEnd.Done all
         → (s : State) × IsEmpty s × (s' : State)
-        × Finished (R.remaining reader.old) (W.contents writer.old) (W.contents writer.new) s s' all }
+        × Finished (R.remaining reader.old) (W.contents writer.old)
+        (W.contents writer.new) s s' all }
     ensures stopped { (stop : Stop) → result ≡ end_of stop
         → (s : State) × IsEmpty s × (s' : State)
-        × Stopped stop (R.remaining reader.old) (W.contents writer.old) (W.contents writer.new) s s' }
+        × Stopped stop (R.remaining reader.old) (W.contents writer.old)
+        (W.contents writer.new) s s' }
     ensures never { result ≢ RunEnd.Store }
 {
     let mut shop = Shop::new(alloc, Limits::LARGEST);

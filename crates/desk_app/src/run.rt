@@ -227,7 +227,8 @@ pub fn run_lines<B: Books, R: Read, W: Write>(
         → Stopped stop (R.remaining reader.old) (W.contents writer.old)
         (W.contents writer.new) (B.state_in books.old) (B.state_in books.new) }
     ensures kept { B.are_kept books.new }
-    ensures stays_open { B.failure_of books.old ≡ None → result ≢ RunEnd.Store → B.failure_of books.new ≡ None }
+    ensures stays_open { B.failure_of books.old ≡ None → result ≢ RunEnd.Store
+        → B.failure_of books.new ≡ None }
     ensures closed { result ≡ RunEnd.Store → IsSome (B.failure_of books.new) }
     ensures left { B.failure_of books.old ≡ None → (trees : Trees)
         → B.may_leave books.new trees

@@ -58,7 +58,8 @@ fn report_name(name: desk_http::ReportName) -> report_core::ReportName
 
 /// What is replied to a request that was accepted.
 fn answered(alloc: Global, answer: &Answer) -> Result<Reply, NoReply>
-    ensures reply { IfOk result (λ reply. reply_view reply ≡ (Outcome.Answered, text_of_answer answer.now)) }
+    ensures reply { IfOk result (λ reply. reply_view reply
+        ≡ (Outcome.Answered, text_of_answer answer.now)) }
     ensures untold { IfErr result (λ why. why ≡ NoReply.Untold) }
 {
     match answer_text(alloc, answer) {
@@ -72,7 +73,8 @@ fn answered(alloc: Global, answer: &Answer) -> Result<Reply, NoReply>
 
 /// What is replied to a request that was refused.
 fn refused(alloc: Global, refusal: Refusal) -> Result<Reply, NoReply>
-    ensures reply { IfOk result (λ reply. reply_view reply ≡ (Outcome.Refused, text_of_refusal refusal)) }
+    ensures reply { IfOk result (λ reply. reply_view reply
+        ≡ (Outcome.Refused, text_of_refusal refusal)) }
     ensures untold { IfErr result (λ why. why ≡ NoReply.Untold) }
 {
     match refused_text(alloc, refusal) {
@@ -86,7 +88,8 @@ fn refused(alloc: Global, refusal: Refusal) -> Result<Reply, NoReply>
 
 /// What is replied to a body that is no request, or no file.
 fn faulty(alloc: Global, fault: WireFault) -> Result<Reply, NoReply>
-    ensures reply { IfOk result (λ reply. reply_view reply ≡ (Outcome.Faulty, text_of_fault fault)) }
+    ensures reply { IfOk result (λ reply. reply_view reply
+        ≡ (Outcome.Faulty, text_of_fault fault)) }
     ensures untold { IfErr result (λ why. why ≡ NoReply.Untold) }
 {
     match fault_text(alloc, fault) {
@@ -214,7 +217,8 @@ fn reply_by_shop(
     number: u64,
 ) -> Result<Reply, NoReply>
     requires { IsSoundState (state_of shop.now) }
-    ensures ok { IfOk result (λ reply. reply_view reply ≡ show_report (state_of shop.now) name number) }
+    ensures ok { IfOk result (λ reply. reply_view reply
+        ≡ show_report (state_of shop.now) name number) }
     ensures untold { IfErr result (λ why. why ≡ NoReply.Untold) }
 {
     match tell_report_as_text(alloc, shop, report_name(name), number) {

@@ -85,7 +85,8 @@ fn meta_in(rows: &[MetaRow]) -> Result<MetaRow, OpenFault>
 /// The row of the counter.
 fn load_meta<S: Alter>(alloc: Global, conn: &mut Connection<S>) -> Result<MetaRow, OpenFault>
     requires { HasCleanDisk (state S.Store conn.old) → HasTables (state S.Store conn.old) }
-    ensures { Reads IsMetaRow (WhyBut IsOfOtherVersion) (state S.Store conn.old) (state S.Store conn.new) result }
+    ensures { Reads IsMetaRow (WhyBut IsOfOtherVersion) (state S.Store conn.old)
+        (state S.Store conn.new) result }
 {
     match load_sheet::<S, MetaRow>(alloc, conn, TableName::Meta) {
         Ok(rows) => meta_in(rows.as_slice()),
@@ -160,8 +161,8 @@ fn load_stock<S: Alter>(
     conn: &mut Connection<S>,
 ) -> Result<(Vec<Location>, Vec<Item>, Vec<Entry>), OpenFault>
     requires { HasCleanDisk (state S.Store conn.old) → HasTables (state S.Store conn.old) }
-    ensures { Reads (λ trees rows. AreStockRows trees rows.0.items rows.1.items rows.2.items) WhyUnread
-        (state S.Store conn.old) (state S.Store conn.new) result }
+    ensures { Reads (λ trees rows. AreStockRows trees rows.0.items rows.1.items rows.2.items)
+        WhyUnread (state S.Store conn.old) (state S.Store conn.new) result }
 {
     let locations = load_rows::<S, Location>(alloc, conn, TableName::Locations)?;
     let items = load_rows::<S, Item>(alloc, conn, TableName::Items)?;

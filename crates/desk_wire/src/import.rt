@@ -32,7 +32,8 @@ fn next_row(
     day: Day,
 ) -> Result<Option<ImportRow>, Unread>
     requires { IsReading reader.old }
-    ensures row { ReadsRow (row_of kind document.now day) (left reader.old) (left reader.new) result }
+    ensures row { ReadsRow (row_of kind document.now day) (left reader.old)
+        (left reader.new) result }
     ensures reading { IfOk result (λ row. IsSome row → IsReading reader.new) }
 {
     if !next_record(reader, fields)? {

@@ -47,7 +47,8 @@ fn field(fields: &StringRecord, index: usize) -> &str
 
 /// Whether the fields are these names, in this order.
 fn are_names(names: &[&str], fields: &StringRecord) -> bool
-    ensures { result ≡ pointwise bytes_eq (map (λ name. name.now) names.now) (fields_of fields.now) }
+    ensures { result ≡ pointwise bytes_eq (map (λ name. name.now) names.now)
+        (fields_of fields.now) }
 {
     if names.len() != fields.len() {
         return false;

@@ -40,7 +40,8 @@ pub fn conclude(
     ensures done { IfOk result (λ _. order_books orders.new allocations.new yard.new counter.new
         ≡ order_books orders.old allocations.old yard.old counter.old) }
     ensures told { IfOk result (λ answer.
-        answer ≡ answer_of (stock_books_before yard.old counter.old) (stock_books_of yard.old counter.old)) }
+        answer ≡ answer_of (stock_books_before yard.old counter.old)
+        (stock_books_of yard.old counter.old)) }
     ensures back { OnErr result (order_books orders.new allocations.new yard.new counter.new
         ≡ order_books_before orders.old allocations.old yard.old counter.old) }
     ensures before { order_books_before orders.new allocations.new yard.new counter.new
@@ -76,7 +77,8 @@ pub fn finish(
     ensures done { IfOk result (λ _. order_books orders.new allocations.new yard.new counter.new
         ≡ order_books orders.old allocations.old yard.old counter.old) }
     ensures told { IfOk result (λ answer.
-        answer ≡ answer_of (stock_books_before yard.old counter.old) (stock_books_of yard.old counter.old)) }
+        answer ≡ answer_of (stock_books_before yard.old counter.old)
+        (stock_books_of yard.old counter.old)) }
     ensures memory { OnErr result (result ≡ Err CoreFault.Memory) }
     ensures back { OnErr result (order_books orders.new allocations.new yard.new counter.new
         ≡ order_books_before orders.old allocations.old yard.old counter.old) }

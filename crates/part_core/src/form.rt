@@ -13,7 +13,8 @@ pub struct Form {
 
 /// The form of that verb in a table.
 pub fn form_in(forms: &'static [Form], verb: &str) -> Option<&'static Form>
-    ensures { option_map (λ form. shown form.now) result ≡ form_named verb.now (shown_forms forms.now) }
+    ensures { option_map (λ form. shown form.now) result
+        ≡ form_named verb.now (shown_forms forms.now) }
 {
     for form in forms {
         if verb == form.verb {

@@ -80,7 +80,8 @@ impl Index {
     pub(crate) fn file<R: Indexed>(&mut self, row: &R, number: u64) -> Result<(), AllocError>
         ensures grown { IsGrown self.old.filings.keys self.old.touched.items
             self.new.filings.keys self.new.touched.items }
-        ensures filed { OnOk result (IsFiled R.index_keys self.new.filings.keys number (Some row.now)) }
+        ensures filed { OnOk result
+            (IsFiled R.index_keys self.new.filings.keys number (Some row.now)) }
         ensures few { OnOk result (length (R.index_keys row.now) < 2 ^ 64) }
         ensures fits { number < 2 ^ 64 }
     {

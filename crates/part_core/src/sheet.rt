@@ -179,7 +179,8 @@ impl<R: Row> Sheet<R> {
     pub fn get_mut(&mut self, key: R::Key) -> Result<&mut R, AllocError>
         requires { IsSome (table.get (now_of self.old) (R.Key.digits key)) }
         ensures* writes_back { sem
-            𝓛 (lends_row R.row R.Key.row R.Row R.Key.RowKey.own R.Key.Hash self.entry (R.Key.digits key) result) }
+            𝓛 (lends_row R.row R.Key.row R.Row R.Key.RowKey.own R.Key.Hash self.entry
+            (R.Key.digits key) result) }
         ensures value { IfOk result (λ row.
             table.get (now_of self.old) (R.Key.digits key) ≡ Some row.now) }
     {

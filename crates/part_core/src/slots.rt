@@ -38,7 +38,8 @@ pub(crate) fn place<R: Row>(slots: &IndexMap<R::Key, Held<R>>, key: &R::Key) -> 
     ensures found { IfSome result (λ i.
         HasKeyAt (slots_of R.Key.digits slots.now.entries) i (R.Key.digits key.now)) }
     ensures absent { IfNone result
-        (table.find key_cmp (R.Key.digits key.now) (slots_of R.Key.digits slots.now.entries) ≡ None) }
+        (table.find key_cmp (R.Key.digits key.now) (slots_of R.Key.digits slots.now.entries)
+        ≡ None) }
 {
     slots.get_index_of(key)
 }
@@ -50,7 +51,8 @@ pub(crate) fn row_of<'a, R: Row>(
 ) -> Option<&'a R>
     requires { IsDistinct (slots_of R.Key.digits slots.now.entries) }
     ensures { option_copied result
-        ≡ table.get (table_by now_row (slots_of R.Key.digits slots.now.entries)) (R.Key.digits key.now) }
+        ≡ table.get (table_by now_row (slots_of R.Key.digits slots.now.entries))
+        (R.Key.digits key.now) }
 {
     let held = slots.get(key)?;
     held.row.as_ref()
@@ -86,7 +88,8 @@ pub(crate) fn rewrite<R: Row>(
         ≡ table_by row_before (slots_of R.Key.digits slots.old.entries) }
     ensures few { length slots.old.entries < 2 ^ 63 }
     ensures had { (k : List ℕ) → HasKeyAt (slots_of R.Key.digits slots.old.entries) i k
-        → result ≡ table.contains_key (table_by now_row (slots_of R.Key.digits slots.old.entries)) k }
+        → result ≡ table.contains_key
+        (table_by now_row (slots_of R.Key.digits slots.old.entries)) k }
 {
     // `len` is called for its clause that there are fewer than 2^63 slots.
     let _len = slots.len();
@@ -107,7 +110,8 @@ pub(crate) fn add<R: Row>(
     key: R::Key,
     row: R,
 ) -> Result<(), AllocError>
-    requires absent { table.find key_cmp (R.Key.digits key) (slots_of R.Key.digits slots.old.entries)
+    requires absent { table.find key_cmp (R.Key.digits key)
+        (slots_of R.Key.digits slots.old.entries)
         ≡ None }
     requires room { length changed.old.items < vec_capacity changed.old }
     requires distinct { IsDistinct (slots_of R.Key.digits slots.old.entries) }
@@ -376,7 +380,8 @@ pub(crate) fn list_pending<'a, R: Row>(
         (table_by now_row (slots_of R.Key.digits slots.now.entries))
         (table_by row_before (slots_of R.Key.digits slots.now.entries))) }
     ensures rows { IfOk result (λ pending. All (λ p. option_copied p.row
-        ≡ table.get (table_by now_row (slots_of R.Key.digits slots.now.entries)) (R.Key.digits p.key.now))
+        ≡ table.get (table_by now_row (slots_of R.Key.digits slots.now.entries))
+        (R.Key.digits p.key.now))
         pending.items) }
 {
     let mut pending = Vec::new(alloc);
@@ -405,7 +410,8 @@ pub(crate) fn note<R: Row>(
     requires used { AreUsed (slots_of R.Key.digits slots.old.entries) }
     requires places { ArePlaces changed.old.items (slots_of R.Key.digits slots.old.entries) }
     requires present { IsSome
-        (table.get (table_by now_row (slots_of R.Key.digits slots.old.entries)) (R.Key.digits key.now)) }
+        (table.get (table_by now_row (slots_of R.Key.digits slots.old.entries))
+        (R.Key.digits key.now)) }
     ensures distinct { IsDistinct (slots_of R.Key.digits slots.new.entries) }
     ensures used { AreUsed (slots_of R.Key.digits slots.new.entries) }
     ensures places { ArePlaces changed.new.items (slots_of R.Key.digits slots.new.entries) }

@@ -17,7 +17,8 @@ fn shortage_line(
     catalogue: &Catalogue,
     row: &Shortage,
 ) -> Result<Vec<String>, AllocError>
-    ensures { IfOk result (λ line. fields_of line ≡ shortage_line (parts_of catalogue.now) row.now) }
+    ensures { IfOk result (λ line. fields_of line
+        ≡ shortage_line (parts_of catalogue.now) row.now) }
 {
     let line = number_field(alloc, row.line)?;
     let name = name_field(alloc, catalogue, row.component)?;

@@ -136,7 +136,8 @@ fn make_one(
     ensures ok { OnOk result (stock_books_of yard.new counter.new
         ≡ make_one arrival quantity batch.now serial day (stock_books_of yard.old counter.old)) }
     ensures sound { OnOk result (IsSound (stock_of yard.new)) }
-    ensures before { stock_books_before yard.new counter.new ≡ stock_books_before yard.old counter.old }
+    ensures before { stock_books_before yard.new counter.new
+        ≡ stock_books_before yard.old counter.old }
 {
     let item = new_item(alloc, counter.next(), arrival, quantity, batch, serial)?;
     yard.make(arrival.kind, item, day)?;
@@ -158,7 +159,8 @@ fn make_each(
     requires arrival { IsArrival arrival }
     ensures ok { OnOk result (stock_books_of yard.new counter.new
         ≡ make_each arrival batch.now serials.now day (stock_books_of yard.old counter.old)) }
-    ensures before { stock_books_before yard.new counter.new ≡ stock_books_before yard.old counter.old }
+    ensures before { stock_books_before yard.new counter.new
+        ≡ stock_books_before yard.old counter.old }
 {
     for serial in serials {
         let own = serial.copy(alloc)?;
@@ -181,7 +183,8 @@ pub fn make_new(
     requires quantity { (1 ≤ new.now.quantity) × (new.now.quantity ≤ largest) }
     ensures ok { OnOk result (stock_books_of yard.new counter.new
         ≡ make_new arrival new.now day (stock_books_of yard.old counter.old)) }
-    ensures before { stock_books_before yard.new counter.new ≡ stock_books_before yard.old counter.old }
+    ensures before { stock_books_before yard.new counter.new
+        ≡ stock_books_before yard.old counter.old }
 {
     match &new.serials {
         None => make_one(

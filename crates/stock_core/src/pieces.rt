@@ -27,7 +27,8 @@ pub fn cut_off(
         ≡ cut_off item quantity serial day (stock_books_of yard.old counter.old)) }
     ensures number { IfOk result (λ number. number ≡ counter.old.next) }
     ensures sound { OnOk result (IsSound (stock_of yard.new)) }
-    ensures before { stock_books_before yard.new counter.new ≡ stock_books_before yard.old counter.old }
+    ensures before { stock_books_before yard.new counter.new
+        ≡ stock_books_before yard.old counter.old }
 {
     yard.cut(item, quantity, counter.next(), serial, day)?;
     Ok(counter.draw())
@@ -46,7 +47,8 @@ pub fn cut_each(
     requires whole { IsWhole item (length serials.now) (stock_books_of yard.old counter.old) }
     ensures ok { OnOk result (stock_books_of yard.new counter.new
         ≡ cut_each item serials.now day (stock_books_of yard.old counter.old)) }
-    ensures before { stock_books_before yard.new counter.new ≡ stock_books_before yard.old counter.old }
+    ensures before { stock_books_before yard.new counter.new
+        ≡ stock_books_before yard.old counter.old }
 {
     for serial in serials {
         let own = serial.copy(alloc)?;
@@ -74,7 +76,8 @@ pub fn take(
     ensures loose { IfOk result (λ number. is_loose number (stock_of yard.new) ≡ true) }
     ensures entries { OnOk result (next_entry (stock_of yard.new)
         ≤ next_entry (stock_of yard.old) + 1) }
-    ensures before { stock_books_before yard.new counter.new ≡ stock_books_before yard.old counter.old }
+    ensures before { stock_books_before yard.new counter.new
+        ≡ stock_books_before yard.old counter.old }
 {
     if !has_more(yard, item, quantity) {
         return Ok(item);

@@ -30,10 +30,13 @@ pub fn conclude(
     ensures done { IfOk result (λ _.
         stock_books_of yard.new counter.new ≡ stock_books_of yard.old counter.old) }
     ensures told { IfOk result (λ answer.
-        answer ≡ answer_of (stock_books_before yard.old counter.old) (stock_books_of yard.old counter.old)) }
+        answer ≡ answer_of (stock_books_before yard.old counter.old)
+        (stock_books_of yard.old counter.old)) }
     ensures memory { OnErr result (result ≡ Err CoreFault.Memory) }
-    ensures back { OnErr result (stock_books_of yard.new counter.new ≡ stock_books_before yard.old counter.old) }
-    ensures before { stock_books_before yard.new counter.new ≡ stock_books_before yard.old counter.old }
+    ensures back { OnErr result (stock_books_of yard.new counter.new
+        ≡ stock_books_before yard.old counter.old) }
+    ensures before { stock_books_before yard.new counter.new
+        ≡ stock_books_before yard.old counter.old }
 {
     let entries = yard.entries().saturating_sub(yard.entries_before());
     let ids = match moved {

@@ -109,14 +109,17 @@ pub fn act(
     day: Day,
     command: &StockCommand,
 ) -> Result<Answer, CoreFault>
-    requires nothing_pending { stock_books_before yard.old counter.old ≡ stock_books_of yard.old counter.old }
-    requires sound { IsSoundStockSomehow (parts_of catalogue.now) (stock_books_of yard.old counter.old) }
+    requires nothing_pending { stock_books_before yard.old counter.old
+        ≡ stock_books_of yard.old counter.old }
+    requires sound { IsSoundStockSomehow (parts_of catalogue.now)
+        (stock_books_of yard.old counter.old) }
     ensures does { let b = stock_books_of yard.old counter.old in
         Does (checks command.now day (parts_of catalogue.now) (bills_of boms.now)
         (allocations_now allocations.now) b)
         (effect command.now day b) b result
         (stock_books_of yard.new counter.new) }
-    ensures before { stock_books_before yard.new counter.new ≡ stock_books_before yard.old counter.old }
+    ensures before { stock_books_before yard.new counter.new
+        ≡ stock_books_before yard.old counter.old }
 {
     match command {
         StockCommand::Found {

@@ -23,11 +23,13 @@ pub fn act(
     counter: &mut Counter,
     command: &YardCommand,
 ) -> Result<Answer, CoreFault>
-    requires nothing_pending { stock_books_before yard.old counter.old ≡ stock_books_of yard.old counter.old }
+    requires nothing_pending { stock_books_before yard.old counter.old
+        ≡ stock_books_of yard.old counter.old }
     ensures does { let b = stock_books_of yard.old counter.old in
         Does (checks command.now b)
         (effect command.now b) b result (stock_books_of yard.new counter.new) }
-    ensures before { stock_books_before yard.new counter.new ≡ stock_books_before yard.old counter.old }
+    ensures before { stock_books_before yard.new counter.new
+        ≡ stock_books_before yard.old counter.old }
 {
     match command {
         YardCommand::AddLocation { name, parent } => {

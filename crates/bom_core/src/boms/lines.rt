@@ -78,7 +78,8 @@ impl Boms {
         ensures acts { let b = bill_books self.old counter.old in
             Acts (add_line_checks new open_parts.now (parts_of catalogue.now) b)
             (add_line new b, b.counter.next) b result (bill_books self.new counter.new) }
-        ensures before { bill_books_before self.new counter.new ≡ bill_books_before self.old counter.old }
+        ensures before { bill_books_before self.new counter.new
+            ≡ bill_books_before self.old counter.old }
     {
         let refusal = line_refusal(catalogue, open_parts, new);
         if let Some(refusal) = refusal {

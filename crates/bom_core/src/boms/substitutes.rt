@@ -115,7 +115,8 @@ impl Boms {
             Acts (add_substitute_checks line part open_parts.now (parts_of catalogue.now) b)
             (add_substitute line part b, b.counter.next)
             b result (bill_books self.new counter.new) }
-        ensures before { bill_books_before self.new counter.new ≡ bill_books_before self.old counter.old }
+        ensures before { bill_books_before self.new counter.new
+            ≡ bill_books_before self.old counter.old }
     {
         let refusal = self.substitute_refusal(catalogue, open_parts, line, part);
         if let Some(refusal) = refusal {

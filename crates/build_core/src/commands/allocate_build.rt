@@ -140,7 +140,8 @@ fn put_meant(
         ≡ table.insert (allocations_now allocations.old) (n ∷ [])
         (new_allocation n (purpose.Build build line output) item quantity)) }
     ensures counter { OnOk result (numbering_of counter.new ≡ drawn 1 (numbering_of counter.old)) }
-    ensures allocations_before { allocations_before allocations.new ≡ allocations_before allocations.old }
+    ensures allocations_before { allocations_before allocations.new
+        ≡ allocations_before allocations.old }
     ensures counter_before { numbering_before counter.new ≡ numbering_before counter.old }
 {
     let row = Allocation {

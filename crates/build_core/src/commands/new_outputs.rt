@@ -117,7 +117,8 @@ fn begin(
     ensures ok { OnOk result (build_books builds.now allocations.now yard.new counter.new
         ≡ new_outputs build new.now day
         (build_books builds.now allocations.now yard.old counter.old)) }
-    ensures before { stock_books_before yard.new counter.new ≡ stock_books_before yard.old counter.old }
+    ensures before { stock_books_before yard.new counter.new
+        ≡ stock_books_before yard.old counter.old }
 {
     let part = match builds.build(build) {
         Some(row) => row.part,

@@ -89,7 +89,8 @@ fn put_sale(
         ≡ table.insert (allocations_now allocations.old) (n ∷ [])
         (sale_row n (line_in line (now_of orders.now.lines)).order line item quantity)) }
     ensures counter { OnOk result (numbering_of counter.new ≡ drawn 1 (numbering_of counter.old)) }
-    ensures allocations_before { allocations_before allocations.new ≡ allocations_before allocations.old }
+    ensures allocations_before { allocations_before allocations.new
+        ≡ allocations_before allocations.old }
     ensures counter_before { numbering_before counter.new ≡ numbering_before counter.old }
 {
     let order = match orders.line(line) {

@@ -21,7 +21,8 @@ impl Catalogue {
             Acts (add_category_checks name.now parent r)
             (add_category name.now parent r, r.counter.next)
             r result (register_of self.new counter.new) }
-        ensures before { register_before self.new counter.new ≡ register_before self.old counter.old }
+        ensures before { register_before self.new counter.new
+            ≡ register_before self.old counter.old }
     {
         if self.is_category_missing(parent) {
             return Err(CoreFault::Refused(Refusal::NoSuch));

@@ -69,7 +69,8 @@ impl Catalogue {
         ensures acts { let r = register_of self.old counter.old in
             Acts (add_part_checks new.now r)
             (add_part new.now r, r.counter.next) r result (register_of self.new counter.new) }
-        ensures before { register_before self.new counter.new ≡ register_before self.old counter.old }
+        ensures before { register_before self.new counter.new
+            ≡ register_before self.old counter.old }
     {
         if self.is_category_missing(new.category) || self.is_template_missing(new.template) {
             return Err(CoreFault::Refused(Refusal::NoSuch));
