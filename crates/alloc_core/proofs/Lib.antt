@@ -1,5 +1,7 @@
 pub mod RowColumns
+pub mod SameNumbers
 pub mod Sums
+pub mod KeptSums
 pub mod Covers
 pub mod Sound
 pub mod Released

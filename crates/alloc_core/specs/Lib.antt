@@ -13,4 +13,6 @@ pub mod Finding
 pub mod NoneComes
 pub mod Release
 pub mod RowTests
+pub mod ShareKeys
 pub mod Sound
+pub mod ShareSums

@@ -1,58 +1,25 @@
 //! All allocations.
-ghost use Rattle.std.specs.Prelude.{◌≡◌, ◌∷◌, [], filter, IfOk, map, OnErr, OnOk, option_copied, sum_by};
+ghost use Rattle.std.specs.Prelude.{◌≡◌, ◌∷◌, [], filter, IfOk, map, OnErr, OnOk, option_copied};
 ghost use Rattle.std.specs.FinMap as table;
 ghost use Rattle.bom_core.specs.Lines.{removed_all};
 ghost use Rattle.part_core.specs.Filled.{StandUnderKeys};
 ghost use Rattle.part_core.specs.Sheet.{now_of};
 ghost use Rattle.yard_core.specs.YardView.{stock_of};
 ghost use Rattle.alloc_core.specs.Allocations.{amount_where, is_for_build_line};
-ghost use Rattle.alloc_core.specs.Allocations.{is_for_line, is_for_sale_line, is_of_item};
 
 use crate::allocation::{Allocation, item_key};
-use crate::purpose::{Owner, build_key, build_line_key, order_key, output_key, sale_line_key};
-use part_core::{Id, IndexedSheet, Quantity, Sheet};
+use crate::allocation_rows::AllocationRows;
+use crate::purpose::{Owner, build_key, build_line_key, order_key, output_key};
+use crate::share::Share;
+use part_core::{Id, Quantity, Sheet};
 use std::alloc::{AllocError, Global};
 use yard_core::Yard;
-
-/// What an allocation adds to the sum of an item.
-fn amount_of(item: Id, allocation: &Allocation) -> u64
-    ensures { result ≡ amount_where (is_of_item item) allocation.now }
-{
-    if allocation.item == item {
-        allocation.quantity
-    } else {
-        0
-    }
-}
-
-/// What an allocation adds to the sum of a line of a sale.
-fn amount_for(line: Id, allocation: &Allocation) -> u64
-    ensures { result ≡ amount_where (λ a. is_for_sale_line line a.purpose) allocation.now }
-{
-    if allocation.purpose.is_for_sale_line(line) {
-        allocation.quantity
-    } else {
-        0
-    }
-}
 
 /// What an allocation adds to the sum of a line of a build, whatever the output.
 fn amount_for_build_line(build: Id, line: Id, allocation: &Allocation) -> u64
     ensures { result ≡ amount_where (λ a. is_for_build_line build line a.purpose) allocation.now }
 {
     if allocation.purpose.is_for_build_line(build, line) {
-        allocation.quantity
-    } else {
-        0
-    }
-}
-
-/// What an allocation adds to the sum of a line of a build and an output, or none.
-fn amount_for_line(build: Id, line: Id, output: Option<Id>, allocation: &Allocation) -> u64
-    ensures { result
-        ≡ amount_where (λ a. is_for_line build line output a.purpose) allocation.now }
-{
-    if allocation.purpose.is_for_line(build, line, output) {
         allocation.quantity
     } else {
         0
@@ -67,7 +34,7 @@ fn numbers_of(alloc: Global, rows: &[&Allocation]) -> Result<Vec<Id>, AllocError
 }
 
 /// Takes out the rows of these numbers. An error is one of memory, and may have left some of them.
-fn remove_all(rows: &mut IndexedSheet<Allocation>, numbers: &[Id]) -> Result<(), AllocError>
+fn remove_all(rows: &mut AllocationRows, numbers: &[Id]) -> Result<(), AllocError>
     ensures removed { OnOk result (now_of rows.new ≡ removed_all numbers.now (now_of rows.old)) }
     ensures before { rows.new.before ≡ rows.old.before }
 {
@@ -80,7 +47,7 @@ fn remove_all(rows: &mut IndexedSheet<Allocation>, numbers: &[Id]) -> Result<(),
 /// The rows of allocations, found by item, by order or build, by line of a sale or of a build, and by
 /// output.
 pub struct Allocations {
-    rows: IndexedSheet<Allocation>,
+    rows: AllocationRows,
     alloc: Global,
 }
 
@@ -104,7 +71,7 @@ impl Allocations {
         ensures before { allocations_before result ≡ table.empty }
     {
         Allocations {
-            rows: IndexedSheet::new(alloc),
+            rows: AllocationRows::new(alloc),
             alloc,
         }
     }
@@ -114,7 +81,7 @@ impl Allocations {
         ensures now { IfOk result (λ all. allocations_now all ≡ allocations_from rows.items) }
         ensures before { IfOk result (λ all. allocations_before all ≡ allocations_from rows.items) }
     {
-        let rows = IndexedSheet::filled(alloc, rows)?;
+        let rows = AllocationRows::filled(alloc, rows)?;
         Ok(Allocations { rows, alloc })
     }
 
@@ -123,30 +90,28 @@ impl Allocations {
         ensures value { result.now ≡ self.now.rows }
         ensures own { StandUnderKeys (λ a. a.number ∷ []) (allocations_now self.now) }
     {
-        self.rows.rows()
+        self.rows.rows().rows()
     }
 
     /// The allocation of that number.
     pub fn allocation(&self, number: Id) -> Option<&Allocation>
         ensures { option_copied result ≡ allocation_in number (allocations_now self.now) }
     {
-        self.rows.get(number)
+        self.rows.rows().get(number)
     }
 
-    /// How much of an item is allocated. It looks at the item's allocations alone, and takes no memory.
+    /// How much of an item is allocated. It takes one look-up, however many allocations the item has, and no memory.
     pub fn allocated(&self, item: Id) -> u128
         ensures { result ≡ allocated item (allocations_now self.now) }
     {
-        self.rows
-            .sum_under(item_key(item), |row| amount_of(item, row))
+        self.rows.sum(Share::Item(item))
     }
 
-    /// How much is allocated for a line of a sale. It looks at that line's allocations alone, and takes no memory.
+    /// How much is allocated for a line of a sale. It takes one look-up, and no memory.
     pub fn allocated_for_sale_line(&self, line: Id) -> u128
         ensures { result ≡ allocated_for_sale_line line (allocations_now self.now) }
     {
-        self.rows
-            .sum_under(sale_line_key(line), |row| amount_for(line, row))
+        self.rows.sum(Share::SaleLine(line))
     }
 
     /// How much is allocated for a line of a build, whatever the output. It looks at that line's allocations alone, and
@@ -154,31 +119,28 @@ impl Allocations {
     pub fn allocated_for_build_line(&self, build: Id, line: Id) -> u128
         ensures { result ≡ allocated_for_build_line build line (allocations_now self.now) }
     {
-        self.rows.sum_under(build_line_key(build, line), |row| {
-            amount_for_build_line(build, line, row)
-        })
+        self.rows
+            .rows()
+            .sum_under(build_line_key(build, line), |row| {
+                amount_for_build_line(build, line, row)
+            })
     }
 
-    /// How much is allocated for a line of a build and that output, or for no output where none is named. It looks at
-    /// the allocations of that output or of that line alone, and takes no memory.
+    /// How much is allocated for a line of a build and that output, or for no output where none is named. It takes one
+    /// look-up, and no memory.
     pub fn allocated_for_line(&self, build: Id, line: Id, output: Option<Id>) -> u128
         ensures { result ≡ allocated_for_line build line output (allocations_now self.now) }
     {
-        match output {
-            None => self.rows.sum_under(build_line_key(build, line), |row| {
-                amount_for_line(build, line, None, row)
-            }),
-            Some(number) => self.rows.sum_under(output_key(number), |row| {
-                amount_for_line(build, line, Some(number), row)
-            }),
-        }
+        self.rows.sum(Share::BuildLine(build, line, output))
     }
 
     /// Whether some of the item is allocated. It looks at the item's allocations alone, and takes no memory.
     pub fn has_allocations(&self, item: Id) -> bool
         ensures { result ≡ has_allocations item (allocations_now self.now) }
     {
-        self.rows.any_under(item_key(item), |row| row.item == item)
+        self.rows
+            .rows()
+            .any_under(item_key(item), |row| row.item == item)
     }
 
     /// What is free of an item: what it has, less what is allocated of it. An item that isn't there has
@@ -209,11 +171,13 @@ impl Allocations {
         match owner {
             Owner::Order(order) => self
                 .rows
+                .rows()
                 .select_under(order_key(order), |row| row.purpose.is_for_order(order)),
             Owner::Build(build) => self
                 .rows
+                .rows()
                 .select_under(build_key(build), |row| row.purpose.is_for_build(build)),
-            Owner::Output(output) => self.rows.select_under(
+            Owner::Output(output) => self.rows.rows().select_under(
                 output_key(output),
                 |row| row.purpose.is_for_output(output),
             ),
@@ -255,7 +219,7 @@ impl Allocations {
         ensures { IfOk result (λ numbers. removed_all numbers.items (allocations_now self.now)
             ≡ released_for owner (allocations_now self.now)) }
     {
-        let _ = self.rows.rows();
+        let _ = self.rows();
         let rows = self.owned_by(owner)?;
         numbers_of(self.alloc, rows.as_slice())
     }

@@ -8,11 +8,14 @@
 pub mod alloc_command;
 mod alloc_forms;
 mod allocation;
+mod allocation_rows;
 mod allocations;
 mod allotting;
 mod candidates;
 mod opening;
 mod purpose;
+mod share;
+mod share_sums;
 mod sharing_out;
 
 pub use alloc_command::AllocCommand;

@@ -22,6 +22,7 @@ use Rattle.alloc_core.specs.declared.allocation.Allocation.{Allocation}
 use Rattle.alloc_core.specs.declared.purpose.Purpose.{Purpose}
 use Rattle.alloc_core.specs.declared.purpose.Purpose.TheVariants.{Build as For}
 use Rattle.alloc_core.proofs.Amounts.{where-more}
+use Rattle.alloc_core.proofs.SameNumbers.{number-same, same-number}
 use Rattle.alloc_core.proofs.Sound.{free-enough, sound-allocated}
 use Rattle.yard_core.specs.Stock.{item_at}
 use Rattle.yard_core.proofs.Keeping.{bounds_at, good_at}
@@ -50,16 +51,6 @@ prepare-open Complete e = cc
 
 pub prepared : (x : Build) → may_prepare x.state ≡ true → is_open x.state ≡ true
 prepared x e = prepare-open x.state e
-
-same-number : (a b : Option ℕ) → is_same_number a b ≡ true → a ≡ b
-same-number None None e = refl
-same-number None (Some n) e = cc
-same-number (Some m) None e = cc
-same-number (Some m) (Some n) e = ap (λ k. Some k) (eqb-true m n e)
-
-number-same : (a : Option ℕ) → is_same_number a a ≡ true
-number-same None = refl
-number-same (Some m) = eq-eqb m m refl
 
 pub for-itself : (n line : ℕ) (output : Option ℕ) → is_for_line n line output (For n line output) ≡ true
 for-itself n line output =
