@@ -5,6 +5,7 @@
 mod body_length;
 mod head;
 mod head_end;
+mod loopback;
 mod plan;
 mod receive;
 mod rejection;
@@ -18,6 +19,7 @@ mod service;
 mod target;
 
 pub use head::one_class;
+pub use loopback::serve_connections;
 pub use rejection::Rejection;
 pub use response::statuses_are_named;
 pub use serve::serve_one;

@@ -6,4 +6,6 @@ mod delivery;
 #[cfg(test)]
 mod imports;
 #[cfg(test)]
+mod loopback;
+#[cfg(test)]
 mod requests;

@@ -32,7 +32,7 @@ const FILES: [[&str; 2]; 3] = [
 ];
 
 /// A request, and the same again, which is refused; and bodies that are none.
-const LINES: [[&str; 2]; 5] = [
+pub const LINES: [[&str; 2]; 5] = [
     [
         "POST /run HTTP/1.1\r\nContent-Length: 51\r\n\r\n{\"day\":\"2030-01-02\",\"do\":\"add_location\",\"name\":\"C\"}",
         "HTTP/1.1 200 OK\r\nContent-Type: application/json\r\nContent-Length: 25\r\nConnection: close\r\n\r\n{\"entries\":0,\"ids\":[11]}\n",
@@ -80,7 +80,7 @@ const REPORTS: [[&str; 2]; 5] = [
 ];
 
 /// Reports of nothing that is there, a file that is none, what is no route, and another method.
-const NOTHING: [[&str; 2]; 5] = [
+pub const NOTHING: [[&str; 2]; 5] = [
     [
         "GET /report/stock/99 HTTP/1.1\r\n\r\n",
         "HTTP/1.1 409 Conflict\r\nContent-Type: application/json\r\nContent-Length: 21\r\nConnection: close\r\n\r\n{\"refused\":\"NoSuch\"}\n",

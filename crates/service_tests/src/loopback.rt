@@ -1,0 +1,47 @@
+//! Clients on the loopback, over sockets: each has asked before the first is answered.
+use crate::requests::{LINES, NOTHING};
+use desk_app::BooksService;
+use desk_core::Shop;
+use desk_http::serve_connections;
+use desk_play::outcomes::holds;
+use part_core::Limits;
+use std::alloc::Global;
+use std::io::{self, Read, Write};
+use std::net::{Ipv4Addr, Shutdown, TcpListener, TcpStream};
+use std::test::Fail;
+
+/// What is answered where a location is the first row of all.
+const FIRST: &str = "HTTP/1.1 200 OK\r\nContent-Type: application/json\r\nContent-Length: 24\r\nConnection: close\r\n\r\n{\"entries\":0,\"ids\":[1]}\n";
+
+/// A client that has sent its request, and says no more.
+fn asked(rt: &HostRuntime, listener: &TcpListener, request: &str) -> io::Result<TcpStream> {
+    let mut client = TcpStream::connect(rt, listener.local_addr()?)?;
+    client.write_all(request.as_bytes())?;
+    client.shutdown(Shutdown::Write)?;
+    Ok(client)
+}
+
+/// Fails where the client got anything else, or its connection stays open.
+fn got(alloc: Global, mut client: TcpStream, answer: &str) -> Result<(), Fail> {
+    let mut bytes = Vec::new(alloc);
+    client.read_to_end(&mut bytes)?;
+    holds(bytes.as_slice() == answer.as_bytes(), "another answer")
+}
+
+#[test]
+fn serve_loopback(rt: HostRuntime) -> Result<(), Fail> {
+    let alloc = rt.alloc();
+    let books = Shop::new(alloc, Limits::LARGEST);
+    let mut service = BooksService { books };
+    let listener = TcpListener::bind(&rt, (Ipv4Addr::LOCALHOST, 0))?;
+    let first = asked(&rt, &listener, LINES[0][0])?;
+    let second = asked(&rt, &listener, NOTHING[0][0])?;
+    // One that drops its connection amid the request costs nothing but the connection.
+    let third = asked(&rt, &listener, "GET /repo")?;
+    let fourth = asked(&rt, &listener, LINES[1][0])?;
+    serve_connections(alloc, &listener, 4, &mut service)?;
+    got(alloc, first, FIRST)?;
+    got(alloc, second, NOTHING[0][1])?;
+    got(alloc, third, "")?;
+    got(alloc, fourth, LINES[1][1])
+}
