@@ -1,17 +1,8 @@
 //! A clerk's tour: amounts, pieces that get serials, and a build that is held, goes on and is given up.
-use desk_play::play::plays;
+use desk_play::workshop::plays_in_workshop;
 use std::test::Fail;
 
-const LINES: &str = r#"{"day":"2030-01-02","do":"add_location","name":"A"}
-{"day":"2030-01-02","do":"add_location","name":"B"}
-{"day":"2030-01-02","do":"add_part","flags":["component","purchaseable"],"name":"Screw"}
-{"day":"2030-01-02","do":"add_part","flags":["component","trackable","purchaseable"],"name":"Motor"}
-{"day":"2030-01-02","do":"add_part","flags":["assembly","component","trackable","salable"],"name":"Robot"}
-{"day":"2030-01-02","do":"add_part","flags":["assembly","trackable","salable"],"name":"Cell"}
-{"assembly":5,"component":3,"day":"2030-01-02","do":"add_line","quantity":4}
-{"assembly":5,"component":4,"day":"2030-01-02","do":"add_line","quantity":2}
-{"assembly":6,"component":5,"day":"2030-01-02","do":"add_line","quantity":1}
-{"day":"2030-01-02","do":"add_category","name":"Metal"}
+const LINES: &str = r#"{"day":"2030-01-02","do":"add_category","name":"Metal"}
 {"day":"2030-01-02","do":"add_category","name":"Metal"}
 {"day":"2030-01-02","do":"found","location":1,"part":3,"quantity":10}
 {"day":"2030-01-02","do":"add","item":11,"quantity":5}
@@ -48,16 +39,7 @@ const LINES: &str = r#"{"day":"2030-01-02","do":"add_location","name":"A"}
 {"day":"2030-01-02","do":"allocate_sale","item":18,"line":23,"quantity":1}
 "#;
 
-const ANSWERS: &str = r#"{"entries":0,"ids":[1]}
-{"entries":0,"ids":[2]}
-{"entries":0,"ids":[3]}
-{"entries":0,"ids":[4]}
-{"entries":0,"ids":[5]}
-{"entries":0,"ids":[6]}
-{"entries":0,"ids":[7]}
-{"entries":0,"ids":[8]}
-{"entries":0,"ids":[9]}
-{"entries":0,"ids":[10]}
+const ANSWERS: &str = r#"{"entries":0,"ids":[10]}
 {"refused":"NameTaken"}
 {"entries":1,"ids":[11]}
 {"entries":1,"ids":[]}
@@ -96,5 +78,5 @@ const ANSWERS: &str = r#"{"entries":0,"ids":[1]}
 
 #[test]
 fn long_tour(rt: HostRuntime) -> Result<(), Fail> {
-    plays(rt.alloc(), LINES, ANSWERS)
+    plays_in_workshop(rt.alloc(), LINES, ANSWERS)
 }

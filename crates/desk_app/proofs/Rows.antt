@@ -160,18 +160,17 @@ left_by_rows Store rows i row s s' s'' text fine trees old new h is run same sta
 -- ---- an import
 
 -- it ended as its report was written
-pub import_written : (stop : Stop) (reading : Reading) (w w' : Option (List ℕ)) (s s' : State) (text : List ℕ)
-    (f : Bool) (k : ℕ) → stop ≡ WriteFailed → import_told s reading ≡ (s', text, f)
-    → Appends w w' (take k text) → ImportStopped stop reading w w' s s'
-import_written stop reading w w' s s' text f k e told wrote =
-    subst (λ v. ImportStopped v reading w w' s s') (sym e)
-    (record {
+pub import_written : (reading : Reading) (w w' : Option (List ℕ)) (s s' : State) (text : List ℕ)
+    (f : Bool) (k : ℕ) → import_told s reading ≡ (s', text, f)
+    → Appends w w' (take k text) → ImportStopped WriteFailed reading w w' s s'
+import_written reading w w' s s' text f k told wrote =
+    record {
       front = take k text;
       more = drop k text;
       state = sym (ap (λ p. p.0) told);
       told = ap (λ p. p.1) told ∙ sym (take-append-drop k text);
       written = wrote;
-    })
+    }
 
 -- what a crash leaves where nothing was run is left by any import
 pub left_alone : (reading : Reading) (s : State) (trees : Trees) → TablesAre s trees → IsLeftByImport reading s s trees

@@ -247,18 +247,16 @@ left_cut Store o r r' w w' w'' s s' s'' n f line trees old new p t x stays was s
 left_cut Store o r r' w w' w'' s s' s'' n f line trees old new p t x stays was shown (inr h) =
     left_next o r r' w w' s s' s'' n f line trees p t x.0 h
 
-pub cut_writing : (stop : Stop) (w w' : Option (List ℕ)) (s s' : State) (n k : ℕ) (line text : List ℕ) (f : Bool)
-    → stop ≡ WriteFailed → line_step s n line ≡ (s', text, f)
-    → Appends w w' (take k text) → CutShort stop w w' s s' n line
-cut_writing stop w w' s s' n k line text f h e o =
-    subst (λ v. CutShort v w w' s s' n line) (sym h)
-    (record {
+pub cut_writing : (w w' : Option (List ℕ)) (s s' : State) (n k : ℕ) (line text : List ℕ) (f : Bool)
+    → line_step s n line ≡ (s', text, f) → Appends w w' (take k text) → CutShort WriteFailed w w' s s' n line
+cut_writing w w' s s' n k line text f e o =
+    record {
       front = take k text;
       more = drop k text;
       state = sym (ap (λ p. p.0) e);
       answer = ap (λ p. p.1) e ∙ sym (take-append-drop k text);
       written = o;
-    })
+    }
 
 Keeps-refl : (w : Option (List ℕ)) → Keeps w w
 Keeps-refl None = tt

@@ -5,6 +5,9 @@ use Rattle.sqlite.specs.declared.error.Error.{Error}
 use Rattle.sqlite.specs.declared.error.Error.TheVariants.{SqliteFailure}
 use Rattle.sqlite.specs.declared.error.ErrorCode.TheVariants as code
 use Rattle.sqlite.specs.Tree.{Trees}
+use Rattle.std.specs.declared.io.error.Error.{Error as DeviceError}
+use Rattle.std.specs.declared.io.kind.ErrorKind.{ErrorKind}
+use Rattle.std.specs.declared.io.kind.ErrorKind.TheVariants as kind
 use Rattle.desk_core.specs.Machine as machine
 use Rattle.desk_store.specs.StateTables.{TablesAre}
 use Rattle.table_store.specs.Schema.{desk_schema, schema_up_to}
@@ -36,6 +39,16 @@ file_fault_at (SqliteFailure code.DatabaseBusy) = InUse
 file_fault_at (SqliteFailure code.NotADatabase) = NoDatabase
 file_fault_at (SqliteFailure code.DatabaseCorrupt) = NoDatabase
 file_fault_at error = Database error
+
+-- what a device answers of a path, as a fault of the file
+abbrev pub file_fault_by : ErrorKind → DeviceError → FileFault
+file_fault_by kind.OutOfMemory error = Memory
+file_fault_by kind.IsADirectory error = NoFile
+file_fault_by kind.NotFound error = NoFolder
+file_fault_by kind.NotADirectory error = NoFolder
+file_fault_by kind.PermissionDenied error = NotAllowed
+file_fault_by kind.ReadOnlyFilesystem error = NotAllowed
+file_fault_by _ error = Device error
 
 -- a fault that the making of a desk may end with
 abbrev pub IsOfMaking : FileFault → Type 0

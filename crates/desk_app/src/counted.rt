@@ -23,7 +23,9 @@ pub struct CountedBooks<B, W> {
 impl<B: Drop, W: Write + Drop> CountedBooks<B, W> {
     /// These books, on which no row was run yet. Where there is no writer, nobody is told.
     pub fn new(books: B, writer: Option<W>) -> Self
-        ensures { result.books ≡ books }
+        ensures books { result.books ≡ books }
+        ensures writer { result.writer ≡ writer }
+        ensures none { result.done ≡ 0 }
     {
         CountedBooks {
             books,

@@ -76,7 +76,10 @@ impl From<Error> for FileFault {
 }
 
 impl From<io::Error> for FileFault {
-    ghost from_gives = { λ _ _. Unit {0} };
+    ghost use Rattle.std.specs.IoError.{error_kind};
+    ghost use Rattle.desk_app.specs.FileFaults.{file_fault_by};
+
+    ghost from_gives = { λ from fault. fault ≡ file_fault_by (error_kind from) from };
 
     fn from(error: io::Error) -> Self {
         match error.kind() {

@@ -1,4 +1,5 @@
 //! How a run ends.
+use desk_store::WriteFailed;
 use std::alloc::{AllocError, AllocFailed};
 
 /// How a run ended.
@@ -61,5 +62,16 @@ impl<T: Drop> From<AllocFailed<T>> for Stop {
 
     fn from(_: AllocFailed<T>) -> Self {
         Stop::Memory
+    }
+}
+
+impl From<WriteFailed> for Stop {
+    ghost use Rattle.std.specs.Prelude.{◌≡◌};
+    ghost use Rattle.desk_app.specs.declared.end.Stop.TheVariants as stops;
+
+    ghost from_gives = { λ _ stop. stop ≡ stops.WriteFailed };
+
+    fn from(_: WriteFailed) -> Self {
+        Stop::WriteFailed
     }
 }

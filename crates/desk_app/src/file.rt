@@ -20,9 +20,8 @@ ghost use Rattle.desk_app.specs.Printed.{IsPrinted, printed};
 use crate::database::FileFault;
 use crate::end::{RunEnd, Stop};
 use crate::run::Told;
-use crate::send::send;
 use desk_core::Shop;
-use desk_store::{Desk, ExportFault};
+use desk_store::{Desk, ExportFault, WriteFailed, send};
 use desk_wire::refused_text;
 use part_core::{CoreFault, Limits};
 use report_core::{ReportName, report};
@@ -169,7 +168,7 @@ pub fn print_report<S: Alter, W: Write>(
     };
     match send(writer, told.text.as_bytes()) {
         Ok(()) => RunEnd::Done(told.fine),
-        Err(stop) => stop.end(),
+        Err(WriteFailed) => RunEnd::WriteFailed,
     }
 }
 

@@ -14,7 +14,7 @@ ghost use Rattle.desk_app.specs.ImportRuns.{ImportedWhole, IsLeftByImport, RanFr
 use crate::books::Books;
 use crate::end::{RunEnd, Stop};
 use crate::run::{Told, tell_outcome};
-use crate::send::send;
+use desk_store::send;
 use desk_wire::{
     Document, ImportKind, ImportRow, ReadError, fault_text, import_rows, push_report_line,
 };

@@ -14,7 +14,6 @@ mod lines;
 mod memory;
 mod pieces;
 mod run;
-mod send;
 mod service;
 mod status;
 mod whole;

@@ -21,9 +21,8 @@ ghost use Rattle.desk_app.specs.Runs.{Finished, IsLeft, IsLeftAt, IsOfBooks, Sta
 use crate::books::Books;
 use crate::end::{RunEnd, Stop};
 use crate::lines::Lines;
-use crate::send::send;
 use desk_core::{Request, Shop};
-use desk_store::Fault;
+use desk_store::{Fault, send};
 use desk_wire::{ReadError, Wish, answer_text, fault_text, read_line, refused_text, report_text};
 use part_core::CoreFault;
 use report_core::{ReportName, report};

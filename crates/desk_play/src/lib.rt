@@ -6,3 +6,4 @@ pub mod devices;
 pub mod outcomes;
 pub mod play;
 pub mod stops;
+pub mod workshop;

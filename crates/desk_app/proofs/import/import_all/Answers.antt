@@ -1,6 +1,7 @@
 use Rattle.std.proofs.Common.{string_bytes}
 use Rattle.desk_wire.specs.Imports.{import}
 use Rattle.desk_app.specs.ImportRuns.{ImportStopped}
+use Rattle.desk_app.specs.declared.end.Stop.TheVariants.{WriteFailed}
 use Rattle.desk_app.proofs.Rows.{import_written}
 use Rattle.desk_app.proofs.Running.{if_err_as}
 use Rattle.desk_app.proofs.import.import_all.Goals as goal
@@ -12,8 +13,8 @@ returns-in_err-send-clause-stopped g c =
     if_err_as
     (λ stop. ImportStopped stop reading (g.W.Write.contents c.args.writer.now) (g.W.Write.contents c.send.new.writer)
     (g.B.Books.state_in c.args.books.now) (g.B.Books.state_in c.tell_import.new.books))
-    c.from_residual-in_err-send.result c.in_err-send.field-0.0 c.from_residual-in_err-send.ensures.1
-    (import_written c.in_err-send.field-0.0 reading (g.W.Write.contents c.args.writer.now)
+    c.from_residual-in_err-send.result WriteFailed c.from_residual-in_err-send.ensures.1
+    (import_written reading (g.W.Write.contents c.args.writer.now)
     (g.W.Write.contents c.send.new.writer)
     (g.B.Books.state_in c.args.books.now) (g.B.Books.state_in c.tell_import.new.books)
-    (string_bytes c.in_ok-told.told.text) c.in_ok-told.told.fine sent.1 sent.0 c.in_ok-told.ensures.ok sent.3)
+    (string_bytes c.in_ok-told.told.text) c.in_ok-told.told.fine sent.0 c.in_ok-told.ensures.ok sent.2)

@@ -2,6 +2,7 @@ use Rattle.std.proofs.Common.{◌∙◌, ap, sym, subst, string_bytes}
 use Rattle.std.specs.Io.KnownBytes.{Appends}
 use Rattle.std.proofs.KnownBytes.{Appends-nil}
 use Rattle.desk_app.specs.Runs.{CutShort}
+use Rattle.desk_app.specs.declared.end.Stop.TheVariants.{WriteFailed}
 use Rattle.desk_app.proofs.Stepping.{blank_step}
 use Rattle.desk_app.proofs.Running.{cut_writing, cut_by_books, if_err_as}
 use Rattle.desk_app.proofs.run.answer.Goals as goal
@@ -39,7 +40,7 @@ returns-in_err-send-clause-cut g c =
     let sent = rw c.as_bytes.ensures.value at c.in_err-send.ensures.front in
     if_err_as (λ stop. CutShort stop (g.W.Write.contents c.args.writer.now) (g.W.Write.contents c.send.new.writer)
     (g.B.Books.state_in c.args.books.now) (g.B.Books.state_in c.tell.new.books) c.args.number c.args.line.now)
-    c.from_residual-in_err-send.result c.in_err-send.field-0.0 c.from_residual-in_err-send.ensures.1
-    (cut_writing c.in_err-send.field-0.0 (g.W.Write.contents c.args.writer.now) (g.W.Write.contents c.send.new.writer)
-    (g.B.Books.state_in c.args.books.now) (g.B.Books.state_in c.tell.new.books) c.args.number sent.1
-    c.args.line.now (string_bytes c.in_ok-told.told.text) c.in_ok-told.told.fine sent.0 c.in_ok-told.ensures.ok sent.3)
+    c.from_residual-in_err-send.result WriteFailed c.from_residual-in_err-send.ensures.1
+    (cut_writing (g.W.Write.contents c.args.writer.now) (g.W.Write.contents c.send.new.writer)
+    (g.B.Books.state_in c.args.books.now) (g.B.Books.state_in c.tell.new.books) c.args.number sent.0
+    c.args.line.now (string_bytes c.in_ok-told.told.text) c.in_ok-told.told.fine c.in_ok-told.ensures.ok sent.2)
