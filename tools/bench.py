@@ -288,9 +288,17 @@ def reading_alone(count):
         yield f'{{{DAY},"do":"transfer","item":{i + 1},"location":1,"quantity":1}}'
 
 
+def writing_alone(count):
+    """One request with a key, sent again and again. Its text is written each time, and compared with the one kept."""
+    yield LOCATION
+    yield PART
+    for _ in range(count - 2):
+        yield f'{{{DAY},{FOUND}:1,"key":"k"}}'
+
+
 LINES = (
     found_and_remove, transfer, found_with_serial, add_part, add_line, keyed_found, receipts, allocated_pieces,
-    allocated_items, shipped_lines, reading_alone,
+    allocated_items, shipped_lines, reading_alone, writing_alone,
 )
 AMONG = (
     (loose_items, transfers, ROWS), (allocations, refused_removals, ROWS), (robot_with_motors, installs, ROWS),
