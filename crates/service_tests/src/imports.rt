@@ -234,3 +234,24 @@ fn long_files(rt: HostRuntime) -> Result<(), Fail> {
     tells_how_many(alloc, 1_000, "")?;
     tells_how_many(alloc, 2_001, "1000 rows done\n2000 rows done\n")
 }
+
+/// A stocktake of a hundred thousand rows, and the same file on another day.
+#[test]
+fn a_long_stocktake(rt: HostRuntime) -> Result<(), Fail> {
+    let alloc = rt.alloc();
+    let mut shop = ordered(alloc)?;
+    delivers(alloc, &mut shop, "2030-03-01", &mut Sink::new(alloc, 4096))?;
+    let file = counted(alloc, 100_000)?;
+    for day in ["2030-03-02", "2030-03-03"] {
+        let mut sink = Sink::new(alloc, 4096);
+        let kind = ImportKind::Counts;
+        let end = imports(alloc, &mut shop, kind, day, file.as_str(), &mut sink)?;
+        assert!(rt; end == RunEnd::Done(true));
+        assert!(rt;
+            sink.bytes
+                .as_slice()
+                .ends_with(b"100000\t{\"entries\":0,\"ids\":[]}\n")
+        );
+    }
+    plays_on_shop(alloc, &mut shop, STOCK, STOCK_OUT)
+}

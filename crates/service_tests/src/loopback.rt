@@ -11,7 +11,8 @@ use std::net::{Ipv4Addr, Shutdown, TcpListener, TcpStream};
 use std::test::Fail;
 
 /// What is answered where a location is the first row of all.
-const FIRST: &str = "HTTP/1.1 200 OK\r\nContent-Type: application/json\r\nContent-Length: 24\r\nConnection: close\r\n\r\n{\"entries\":0,\"ids\":[1]}\n";
+const FIRST: &str =
+    "HTTP/1.1 200 OK\r\nContent-Type: application/json\r\nContent-Length: 24\r\nConnection: close\r\n\r\n{\"entries\":0,\"ids\":[1]}\n";
 
 /// A client that has sent its request, and says no more.
 fn asked(rt: &HostRuntime, listener: &TcpListener, request: &str) -> io::Result<TcpStream> {
