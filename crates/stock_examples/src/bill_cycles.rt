@@ -1,8 +1,17 @@
 //! A part would contain itself by way of a substitute, an inherited line or a variant.
-use desk_play::workshop::plays_in_workshop;
+use desk_play::play::plays;
 use std::test::Fail;
 
-pub const LINES: &str = r#"{"day":"2030-01-02","do":"add_part","flags":["assembly","component"],"name":"Frame"}
+pub const LINES: &str = r#"{"day":"2030-01-02","do":"add_location","name":"A"}
+{"day":"2030-01-02","do":"add_location","name":"B"}
+{"day":"2030-01-02","do":"add_part","flags":["component","purchaseable"],"name":"Screw"}
+{"day":"2030-01-02","do":"add_part","flags":["component","trackable","purchaseable"],"name":"Motor"}
+{"day":"2030-01-02","do":"add_part","flags":["assembly","component","trackable","salable"],"name":"Robot"}
+{"day":"2030-01-02","do":"add_part","flags":["assembly","trackable","salable"],"name":"Cell"}
+{"assembly":5,"component":3,"day":"2030-01-02","do":"add_line","quantity":4}
+{"assembly":5,"component":4,"day":"2030-01-02","do":"add_line","quantity":2}
+{"assembly":6,"component":5,"day":"2030-01-02","do":"add_line","quantity":1}
+{"day":"2030-01-02","do":"add_part","flags":["assembly","component"],"name":"Frame"}
 {"assembly":10,"component":5,"day":"2030-01-02","do":"add_line","quantity":1}
 {"day":"2030-01-02","do":"add_part","flags":["component"],"name":"Kit"}
 {"assembly":5,"component":12,"day":"2030-01-02","do":"add_line","quantity":1}
@@ -18,7 +27,16 @@ pub const LINES: &str = r#"{"day":"2030-01-02","do":"add_part","flags":["assembl
 {"assembly":5,"component":17,"day":"2030-01-02","do":"add_line","quantity":1,"variants":true}
 "#;
 
-pub const ANSWERS: &str = r#"{"entries":0,"ids":[10]}
+pub const ANSWERS: &str = r#"{"entries":0,"ids":[1]}
+{"entries":0,"ids":[2]}
+{"entries":0,"ids":[3]}
+{"entries":0,"ids":[4]}
+{"entries":0,"ids":[5]}
+{"entries":0,"ids":[6]}
+{"entries":0,"ids":[7]}
+{"entries":0,"ids":[8]}
+{"entries":0,"ids":[9]}
+{"entries":0,"ids":[10]}
 {"entries":0,"ids":[11]}
 {"entries":0,"ids":[12]}
 {"entries":0,"ids":[13]}
@@ -36,5 +54,5 @@ pub const ANSWERS: &str = r#"{"entries":0,"ids":[10]}
 
 #[test]
 fn bill_cycles(rt: HostRuntime) -> Result<(), Fail> {
-    plays_in_workshop(rt.alloc(), LINES, ANSWERS)
+    plays(rt.alloc(), LINES, ANSWERS)
 }
