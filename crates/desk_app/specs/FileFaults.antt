@@ -5,9 +5,9 @@ use Rattle.sqlite.specs.declared.error.Error.{Error}
 use Rattle.sqlite.specs.declared.error.Error.TheVariants.{SqliteFailure}
 use Rattle.sqlite.specs.declared.error.ErrorCode.TheVariants as code
 use Rattle.sqlite.specs.Tree.{Trees}
-use Rattle.std.specs.declared.io.error.Error.{Error as DeviceError}
-use Rattle.std.specs.declared.io.kind.ErrorKind.{ErrorKind}
-use Rattle.std.specs.declared.io.kind.ErrorKind.TheVariants as kind
+use Rattle.std.specs.declared.io.Error.{Error as DeviceError}
+use Rattle.std.specs.declared.io.ErrorKind.{ErrorKind}
+use Rattle.std.specs.declared.io.ErrorKind.TheVariants as kind
 use Rattle.desk_core.specs.Machine as machine
 use Rattle.desk_store.specs.StateTables.{TablesAre}
 use Rattle.table_store.specs.Schema.{desk_schema, schema_up_to}
