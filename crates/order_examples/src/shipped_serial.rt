@@ -2,7 +2,8 @@
 use desk_play::workshop::plays_in_workshop;
 use std::test::Fail;
 
-const LINES: &str = r#"{"day":"2030-01-02","do":"found","location":1,"part":5,"quantity":1,"serials":"X1"}
+const LINES: &str =
+    r#"{"day":"2030-01-02","do":"found","location":1,"part":5,"quantity":1,"serials":"X1"}
 {"day":"2030-01-02","do":"order","partner":"Acme","side":"sale"}
 {"day":"2030-01-02","do":"order_line","order":11,"part":5,"quantity":1}
 {"day":"2030-01-02","do":"issue_order","order":11}

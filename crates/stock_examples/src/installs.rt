@@ -2,7 +2,8 @@
 use desk_play::workshop::plays_in_workshop;
 use std::test::Fail;
 
-const LINES: &str = r#"{"day":"2030-01-02","do":"found","location":1,"part":5,"quantity":1,"serials":"R1"}
+const LINES: &str =
+    r#"{"day":"2030-01-02","do":"found","location":1,"part":5,"quantity":1,"serials":"R1"}
 {"day":"2030-01-02","do":"found","location":1,"part":4,"quantity":2,"serials":"M1,M2"}
 {"day":"2030-01-02","do":"install","item":11,"parent":10,"quantity":1}
 {"day":"2030-01-02","do":"install","item":12,"parent":10,"quantity":1}

@@ -2,7 +2,8 @@
 use desk_play::workshop::plays_in_workshop;
 use std::test::Fail;
 
-const LINES: &str = r#"{"batch":"L","day":"2030-01-02","do":"found","location":1,"part":3,"quantity":10}
+const LINES: &str =
+    r#"{"batch":"L","day":"2030-01-02","do":"found","location":1,"part":3,"quantity":10}
 {"batch":"L","day":"2030-01-02","do":"found","location":1,"part":3,"quantity":5}
 {"batch":"L","day":"2030-01-02","do":"found","location":1,"part":3,"quantity":7}
 {"batch":"L","day":"2030-01-02","do":"found","location":1,"part":3,"quantity":4}

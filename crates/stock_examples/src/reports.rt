@@ -2,7 +2,8 @@
 use desk_play::workshop::plays_in_workshop;
 use std::test::Fail;
 
-const LINES: &str = r#"{"do":"found","day":"2030-01-02","part":3,"location":1,"quantity":10,"batch":"B-7 ä"}
+const LINES: &str =
+    r#"{"do":"found","day":"2030-01-02","part":3,"location":1,"quantity":10,"batch":"B-7 ä"}
 {"do":"found","day":"2030-01-02","part":4,"location":2,"quantity":2,"serials":"M1-A,7"}
 {"do":"found","day":"2030-01-02","part":3,"location":1,"quantity":4}
 {"do":"remove","day":"2030-01-02","item":11,"quantity":1}

@@ -2,7 +2,8 @@
 use desk_play::workshop::plays_in_workshop;
 use std::test::Fail;
 
-const LINES: &str = r#"{"day":"2030-01-02","do":"found","location":1,"part":4,"quantity":5,"serials":"7,8,9,A-1,12"}
+const LINES: &str =
+    r#"{"day":"2030-01-02","do":"found","location":1,"part":4,"quantity":5,"serials":"7,8,9,A-1,12"}
 {"day":"2030-01-02","do":"found","location":1,"part":4,"quantity":4,"serials":"20,21,22,23,24"}
 {"day":"2030-01-02","do":"found","location":1,"part":3,"quantity":1,"serials":"1"}
 "#;
