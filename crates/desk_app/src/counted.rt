@@ -1,6 +1,6 @@
 //! Books that count the rows of an import, for who waits before a long one. What is told of the count is no part of the
 //! report: where it can't be written it is left out, and the rows are run all the same.
-ghost use Rattle.std.specs.Prelude.{◌≡◌};
+ghost use Rattle.std.specs.Prelude.{◌≡◌, ◌<◌, ◌^◌, ◌+◌, ◌-◌};
 
 use crate::books::Books;
 use desk_core::{Request, Shop};
@@ -46,8 +46,10 @@ impl<B: Drop, W: Write + Drop> CountedBooks<B, W> {
         books
     }
 
+    // Tells the count where it is due, and counts a row more.
     fn tell(&mut self)
-        ensures { self.new.books ≡ self.old.books }
+        ensures books { self.new.books ≡ self.old.books }
+        ensures counts { self.old.done < 2 ^ 64 - 1 → self.new.done ≡ self.old.done + 1 }
     {
         if let Some(writer) = &mut self.writer {
             if self.done > 0 && self.done % STEP == 0 {
