@@ -1,10 +1,10 @@
 #!/usr/bin/env python3
 """Runs the program's word `import` on files that Python's csv module wrote: each with other line ends, with all fields in
 quotes or only those that need it, with a byte order mark and without; with batches that have quotes, commas and line
-ends in them. Looks at what the program tells, and with sqlite3 at what is kept: that a file sent again, on another day
-too, is told the same and changes nothing; that a row with another quantity is KeyTaken in its line alone; that of a
-faulty file nothing is run; which status a missing path, a folder and wrong words end with; and what a terminal is told
-of the rows that are done.
+ends in them. Then on files that LibreOffice saved of a spreadsheet, where its `soffice` is found. Looks at what the
+program tells, and with sqlite3 at what is kept: that a file sent again, on another day too, is told the same and changes
+nothing; that a row with another quantity is KeyTaken in its line alone; that of a faulty file nothing is run; which
+status a missing path, a folder and wrong words end with; and what a terminal is told of the rows that are done.
 
 usage: tools/check_import.py PROGRAM"""
 import codecs
@@ -15,10 +15,12 @@ import itertools
 import os
 import pathlib
 import pty
+import shutil
 import sqlite3
 import subprocess
 import sys
 import tempfile
+from xml.sax.saxutils import escape
 
 DAY = '"day":"2030-01-02"'
 ORDERED = f"""{{{DAY},"do":"add_location","name":"A"}}
@@ -84,20 +86,64 @@ def all_rows(folder):
     return [rows_of(folder, f"SELECT * FROM {table} ORDER BY 1") for table in tables]
 
 
+def delivered(what, file):
+    """The file is the delivery: it is told so and kept so, and sent again it is told the same and changes nothing."""
+    with workshop() as folder:
+        expect(what, imported(folder, "receipts", file), (0, DELIVERED))
+        batches = rows_of(folder, "SELECT batch, serial, quantity FROM items ORDER BY id")
+        expect(what, batches, [(BATCH, None, 100), (None, None, 50), (None, "M1", 1), (None, "M2", 1)])
+        before = all_rows(folder)
+        for day in ("2030-03-01", "2031-12-31"):
+            expect(f"{what}, again", imported(folder, "receipts", file, day=day), (0, DELIVERED))
+            expect(f"{what}, again", all_rows(folder) == before, True)
+
+
 def forms():
     for ends, quoting, mark in itertools.product(
         ("\n", "\r\n", "\r"), (csv.QUOTE_MINIMAL, csv.QUOTE_ALL, csv.QUOTE_NONNUMERIC), (False, True)
     ):
-        with workshop() as folder:
-            file = written(RECEIPTS, DELIVERY, ends, quoting, mark)
-            what = f"a delivery with {ends!r}, quoting {quoting}, mark {mark}"
-            expect(what, imported(folder, "receipts", file), (0, DELIVERED))
-            batches = rows_of(folder, "SELECT batch, serial, quantity FROM items ORDER BY id")
-            expect(what, batches, [(BATCH, None, 100), (None, None, 50), (None, "M1", 1), (None, "M2", 1)])
-            before = all_rows(folder)
-            for day in ("2030-03-01", "2031-12-31"):
-                expect(f"{what}, again", imported(folder, "receipts", file, day=day), (0, DELIVERED))
-                expect(f"{what}, again", all_rows(folder) == before, True)
+        file = written(RECEIPTS, DELIVERY, ends, quoting, mark)
+        delivered(f"a delivery with {ends!r}, quoting {quoting}, mark {mark}", file)
+
+
+def cell(value):
+    if value == "":
+        return "<table:table-cell/>"
+    kind = "float" if isinstance(value, int) else "string"
+    number = f' office:value="{value}"' if isinstance(value, int) else ""
+    return f'<table:table-cell office:value-type="{kind}"{number}><text:p>{escape(str(value))}</text:p></table:table-cell>'
+
+
+def spreadsheet(rows):
+    """A spreadsheet of one sheet, as a text: numbers as numbers, the rest as texts."""
+    names = "".join(f' xmlns:{name}="urn:oasis:names:tc:opendocument:xmlns:{name}:1.0"' for name in ("office", "table", "text"))
+    lines = "".join(f"<table:table-row>{''.join(map(cell, row))}</table:table-row>" for row in rows)
+    return (
+        f'<?xml version="1.0" encoding="UTF-8"?><office:document{names} office:version="1.2"'
+        ' office:mimetype="application/vnd.oasis.opendocument.spreadsheet"><office:body><office:spreadsheet>'
+        f'<table:table table:name="Delivery">{lines}</table:table></office:spreadsheet></office:body></office:document>'
+    )
+
+
+def saved(folder, tokens):
+    """The delivery as LibreOffice saves it, by its filter's tokens: separator, quote, character set, first line, formats
+    of columns, language, and whether every text is quoted."""
+    path = folder / "delivery.fods"
+    path.write_text(spreadsheet([RECEIPTS, *DELIVERY]))
+    profile = f"-env:UserInstallation={(folder / 'profile').as_uri()}"
+    kind = f"csv:Text - txt - csv (StarCalc):{tokens}"
+    words = ("soffice", profile, "--headless", "--convert-to", kind, "--outdir", str(folder), str(path))
+    subprocess.run(words, capture_output=True, timeout=120, check=True)
+    return path.with_suffix(".csv").read_bytes()
+
+
+def by_office():
+    if not shutil.which("soffice"):
+        print("check_import: there is no LibreOffice here, so its files were not tried")
+        return
+    with tempfile.TemporaryDirectory() as name:
+        for what, tokens in (("with few quotes", "44,34,76,1,,0,false"), ("with every text in quotes", "44,34,76,1,,0,true")):
+            delivered(f"a delivery that LibreOffice saved {what}", saved(pathlib.Path(name), tokens))
 
 
 def corrections():
@@ -189,6 +235,7 @@ def terminals():
 
 
 forms()
+by_office()
 corrections()
 faults()
 statuses()
