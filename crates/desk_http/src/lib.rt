@@ -19,7 +19,7 @@ mod service;
 mod target;
 
 pub use head::one_class;
-pub use loopback::serve_connections;
+pub use loopback::{Clients, serve_connections};
 pub use rejection::Rejection;
 pub use response::statuses_are_named;
 pub use serve::serve_one;

@@ -1,4 +1,6 @@
 //! Clients on the loopback, a request a connection, one connection after another.
+ghost use Rattle.std.specs.Prelude.{◌≡◌, ◌+◌, ◌<◌, ◌^◌, OnErr, OnOk};
+
 use crate::serve::serve_one;
 use crate::service::Service;
 use std::alloc::Global;
@@ -35,19 +37,51 @@ fn answer<S: Service>(alloc: Global, stream: &TcpStream, service: &mut S) -> io:
     Ok(())
 }
 
-/// Answers so many connections, each as `serve_one` does, whatever each gives. A client that says or takes nothing for
-/// ten seconds is left. An error is one of the listener, which gives no connection.
+/// The clients of a listener, and how many connections of theirs were accepted.
+#[derive(Drop)]
+pub struct Clients {
+    listener: TcpListener,
+    accepted: u64,
+}
+
+impl Clients {
+    /// The clients of this listener, none of which was accepted yet.
+    pub fn of(listener: TcpListener) -> Self
+        ensures { result.accepted ≡ 0 }
+    {
+        Clients {
+            listener,
+            accepted: 0,
+        }
+    }
+
+    /// The next connection, which is waited for.
+    fn accept(&mut self) -> io::Result<TcpStream>
+        requires { self.old.accepted + 1 < 2 ^ 64 }
+        ensures accepted { OnOk result (self.new.accepted ≡ self.old.accepted + 1) }
+        ensures none { OnErr result (self.new.accepted ≡ self.old.accepted) }
+    {
+        let (stream, _) = self.listener.accept()?;
+        self.accepted += 1;
+        Ok(stream)
+    }
+}
+
+/// Accepts so many connections and answers each as `serve_one` does, whatever it gives. A client that says or takes
+/// nothing for ten seconds is left. An error is one of the listener, which gives no connection.
 pub fn serve_connections<S: Service>(
     alloc: Global,
-    listener: &TcpListener,
+    clients: &mut Clients,
     count: u64,
     service: &mut S,
 ) -> io::Result<()>
-    requires { S.is_kept service.old }
-    ensures { S.is_kept service.new }
+    requires kept { S.is_kept service.old }
+    requires room { clients.old.accepted + count < 2 ^ 64 }
+    ensures kept { S.is_kept service.new }
+    ensures accepted { OnOk result (clients.new.accepted ≡ clients.old.accepted + count) }
 {
-    for _ in 0..count {
-        let (stream, _) = listener.accept()?;
+    for done in 0..count {
+        let stream = clients.accept()?;
         let _ = answer(alloc, &stream, service);
     }
     Ok(())

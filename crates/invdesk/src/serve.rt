@@ -1,6 +1,6 @@
 //! Serves clients on the loopback.
 use desk_app::{Books, BooksService, RunEnd};
-use desk_http::serve_connections;
+use desk_http::{Clients, serve_connections};
 use std::io::{self, ErrorKind};
 use std::net::{Ipv4Addr, TcpListener};
 
@@ -16,7 +16,7 @@ fn listen<B: Books>(
 {
     let listener = TcpListener::bind(rt, (Ipv4Addr::LOCALHOST, port))?;
     println!(rt; "listening on 127.0.0.1:{port}")?;
-    serve_connections(rt.alloc(), &listener, count, service)
+    serve_connections(rt.alloc(), &mut Clients::of(listener), count, service)
 }
 
 /// Serves so many connections, whatever each gives: it ends otherwise only where it can't listen, accept or tell that it
