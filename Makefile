@@ -29,7 +29,8 @@ bench: build
 	python3 tools/bench_http.py $(PROGRAM)
 	python3 tools/bench_calls.py
 
-# Files as Python's sqlite3 finds them, and files that are refused; deliveries and stocktakes that Python's csv wrote.
+# Files as Python's sqlite3 finds them, and files that are refused; deliveries and stocktakes that Python's csv and, where
+# it is there, LibreOffice wrote.
 file: build
 	python3 tools/check_file.py $(PROGRAM)
 	python3 tools/check_import.py $(PROGRAM)
