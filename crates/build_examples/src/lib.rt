@@ -23,6 +23,8 @@ mod free_quantity;
 #[cfg(test)]
 mod long_tour;
 #[cfg(test)]
+mod many_lines;
+#[cfg(test)]
 mod many_outputs;
 #[cfg(test)]
 mod refused_builds;
