@@ -6,4 +6,3 @@ pub mod devices;
 pub mod outcomes;
 pub mod play;
 pub mod stops;
-pub mod workshop;

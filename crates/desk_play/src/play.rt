@@ -17,15 +17,27 @@ use sqlite::{Alter, Connection};
 use std::alloc::Global;
 use std::test::Fail;
 
+/// A desk with nothing in it, with these limits.
+fn created_within<S: Alter + Drop>(
+    alloc: Global,
+    limits: Limits,
+    conn: Connection<S>,
+) -> Result<Desk<S>, Fail>
+    requires { HasCleanDisk (state S.Store conn) → (state S.Store conn).in_transaction ≡ false }
+    ensures { IfOk result (λ desk. IsDesk S.Store desk) }
+{
+    match Desk::create(alloc, conn, limits) {
+        Ok(desk) => Ok(desk),
+        Err(_) => Err(Fail::from("no desk is made")),
+    }
+}
+
 /// A desk with nothing in it. It fails where the database holds something, or fails itself.
 pub fn created<S: Alter + Drop>(alloc: Global, conn: Connection<S>) -> Result<Desk<S>, Fail>
     requires { HasCleanDisk (state S.Store conn) → (state S.Store conn).in_transaction ≡ false }
     ensures { IfOk result (λ desk. IsDesk S.Store desk) }
 {
-    match Desk::create(alloc, conn, Limits::LARGEST) {
-        Ok(desk) => Ok(desk),
-        Err(_) => Err(Fail::from("no desk is made")),
-    }
+    created_within(alloc, Limits::LARGEST, conn)
 }
 
 /// The desk, closed and opened again.
@@ -66,13 +78,14 @@ pub fn plays_on<B: Books>(
 /// Runs the lines on a desk with nothing in it, which is closed and opened again before the last of them.
 fn plays_out<S: Alter + Drop>(
     alloc: Global,
+    limits: Limits,
     conn: Connection<S>,
     lines: &str,
     answers: &str,
 ) -> Result<(), Fail>
     requires { HasCleanDisk (state S.Store conn) → (state S.Store conn).in_transaction ≡ false }
 {
-    let mut desk = created(alloc, conn)?;
+    let mut desk = created_within(alloc, limits, conn)?;
     let mut sink = Sink::new(alloc, 4096);
     let whole = lines.trim_end_matches('\n');
     let (first, last) = whole.rsplit_once('\n').unwrap_or(("", whole));
@@ -82,12 +95,13 @@ fn plays_out<S: Alter + Drop>(
     holds(sink.bytes.as_slice() == answers.as_bytes(), "other answers")
 }
 
-/// Runs the lines on a desk and on a shop with nothing in them, and fails where they are answered otherwise.
-pub fn plays(alloc: Global, lines: &str, answers: &str) -> Result<(), Fail> {
-    let mut shop = Shop::new(alloc, Limits::LARGEST);
+/// Runs the lines on a desk and on a shop with nothing in them, which have these limits, and fails where they are answered
+/// otherwise.
+pub fn plays(alloc: Global, limits: Limits, lines: &str, answers: &str) -> Result<(), Fail> {
+    let mut shop = Shop::new(alloc, limits);
     plays_on_shop(alloc, &mut shop, lines, answers)?;
     let conn = Connection::open_in_memory(alloc)?;
-    plays_out(alloc, conn, lines, answers)
+    plays_out(alloc, limits, conn, lines, answers)
 }
 
 /// Runs the lines on a shop, and fails where they are answered otherwise.

@@ -2,15 +2,7 @@
 #![tactic(auto)]
 
 #[cfg(test)]
-mod build_limits;
-#[cfg(test)]
 mod builds;
-#[cfg(test)]
-mod full;
-#[cfg(test)]
-mod limits;
-#[cfg(test)]
-mod nested;
 #[cfg(test)]
 mod outcomes;
 #[cfg(test)]
@@ -21,3 +13,5 @@ mod requests;
 mod rows;
 #[cfg(test)]
 mod sheets;
+#[cfg(test)]
+mod texts;

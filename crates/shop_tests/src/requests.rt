@@ -4,9 +4,7 @@ use bom_core::{BomCommand, LineFlags, NewLine};
 use build_core::BuildCommand;
 use desk_core::{Command, Request};
 use order_core::OrderCommand;
-use part_core::{
-    Day, Flags, Ids, Name, NewPart, PartCommand, Serials, Side, Status, Text, read_serials,
-};
+use part_core::{Day, Flags, Name, NewPart, PartCommand, Serials, Side, Text, read_serials};
 use std::alloc::Global;
 use std::test::Fail;
 use stock_core::{NewStock, StockCommand};
@@ -66,15 +64,6 @@ pub fn component() -> Flags {
 /// What may be sold.
 pub fn salable() -> Flags {
     let mut flags = Flags::default();
-    flags.salable = true;
-    flags
-}
-
-/// What is bought and sold, and goes into others, with serials.
-pub fn goods() -> Flags {
-    let mut flags = component();
-    flags.trackable = true;
-    flags.purchaseable = true;
     flags.salable = true;
     flags
 }
@@ -151,16 +140,8 @@ pub fn found_one(alloc: Global, part: u64, location: u64, serial: &str) -> Resul
     found_of(part, location, new)
 }
 
-pub fn add(item: u64, quantity: u64) -> Result<Request, Fail> {
-    of_stock(StockCommand::Add { item, quantity })
-}
-
 pub fn remove(item: u64, quantity: u64) -> Result<Request, Fail> {
     of_stock(StockCommand::Remove { item, quantity })
-}
-
-pub fn count(item: u64, quantity: u64) -> Result<Request, Fail> {
-    of_stock(StockCommand::Count { item, quantity })
 }
 
 pub fn transfer(item: u64, location: u64, quantity: u64) -> Result<Request, Fail> {
@@ -171,29 +152,6 @@ pub fn transfer(item: u64, location: u64, quantity: u64) -> Result<Request, Fail
     })
 }
 
-pub fn split(item: u64, quantity: u64) -> Result<Request, Fail> {
-    of_stock(StockCommand::Split { item, quantity })
-}
-
-pub fn merge(alloc: Global, into: u64, items: &[u64]) -> Result<Request, Fail> {
-    let items = Ids::new(items.to_vec(alloc)?);
-    of_stock(StockCommand::Merge { into, items })
-}
-
-/// As many pieces of the item as are asked for get these serials.
-pub fn serialise(alloc: Global, item: u64, quantity: u64, list: &str) -> Result<Request, Fail> {
-    let serials = read_serials(alloc, list).ok().ok_or("serials")?;
-    of_stock(StockCommand::Serialise {
-        item,
-        quantity,
-        serials: Serials::new(serials),
-    })
-}
-
-pub fn set_status(item: u64, status: Status) -> Result<Request, Fail> {
-    of_stock(StockCommand::SetStatus { item, status })
-}
-
 pub fn install(item: u64, parent: u64, quantity: u64) -> Result<Request, Fail> {
     of_stock(StockCommand::Install {
         item,
@@ -202,30 +160,11 @@ pub fn install(item: u64, parent: u64, quantity: u64) -> Result<Request, Fail> {
     })
 }
 
-pub fn uninstall(item: u64, location: u64) -> Result<Request, Fail> {
-    of_stock(StockCommand::Uninstall { item, location })
-}
-
-pub fn disassemble(item: u64, location: u64) -> Result<Request, Fail> {
-    of_stock(StockCommand::Disassemble { item, location })
-}
-
-pub fn reinstate(item: u64, location: u64) -> Result<Request, Fail> {
-    of_stock(StockCommand::Reinstate { item, location })
-}
-
 // ---- orders and allocations
 
 pub fn sale(alloc: Global, partner: &str) -> Result<Request, Fail> {
     of_order(OrderCommand::NewOrder {
         side: Side::Sale,
-        partner: name(alloc, partner)?,
-    })
-}
-
-pub fn purchase(alloc: Global, partner: &str) -> Result<Request, Fail> {
-    of_order(OrderCommand::NewOrder {
-        side: Side::Purchase,
         partner: name(alloc, partner)?,
     })
 }
@@ -240,19 +179,6 @@ pub fn order_line(order: u64, part: u64, quantity: u64) -> Result<Request, Fail>
 
 pub fn issue_order(order: u64) -> Result<Request, Fail> {
     of_order(OrderCommand::IssueOrder { order })
-}
-
-pub fn receive(line: u64, location: u64, quantity: u64) -> Result<Request, Fail> {
-    let new = NewStock {
-        quantity,
-        batch: None,
-        serials: None,
-    };
-    of_order(OrderCommand::Receive {
-        line,
-        location,
-        new,
-    })
 }
 
 pub fn allocate_sale(line: u64, item: u64, quantity: u64) -> Result<Request, Fail> {
@@ -291,16 +217,6 @@ pub fn hold_build(build: u64) -> Result<Request, Fail> {
 
 pub fn cancel_build(build: u64) -> Result<Request, Fail> {
     of_build(BuildCommand::CancelBuild { build })
-}
-
-/// Outputs without serials.
-pub fn outputs(build: u64, quantity: u64) -> Result<Request, Fail> {
-    let new = NewStock {
-        quantity,
-        batch: None,
-        serials: None,
-    };
-    of_build(BuildCommand::NewOutputs { build, new })
 }
 
 /// Outputs with these serials.
