@@ -38,21 +38,22 @@ fn tell(rt: &HostRuntime, what: &str, outcome: Result<(), Fail>) -> Result<(), F
     }
 }
 
-/// The name of an example, and the limits of its books: the largest, where it names none.
-fn named(head: &str) -> Result<(&str, Limits), Fail> {
-    let Some((name, limits)) = head.split_once(' ') else {
-        return Ok((head, Limits::LARGEST));
+/// The limits of an example's books: those that stand behind its name, or the largest.
+fn limits_of(head: &str) -> Result<Limits, Fail> {
+    let Some((_, limits)) = head.split_once(' ') else {
+        return Ok(Limits::LARGEST);
     };
     let (numbers, entries) = limits.split_once(' ').ok_or("two limits")?;
     let numbers = numbers.parse::<u64>()?;
     let entries = entries.parse::<u64>()?;
-    Ok((name, Limits::new(numbers, entries).ok_or("limits")?))
+    Ok(Limits::new(numbers, entries).ok_or("limits")?)
 }
 
 /// Plays the worked example of a line of the list.
 fn play(rt: &HostRuntime, line: &str) -> Result<(), Fail> {
     let (head, _) = line.split_once(':').ok_or("a line names no example")?;
-    let (name, limits) = named(head)?;
+    let (name, _) = head.split_once(' ').unwrap_or((head, ""));
+    let limits = limits_of(head)?;
     let example = Example::read(rt, name)?;
     let (lines, answers) = (example.lines.as_str(), example.answers.as_str());
     plays(rt.alloc(), limits, lines, answers)
