@@ -4,8 +4,10 @@ ghost use Rattle.sqlite.specs.Held.{state};
 ghost use Rattle.sqlite.specs.State.{HasCleanDisk};
 ghost use Rattle.sqlite.specs.Tree.{Trees};
 ghost use Rattle.table_store.specs.declared.fault.Failed.{Failed};
+ghost use Rattle.desk_core.specs.Books.{AreInOrder};
 ghost use Rattle.desk_core.specs.Machine.{IsSoundState, State, step};
 ghost use Rattle.desk_core.specs.ShopView.{state_of};
+ghost use Rattle.desk_core.proofs.InOrder.{in_order};
 ghost use Rattle.desk_store.specs.StateTables.{TablesAre};
 ghost use Rattle.desk_store.specs.Desks.{IsDesk};
 ghost use Rattle.desk_store.specs.Outcomes.{Tells};
@@ -51,6 +53,9 @@ pub trait Books {
     // where no fault has closed them, a crash leaves the tables of their state
     ghost leave_their_tables: { (books : Self) → are_kept books → failure_of books ≡ None
         → (trees : Trees) → may_leave books trees → TablesAre (state_in books) trees };
+
+    // nothing is lost in them, and nothing stands twice
+    ghost are_in_order: { (books : Self) → are_kept books → AreInOrder (state_in books) };
 }
 
 impl<S: Alter> Books for Desk<S> {
@@ -73,6 +78,8 @@ impl<S: Alter> Books for Desk<S> {
 
     ghost leave_their_tables = { λ desk kept none trees may.
         (kept.books none may.0).left trees may.1 };
+
+    ghost are_in_order = { λ desk kept. in_order (state_of desk.shop) kept.sound };
 }
 
 // A shop alone ends with the run: nothing of it outlives a crash, and no database can fail under it.
@@ -94,4 +101,6 @@ impl Books for Shop {
     }
 
     ghost leave_their_tables = { λ shop kept none trees may. absurd may };
+
+    ghost are_in_order = { λ shop kept. in_order (state_of shop) kept };
 }

@@ -80,4 +80,6 @@ impl<B: Books + Drop, W: Write + Drop> Books for CountedBooks<B, W> {
 
     ghost leave_their_tables = { λ counted kept none trees may.
         B.leave_their_tables counted.books kept none trees may };
+
+    ghost are_in_order = { λ counted kept. B.are_in_order counted.books kept };
 }

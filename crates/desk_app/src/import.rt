@@ -4,6 +4,7 @@
 ghost use Rattle.std.specs.Prelude.{◌≡◌, ◌≢◌, Bool, None, IfOk, IfErr, IsSome, MatchResult, Ok};
 ghost use Rattle.std.specs.String.{string_bytes};
 ghost use Rattle.sqlite.specs.Tree.{Trees};
+ghost use Rattle.desk_core.specs.Books.{AreInOrder};
 ghost use Rattle.desk_wire.specs.Imports.{import};
 ghost use Rattle.desk_app.specs.declared.end.Stop.{Stop};
 ghost use Rattle.desk_app.specs.Ends.{end_of};
@@ -135,6 +136,7 @@ pub fn import_file<B: Books, W: Write>(
         (B.state_in books.old) (B.state_in books.new) }
     ensures never { result ≢ RunEnd.ReadFailed }
     ensures kept { B.are_kept books.new }
+    ensures in_order { AreInOrder (B.state_in books.new) }
     ensures stays_open { B.failure_of books.old ≡ None → result ≢ RunEnd.Store
         → B.failure_of books.new ≡ None }
     ensures closed { result ≡ RunEnd.Store → IsSome (B.failure_of books.new) }

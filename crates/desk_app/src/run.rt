@@ -8,6 +8,7 @@ ghost use Rattle.std.specs.Prelude.{length, true, IfOk, OnOk, IfErr, OnErr, Err,
 ghost use Rattle.std.specs.String.{string_bytes};
 ghost use Rattle.std.specs.Io.KnownBytes.{Appends};
 ghost use Rattle.sqlite.specs.Tree.{Trees};
+ghost use Rattle.desk_core.specs.Books.{AreInOrder};
 ghost use Rattle.desk_core.specs.Machine.{IsSoundState, step};
 ghost use Rattle.desk_core.specs.ShopView.{state_of};
 ghost use Rattle.desk_store.specs.StateTables.{TablesAre};
@@ -226,6 +227,7 @@ pub fn run_lines<B: Books, R: Read, W: Write>(
         → Stopped stop (R.remaining reader.old) (W.contents writer.old)
         (W.contents writer.new) (B.state_in books.old) (B.state_in books.new) }
     ensures kept { B.are_kept books.new }
+    ensures in_order { AreInOrder (B.state_in books.new) }
     ensures stays_open { B.failure_of books.old ≡ None → result ≢ RunEnd.Store
         → B.failure_of books.new ≡ None }
     ensures closed { result ≡ RunEnd.Store → IsSome (B.failure_of books.new) }

@@ -1,11 +1,24 @@
-//! What a file may count on: which rows go, which numbers there are, and what stands under keys.
+//! What the books can be relied on for; and what a file may count on: which rows go, which numbers there are, and what
+//! stands under keys.
 //!
 //! These functions do nothing when they are run, and are called for their contracts alone.
 ghost use Rattle.desk_core.specs.Assembled.{AreKeys};
+ghost use Rattle.desk_core.specs.Books.{RefusalsChangeNothing, SoundBooksAreInOrder};
 ghost use Rattle.desk_core.specs.Small.{RowsAreSmall};
 ghost use Rattle.desk_core.specs.Staying.{RowsStay};
 
 use crate::kept::Kept;
+
+/// The law that in a sound state the books are in order: the three equations hold for each part, no item is allocated
+/// beyond its quantity, no serial stands twice in a family, and no part contains itself.
+pub fn sound_books_are_in_order()
+    ensures { SoundBooksAreInOrder }
+{}
+
+/// The law that a refused request changes nothing, in whatever state.
+pub fn refusals_change_nothing()
+    ensures { RefusalsChangeNothing }
+{}
 
 /// The law that no step takes a row away but of lines, substitutes and allocations: so a file drops rows of these
 /// tables alone.

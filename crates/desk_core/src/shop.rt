@@ -4,12 +4,9 @@
 //! begins by keeping what is there. From then on each store knows what it held before the request: a call that
 //! stands for a command takes its own changes back where it is refused or memory runs out, so that nothing is pending
 //! after that, and after an answer exactly this request's changes are.
-ghost use Rattle.std.specs.Prelude.{◌≡◌, ◌+◌, ℕ, Some, length, IfOk, OnErr, OnOk};
+ghost use Rattle.std.specs.Prelude.{◌≡◌, ◌+◌, Some, length, IfOk, OnErr, OnOk};
 ghost use Rattle.part_core.specs.Acts.{Acts};
-ghost use Rattle.bom_core.specs.Walks.{IsAcyclic};
-ghost use Rattle.forest.specs.Forest.{Balanced};
-ghost use Rattle.yard_core.specs.Stock.{forest_and_history};
-ghost use Rattle.stock_core.specs.Sound.{SerialsStandOnce};
+ghost use Rattle.desk_core.specs.Books.{AreInOrder};
 ghost use Rattle.desk_core.specs.Machine.{Accepts, AreDrawn, Decides, IsSoundState, answer_of};
 ghost use Rattle.desk_core.specs.Machine.{answered, answers_of, checks, effect, entries_in};
 ghost use Rattle.desk_core.specs.Machine.{entries_of, ids_of, run, start, told, with_answer};
@@ -333,10 +330,7 @@ impl Shop {
         ensures written { IfOk result (λ outcomes.
             let answers = answers_of (state_of self.old) (answered requests.now outcomes.items) in
             entries_in (state_of self.new) ≡ entries_in (state_of self.old) + entries_of answers) }
-        ensures balanced { (part : ℕ)
-            → Balanced part (forest_and_history (state_of self.new).stock) }
-        ensures serials { SerialsStandOnce (state_of self.new).parts (state_of self.new).stock }
-        ensures acyclic { IsAcyclic (state_of self.new).parts (state_of self.new).bills }
+        ensures in_order { AreInOrder (state_of self.new) }
         ensures none_run { OnErr result (state_of self.new ≡ state_of self.old) }
         ensures sound { IsSoundState (state_of self.new) }
     {

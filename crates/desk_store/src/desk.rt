@@ -4,15 +4,12 @@
 //! transaction, and answered once that is committed. A refusal and a kept answer touch no table. Where memory runs out,
 //! the shop and the tables are as they were. Where the database fails, the desk is closed: no later request is run, and
 //! what the file then holds, the tables before or after that request, is found by opening it again.
-ghost use Rattle.std.specs.Prelude.{◌≡◌, ◌↔◌, ◌⊎◌, ◌+◌, ℕ, None, IfSome, IsSome};
+ghost use Rattle.std.specs.Prelude.{◌≡◌, ◌↔◌, ◌⊎◌, ◌+◌, None, IfSome, IsSome};
 ghost use Rattle.std.specs.Prelude.{is_some, length, IfOk, IfErr, OnErr, OnOk, Err};
 ghost use Rattle.sqlite.specs.Held.{state};
 ghost use Rattle.sqlite.specs.State.{HasCleanDisk, Survives};
 ghost use Rattle.sqlite.specs.Tree.{Trees};
-ghost use Rattle.bom_core.specs.Walks.{IsAcyclic};
-ghost use Rattle.forest.specs.Forest.{Balanced};
-ghost use Rattle.yard_core.specs.Stock.{forest_and_history};
-ghost use Rattle.stock_core.specs.Sound.{SerialsStandOnce};
+ghost use Rattle.desk_core.specs.Books.{AreInOrder};
 ghost use Rattle.desk_core.specs.Machine.{AreDrawn, IsAnew, answers_of, entries_in, entries_of, ids_of, run, step};
 ghost use Rattle.desk_core.specs.ShopView.{state_of};
 ghost use Rattle.desk_store.specs.StateTables.{TablesAre};
@@ -141,11 +138,7 @@ impl<S: Alter> Desk<S> {
             ≡ entries_in (state_of self.old.shop) + entries_of answers) }
         ensures stopped { IfOk result (λ outcomes.
             IfSome (stopped_at requests.now outcomes.items) (IsAnew (state_of self.new.shop))) }
-        ensures balanced { (part : ℕ)
-            → Balanced part (forest_and_history (state_of self.new.shop).stock) }
-        ensures serials { SerialsStandOnce (state_of self.new.shop).parts
-            (state_of self.new.shop).stock }
-        ensures acyclic { IsAcyclic (state_of self.new.shop).parts (state_of self.new.shop).bills }
+        ensures in_order { AreInOrder (state_of self.new.shop) }
         ensures none_run { OnErr result (self.new ≡ self.old) }
     {
         let mut outcomes = Vec::with_capacity(alloc, requests.len())?;

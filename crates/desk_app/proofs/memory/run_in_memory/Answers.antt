@@ -8,6 +8,7 @@ returns-clause-done g c all is = (
   state_of c.new-shop.result,
   empty_with _ _ c.new-shop.ensures.state (refl, refl),
   state_of c.run_lines.new.books,
+  c.run_lines.ensures.in_order,
   c.run_lines.ensures.done all is,
 )
 
@@ -16,5 +17,6 @@ returns-clause-stopped g c stop is = (
   state_of c.new-shop.result,
   empty_with _ _ c.new-shop.ensures.state (refl, refl),
   state_of c.run_lines.new.books,
+  c.run_lines.ensures.in_order,
   c.run_lines.ensures.stopped stop is,
 )

@@ -3,6 +3,7 @@ use Rattle.std.proofs.lemmas.Grind.{common_steps}
 use Rattle.std.proofs.lemmas.List.{take_all, take_more}
 use Rattle.desk_core.specs.Machine.{AreDrawn, answered, answers_of, entries_in, entries_of, ids_of, told}
 use Rattle.desk_core.specs.ShopView.{state_of}
+use Rattle.desk_core.proofs.InOrder.{in_order}
 use Rattle.desk_core.proofs.Steps.{run-push, told_in}
 use Rattle.desk_core.proofs.shop.Shop.run_list.Goals as goal
 
@@ -48,3 +49,9 @@ returns-clause-written c =
     (told_in (state_of c.args.self.now) c.requires
     (answered (take c.loop-request.request-index c.args.requests.now) outcomes)
     (state_of c.loop-request.self) (told outcomes) c.loop-request.invariant.ran).written
+
+pub returns-clause-in_order : goal.returns-clause-in_order
+returns-clause-in_order c = in_order (state_of c.loop-request.self) c.loop-request.invariant.sound
+
+pub returns-in_err-outcomes-clause-in_order : goal.returns-in_err-outcomes-clause-in_order
+returns-in_err-outcomes-clause-in_order c = in_order (state_of c.args.self.now) c.requires

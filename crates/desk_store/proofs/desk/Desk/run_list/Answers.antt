@@ -3,6 +3,7 @@ use Rattle.std.proofs.lemmas.Grind.{common_steps}
 use Rattle.std.proofs.lemmas.List.{take_all, take_more}
 use Rattle.desk_core.specs.Machine.{AreDrawn, answers_of, entries_in, entries_of, ids_of}
 use Rattle.desk_core.specs.ShopView.{state_of}
+use Rattle.desk_core.proofs.InOrder.{in_order}
 use Rattle.desk_core.proofs.Steps.{told_in}
 use Rattle.desk_store.specs.Outcomes.{answered, told}
 use Rattle.desk_store.proofs.Runs.{ClosesBy, closes_push, left_at, run_push, stopped_anew}
@@ -68,3 +69,9 @@ returns-clause-written g c =
     all
     (told_in old c.requires.sound (answered (take c.loop-request.request-index c.args.requests.now) outcomes)
     (state_of c.loop-request.self.shop) (told outcomes) c.loop-request.invariant.ran).written
+
+pub returns-clause-in_order : goal.returns-clause-in_order
+returns-clause-in_order g c = in_order (state_of c.loop-request.self.shop) c.loop-request.invariant.desk.sound
+
+pub returns-in_err-outcomes-clause-in_order : goal.returns-in_err-outcomes-clause-in_order
+returns-in_err-outcomes-clause-in_order g c = in_order (state_of c.args.self.now.shop) c.requires.sound

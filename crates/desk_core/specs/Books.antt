@@ -1,0 +1,51 @@
+-- What the books can be relied on for, whatever was asked of them.
+use Rattle.std.specs.Prelude.{◌≡◌, ◌≤◌, ◌+◌, ℕ, true, Option, Some, Err}
+use Rattle.part_core.specs.Rows.{EachRow}
+use Rattle.part_core.specs.declared.refusal.Refusal.{Refusal}
+use Rattle.bom_core.specs.Walks.{IsAcyclic}
+use Rattle.bom_core.specs.declared.line.Line.{Line}
+use Rattle.forest.specs.Forest.{Balanced, is_at}
+use Rattle.yard_core.specs.Outputs.{quantity_out}
+use Rattle.yard_core.specs.Stock.{forest_and_history, item_at}
+use Rattle.alloc_core.specs.Allocations.{allocated, allocated_for_line, allocated_for_sale_line}
+use Rattle.alloc_core.specs.declared.allocation.Allocation.{Allocation}
+use Rattle.alloc_core.specs.declared.purpose.Purpose.TheVariants.{Build as For}
+use Rattle.stock_core.specs.Sound.{SerialsStandOnce}
+use Rattle.build_core.specs.Builds.{build_at}
+use Rattle.build_core.specs.Needs.{line_in, required}
+use Rattle.desk_core.specs.Machine.{State, IsSoundState, build_books_in, step}
+use Rattle.desk_core.specs.declared.command.Request.{Request}
+
+-- an allocation for a line of a build: of that line no more is allocated than it needs
+abbrev pub IsWithinNeed : State → Allocation → Type 0
+IsWithinNeed s a =
+    (build line : ℕ) (output : Option ℕ) → a.purpose ≡ For build line output
+    → (row : Line) × (line_in line s.bills ≡ Some row)
+    × (allocated_for_line build line output s.allocations
+    ≤ required row (build_at build (build_books_in s)) output s.stock)
+
+-- Nothing is lost, nothing stands twice, and nothing is promised that isn't there.
+pub record AreInOrder (s : State) : Type 0 where
+  -- for each part, what the history records as received, found, built and returned is what lies in stock, loose or
+  -- installed at any depth, with what it records as consumed, shipped and written off; what was shipped and not returned
+  -- is sent, and what was consumed is used
+  pub balanced : (part : ℕ) → Balanced part (forest_and_history s.stock)
+  -- no item is allocated beyond its quantity, and what is allocated is at a location, in no other item
+  pub allocated : (item : ℕ) → allocated item s.allocations ≤ (item_at item s.stock).quantity
+  pub loose : EachRow (λ a. is_at (item_at a.item s.stock).place ≡ true) s.allocations
+  -- no line of an order and none of a build is served beyond what it wants, and no build makes more than it is for
+  pub ordered : EachRow (λ l. l.done + allocated_for_sale_line l.number s.allocations ≤ l.quantity) s.order_lines
+  pub needed : EachRow (IsWithinNeed s) s.allocations
+  pub made : EachRow (λ b. b.done + quantity_out b.number s.stock ≤ b.quantity) s.builds
+  -- no serial stands twice in a family of parts, on items that aren't gone
+  pub serials : SerialsStandOnce s.parts s.stock
+  -- no part contains itself
+  pub acyclic : IsAcyclic s.parts s.bills
+
+-- so it is in every sound state
+abbrev pub SoundBooksAreInOrder : Type 0
+SoundBooksAreInOrder = (s : State) → IsSoundState s → AreInOrder s
+
+-- a refused request changes nothing, in whatever state
+abbrev pub RefusalsChangeNothing : Type 0
+RefusalsChangeNothing = (s : State) (r : Request) (why : Refusal) → (step s r).1 ≡ Err why → (step s r).0 ≡ s
