@@ -1,5 +1,6 @@
 pub mod MemberNames
 pub mod Parsed
+pub mod Wishes
 pub mod Spelled
 pub mod Filled
 pub mod Numbers

@@ -271,7 +271,7 @@ pub fn fields(
         (λ fields. fields_from [] (shown_fields blanks.now) (view object.now) ≡ Ok fields.items)
         (λ unread. Fails unread (fields_from [] (shown_fields blanks.now) (view object.now))) }
 {
-    let mut fields = Vec::new(alloc);
+    let mut fields = Vec::with_capacity(alloc, blanks.len())?;
     for (name, kind) in blanks {
         let field = field(alloc, object, name, *kind)?;
         fields.push(field).map_err(AllocError::from)?;

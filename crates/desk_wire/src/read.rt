@@ -109,14 +109,21 @@ fn report(object: &Value) -> Result<Wish, What>
     Ok(Wish::Report { name, of })
 }
 
+/// Most lines are requests, so a report is looked for only where no request stands.
+#[tactic(auto, using(crate::proofs::Wishes::requests_are_wishes))]
 fn wish_of(alloc: Global, object: &Value) -> Result<Wish, Unread>
     ensures { Gives result (wish_of (view object.now)) }
 {
-    if is_report(object) {
-        return Ok(report(object)?);
+    match request(alloc, object) {
+        Ok(request) => Ok(Wish::Request(request)),
+        Err(unread) => {
+            if is_report(object) {
+                Ok(report(object)?)
+            } else {
+                Err(unread)
+            }
+        }
     }
-    let request = request(alloc, object)?;
-    Ok(Wish::Request(request))
 }
 
 fn line_wish(alloc: Global, bytes: &[u8]) -> Result<Wish, Unread>
