@@ -1,5 +1,5 @@
 //! Tests of the whole desk: lines through readers, writers and disks that fail, files that are damaged, shops of rows that
-//! were read, tables as text, and the words of the program.
+//! were read, tables as text, and the statuses of the program.
 #![tactic(auto)]
 
 #[cfg(test)]
@@ -11,10 +11,8 @@ mod exports;
 #[cfg(test)]
 mod flushes;
 #[cfg(test)]
-mod import_words;
-#[cfg(test)]
 mod lines;
 #[cfg(test)]
-mod stops;
+mod statuses;
 #[cfg(test)]
-mod words;
+mod stops;

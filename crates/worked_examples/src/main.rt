@@ -3,8 +3,8 @@
 //! A worked example is two files, `NAME.in` and `NAME.out`: lines that a clerk sends to books with nothing in them, and
 //! what answers them. The standard input lists the examples, each as `NAME: what it shows`, and the line is printed once
 //! the example was played on a desk and on a shop. Between the name and the colon may stand how many numbers and how many
-//! entries the books take. Then come calls that no line makes, stops of the disk, and examples that are too long or too
-//! many for files. The first that is answered otherwise ends the run.
+//! entries the books take. Then come the words that the program is called with, calls that no line makes, stops of the disk,
+//! and examples that are too long or too many for files. The first that is answered otherwise ends the run.
 #![tactic(auto)]
 
 mod calls;
@@ -14,6 +14,7 @@ mod many_allocations;
 mod many_lines;
 mod many_nested;
 mod many_outputs;
+mod words;
 
 use crate::example::Example;
 use desk_play::play::plays;
@@ -107,6 +108,7 @@ fn main(rt: HostRuntime) -> Result<(), Fail> {
     for line in list.lines() {
         tell(&rt, line, play(&rt, line))?;
     }
+    tell(&rt, "words: what they ask for", words::play(&rt))?;
     ask(&rt)?;
     for name in ["robot-build", "cell-shipped"] {
         tell(&rt, name, stop(&rt, name))?;

@@ -1,0 +1,31 @@
+//! The statuses that the program ends with, and the files that its tasks name.
+use desk_app::{RunEnd, Task, early_status, status_of};
+use table_store::TableName;
+
+#[test]
+fn gives_the_status(rt: HostRuntime) {
+    for (end, want) in [
+        (RunEnd::Done(true), 0),
+        (RunEnd::Done(false), 1),
+        (RunEnd::ReadFailed, 3),
+        (RunEnd::WriteFailed, 3),
+        (RunEnd::Store, 3),
+        (RunEnd::Memory, 4),
+    ] {
+        assert_eq!(rt; status_of(end), want, "at {end:?}");
+    }
+}
+
+#[test]
+fn ends_before_a_task(rt: HostRuntime) {
+    assert_eq!(rt; early_status(&Task::Unreadable), Some(2));
+    assert_eq!(rt; early_status(&Task::Memory), Some(4));
+}
+
+#[test]
+fn names_its_file(rt: HostRuntime) {
+    assert_eq!(rt; Task::Run(None).file(), None);
+    assert_eq!(rt; Task::Run(Some("w.db")).file(), Some("w.db"));
+    assert_eq!(rt; Task::Export("w.db", TableName::Parts).file(), Some("w.db"));
+    assert_eq!(rt; Task::Memory.file(), None);
+}

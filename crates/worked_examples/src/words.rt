@@ -1,0 +1,65 @@
+//! The words that the program is called with, and what they ask for.
+use desk_app::{Task, early_status, read_words};
+use std::alloc::{AllocError, Global};
+use std::fs;
+use std::test::Fail;
+
+/// What is asked for, on one line.
+fn told(alloc: Global, task: &Task<'_>) -> Result<String, AllocError> {
+    match task {
+        Task::Run(None) => format!(in alloc; "run"),
+        Task::Run(Some(file)) => format!(in alloc; "run {file}"),
+        Task::Report(file, name, number) => format!(in alloc; "report {file} {name:?} {number}"),
+        Task::Export(file, table) => format!(in alloc; "export {file} {table:?}"),
+        Task::Import {
+            file,
+            kind,
+            document,
+            day,
+            path,
+        } => {
+            let (document, day) = (document.as_str(), day.text(alloc)?);
+            format!(in alloc; "import {file} {kind:?} {document} {day} {path}")
+        }
+        Task::Serve { file, port, count } => match file {
+            None => format!(in alloc; "serve {port} {count}"),
+            Some(file) => format!(in alloc; "serve {file} {port} {count}"),
+        },
+        Task::Help(text) | Task::Wrong(text) => {
+            let text = format!(in alloc; "{text}")?;
+            format!(in alloc; "{text:?}")
+        }
+        Task::Unreadable => format!(in alloc; "unreadable"),
+        Task::Memory => format!(in alloc; "memory"),
+    }
+}
+
+/// What the words of a line ask for, behind the status with which the program ends at once, where it does.
+fn answer(alloc: Global, line: &str) -> Result<String, AllocError> {
+    let mut words = Vec::new(alloc);
+    for word in line.split('|') {
+        words.push(word)?;
+    }
+    let task = read_words(alloc, words.as_slice());
+    let told = told(alloc, &task)?;
+    match early_status(&task) {
+        None => Ok(told),
+        Some(status) => format!(in alloc; "{status} {told}"),
+    }
+}
+
+/// Reads each line of the file `words`: words with bars between them, and what they ask for.
+pub fn play(rt: &HostRuntime) -> Result<(), Fail> {
+    let alloc = rt.alloc();
+    let text = fs::read_to_string(rt, "words")?;
+    for line in text.lines() {
+        let (words, want) = line.split_once(" => ").ok_or("a line tells no answer")?;
+        let answer = answer(alloc, words)?;
+        if answer.as_str() != want {
+            // Where the standard error fails too, the fault alone tells.
+            let _ = eprintln!(rt; "{words} => {answer}");
+            return Err(Fail::from("words ask for something else"));
+        }
+    }
+    Ok(())
+}
