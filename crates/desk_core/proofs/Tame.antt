@@ -8,7 +8,6 @@ use Rattle.json.specs.Tree.{depth, items_depth, members_depth}
 use Rattle.serde_json.specs.Data.{Data, string, array, object, Members, no_members, member, put}
 use Rattle.serde_json.specs.View.{items_of}
 use Rattle.serde_json.specs.Written.{outline, items_outline, members_outline}
-use Rattle.serde_json.specs.Written.{has_float, items_have_float, members_have_float}
 use Rattle.part_core.specs.declared.field.Field.{Field}
 use Rattle.part_core.specs.declared.field.Field.TheVariants as field
 use Rattle.part_core.specs.Flags.{flag_words}
@@ -78,50 +77,6 @@ members_plain fs xs ms f h = have_plain _ (all_fields IsPlain fs xs ms field_pla
     back : (ms : Members) → HavePlain ms → AllMembers IsPlain ms
     back no_members h = tt
     back (member k d ms) h = (h.0, back ms h.1)
-
--- ---- no float, whatever the numbers are
-
-wholes_float : (ns : List ℕ) → items_have_float (items_of (map whole ns)) ≡ false
-wholes_float [] = refl
-wholes_float (n ∷ ns) = wholes_float ns
-
-pub strings_float : (ts : List (List ℕ)) → items_have_float (items_of (map string ts)) ≡ false
-strings_float [] = refl
-strings_float (t ∷ ts) = strings_float ts
-
-abbrev HasNone : Data → Type 0
-HasNone d = has_float d ≡ false
-
-field_float : (x : Field) → HasNone (data_of x)
-field_float (field.Number n) = refl
-field_float (field.MaybeNumber None) = refl
-field_float (field.MaybeNumber (Some n)) = refl
-field_float (field.Text t) = refl
-field_float (field.Yes b) = refl
-field_float (field.Flags f) = strings_float (flag_words f)
-field_float (field.Status s) = refl
-field_float (field.Side s) = refl
-field_float (field.Serials ts) = strings_float ts
-field_float (field.MaybeSerials None) = refl
-field_float (field.MaybeSerials (Some ts)) = strings_float ts
-field_float (field.MaybeText None) = refl
-field_float (field.MaybeText (Some b)) = refl
-field_float (field.Numbers ns) = wholes_float ns
-
-floats_put : (fs : Blanks) (xs : List Field) (ms : Members) → AllMembers HasNone ms
-    → AllMembers HasNone (with_fields fs xs ms)
-floats_put [] xs ms h = h
-floats_put (b ∷ fs) [] ms h = h
-floats_put (b ∷ fs) (x ∷ xs) ms h =
-    floats_put fs xs (put b.0 (data_of x) ms) (all_put HasNone b.0 (data_of x) ms (field_float x) h)
-
-have_none : (ms : Members) → AllMembers HasNone ms → members_have_float ms ≡ false
-have_none no_members h = refl
-have_none (member k d ms) h = rw (h.0, have_none ms h.1) refl
-
-pub members_float : (fs : Blanks) (xs : List Field) (name verb : List ℕ)
-    → members_have_float (with_fields fs xs (put name (string verb) no_members)) ≡ false
-members_float fs xs name verb = have_none _ (floats_put fs xs (put name (string verb) no_members) (refl, tt))
 
 -- ---- depth
 

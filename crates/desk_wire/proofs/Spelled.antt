@@ -1,9 +1,13 @@
 -- A report has no float, so its text is known.
-use Rattle.std.proofs.Common.{◌≡◌, [], ◌∷◌, map, false, refl}
+use Rattle.std.proofs.Common.{◌≡◌, ℕ, List, [], ◌∷◌, map, false, refl}
+use Rattle.serde_json.specs.Data.{string}
 use Rattle.serde_json.specs.View.{items_of}
 use Rattle.serde_json.specs.Written.{has_float, items_have_float}
 use Rattle.report_core.specs.Lines.{Lines, line_data, report_data}
-use Rattle.desk_core.proofs.Tame.{strings_float}
+
+strings_float : (ts : List (List ℕ)) → items_have_float (items_of (map string ts)) ≡ false
+strings_float [] = refl
+strings_float (t ∷ ts) = strings_float ts
 
 of_lines : (ls : Lines) → items_have_float (items_of (map line_data ls)) ≡ false
 of_lines [] = refl

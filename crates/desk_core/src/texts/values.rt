@@ -1,100 +1,93 @@
-//! Fields as JSON.
-ghost use Rattle.std.specs.Prelude.{◌≡◌, IfOk, map};
-ghost use Rattle.serde_json.specs.Data.{string};
-ghost use Rattle.serde_json.specs.View.{view};
+//! Fields as JSON, which a writer writes.
+ghost use Rattle.std.specs.Prelude.{map};
 ghost use Rattle.part_core.specs.Flags.{flag_words};
 ghost use Rattle.desk_core.specs.DataOf.{data_of, maybe_string, maybe_strings, maybe_whole, strings, wholes};
+ghost use Rattle.desk_core.specs.TextWriting.{Adds};
 
-use part_core::{Field, Flags, Serials, Text, Worded};
-use serde_json::Value;
+use json::Writer;
+use part_core::{Field, Flags, Serial, Serials, Text, Worded};
 use std::alloc::{AllocError, Global};
 
-fn maybe_whole(number: Option<u64>) -> Value
-    ensures { view result ≡ maybe_whole number }
+fn maybe_whole(out: &mut Writer, number: Option<u64>) -> Result<(), AllocError>
+    ensures { Adds result out.old out.new (maybe_whole number) }
 {
     match number {
-        None => Value::Null,
-        Some(number) => Value::from(number),
+        None => out.null(),
+        Some(number) => out.u64(number),
     }
 }
 
-fn maybe_text(text: Option<Text>) -> Value
-    ensures { view result ≡ maybe_string text }
+fn maybe_text(out: &mut Writer, text: &Option<Text>) -> Result<(), AllocError>
+    ensures { Adds result out.old out.new (maybe_string text.now) }
 {
     match text {
-        None => Value::Null,
-        Some(text) => Value::String(text.into_string()),
+        None => out.null(),
+        Some(text) => out.string(text.as_str()),
     }
 }
 
-fn word(alloc: Global, word: &str) -> Result<Value, AllocError>
-    ensures { IfOk result (λ value. view value ≡ string word.now) }
+fn wholes(out: &mut Writer, numbers: &[u64]) -> Result<(), AllocError>
+    ensures { Adds result out.old out.new (wholes numbers.now) }
 {
-    Ok(Value::String(String::from_str(alloc, word)?))
-}
-
-fn wholes(alloc: Global, numbers: &[u64]) -> Result<Value, AllocError>
-    ensures { IfOk result (λ value. view value ≡ wholes numbers.now) }
-{
-    let mut values = Vec::new(alloc);
+    out.begin_array()?;
     for number in numbers {
-        values.push(Value::from(*number))?;
+        out.u64(*number)?;
     }
-    Ok(Value::Array(values))
+    out.end_array()
 }
 
-fn serials(alloc: Global, list: Serials) -> Result<Value, AllocError>
-    ensures { IfOk result (λ value. view value ≡ strings list) }
+fn serials(out: &mut Writer, list: &[Serial]) -> Result<(), AllocError>
+    ensures { Adds result out.old out.new (strings list.now) }
 {
-    let mut values = Vec::new(alloc);
-    for serial in list.into_vec() {
-        values.push(Value::String(serial.into_string()))?;
+    out.begin_array()?;
+    for serial in list {
+        out.string(serial.as_str())?;
     }
-    Ok(Value::Array(values))
+    out.end_array()
 }
 
-fn maybe_serials(alloc: Global, list: Option<Serials>) -> Result<Value, AllocError>
-    ensures { IfOk result (λ value. view value ≡ maybe_strings list) }
+fn maybe_serials(out: &mut Writer, list: &Option<Serials>) -> Result<(), AllocError>
+    ensures { Adds result out.old out.new (maybe_strings list.now) }
 {
     match list {
-        None => Ok(Value::Null),
-        Some(list) => serials(alloc, list),
+        None => out.null(),
+        Some(list) => serials(out, list.as_slice()),
     }
 }
 
-fn words(alloc: Global, words: &[&str]) -> Result<Value, AllocError>
-    ensures { IfOk result (λ value. view value ≡ strings (map (λ w. w.now) words.now)) }
+fn words(out: &mut Writer, words: &[&str]) -> Result<(), AllocError>
+    ensures { Adds result out.old out.new (strings (map (λ w. w.now) words.now)) }
 {
-    let mut values = Vec::new(alloc);
-    for text in words {
-        values.push(word(alloc, text)?)?;
+    out.begin_array()?;
+    for word in words {
+        out.string(word)?;
     }
-    Ok(Value::Array(values))
+    out.end_array()
 }
 
 /// A word for each flag that is set.
-fn flags(alloc: Global, flags: Flags) -> Result<Value, AllocError>
-    ensures { IfOk result (λ value. view value ≡ strings (flag_words flags)) }
+fn flags(alloc: Global, out: &mut Writer, flags: Flags) -> Result<(), AllocError>
+    ensures { Adds result out.old out.new (strings (flag_words flags)) }
 {
     let chosen = flags.words(alloc)?;
-    words(alloc, chosen.as_slice())
+    words(out, chosen.as_slice())
 }
 
-/// What stands in a field.
-pub fn value_of(alloc: Global, field: Field) -> Result<Value, AllocError>
-    ensures { IfOk result (λ value. view value ≡ data_of field) }
+/// Writes what stands in a field.
+pub fn write_field(alloc: Global, out: &mut Writer, field: &Field) -> Result<(), AllocError>
+    ensures { Adds result out.old out.new (data_of field.now) }
 {
     match field {
-        Field::Number(number) => Ok(Value::from(number)),
-        Field::MaybeNumber(number) => Ok(maybe_whole(number)),
-        Field::Text(text) => Ok(Value::String(text.into_string())),
-        Field::MaybeText(text) => Ok(maybe_text(text)),
-        Field::Yes(holds) => Ok(Value::Bool(holds)),
-        Field::Flags(set) => flags(alloc, set),
-        Field::Status(status) => word(alloc, status.word()),
-        Field::Side(side) => word(alloc, side.word()),
-        Field::Serials(list) => serials(alloc, list),
-        Field::MaybeSerials(list) => maybe_serials(alloc, list),
-        Field::Numbers(ids) => wholes(alloc, ids.as_slice()),
+        Field::Number(number) => out.u64(*number),
+        Field::MaybeNumber(number) => maybe_whole(out, *number),
+        Field::Text(text) => out.string(text.as_str()),
+        Field::MaybeText(text) => maybe_text(out, text),
+        Field::Yes(holds) => out.boolean(*holds),
+        Field::Flags(set) => flags(alloc, out, *set),
+        Field::Status(status) => out.string(status.word()),
+        Field::Side(side) => out.string(side.word()),
+        Field::Serials(list) => serials(out, list.as_slice()),
+        Field::MaybeSerials(list) => maybe_serials(out, list),
+        Field::Numbers(ids) => wholes(out, ids.as_slice()),
     }
 }

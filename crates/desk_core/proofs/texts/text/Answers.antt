@@ -1,14 +1,18 @@
-use Rattle.std.proofs.Common.{ap, ◌∙◌}
-use Rattle.serde_json.specs.Written.{compact_text, has_float}
+use Rattle.std.proofs.Common.{ap, ◌∙◌, ◌++◌}
+use Rattle.json.specs.Print.{print}
+use Rattle.json.specs.Tree.{json_tokens}
+use Rattle.serde_json.specs.Data.{object}
+use Rattle.serde_json.specs.Written.{compact_text, outline}
+use Rattle.serde_json.proofs.Texts.{print-outline}
 use Rattle.part_core.proofs.SlotLemmas.{IfOk-map}
-use Rattle.desk_core.proofs.Whole.{data_float}
+use Rattle.desk_core.specs.TextWriting.{in_order}
 use Rattle.desk_core.proofs.texts.text.Goals as goal
 
+-- the tokens are those of an object of the members, and their text is its text
 pub returns : goal.returns
 returns g c =
-    let same = c.in_ok-value.ensures in
-    let forms = g.C.Formed.forms_of in
-    let verb = g.C.Formed.verb_of c.args.command.now in
-    let fields = g.C.Formed.fields_of c.args.command.now in
-    IfOk-map c.to_string.result c.to_string.ensures.text
-    (λ text e. e (ap has_float same ∙ data_float forms verb fields) ∙ ap compact_text same)
+    let shown = object (in_order c.in_ok-members.members.entries) in
+    let after_none = ap (λ ts. ts ++ json_tokens (outline shown)) c.new-out.ensures.tokens in
+    let tokens = c.in_ok-write_members.ensures.tokens ∙ after_none in
+    IfOk-map c.written.result c.written.ensures
+    (λ text e. e ∙ ap print tokens ∙ print-outline shown ∙ ap compact_text c.in_ok-members.ensures)

@@ -1,10 +1,12 @@
-use Rattle.std.proofs.Common.{◌≡◌, ◌++◌, map, length}
-use Rattle.std.specs.Vec.Iter.{into_iter_items, into_iter_len}
+use Rattle.std.proofs.Common.{◌≡◌, ◌++◌, map, drop}
+use Rattle.json.specs.Tree.{items_tokens}
+use Rattle.serde_json.specs.View.{items_of}
+use Rattle.serde_json.specs.Written.{items_outline}
 use Rattle.serde_json.specs.Data.{string}
-use Rattle.serde_json.specs.View.{view}
 use Rattle.desk_core.proofs.texts.values.serials.Given as goal
 
 abbrev pub invariant-loop-serial : goal.invariant-loop-serial
 invariant-loop-serial l =
-    (map view l.values.items ++ map string (into_iter_items l.serial-iterator) ≡ map string l.fn.list)
-    × (into_iter_len l.serial-iterator ≡ length (into_iter_items l.serial-iterator))
+    (l.out.tokens ++ items_tokens (items_outline (items_of (map string (drop l.serial-index l.list))))
+    ≡ l.initial.out.tokens ++ items_tokens (items_outline (items_of (map string l.list))))
+    × (l.out.before ≡ l.initial.out.before)
