@@ -39,8 +39,12 @@ file: build
 http: build
 	python3 tools/check_http.py $(PROGRAM)
 
+# The program beside the rules written once more in Python: answers, reports and tables of requests that are made up.
+machine: build
+	python3 tools/check_machine.py $(PROGRAM)
+
 # The wrong bodies that the gate leaves out: each has to be refused. It takes hours; 'make refuse CRATES=forest' tries one crate's.
 refuse:
 	python3 tools/refuse.py $(CRATES)
 
-.PHONY: try run test build install bench file http refuse
+.PHONY: try run test build install bench file http machine refuse

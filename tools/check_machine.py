@@ -1,0 +1,181 @@
+#!/usr/bin/env python3
+"""Compares the program with the rules written once more in Python: sends requests that are made up as a workshop would
+send them, with and without a file, and looks at every answer, every report, the exit status and every table. With a file
+the program ends and begins again between, and in the end the file has small limits. Each tenth run is of lines that fit
+nothing, most of them faulty.
+
+usage: tools/check_machine.py PROGRAM [--runs N] [--lines N] [--seed N]"""
+import argparse
+import contextlib
+import csv
+import io
+import json
+import os
+import random
+import sqlite3
+import subprocess
+import sys
+import tempfile
+
+import compare_lines
+from machine.lines import COMMANDS, FIELDS, REPORTS
+from machine.machine import Machine
+from machine.made_up import Maker
+from machine.reports import HEADERS, answer, answer_line, table
+
+WRONG = [None, True, 0, -1, 1.5, 1e3, "", "x", "7", [], [1], {}, 2**64, 2**64 - 1, "a\tb", "x" * 201, "é" * 101]
+
+
+class Run:
+    """The lines of one run, what the machine answers each, and where the program is stopped and started again."""
+
+    def __init__(self, seed):
+        self.r, self.m = random.Random(seed), Machine()
+        self.maker = Maker(self.r, self.m)
+        self.lines, self.wanted, self.stops, self.keyed, self.told = [], [], [], [], []
+
+    def send(self, line):
+        begin = self.stops[-1][0] if self.stops else 0
+        self.lines.append(line)
+        self.wanted.append(answer(self.m, line, len(self.lines) - begin))
+        return self.wanted[-1]
+
+    def stop(self, with_limits):
+        """Ends the program's run here. The next may find other limits in the file."""
+        limits = None
+        if with_limits:
+            limits = self.m.next + self.r.randint(0, 40), len(self.m.history) + self.r.randint(0, 60)
+            self.m.most_numbers, self.m.most_entries = limits
+        self.stops.append((len(self.lines), limits))
+
+    def request(self):
+        do, made = self.maker.request()
+        told = self.send(self.line_of(do, made))
+        self.told.append((do, told.get("refused") or ("done" if "ids" in told else "a fault")))
+
+    def line_of(self, do, made):
+        """A request's line: with or without a key, now and then an earlier one of a key, or one that is damaged."""
+        r = self.r
+        members = {"do": do, "day": f"20{r.randint(0, 99):02}-{r.randint(1, 12):02}-{r.randint(1, 28):02}"}
+        for name, _, is_optional in FIELDS[do]:
+            may_lack = is_optional and made[name] is None or made[name] is False
+            if not may_lack or r.random() < 0.3:
+                members[name] = made[name]
+        if r.random() < 0.1:
+            members["key"] = f"k{r.randint(1, 10**9)}"
+            self.keyed.append(members)
+        elif self.keyed and r.random() < 0.03:
+            members = {**r.choice(self.keyed), "day": members["day"]}
+            if r.random() < 0.3:
+                members[r.choice([it for it in members if it not in ("do", "key")])] = r.choice([1, 2, None, "A", True])
+        if r.random() < 0.02:
+            members[r.choice(list(members))] = r.choice(WRONG)
+        if r.random() < 0.005:
+            del members[r.choice(list(members))]
+        if r.random() < 0.005:
+            members[r.choice(["x", "of", "report", "Do", ""])] = r.choice([None, 1, "ledger"])
+        names = r.sample(list(members), len(members))
+        return json.dumps({it: members[it] for it in names}, ensure_ascii=r.random() < 0.5).encode()
+
+    def report(self, name, number):
+        self.send(json.dumps({"of": number, "report": name}).encode())
+
+    def any_report(self):
+        name = self.r.choice(list(REPORTS))
+        self.report(name, self.r.choice([*getattr(self.m, REPORTS[name]), 0]))
+
+    def every_report(self):
+        for name, rows in REPORTS.items():
+            for number in list(getattr(self.m, rows)):
+                self.report(name, number)
+
+
+def workshop(seed, count):
+    """A run of requests that fit the state."""
+    made = Run(seed)
+    last = count - count // 15
+    for at in range(count):
+        if seed % 2 and at in (count // 3, 2 * count // 3, last):
+            made.stop(with_limits=at == last)
+        made.request()
+        if made.r.random() < 0.04:
+            made.any_report()
+    made.every_report()
+    return made
+
+
+def wild(seed, count):
+    """A run of lines that fit nothing."""
+    made = Run(seed)
+    for line in compare_lines.lines(count, seed):
+        made.send(line)
+    return made
+
+
+def told_by(program, made, path):
+    """The program's answers to a run's lines, and what else was not as it has to be."""
+    answers, begin = [], 0
+    for end, limits in [*made.stops, (len(made.lines), None)]:
+        words = ["run", "--db", path] if made.stops else ["run"]
+        sent = b"".join(line + b"\n" for line in made.lines[begin:end])
+        told = subprocess.run([program, *words], input=sent, capture_output=True, check=False)
+        if told.stderr:
+            return answers, told.stderr.decode()
+        answers += told.stdout.decode().split("\n")[:-1]
+        status = int(any(it and it.keys() & {"refused", "fault"} for it in made.wanted[begin:end]))
+        if told.returncode != status:
+            return answers, f"status {told.returncode} and not {status}"
+        if limits:
+            with contextlib.closing(sqlite3.connect(path)) as file, file:
+                file.execute("update meta set max_numbers = ?, max_entries = ?", limits)
+        begin = end
+    return answers, ""
+
+
+def table_of(program, path, name):
+    told = subprocess.run([program, "export", "--db", path, name], capture_output=True, check=False).stdout.decode()
+    return list(csv.reader(io.StringIO(told, newline="")))
+
+
+def difference(program, made):
+    """What the program says otherwise than the machine, or None."""
+    with tempfile.TemporaryDirectory() as folder:
+        path = os.path.join(folder, "workshop.db")
+        answers, fault = told_by(program, made, path)
+        asked = [(line, answer_line(it)) for line, it in zip(made.lines, made.wanted) if it is not None]
+        for (line, wanted), told in zip(asked, answers):
+            if told != wanted:
+                return f"{line.decode(errors='replace')[:300]}\n  machine {wanted[:300]}\n  program {told[:300]}"
+        if fault or len(answers) != len(asked):
+            return f"{len(answers)} answers to {len(asked)} lines; {fault}"
+        if made.stops:
+            return next((f"the table {it}" for it in HEADERS if table_of(program, path, it) != table(made.m, it)), None)
+    return None
+
+
+def main():
+    words = argparse.ArgumentParser(usage=__doc__)
+    words.add_argument("program")
+    words.add_argument("--runs", type=int, default=60)
+    words.add_argument("--lines", type=int, default=1_000)
+    words.add_argument("--seed", type=int, default=1)
+    said = words.parse_args()
+    told, sent, differ = {}, 0, 0
+    for seed in range(said.seed, said.seed + said.runs):
+        made = wild(seed, said.lines) if seed % 10 == 0 else workshop(seed, said.lines)
+        sent += len(made.lines)
+        for do, answer in made.told:
+            told[do, answer] = told.get((do, answer), 0) + 1
+        found = difference(said.program, made)
+        if found:
+            differ += 1
+            print(f"run {seed}: {found}")
+    for do in COMMANDS:
+        of = sorted(((n, answer) for (it, answer), n in told.items() if it == do), reverse=True)
+        print(f"  {do}:", ", ".join(f"{n} {answer}" for n, answer in of))
+    print(f"{sent:,} lines in {said.runs} runs: {differ} runs differ")
+    sys.exit(1 if differ else 0)
+
+
+if __name__ == "__main__":
+    main()
