@@ -39,9 +39,11 @@ file: build
 http: build
 	python3 tools/check_http.py $(PROGRAM)
 
-# The program beside the rules written once more in Python: answers, reports and tables of requests that are made up.
+# The program beside the rules written once more in Python: answers, reports and tables of requests that are made up, and
+# which changed files it opens.
 machine: build
 	python3 tools/check_machine.py $(PROGRAM)
+	python3 tools/check_opening.py $(PROGRAM)
 
 # The wrong bodies that the gate leaves out: each has to be refused. It takes hours; 'make refuse CRATES=forest' tries one crate's.
 refuse:

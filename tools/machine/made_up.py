@@ -45,9 +45,9 @@ class Maker:
         if len(m.parts) < style["parts"] and r.random() < 0.5:
             do = r.choice(["add_part", "add_part", "add_line"])
             return do, self.fields(do)
-        for _ in range(r.choice([1, 2, 4])):
+        for _ in range(r.choice([1, 1, 2, 4])):
             do = r.choices(list(COMMANDS), list(style["often"].values()))[0]
-            for _ in range(r.choice([1, 3, 6])):
+            for _ in range(r.choice([1, 1, 3, 6])):
                 made = self.fields(do)
                 if self.is_accepted(do, made):
                     return do, made
@@ -78,22 +78,26 @@ class Maker:
         return self.one({"location": m.locations, "part": m.parts, "line": m.lines, "substitute": m.substitutes,
                          "order": m.orders, "build": m.builds, "allocation": m.allocations}[name])
 
+    def such(self, rows, when):
+        """The rows of which that holds; now and then all, so that what fits is not all that is tried."""
+        return list(rows) if self.r.random() < 0.05 else [n for n, it in rows.items() if when(it)]
+
     def parts(self, *flags):
-        return [n for n, it in self.m.parts.items() if set(flags) <= it.flags and not it.retired]
+        return self.such(self.m.parts, lambda it: set(flags) <= it.flags and not it.retired)
 
     def items(self, place, when=lambda it: True):
-        return [n for n, it in self.m.items.items() if it.place[0] == place and when(it)]
+        return self.such(self.m.items, lambda it: it.place[0] == place and when(it))
 
     def builds(self, *states):
-        return [n for n, it in self.m.builds.items() if it.state in states]
+        return self.such(self.m.builds, lambda it: it.state in states)
 
     def orders(self, state):
-        return [n for n, it in self.m.orders.items() if it.state == state]
+        return self.such(self.m.orders, lambda it: it.state == state)
 
     def open_lines(self, side):
-        m = self.m
-        return [n for n, it in m.order_lines.items() if it.done < it.quantity
-                and (m.orders[it.order].side, m.orders[it.order].state) == (side, "In progress")]
+        orders = self.m.orders
+        return self.such(self.m.order_lines, lambda it: it.done < it.quantity and (
+            orders[it.order].side, orders[it.order].state) == (side, "In progress"))
 
     def takes(self, line, item):
         """Whether a bill's line may be served with the item."""
@@ -130,7 +134,7 @@ class Maker:
     # commands of parts and bills
 
     def add_category(self):
-        return {"name": self.r.choice(NAMES[:12]), "parent": self.r.choice([None, self.one(self.m.categories)])}
+        return {"name": self.r.choice(NAMES[:5]), "parent": self.r.choice([None, self.one(self.m.categories)])}
 
     def add_location(self):
         return {"name": self.r.choice(NAMES[:12]), "parent": self.r.choice([None, self.one(self.m.locations)])}
@@ -145,7 +149,7 @@ class Maker:
             flags.add("template")
         if r.random() < 0.06:
             flags = flags & {"component"} | {"virtual"}
-        if r.random() < 0.02:
+        if r.random() < 0.05:
             flags.add(r.choice(FLAGS))
         return {"name": r.choice(NAMES), "category": r.choice([None, self.one(self.m.categories)]), "template": template,
                 "flags": r.sample(sorted(flags), len(flags))}
