@@ -19,7 +19,10 @@ def style_of(r):
     style = {flag: r.choice([0.2, 0.5, 0.8]) for flag in FLAGS[1:6]}
     style.update({flag: r.choice([0.05, 0.2, 0.4]) for flag in LINE_FLAGS})
     often = {do: OFTEN.get(do, 4) * r.choice([0.3, 1, 1, 3]) for do in COMMANDS}
-    return {**style, "newest": r.choice([3, 8, 30]), "parts": r.choice([8, 20, 40]), "often": often}
+    chain = 0
+    if r.random() < 0.25:
+        chain, often["install"], often["uninstall"], often["disassemble"] = r.randint(17, 22), 300, 2, 1
+    return {**style, "newest": r.choice([3, 8, 30]), "parts": r.choice([8, 20, 40]), "chain": chain, "often": often}
 
 
 def typed(do, made):
@@ -36,12 +39,15 @@ class Maker:
 
     def __init__(self, r, machine):
         self.r, self.m, self.style, self.serials_made = r, machine, style_of(r), 0
+        self.first = self.chain(self.style["chain"])
 
     def request(self):
         """A command and its fields, as JSON has them."""
         m, r, style = self.m, self.r, self.style
         if len(m.locations) < 2:
             return "add_location", self.add_location()
+        for do, made in self.first:
+            return do, made()
         if len(m.parts) < style["parts"] and r.random() < 0.5:
             do = r.choice(["add_part", "add_part", "add_line"])
             return do, self.fields(do)
@@ -52,6 +58,21 @@ class Maker:
                 if self.is_accepted(do, made):
                     return do, made
         return do, made
+
+    def chain(self, count):
+        """Requests for so many parts of which each goes into the one before, and for items of each."""
+        def part(at):
+            return self.one([n for n, it in self.m.parts.items() if it.name == f"Link {at}"], self.m.parts)
+
+        for at in range(count):
+            flags = ["assembly", "component", "trackable"]
+            yield "add_part", lambda at=at: {"name": f"Link {at}", "category": None, "template": None, "flags": flags}
+        for at in range(count - 1):
+            members = {flag: False for flag in LINE_FLAGS}
+            yield "add_line", lambda at=at, of=members: {"assembly": part(at), "component": part(at + 1), "quantity": 1, **of}
+        for at in 2 * list(range(count)):
+            yield "found", lambda at=at: {"part": part(at), "location": self.row("location"), "quantity": 1, "batch": None,
+                                          "serials": self.serials(1)}
 
     def is_accepted(self, do, made):
         try:
@@ -97,12 +118,12 @@ class Maker:
     def open_lines(self, side):
         orders = self.m.orders
         return self.such(self.m.order_lines, lambda it: it.done < it.quantity and (
-            orders[it.order].side, orders[it.order].state) == (side, "In progress"))
+            (orders[it.order].side, orders[it.order].state) == (side, "In progress")))
 
     def takes(self, line, item):
-        """Whether a bill's line may be served with the item."""
+        """Whether a bill's line may be served with the item; now and then also what fits and can't be had."""
         it = self.m.items[item]
-        return self.m.fits(line, it.part) and it.status in ALLOCATABLE and self.m.free(item) > 0
+        return self.m.fits(line, it.part) and (it.status in ALLOCATABLE and self.m.free(item) > 0 or self.r.random() < 0.1)
 
     def amount(self, item):
         """An amount of an item: some or all of it, some or all of what is free, or too much."""
@@ -197,7 +218,7 @@ class Maker:
             alike = [n for n in self.items("at") if n != into and self.m.lot(n) == lot]
         chosen = self.r.sample(alike, min(len(alike), self.r.randint(1, 3))) or [into]
         if self.r.random() < 0.1:
-            chosen.append(self.one(self.m.items))
+            chosen.append(self.r.choice([self.one(self.m.items), self.m.next]))
         if self.r.random() < 0.03:
             chosen = self.r.choice([[], [into] * 101])
         return {"into": into, "items": chosen}
