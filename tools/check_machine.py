@@ -1,13 +1,14 @@
 #!/usr/bin/env python3
 """Compares the program with the rules written once more in Python: sends requests that are made up as a workshop would
 send them, with and without a file, and looks at every answer, every report, the exit status and every table. With a file
-the program ends and begins again between, and in the end the file has small limits. Each tenth run is of lines that fit
-nothing, most of them faulty.
+the program ends and begins again between, a delivery or a stocktake is imported each time, and in the end the books have
+small limits. Each tenth run is of lines that fit nothing, most of them faulty.
 
 usage: tools/check_machine.py PROGRAM [--runs N] [--lines N] [--seed N]"""
 import argparse
 import contextlib
 import csv
+import dataclasses
 import io
 import json
 import os
@@ -18,12 +19,23 @@ import sys
 import tempfile
 
 import compare_lines
+from machine.imports import imported
 from machine.lines import COMMANDS, FIELDS, REPORTS
 from machine.machine import Machine
 from machine.made_up import Maker
 from machine.reports import HEADERS, answer, answer_line, table
 
 WRONG = [None, True, 0, -1, 1.5, 1e3, "", "x", "7", [], [1], {}, 2**64, 2**64 - 1, "a\tb", "x" * 201, "é" * 101]
+
+
+@dataclasses.dataclass
+class Stop:
+    """Where the program ends: after so many lines, with other limits or none, and with the import of a file."""
+
+    at: int
+    limits: tuple
+    asked: tuple
+    wanted: tuple
 
 
 class Run:
@@ -35,18 +47,20 @@ class Run:
         self.lines, self.wanted, self.stops, self.keyed, self.told = [], [], [], [], []
 
     def send(self, line):
-        begin = self.stops[-1][0] if self.stops else 0
+        begin = self.stops[-1].at if self.stops else 0
         self.lines.append(line)
         self.wanted.append(answer(self.m, line, len(self.lines) - begin))
         return self.wanted[-1]
 
     def stop(self, with_limits):
-        """Ends the program's run here. The next may find other limits in the file."""
+        """Ends the program's run here. A file is imported, and the next run may find other limits in the books."""
         limits = None
         if with_limits:
             limits = self.m.next + self.r.randint(0, 40), len(self.m.history) + self.r.randint(0, 60)
             self.m.most_numbers, self.m.most_entries = limits
-        self.stops.append((len(self.lines), limits))
+        kind, held = self.maker.file()
+        asked = kind, f"D{self.r.randint(1, 3)}", "2031-02-03", held
+        self.stops.append(Stop(len(self.lines), limits, asked, imported(self.m, *asked)))
 
     def request(self):
         do, made = self.maker.request()
@@ -112,22 +126,38 @@ def wild(seed, count):
     return made
 
 
+def run_of(program, path, lines):
+    words = ["run", "--db", path] if path else ["run"]
+    return subprocess.run([program, *words], input=b"".join(it + b"\n" for it in lines), capture_output=True, check=False)
+
+
+def import_fault(program, path, stop):
+    """What an import told otherwise than it should, or an empty text."""
+    kind, document, day, held = stop.asked
+    with open(path + ".csv", "wb") as file:
+        file.write(held)
+    words = ["import", "--db", path, "--kind", kind, "--document", document, "--day", day, path + ".csv"]
+    done = subprocess.run([program, *words], capture_output=True, check=False)
+    told = done.stdout.decode(), done.returncode
+    return "" if told == stop.wanted else f"{held!r} is told as {told}, and not as {stop.wanted}"
+
+
 def told_by(program, made, path):
     """The program's answers to a run's lines, and what else was not as it has to be."""
     answers, begin = [], 0
-    for end, limits in [*made.stops, (len(made.lines), None)]:
-        words = ["run", "--db", path] if made.stops else ["run"]
-        sent = b"".join(line + b"\n" for line in made.lines[begin:end])
-        told = subprocess.run([program, *words], input=sent, capture_output=True, check=False)
-        if told.stderr:
-            return answers, told.stderr.decode()
+    for stop in [*made.stops, None]:
+        end = stop.at if stop else len(made.lines)
+        told = run_of(program, path if made.stops else None, made.lines[begin:end])
         answers += told.stdout.decode().split("\n")[:-1]
         status = int(any(it and it.keys() & {"refused", "fault"} for it in made.wanted[begin:end]))
-        if told.returncode != status:
-            return answers, f"status {told.returncode} and not {status}"
-        if limits:
+        if told.stderr or told.returncode != status:
+            return answers, f"status {told.returncode} and not {status}; {told.stderr.decode()}"
+        if stop and stop.limits:
             with contextlib.closing(sqlite3.connect(path)) as file, file:
-                file.execute("update meta set max_numbers = ?, max_entries = ?", limits)
+                file.execute("update meta set max_numbers = ?, max_entries = ?", stop.limits)
+        fault = import_fault(program, path, stop) if stop else ""
+        if fault:
+            return answers, fault
         begin = end
     return answers, ""
 

@@ -1,5 +1,9 @@
 """Makes requests up that fit the state of a machine, most of them so that it accepts them."""
+import csv
+import io
+
 from machine.checks import ALLOCATABLE, Checks, Refused
+from machine.imports import COMMANDS as IMPORTS, HEADERS
 from machine.lines import COMMANDS, FIELDS, FLAGS, Fault, Row, SIDES, STATUSES, Whole, field
 from machine.reports import LINE_FLAGS
 
@@ -11,6 +15,7 @@ OFTEN = {
     "complete_output": 8, "install": 8, "issue_build": 8, "found": 12, "allocate_build": 14}
 WORDS = ["Bolt", "Motor", "Größe", "漢", "🔩"]
 NAMES = [f"{word} {n}" for word in WORDS for n in range(40)] + ['"quoted"', "back\\slash", "a/b", "=1", "a,b", "x" * 200]
+DAMAGE = [b",", b'"', b"\n", b"\r", b"0", b"7", b"-", b"x", b" ", b"\xff", b"\xc3\xa9", b"\x00", b"\n\n", b""]
 BATCHES = [None, "L1", "L2", "b,c", 'q"q', "é"]
 
 
@@ -151,6 +156,24 @@ class Maker:
             count = min(r.choice([1, 1, 1, 2, 3, 4]), most)
             quantity, serials = count + (r.random() < 0.03), self.serials(count)
         return {"quantity": quantity, "batch": r.choice(BATCHES), "serials": serials}
+
+    # files of comma-separated values
+
+    def file(self):
+        """A kind, and a delivery or a stocktake of it as bytes; now and then the bytes are damaged."""
+        r, kind = self.r, self.r.choice(["receipts", "counts"])
+        rows = [HEADERS[kind]]
+        for number in range(1, r.choice([1, 3, 10, 30])):
+            made = {"number": number, **self.fields(IMPORTS[kind])}
+            rows.append(["" if made[name] is None else made[name] for name in HEADERS[kind]])
+        text = io.StringIO()
+        quoting = r.choice([csv.QUOTE_MINIMAL, csv.QUOTE_MINIMAL, csv.QUOTE_ALL])
+        csv.writer(text, lineterminator=r.choice(["\n", "\r\n", "\r"]), quoting=quoting).writerows(rows)
+        held = bytearray(r.choice([b"", b"", b"\xef\xbb\xbf"]) + text.getvalue().encode())
+        for _ in range(r.choice([0, 0, 1, 1, 2])):
+            at = r.randint(0, len(held))
+            held[at:at + r.choice([0, 0, 1])] = r.choice(DAMAGE)
+        return kind, bytes(held)
 
     # commands of parts and bills
 
