@@ -23,7 +23,8 @@ TEXTS = ["", "A", "x" * 200, "x" * 201, "a\tb", "é", "1", "2030-02-30", '{"entr
 
 
 def tables_of(file):
-    return {name: file.execute(f"select {', '.join(columns.split())} from {name}").fetchall() for name, columns in HEADERS.items()}
+    return {name: file.execute(f"select {', '.join(columns.split())} from {name}").fetchall()
+            for name, columns in HEADERS.items()}
 
 
 def other_value(r, rows, at, value, most):
@@ -105,7 +106,7 @@ def main():
                 told[expected] += 1
                 if status != (0 if expected else 3):
                     wrong += 1
-                    print(f"run {seed}: {'; '.join(what)}: status {status}, and the state is {'' if expected else 'not '}sound")
+                    print(f"run {seed}: {'; '.join(what)}: status {status}; sound: {expected}")
     print(f"{told[True]:,} changed files of sound states and {told[False]:,} others: {wrong} told otherwise")
     sys.exit(1 if wrong else 0)
 

@@ -73,8 +73,8 @@ class Maker:
             flags = ["assembly", "component", "trackable"]
             yield "add_part", lambda at=at: {"name": f"Link {at}", "category": None, "template": None, "flags": flags}
         for at in range(count - 1):
-            members = {flag: False for flag in LINE_FLAGS}
-            yield "add_line", lambda at=at, of=members: {"assembly": part(at), "component": part(at + 1), "quantity": 1, **of}
+            yield "add_line", lambda at=at: {"assembly": part(at), "component": part(at + 1), "quantity": 1,
+                                             **{flag: False for flag in LINE_FLAGS}}
         for at in 2 * list(range(count)):
             yield "found", lambda at=at: {"part": part(at), "location": self.row("location"), "quantity": 1, "batch": None,
                                           "serials": self.serials(1)}
@@ -256,7 +256,8 @@ class Maker:
 
     def install(self):
         m = self.m
-        parent = self.one([n for n in self.items("at") + self.items("in") if m.items[n].serial and m.effective(m.items[n].part)])
+        standing = self.items("at") + self.items("in")
+        parent = self.one([n for n in standing if m.items[n].serial and m.effective(m.items[n].part)])
         lines = m.effective(m.items[parent].part) if parent in m.items else []
         item = self.one([n for n in self.items("at") if any(self.takes(it, n) for it in lines)], self.items("at"))
         return {"item": item, "parent": parent, "quantity": self.r.choice([1, self.amount(item)])}
