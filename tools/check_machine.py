@@ -77,11 +77,13 @@ class Run:
                 members[name] = made[name]
         if r.random() < 0.1:
             members["key"] = f"k{r.randint(1, 10**9)}"
-            self.keyed.append(members)
+            self.keyed.append(dict(members))
         elif self.keyed and r.random() < 0.03:
             members = {**r.choice(self.keyed), "day": members["day"]}
             if r.random() < 0.3:
                 members[r.choice([it for it in members if it not in ("do", "key")])] = r.choice([1, 2, None, "A", True])
+        elif self.keyed and r.random() < 0.02:
+            members["key"] = r.choice(self.keyed)["key"]
         if r.random() < 0.02:
             members[r.choice(list(members))] = r.choice(WRONG)
         if r.random() < 0.005:
@@ -107,7 +109,7 @@ class Run:
 def workshop(seed, count):
     """A run of requests that fit the state."""
     made = Run(seed)
-    last = count - count // 15
+    last = count - count // 8
     for at in range(count):
         if seed % 2 and at in (count // 3, 2 * count // 3, last):
             made.stop(with_limits=at == last)

@@ -1,4 +1,5 @@
 """Makes requests up that fit the state of a machine, most of them so that it accepts them."""
+import collections
 import csv
 import io
 
@@ -45,6 +46,8 @@ class Maker:
     def __init__(self, r, machine):
         self.r, self.m, self.style, self.serials_made = r, machine, style_of(r), 0
         self.first = self.chain(self.style["chain"])
+        # How often what fits is not looked for, and how often each command came to each end.
+        self.wild, self.ends = 0.05, collections.Counter()
 
     def request(self):
         """A command and its fields, as JSON has them."""
@@ -56,13 +59,42 @@ class Maker:
         if len(m.parts) < style["parts"] and r.random() < 0.5:
             do = r.choice(["add_part", "add_part", "add_line"])
             return do, self.fields(do)
-        for _ in range(r.choice([1, 1, 2, 4])):
-            do = r.choices(list(COMMANDS), list(style["often"].values()))[0]
-            for _ in range(r.choice([1, 1, 3, 6])):
+        do, made = self.rarest() if r.random() < 0.4 else self.likely()
+        self.ends[do, self.end_of(do, made)] += 1
+        return do, made
+
+    def command(self):
+        return self.r.choices(list(COMMANDS), list(self.style["often"].values()))[0]
+
+    def likely(self):
+        """A request that is accepted, most often."""
+        for _ in range(self.r.choice([1, 2, 4])):
+            do = self.command()
+            for _ in range(self.r.choice([1, 3, 6])):
                 made = self.fields(do)
-                if self.is_accepted(do, made):
+                if self.end_of(do, made) == "done":
                     return do, made
         return do, made
+
+    def rarest(self):
+        """Of several requests the one whose end came least often."""
+        do, self.wild = self.r.choice(list(COMMANDS)), 0.4
+        tried = [self.spoiled(self.fields(do)) for _ in range(10)]
+        self.wild = 0.05
+        return do, min(tried, key=lambda made: self.ends[do, self.end_of(do, made)])
+
+    def spoiled(self, made):
+        """The fields, now and then with a quantity that is none."""
+        is_spoiled = "quantity" in made and self.r.random() < 0.1
+        return {**made, "quantity": self.r.choice([0, 10**9 + 1])} if is_spoiled else made
+
+    def end_of(self, do, made):
+        """The refusal of a request, or that it is done."""
+        try:
+            Checks(self.m, do, typed(do, made)).pass_or_refuse()
+        except (Refused, Fault) as end:
+            return str(end)
+        return "done"
 
     def chain(self, count):
         """Requests for so many parts of which each goes into the one before, and for items of each."""
@@ -78,13 +110,6 @@ class Maker:
         for at in 2 * list(range(count)):
             yield "found", lambda at=at: {"part": part(at), "location": self.row("location"), "quantity": 1, "batch": None,
                                           "serials": self.serials(1)}
-
-    def is_accepted(self, do, made):
-        try:
-            Checks(self.m, do, typed(do, made)).pass_or_refuse()
-            return True
-        except (Refused, Fault):
-            return False
 
     def fields(self, do):
         return getattr(self, do)() if hasattr(self, do) else {name: self.row(name) for name, _, _ in FIELDS[do]}
@@ -106,12 +131,14 @@ class Maker:
 
     def such(self, rows, when):
         """The rows of which that holds; now and then all, so that what fits is not all that is tried."""
-        return list(rows) if self.r.random() < 0.05 else [n for n, it in rows.items() if when(it)]
+        return list(rows) if self.r.random() < self.wild else [n for n, it in rows.items() if when(it)]
 
     def parts(self, *flags):
         return self.such(self.m.parts, lambda it: set(flags) <= it.flags and not it.retired)
 
     def items(self, place, when=lambda it: True):
+        if self.m.allocations and self.r.random() < self.wild / 2:
+            return sorted({it.item for it in self.m.allocations.values()})
         return self.such(self.m.items, lambda it: it.place[0] == place and when(it))
 
     def builds(self, *states):
@@ -128,7 +155,7 @@ class Maker:
     def takes(self, line, item):
         """Whether a bill's line may be served with the item; now and then also what fits and can't be had."""
         it = self.m.items[item]
-        return self.m.fits(line, it.part) and (it.status in ALLOCATABLE and self.m.free(item) > 0 or self.r.random() < 0.1)
+        return self.m.fits(line, it.part) and (it.status in ALLOCATABLE and self.m.free(item) > 0 or self.r.random() < self.wild)
 
     def amount(self, item):
         """An amount of an item: some or all of it, some or all of what is free, or too much."""
@@ -154,7 +181,7 @@ class Maker:
         is_trackable = part in self.m.parts and "trackable" in self.m.parts[part].flags
         if r.random() < (0.75 if is_trackable else 0.02):
             count = min(r.choice([1, 1, 1, 2, 3, 4]), most)
-            quantity, serials = count + (r.random() < 0.03), self.serials(count)
+            quantity, serials = count + (r.random() < 0.06), self.serials(count)
         return {"quantity": quantity, "batch": r.choice(BATCHES), "serials": serials}
 
     # files of comma-separated values
@@ -249,7 +276,7 @@ class Maker:
     def serialise(self):
         trackable, count = self.parts("trackable"), self.r.randint(1, 3)
         item = self.one(self.items("at", lambda it: not it.serial and it.part in trackable))
-        return {"item": item, "quantity": count, "serials": self.serials(count)}
+        return {"item": item, "quantity": count + (self.r.random() < 0.06), "serials": self.serials(count)}
 
     def set_status(self):
         return {"item": self.one(self.items("at")), "status": self.r.choice(STATUSES + ["OK"] * 8)}
@@ -303,7 +330,7 @@ class Maker:
         m = self.m
         line = self.one(self.open_lines("sale"), m.order_lines)
         part = m.order_lines[line].part if line in m.order_lines else 0
-        fit = self.items("at", lambda it: it.part == part and it.status in ALLOCATABLE)
+        fit = self.items("at", lambda it: it.part == part and (it.status in ALLOCATABLE or self.r.random() < self.wild))
         item = self.one([n for n in fit if m.free(n)], self.items("at"))
         return {"line": line, "item": item, "quantity": self.r.choice([1, self.amount(item)])}
 
