@@ -13,58 +13,17 @@ import random
 import subprocess
 import sys
 
-STATUSES = "OK Attention Damaged Destroyed Rejected Lost Quarantined Returned".split()
-SIDES = "purchase sale".split()
-FLAGS = "template assembly component trackable purchaseable salable virtual".split()
-REPORTS = "ledger stock where_used history content shortage".split()
-COMMANDS = {
-    "add_category": {"name": "text", "parent": "maybe_number"},
-    "add_location": {"name": "text", "parent": "maybe_number"},
-    "add_part": {"name": "text", "category": "maybe_number", "template": "maybe_number", "flags": "flags"},
-    "retire_part": {"part": "number"},
-    "add_line": {"assembly": "number", "component": "number", "quantity": "quantity", "optional": "yes",
-                 "consumable": "yes", "inherited": "yes", "variants": "yes"},
-    "drop_line": {"line": "number"},
-    "add_substitute": {"line": "number", "part": "number"},
-    "drop_substitute": {"substitute": "number"},
-    "found": {"part": "number", "location": "number", "quantity": "quantity", "batch": "maybe_text",
-              "serials": "maybe_serials"},
-    "add": {"item": "number", "quantity": "quantity"},
-    "remove": {"item": "number", "quantity": "quantity"},
-    "count": {"item": "number", "quantity": "quantity"},
-    "transfer": {"item": "number", "location": "number", "quantity": "quantity"},
-    "split": {"item": "number", "quantity": "quantity"},
-    "merge": {"into": "number", "items": "numbers"},
-    "serialise": {"item": "number", "quantity": "quantity", "serials": "serials"},
-    "set_status": {"item": "number", "status": "status"},
-    "install": {"item": "number", "parent": "number", "quantity": "quantity"},
-    "uninstall": {"item": "number", "location": "number"},
-    "disassemble": {"item": "number", "location": "number"},
-    "reinstate": {"item": "number", "location": "number"},
-    "order": {"side": "side", "partner": "text"},
-    "order_line": {"order": "number", "part": "number", "quantity": "quantity"},
-    "issue_order": {"order": "number"},
-    "receive": {"line": "number", "location": "number", "quantity": "quantity", "batch": "maybe_text",
-                "serials": "maybe_serials"},
-    "allocate_sale": {"line": "number", "item": "number", "quantity": "quantity"},
-    "ship": {"order": "number"},
-    "return_item": {"item": "number", "location": "number"},
-    "close_order": {"order": "number"},
-    "cancel_order": {"order": "number"},
-    "build": {"part": "number", "quantity": "quantity"},
-    "issue_build": {"build": "number"},
-    "hold_build": {"build": "number"},
-    "cancel_build": {"build": "number"},
-    "outputs": {"build": "number", "quantity": "quantity", "batch": "maybe_text", "serials": "maybe_serials"},
-    "complete_output": {"output": "number", "location": "number"},
-    "cancel_output": {"output": "number"},
-    "scrap_output": {"output": "number"},
-    "allocate_build": {"build": "number", "line": "number", "item": "number", "quantity": "quantity",
-                       "output": "maybe_number"},
-    "auto_allocate": {"build": "number", "substitutes": "yes", "optional": "yes"},
-    "release": {"allocation": "number"},
-    "complete_build": {"build": "number"},
-}
+from machine.lines import FIELDS, FLAGS, REPORTS, SIDES, STATUSES
+
+
+def kind_of(name, kind, is_optional):
+    """What is made up for a field: quantities are another kind than numbers of rows."""
+    if kind in ("row", "rows"):
+        kind = "quantity" if name == "quantity" else kind.replace("row", "number")
+    return f"maybe_{kind}" if is_optional else kind
+
+
+COMMANDS = {do: {name: kind_of(name, *of) for name, *of in fields} for do, fields in FIELDS.items()}
 LATER = "consume build_line output complete auto_allocates".split()
 STRANGE = [None, True, False, 0, 1, -1, 1.5, "", "x", "7", [], [1], ["x"], [None], {}, {"a": 1}, 2**64, 10**30, -0.0]
 # Numbers as they may be spelled: a number with a sign, a fraction or an exponent is none.
@@ -168,7 +127,7 @@ def request(r):
 
 
 def report(r):
-    return [("report", r.choice(REPORTS + ["Ledger", ""])), ("of", value(r, "number"))]
+    return [("report", r.choice([*REPORTS, "Ledger", ""])), ("of", value(r, "number"))]
 
 
 def made_up(r):

@@ -8,7 +8,7 @@ from machine.lines import Fault, Row, is_text, serials_or_fault
 from machine.reports import answer_line
 
 HEADERS = {"receipts": "number line location quantity batch serials".split(), "counts": "number item quantity".split()}
-COMMANDS = {"receipts": "receive", "counts": "count"}
+COMMAND_OF = {"receipts": "receive", "counts": "count"}
 MOST_BYTES = 16_777_216
 
 
@@ -75,7 +75,7 @@ def imported(m, kind, document, day, held):
     for it in found:
         fields = Row((name, value) for name, value in it.items() if name != "number")
         try:
-            answer = m.run(COMMANDS[kind], fields, day, f"{kind}/{document}/{it.number}")
+            answer = m.run(COMMAND_OF[kind], fields, day, f"{kind}/{document}/{it.number}")
         except Refused as refusal:
             answer, status = {"refused": str(refusal)}, 1
         told += f"{it.number}\t{answer_line(answer)}\n"

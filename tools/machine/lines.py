@@ -56,8 +56,8 @@ COMMANDS = {
 FIELDS = {do: [(*it.rstrip("?").split(":"), it.endswith("?")) for it in said.split()] for do, said in COMMANDS.items()}
 # Each report with the table that has what it is of.
 REPORTS = {
-    "ledger": "parts", "stock": "parts", "content": "items", "where_used": "parts", "shortage": "builds",
-    "history": "items"}
+    "ledger": "parts", "stock": "parts", "where_used": "parts", "history": "items", "content": "items",
+    "shortage": "builds"}
 
 
 class Row(dict):

@@ -4,7 +4,7 @@ import csv
 import io
 
 from machine.checks import ALLOCATABLE, Checks, Refused
-from machine.imports import COMMANDS as IMPORTS, HEADERS
+from machine.imports import COMMAND_OF, HEADERS
 from machine.lines import COMMANDS, FIELDS, FLAGS, Fault, Row, SIDES, STATUSES, Whole, field
 from machine.reports import LINE_FLAGS
 
@@ -191,7 +191,7 @@ class Maker:
         r, kind = self.r, self.r.choice(["receipts", "counts"])
         rows = [HEADERS[kind]]
         for number in range(1, r.choice([1, 3, 10, 30])):
-            made = {"number": number, **self.fields(IMPORTS[kind])}
+            made = {"number": number, **self.fields(COMMAND_OF[kind])}
             rows.append(["" if made[name] is None else made[name] for name in HEADERS[kind]])
         text = io.StringIO()
         quoting = r.choice([csv.QUOTE_MINIMAL, csv.QUOTE_MINIMAL, csv.QUOTE_ALL])
