@@ -75,6 +75,10 @@ const FORMS: &[Form] = &[
         verb: "complete_build",
         fields: &[("build", FieldKind::Number)],
     },
+    Form {
+        verb: "consume",
+        fields: &[("allocation", FieldKind::Number)],
+    },
 ];
 
 #[tactic(auto, unfolding(crate::specs::BuildForms::build_forms))]
@@ -202,6 +206,15 @@ fn complete_build(mut fields: Fields) -> Option<BuildCommand>
     Some(BuildCommand::CompleteBuild { build })
 }
 
+#[tactic(auto, unfolding(crate::specs::BuildForms::build_forms))]
+fn consume(mut fields: Fields) -> Option<BuildCommand>
+    ensures { result ≡ command_by build_forms (codes "consume") fields }
+{
+    let allocation = fields.number()?;
+    fields.end()?;
+    Some(BuildCommand::Consume { allocation })
+}
+
 impl Formed for BuildCommand {
     ghost forms_of = { forms_by build_forms };
 
@@ -229,6 +242,7 @@ impl Formed for BuildCommand {
             BuildCommand::AllocateBuild { .. } => "allocate_build",
             BuildCommand::AutoAllocate { .. } => "auto_allocate",
             BuildCommand::CompleteBuild { .. } => "complete_build",
+            BuildCommand::Consume { .. } => "consume",
         }
     }
 
@@ -282,6 +296,9 @@ impl Formed for BuildCommand {
                 ]?)
             }
             BuildCommand::CompleteBuild { build } => { Ok(vec![in alloc; Field::Number(*build)]?) }
+            BuildCommand::Consume { allocation } => {
+                Ok(vec![in alloc; Field::Number(*allocation)]?)
+            }
         }
     }
 
@@ -300,6 +317,7 @@ impl Formed for BuildCommand {
             "allocate_build" => allocate_build(fields),
             "auto_allocate" => auto_allocate(fields),
             "complete_build" => complete_build(fields),
+            "consume" => consume(fields),
             _ => None,
         }
     }

@@ -3,15 +3,15 @@ ghost use Rattle.std.specs.Prelude.{◌≡◌, ◌*◌, ◌&&◌, ◌∷◌, [],
 ghost use Rattle.std.specs.FinMap as table;
 ghost use Rattle.std.specs.List.{list_any};
 ghost use Rattle.part_core.specs.CatalogueView.{parts_of};
-ghost use Rattle.bom_core.specs.Bills.{effective, is_effective, part_rows};
+ghost use Rattle.bom_core.specs.Bills.{effective, is_effective};
 ghost use Rattle.bom_core.specs.BomsView.{bills_of};
 ghost use Rattle.alloc_core.specs.AllocationsView.{allocations_now};
 ghost use Rattle.yard_core.specs.YardView.{stock_of};
-ghost use Rattle.build_core.specs.BuildsView.{builds_now};
+ghost use Rattle.build_core.specs.BuildsView.{builds_now, spent_now};
 ghost use Rattle.build_core.specs.BuildBooks.{build_books};
 ghost use Rattle.build_core.specs.Needs.{has_tracked, is_below_need, is_named_right};
 ghost use Rattle.build_core.specs.Needs.{is_suited, is_tracked, is_untracked, lacks_for_build};
-ghost use Rattle.build_core.specs.Needs.{lacks_for_output, line_in, required, required_of};
+ghost use Rattle.build_core.specs.Needs.{is_untracked_of, lacks_for_output, line_in, required, required_of, wanted_whole};
 
 use crate::build::Build;
 use crate::builds::Builds;
@@ -60,19 +60,35 @@ fn times(quantity: Quantity, units: Quantity) -> u128
     u128::from(quantity) * u128::from(units)
 }
 
-/// What a line needs: for the whole build, or for the output where one is named.
-pub(crate) fn needed(yard: &Yard, line: &Line, build: &Build, output: Option<Id>) -> u128
-    ensures { result ≡ required line.now build.now output (stock_of yard.now) }
+/// What a line wants of the whole build.
+pub(crate) fn wanted_whole(line: &Line, build: &Build) -> u128
+    ensures { result ≡ wanted_whole line.now build.now }
 {
-    let units = match output {
-        None => build.quantity,
-        Some(output) => quantity_at(yard, output),
-    };
-    times(line.quantity, units)
+    times(line.quantity, build.quantity)
 }
 
-/// What a line of the bill of a build's part needs: for the whole build, or for the output where one is named, as
-/// it is where the line is tracked. It is meant for lines that aren't consumable. It is 0 where there is no such
+/// What a line needs: for the whole build less what was spent on it, or for the output where one is named.
+pub(crate) fn needed(
+    builds: &Builds,
+    yard: &Yard,
+    line: &Line,
+    build: &Build,
+    output: Option<Id>,
+) -> u128
+    ensures { result ≡ required line.now build.now output (spent_now builds.now)
+        (stock_of yard.now) }
+{
+    match output {
+        None => wanted_whole(line, build).saturating_sub(builds.spent_on(
+            build.number,
+            line.number,
+        )),
+        Some(output) => times(line.quantity, quantity_at(yard, output)),
+    }
+}
+
+/// What a line of the bill of a build's part needs: for the whole build less what was spent on it, or for the output
+/// where one is named, as it is where the line is tracked. It is meant for lines that aren't consumable. It is 0 where there is no such
 /// build or no such line, and it takes no memory.
 pub fn required(
     boms: &Boms,
@@ -83,35 +99,38 @@ pub fn required(
     output: Option<Id>,
 ) -> u128
     ensures { result ≡ required_of (line_in line (bills_of boms.now))
-        (table.get (builds_now builds.now) (build ∷ [])) output (stock_of yard.now) }
+        (table.get (builds_now builds.now) (build ∷ [])) output (spent_now builds.now)
+        (stock_of yard.now) }
 {
     let Some(row) = boms.line(line) else {
         return 0;
     };
     match builds.build(build) {
-        Some(build) => needed(yard, row, build, output),
+        Some(build) => needed(builds, yard, row, build, output),
         None => 0,
     }
 }
 
 /// Whether less is allocated for the line than it needs.
 fn is_below_need(
+    builds: &Builds,
     allocations: &Allocations,
     yard: &Yard,
     line: &Line,
     build: &Build,
     output: Option<Id>,
 ) -> bool
-    ensures { result ≡ is_below_need line.now build.now output
+    ensures { result ≡ is_below_need line.now build.now output (spent_now builds.now)
         (allocations_now allocations.now) (stock_of yard.now) }
 {
     let allocated = allocations.allocated_for_line(build.number, line.number, output);
-    allocated < needed(yard, line, build, output)
+    allocated < needed(builds, yard, line, build, output)
 }
 
 /// Whether the line is tracked, isn't optional, and less is allocated for it than the output needs.
 fn lacks_tracked(
     catalogue: &Catalogue,
+    builds: &Builds,
     allocations: &Allocations,
     yard: &Yard,
     line: &Line,
@@ -120,16 +139,17 @@ fn lacks_tracked(
 ) -> bool
     ensures { result ≡ (is_tracked (parts_of catalogue.now) line.now
         && not line.now.flags.optional && is_below_need line.now build.now (Some output)
-        (allocations_now allocations.now) (stock_of yard.now)) }
+        (spent_now builds.now) (allocations_now allocations.now) (stock_of yard.now)) }
 {
     is_tracked(catalogue, line)
         && !line.flags.optional
-        && is_below_need(allocations, yard, line, build, Some(output))
+        && is_below_need(builds, allocations, yard, line, build, Some(output))
 }
 
 /// Whether the line is neither tracked nor optional, and less is allocated for it than the build needs.
 fn lacks_untracked(
     catalogue: &Catalogue,
+    builds: &Builds,
     allocations: &Allocations,
     yard: &Yard,
     line: &Line,
@@ -137,16 +157,17 @@ fn lacks_untracked(
 ) -> bool
     ensures { result ≡ (is_untracked (parts_of catalogue.now) line.now
         && not line.now.flags.optional && is_below_need line.now build.now None
-        (allocations_now allocations.now) (stock_of yard.now)) }
+        (spent_now builds.now) (allocations_now allocations.now) (stock_of yard.now)) }
 {
     is_untracked(catalogue, line)
         && !line.flags.optional
-        && is_below_need(allocations, yard, line, build, None)
+        && is_below_need(builds, allocations, yard, line, build, None)
 }
 
 /// Whether one of the lines lacks something for the output.
 fn any_lacks_tracked(
     catalogue: &Catalogue,
+    builds: &Builds,
     allocations: &Allocations,
     yard: &Yard,
     lines: &[&Line],
@@ -155,14 +176,23 @@ fn any_lacks_tracked(
 ) -> bool
     ensures { result ≡ list_any (λ l. is_tracked (parts_of catalogue.now) l
         && not l.flags.optional && is_below_need l build.now (Some output)
-        (allocations_now allocations.now) (stock_of yard.now)) (map (λ l. l.now) lines.now) }
+        (spent_now builds.now) (allocations_now allocations.now) (stock_of yard.now)) (map (λ l. l.now) lines.now) }
 {
-    lines.iter().any(|line| lacks_tracked(catalogue, allocations, yard, line, build, output))
+    lines.iter().any(|line| lacks_tracked(
+        catalogue,
+        builds,
+        allocations,
+        yard,
+        line,
+        build,
+        output,
+    ))
 }
 
 /// Whether one of the lines lacks something for the build.
 fn any_lacks_untracked(
     catalogue: &Catalogue,
+    builds: &Builds,
     allocations: &Allocations,
     yard: &Yard,
     lines: &[&Line],
@@ -170,9 +200,9 @@ fn any_lacks_untracked(
 ) -> bool
     ensures { result ≡ list_any (λ l. is_untracked (parts_of catalogue.now) l
         && not l.flags.optional && is_below_need l build.now None
-        (allocations_now allocations.now) (stock_of yard.now)) (map (λ l. l.now) lines.now) }
+        (spent_now builds.now) (allocations_now allocations.now) (stock_of yard.now)) (map (λ l. l.now) lines.now) }
 {
-    lines.iter().any(|line| lacks_untracked(catalogue, allocations, yard, line, build))
+    lines.iter().any(|line| lacks_untracked(catalogue, builds, allocations, yard, line, build))
 }
 
 /// Whether a tracked line that isn't optional is allocated below its need for the output. An error is one of
@@ -194,6 +224,7 @@ pub(crate) fn lacks_for_output(
     let lines = boms.effective(catalogue, build.part)?;
     Ok(any_lacks_tracked(
         catalogue,
+        builds,
         allocations,
         yard,
         lines.as_slice(),
@@ -217,14 +248,28 @@ pub(crate) fn lacks_for_build(
         (build_books builds.now allocations.now yard.now counter.now)) }
 {
     let lines = boms.effective(catalogue, build.part)?;
-    Ok(any_lacks_untracked(catalogue, allocations, yard, lines.as_slice(), build))
+    Ok(any_lacks_untracked(
+        catalogue,
+        builds,
+        allocations,
+        yard,
+        lines.as_slice(),
+        build,
+    ))
 }
 
-/// Whether the line is the part's own or an inherited one of its template.
+/// Whether the line is the part's own or an inherited one of a template above it.
 fn is_effective(catalogue: &Catalogue, part: Id, line: &Line) -> bool
-    ensures { result ≡ is_effective (part_rows (parts_of catalogue.now)) part line.now }
+    ensures { result ≡ is_effective (parts_of catalogue.now) part line.now }
 {
-    line.assembly == part || (line.flags.inherited && catalogue.is_variant(part, line.assembly))
+    line.assembly == part || (line.flags.inherited && catalogue.descends(part, line.assembly))
+}
+
+/// Whether the line is the part's, and is untracked.
+pub(crate) fn is_untracked_of(catalogue: &Catalogue, part: Id, line: &Line) -> bool
+    ensures { result ≡ is_untracked_of (parts_of catalogue.now) part line.now }
+{
+    is_effective(catalogue, part, line) && is_untracked(catalogue, line)
 }
 
 /// Whether an output is named exactly where the line is tracked.

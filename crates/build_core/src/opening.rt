@@ -10,14 +10,16 @@ ghost use Rattle.alloc_core.specs.AllocationsView.{allocations_now};
 ghost use Rattle.yard_core.specs.YardView.{stock_of};
 ghost use Rattle.build_core.specs.AllocateBuild.{is_other_output};
 ghost use Rattle.build_core.specs.BuildBooks.{build_books};
-ghost use Rattle.build_core.specs.BuildsView.{builds_now};
+ghost use Rattle.build_core.specs.BuildsView.{builds_now, spent_now};
 ghost use Rattle.build_core.specs.RowTests.{is_right_meant, is_right_placed, is_sound_build, is_sound_for};
-ghost use Rattle.build_core.specs.Sound.{AreSoundBuilds, IsSoundBuild};
+ghost use Rattle.build_core.specs.RowTests.{is_sound_spent, is_spent_once};
+ghost use Rattle.build_core.specs.Sound.{AreSoundBuilds, IsSoundBuild, IsSoundSpending};
 
 use crate::build::Build;
 use crate::builds::Builds;
-use crate::needs::{has_tracked, is_suited, needed};
+use crate::needs::{has_tracked, is_suited, is_untracked_of, needed, wanted_whole};
 use crate::outputs::is_output_of;
+use crate::spent::Spent;
 use alloc_core::{Allocation, Allocations, OutputNumber, Purpose};
 use bom_core::Boms;
 use part_core::{Catalogue, Counter, Id, is_bad_quantity, is_drawn};
@@ -145,8 +147,8 @@ impl Builds {
         output: Option<Id>,
     ) -> bool
         ensures { result ≡ is_sound_for (parts_of catalogue.now) (bills_of boms.now)
-            (builds_now self.now) (allocations_now allocations.now) (stock_of yard.now)
-            item build line output }
+            (builds_now self.now) (spent_now self.now) (allocations_now allocations.now)
+            (stock_of yard.now) item build line output }
     {
         let Some(row) = self.build(build) else {
             return false;
@@ -165,7 +167,7 @@ impl Builds {
                 bill_line,
             )
             && allocations.allocated_for_line(build, line, output)
-                <= needed(yard, bill_line, row, output)
+                <= needed(self, yard, bill_line, row, output)
     }
 
     fn is_right_meant(
@@ -177,7 +179,8 @@ impl Builds {
         row: &Allocation,
     ) -> bool
         ensures { result ≡ is_right_meant (parts_of catalogue.now) (bills_of boms.now)
-            (builds_now self.now) (allocations_now allocations.now) (stock_of yard.now) row.now }
+            (builds_now self.now) (spent_now self.now) (allocations_now allocations.now)
+            (stock_of yard.now) row.now }
     {
         match &row.purpose {
             Purpose::Sale { .. } => true,
@@ -210,9 +213,79 @@ impl Builds {
     ) -> bool
         ensures { let t = allocations_now allocations.now in
             IsTrue result ↔ EachRow (λ a. is_right_meant (parts_of catalogue.now)
-            (bills_of boms.now) (builds_now self.now) t (stock_of yard.now) a ≡ true) t }
+            (bills_of boms.now) (builds_now self.now) (spent_now self.now) t
+            (stock_of yard.now) a ≡ true) t }
     {
         !allocations.rows().any(|row| !self.is_right_meant(catalogue, boms, allocations, yard, row))
+    }
+
+    fn are_drawn_spent(&self, next: Id) -> bool
+        ensures { IsTrue result ↔ StandRight (λ x. x.number) next (spent_now self.now) }
+    {
+        !self.spent().any(|row| !is_drawn(row.number, next))
+    }
+
+    /// Whether the build is open, something was spent, and the line is an untracked one of the build's part that wants
+    /// so much of it.
+    fn is_sound_spent(&self, catalogue: &Catalogue, boms: &Boms, row: &Spent) -> bool
+        ensures { result ≡ is_sound_spent (parts_of catalogue.now) (bills_of boms.now)
+            (builds_now self.now) row.now }
+    {
+        let Some(build) = self.build(row.build) else {
+            return false;
+        };
+        let Some(bill_line) = boms.line(row.line) else {
+            return false;
+        };
+        build.state.is_open()
+            && row.quantity != 0
+            && is_untracked_of(catalogue, build.part, bill_line)
+            && u128::from(row.quantity) <= wanted_whole(bill_line, build)
+    }
+
+    fn are_sound_spent(&self, catalogue: &Catalogue, boms: &Boms) -> bool
+        ensures { IsTrue result ↔ EachRow (λ x. is_sound_spent (parts_of catalogue.now)
+            (bills_of boms.now) (builds_now self.now) x ≡ true) (spent_now self.now) }
+    {
+        !self
+            .spent()
+            .any(|row| !self.is_sound_spent(catalogue, boms, row))
+    }
+
+    /// Whether no other row is of the same line of the same build.
+    fn is_spent_once(&self, row: &Spent) -> bool
+        ensures { result ≡ is_spent_once (spent_now self.now) row.now }
+    {
+        !self.is_again(row)
+    }
+
+    fn are_spent_once(&self) -> bool
+        ensures { let t = spent_now self.now in
+            IsTrue result ↔ EachRow (λ x. is_spent_once t x ≡ true) t }
+    {
+        !self.spent().any(|row| !self.is_spent_once(row))
+    }
+
+    /// Whether what was spent is sound: each row is of an open build and an untracked line of its part, once for each of
+    /// these, and of no more than the line wants.
+    fn is_sound_spending(
+        &self,
+        catalogue: &Catalogue,
+        boms: &Boms,
+        allocations: &Allocations,
+        yard: &Yard,
+        counter: &Counter,
+    ) -> bool
+        ensures { IsTrue result ↔ IsSoundSpending (parts_of catalogue.now) (bills_of boms.now)
+            (build_books self.now allocations.now yard.now counter.now) }
+    {
+        if !self.are_drawn_spent(counter.next()) {
+            return false;
+        }
+        if !self.are_sound_spent(catalogue, boms) {
+            return false;
+        }
+        self.are_spent_once()
     }
 
     /// Whether the builds are sound beside the catalogue, the bills, the stock, the allocations and the numbers that
@@ -236,6 +309,9 @@ impl Builds {
             return Ok(false);
         }
         if !self.are_right_meant(catalogue, boms, allocations, yard) {
+            return Ok(false);
+        }
+        if !self.is_sound_spending(catalogue, boms, allocations, yard, counter) {
             return Ok(false);
         }
         self.are_sound_outputs(catalogue, boms, yard)

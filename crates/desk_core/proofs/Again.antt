@@ -13,7 +13,8 @@ use Rattle.desk_core.specs.declared.kept.Kept.{Kept}
 use Rattle.desk_core.specs.CommandText.{command_text}
 use Rattle.desk_core.specs.Machine.{State, Outcome, answer_of, answer_of_same, by_check, by_repeat, check}
 use Rattle.desk_core.specs.Machine.{effect, is_other, kept_for, repeated, run, step, step_anew, with_answer}
-use Rattle.desk_core.specs.Repeats.{AreAccepted, LaterRepeatsChangeNothing, RepeatsChangeNothing, SendingAgainEndsAlike}
+use Rattle.desk_core.specs.Repeats.{AreAccepted, LaterRepeatsChangeNothing, RepeatsCanBeLeftOut, RepeatsChangeNothing}
+use Rattle.desk_core.specs.Repeats.{SendingAgainEndsAlike}
 use Rattle.desk_core.proofs.Steps.{effect-answers, passes_key, step-repeated}
 
 -- ---- what is kept under a key
@@ -167,6 +168,16 @@ later_repeat s before between r again a keyed repeat ok =
     (later (step there r).0 between key.0 (command_text r.command) a kept) in
     kept-again (run s (before ++ r ∷ between)).0 again key.0 (command_text r.command) a (repeat.key ∙ key.1)
     repeat.command all
+
+pub left_out : RepeatsCanBeLeftOut
+left_out s before between after r again a keyed repeat ok =
+    let first = before ++ r ∷ between in
+    let then_ = (run s first).0 in
+    let same : step then_ again ≡ (then_, Ok a) = later_repeat s before between r again a keyed repeat ok in (
+      run-append s first after,
+      run-append s first (again ∷ after)
+          ∙ (λ i. ((run (same i).0 after).0, (run s first).1 ++ (same i).1 ∷ (run (same i).0 after).1)),
+    )
 
 accepted-head : (o : Outcome) (os : List Outcome) → AreAccepted (o ∷ os) → (a : Answer) × (o ≡ Ok a) × AreAccepted os
 accepted-head (Ok a) os h = (a, refl, h)

@@ -30,6 +30,18 @@ LaterRepeatsChangeNothing =
     → (step (run s before).0 r).1 ≡ Ok answer
     → (let then_ = (run s (before ++ r ∷ between)).0 in step then_ again ≡ (then_, Ok answer))
 
+-- taken out of a list, a later repeat of a request that was accepted leaves the last state and the other outcomes as they
+-- were
+abbrev pub RepeatsCanBeLeftOut : Type 0
+RepeatsCanBeLeftOut =
+    (s : State) (before between after : List Request) (r again : Request) (answer : Answer)
+    → IsSome r.key
+    → IsRepeat again r
+    → (step (run s before).0 r).1 ≡ Ok answer
+    → (let first = before ++ r ∷ between in let then_ = (run s first).0 in
+    (run s (first ++ after) ≡ ((run then_ after).0, (run s first).1 ++ (run then_ after).1))
+    × (run s (first ++ again ∷ after) ≡ ((run then_ after).0, (run s first).1 ++ Ok answer ∷ (run then_ after).1)))
+
 -- a list of accepted requests that is run again ends in the same state with the same outcomes
 abbrev pub RepeatsChangeNothing : Type 0
 RepeatsChangeNothing =

@@ -3,7 +3,7 @@
 //!
 //! These functions do nothing when they are run, and are called for their contracts alone.
 ghost use Rattle.desk_core.specs.Assembled.{AreKeys};
-ghost use Rattle.desk_core.specs.Books.{RefusalsChangeNothing, SoundBooksAreInOrder};
+ghost use Rattle.desk_core.specs.Books.{RefusalsChangeNothing, RunsStaySound, SoundBooksAreInOrder, StepsStaySound};
 ghost use Rattle.desk_core.specs.Small.{RowsAreSmall};
 ghost use Rattle.desk_core.specs.Staying.{RowsStay};
 
@@ -13,6 +13,13 @@ use crate::kept::Kept;
 /// beyond its quantity, no serial stands twice in a family, and no part contains itself.
 pub fn sound_books_are_in_order()
     ensures { SoundBooksAreInOrder }
+{}
+
+/// The law that a sound state steps to a sound state, whatever is asked for, and that a list of requests leads to one.
+/// Keys are words of 1 to 80 visible characters: no request that was read has another.
+pub fn steps_stay_sound()
+    ensures step { StepsStaySound }
+    ensures run { RunsStaySound }
 {}
 
 /// The law that a refused request changes nothing, in whatever state.

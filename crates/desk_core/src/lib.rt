@@ -18,7 +18,12 @@ pub use check_order::checks_are_in_order;
 pub use command::{Command, Request};
 pub use kept::{CommandText, Kept};
 pub use key::{Key, is_key};
-pub use laws::{refusals_change_nothing, rows_are_small, rows_stay, sound_books_are_in_order};
-pub use repeats::{later_repeats_change_nothing, repeats_change_nothing, sending_again_ends_alike};
+pub use laws::{
+    refusals_change_nothing, rows_are_small, rows_stay, sound_books_are_in_order, steps_stay_sound,
+};
+pub use repeats::{
+    later_repeats_change_nothing, repeats_can_be_left_out, repeats_change_nothing,
+    sending_again_ends_alike,
+};
 pub use shop::{AssembleFault, Shop, Tables};
 pub use texts::{command_text, texts_tell_commands};

@@ -2,13 +2,19 @@
 //!
 //! A clerk who lost an answer sends the request once more. These laws say what that does, over the machine's own steps
 //! and runs. Nothing is said of a request that was refused: sent again, it may be accepted.
-ghost use Rattle.desk_core.specs.Repeats.{LaterRepeatsChangeNothing, RepeatsChangeNothing, SendingAgainEndsAlike};
+ghost use Rattle.desk_core.specs.Repeats.{LaterRepeatsChangeNothing, RepeatsCanBeLeftOut};
+ghost use Rattle.desk_core.specs.Repeats.{RepeatsChangeNothing, SendingAgainEndsAlike};
 
 /// The law that a later repeat of an accepted request gets its answer and changes nothing, wherever it stands in a
-/// list: taken out of the list, it leaves the last state and the other outcomes as they were.
+/// list.
 #[tactic(auto, using(crate::proofs::Again::later_repeat))]
 pub fn later_repeats_change_nothing()
     ensures { LaterRepeatsChangeNothing }
+{}
+
+/// The law that such a repeat, taken out of the list, leaves the last state and the other outcomes as they were.
+pub fn repeats_can_be_left_out()
+    ensures { RepeatsCanBeLeftOut }
 {}
 
 /// The law that a list of accepted requests, each with a key, ends in the same state with the same outcomes when it is

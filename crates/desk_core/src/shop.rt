@@ -7,6 +7,7 @@
 ghost use Rattle.std.specs.Prelude.{◌≡◌, ◌+◌, Some, length, IfOk, OnErr, OnOk};
 ghost use Rattle.part_core.specs.Acts.{Acts};
 ghost use Rattle.desk_core.specs.Books.{AreInOrder};
+ghost use Rattle.desk_core.specs.CommandText.{command_text};
 ghost use Rattle.desk_core.specs.Machine.{Accepts, AreDrawn, Decides, IsSoundState, answer_of};
 ghost use Rattle.desk_core.specs.Machine.{answered, answers_of, checks, effect, entries_in};
 ghost use Rattle.desk_core.specs.Machine.{entries_of, ids_of, run, start, told, with_answer};
@@ -206,17 +207,19 @@ impl Shop {
         }
     }
 
-    /// Keeps the answer under the key.
+    /// Keeps the command's text and its answer under the key.
     fn keep_answer(
         &mut self,
         key: &Key,
-        command: CommandText,
+        command: &Command,
         answer: &Answer,
     ) -> Result<(), AllocError>
-        ensures ok { OnOk result (state_of self.new
-            ≡ with_answer (Some key.now) command answer.now (state_of self.old)) }
+        ensures ok { let text = command_text command.now in
+            OnOk result (state_of self.new
+            ≡ with_answer (Some key.now) text answer.now (state_of self.old)) }
         ensures before { state_before self.new ≡ state_before self.old }
     {
+        let command = CommandText::new(command_text(self.alloc, command)?);
         let word = key.copy(self.alloc)?;
         let answer = answer.copy(self.alloc)?;
         self.answers.put(Kept {
@@ -226,7 +229,8 @@ impl Shop {
         })
     }
 
-    /// Does the request of this key, once: a repeat is answered as before, another command is refused.
+    /// Does the request of this key, once: a repeat is answered as before, another command is refused. The command's
+    /// text is made only where it is compared or kept, since that of a long receipt costs more than to refuse it.
     fn act_once(&mut self, key: &Key, request: &Request) -> Result<Accepted, CoreFault>
         requires named { request.now.key ≡ Some key.now }
         requires nothing_pending { state_before self.old ≡ state_of self.old }
@@ -236,15 +240,15 @@ impl Shop {
         ensures before { state_before self.new ≡ state_before self.old }
         ensures sound { IsSoundState (state_of self.new) }
     {
-        let command = CommandText::new(command_text(self.alloc, &request.command)?);
         if let Some(kept) = self.answers.get(key.text()) {
+            let command = CommandText::new(command_text(self.alloc, &request.command)?);
             if !kept.command.equals(&command) {
                 return Err(CoreFault::Refused(Refusal::KeyTaken));
             }
             return Ok(Accepted::Again(kept.answer.copy(self.alloc)?));
         }
         let answer = self.act(request)?;
-        match self.keep_answer(key, command, &answer) {
+        match self.keep_answer(key, &request.command, &answer) {
             Ok(()) => Ok(Accepted::Anew(answer)),
             Err(_) => {
                 self.back();

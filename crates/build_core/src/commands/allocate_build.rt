@@ -104,7 +104,11 @@ fn allocate_build_refusal(
         return Some(Refusal::Allocated);
     }
     let allocated = allocations.allocated_for_line(build, line, output);
-    if is_over(needed(yard, bill_line, row, output), allocated, quantity) {
+    if is_over(
+        needed(builds, yard, bill_line, row, output),
+        allocated,
+        quantity,
+    ) {
         return Some(Refusal::OverNeed);
     }
     if counter.lacks(1) {
