@@ -68,7 +68,7 @@ absorbed true x y z = refl
 absorbed false x y z = refl
 
 -- of two rows that are put under one key the later one is there
-put_twice : {X : Type 0} (k : List ℕ) (x y : X)
+pub put_twice : {X : Type 0} (k : List ℕ) (x y : X)
     → insert (insert (empty {X = X} {R = key_cmp}) k x) k y ≡ insert empty k y
 put_twice k x y =
     same_map keys_total keys_exact _ _ (λ q.
@@ -76,11 +76,13 @@ put_twice k x y =
     ∙ ap (cond (eq_by_cmp key_cmp q k) (Some y)) (get-insert keys_total empty k x q)
     ∙ absorbed (eq_by_cmp key_cmp q k) (Some y) (Some x) (get empty q) ∙ sym (get-insert keys_total empty k y q))
 
-pub meta_there : (tree : List Row) (old new : State) (row : MetaRow) → row ≡ meta_of new
-    → IsTableOf meta_from meta_columns Meta tree (insert (only (meta_of old)) (row.one ∷ []) row)
+-- the row of a state is written over whatever row is there
+pub meta_there : (tree : List Row) (old : MetaRow) (new : State) (row : MetaRow) → old.one ≡ 1 → row ≡ meta_of new
+    → IsTableOf meta_from meta_columns Meta tree (insert (only old) (row.one ∷ []) row)
     → IsTableOf meta_from meta_columns Meta tree (only (meta_of new))
-meta_there tree old new row is h =
+meta_there tree old new row key is h =
     subst (IsTableOf meta_from meta_columns Meta tree)
-    (ap (λ (r : MetaRow). insert (only (meta_of old)) (r.one ∷ []) r) is
-    ∙ put_twice (1 ∷ []) (meta_of old) (meta_of new))
+    (ap (λ (r : MetaRow). insert (only old) (r.one ∷ []) r) is
+    ∙ ap (λ n. insert (insert empty (n ∷ []) old) (1 ∷ []) (meta_of new)) key
+    ∙ put_twice (1 ∷ []) old (meta_of new))
     h

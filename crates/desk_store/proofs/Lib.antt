@@ -7,8 +7,11 @@ pub mod Runs
 pub mod Starting
 pub mod Loads
 pub mod Metas
+pub mod Olds
+pub mod Migrations
 pub mod Opens
 pub mod Readings
 pub mod Exporting
 pub mod Sent
 pub mod Breaking
+pub mod Grouping

@@ -30,12 +30,12 @@ use Rattle.desk_store.specs.declared.fault.OpenFault.TheVariants as why
 use Rattle.desk_store.specs.declared.meta.MetaRow.{MetaRow}
 use Rattle.desk_store.proofs.Readings.{HasRead, fails-later, gives-first, has-read, read-then, reads-ok, was-clean}
 use Rattle.desk_store.proofs.Sheets.{own_keys}
-use Rattle.table_store.specs.Schema.{position}
+use Rattle.table_store.specs.Schema.{tree_number}
 use Rattle.table_store.specs.Stored.{values_of}
 use Rattle.table_store.specs.Written.{IsTableOf}
 use Rattle.table_store.specs.declared.name.TableName.TheVariants.{Meta, Categories, Locations, Parts, Lines}
 use Rattle.table_store.specs.declared.name.TableName.TheVariants.{Substitutes, Items, History, Orders}
-use Rattle.table_store.specs.declared.name.TableName.TheVariants.{OrderLines, Builds, Allocations, Kept}
+use Rattle.table_store.specs.declared.name.TableName.TheVariants.{OrderLines, Builds, Allocations, Kept, Spent}
 
 -- limits with the same numbers are one
 same-limits : (a b : Limits) → a.numbers ≡ b.numbers → a.entries ≡ b.entries → a ≡ b
@@ -69,11 +69,11 @@ module _ (trees : Trees) (t : Tables) (are : AreTables trees t) where
   -- the row of the counter is that of the tables' state
   counted-meta : t.entries ≡ length t.history.items → meta_of (state_from t) ≡ meta_in t
   counted-meta e =
-      let many = as-many (trees (position History)) t.history.items are.sheets.stock.history_are in
+      let many = as-many (trees (tree_number History)) t.history.items are.sheets.stock.history_are in
       let count : table.len (state_from t).stock.history ≡ t.entries = many ∙ sym e in
       λ i. record {
         one = 1;
-        version = 1;
+        version = 2;
         next = t.next;
         entries = count i;
         max_numbers = t.limits.numbers;
@@ -83,7 +83,7 @@ module _ (trees : Trees) (t : Tables) (are : AreTables trees t) where
   -- they are the tables of the state that is made of them
   pub tables-are : AreSoundTables t → TablesAre (state_from t) trees
   tables-are sound Meta =
-      subst (λ m. IsTableOf meta_from meta_columns Meta (trees (position Meta)) (only m))
+      subst (λ m. IsTableOf meta_from meta_columns Meta (trees (tree_number Meta)) (only m))
       (sym (counted-meta sound.entries)) are.meta.table
   tables-are sound Categories = are.sheets.catalogue.categories_are.its.table_of
   tables-are sound Locations = are.sheets.stock.locations_are.its.table_of
@@ -97,6 +97,7 @@ module _ (trees : Trees) (t : Tables) (are : AreTables trees t) where
   tables-are sound Builds = are.sheets.orders.1.builds_are.its.table_of
   tables-are sound Allocations = are.sheets.orders.1.allocations_are.its.table_of
   tables-are sound Kept = are.sheets.answers.table_of
+  tables-are sound Spent = are.sheets.orders.1.spent_are.its.table_of
 
   module _ (s : State) (sound : IsSoundState s) (has : TablesAre s trees) where
     -- each sheet of such a state has the rows that were read
@@ -147,6 +148,10 @@ module _ (trees : Trees) (t : Tables) (are : AreTables trees t) where
     same-builds : s.builds ≡ (state_from t).builds
     same-builds = are.sheets.orders.1.builds_are.its.only s.builds (own_keys _ _ _ sound.builds.rows) (has Builds)
 
+    same-spent : s.spent ≡ (state_from t).spent
+    same-spent =
+        are.sheets.orders.1.spent_are.its.only s.spent (own_keys _ _ _ sound.builds.spending.rows) (has Spent)
+
     same-allocations : s.allocations ≡ (state_from t).allocations
     same-allocations =
         are.sheets.orders.1.allocations_are.its.only s.allocations (own_keys _ _ _ sound.allocations.rows)
@@ -173,6 +178,7 @@ module _ (trees : Trees) (t : Tables) (are : AreTables trees t) where
         let orders = same-orders in
         let lines = same-order-lines in
         let builds = same-builds in
+        let spent = same-spent in
         let counter = same-counter in
         let answers = same-answers in
         λ i. record {
@@ -183,6 +189,7 @@ module _ (trees : Trees) (t : Tables) (are : AreTables trees t) where
           orders = orders i;
           order_lines = lines i;
           builds = builds i;
+          spent = spent i;
           counter = counter i;
           answers = answers i;
         }
@@ -193,7 +200,7 @@ module _ (trees : Trees) (t : Tables) (are : AreTables trees t) where
       next = subst (λ (c : Numbering). IsNext c.limits c.next) same-counter within;
       entries =
           sym (ap (λ (m : MetaRow). m.entries) same-meta) ∙ ap (λ (h : Table Entry). table.len h) same-history
-          ∙ as-many (trees (position History)) t.history.items are.sheets.stock.history_are;
+          ∙ as-many (trees (tree_number History)) t.history.items are.sheets.stock.history_are;
       state = subst IsSoundState same-state sound;
     }
 
@@ -217,10 +224,11 @@ pub why-else : (Else : Trees → Type 0) (trees : Trees) (e : OpenFault) → ¬ 
 why-else Else trees why.Memory not said = tt
 why-else Else trees (why.Store failed) not said = tt
 why-else Else trees why.Foreign not said = absurd said
+why-else Else trees why.Old not said = absurd said
 why-else Else trees (why.Damaged told) not said = (said.0, said.1, not)
 
 -- the row that the tables' counter has is the one that was found
-counted : (row : MetaRow) (t : Tables) (limits : Limits) → row.one ≡ 1 → row.version ≡ 1 → t.next ≡ row.next
+counted : (row : MetaRow) (t : Tables) (limits : Limits) → row.one ≡ 1 → row.version ≡ 2 → t.next ≡ row.next
     → t.entries ≡ row.entries → t.limits ≡ limits → limits.numbers ≡ row.max_numbers → limits.entries ≡ row.max_entries
     → meta_in t ≡ row
 counted row t limits one version next entries same numbers most =

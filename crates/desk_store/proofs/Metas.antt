@@ -15,11 +15,11 @@ use Rattle.desk_store.specs.Loading.{AreOfThisVersion, AreTheRows, IsMetaRow, Is
 use Rattle.desk_store.specs.MetaColumns.{meta_columns, meta_from, meta_of, only}
 use Rattle.desk_store.specs.Opening.{AreNoBooks, IsOfOtherVersion, WhyBut, open_fault_of}
 use Rattle.desk_store.specs.declared.fault.OpenFault.{OpenFault}
-use Rattle.desk_store.specs.declared.fault.OpenFault.TheVariants.{Memory, Store, Foreign, Damaged}
+use Rattle.desk_store.specs.declared.fault.OpenFault.TheVariants.{Memory, Store, Foreign, Old, Damaged}
 use Rattle.desk_store.specs.declared.meta.MetaRow.{MetaRow}
 use Rattle.desk_store.proofs.Breaking.{broken-none}
 use Rattle.desk_store.proofs.Readings.{HasRead, reads-ok, reads-why}
-use Rattle.table_store.specs.Schema.{position}
+use Rattle.table_store.specs.Schema.{tree_number}
 use Rattle.table_store.specs.Stored.{AreLoaded, FailsToLoad, HasBadRow, row_of, values_of}
 use Rattle.table_store.specs.Written.{IsTableOf}
 use Rattle.table_store.specs.Faults.{NamesTable}
@@ -36,7 +36,7 @@ no-entries : {X : Type 0} → entries (empty {X = X} {R = key_cmp}) ≡ []
 no-entries {X} = no-length (entries empty) (sym (len-entries empty) ∙ len-empty key_cmp X)
 
 -- the table with one row alone has this row
-values-only : (m : MetaRow) → values (only m) ≡ m ∷ []
+pub values-only : (m : MetaRow) → values (only m) ≡ m ∷ []
 values-only m =
     ap (map (λ (e : List ℕ × MetaRow). e.1))
     (entries-insert keys_total empty (m.one ∷ []) m ∙ ap (put key_cmp (m.one ∷ []) m) (no-entries {X = MetaRow}))
@@ -60,7 +60,7 @@ same-values m n e =
     }
 
 -- the rows of `meta` that were loaded, where its tree is the table of one row
-same-shown : (a : List MetaRow) (m : MetaRow) → map (values_of meta_columns) a ≡ values_of meta_columns m ∷ []
+pub same-shown : (a : List MetaRow) (m : MetaRow) → map (values_of meta_columns) a ≡ values_of meta_columns m ∷ []
     → a ≡ m ∷ []
 same-shown [] m e = cc
 same-shown (a ∷ []) m e =
@@ -76,11 +76,11 @@ loaded-only tree rows m loaded it =
     (sym loaded.same ∙ loaded.loaded ∙ sym it.holds ∙ ap (map (values_of meta_columns)) (values-only m))
 
 -- the rows of a tree are those that were loaded, and no others
-rows-once : (tree : List Row) (a b : List MetaRow) → AreLoaded meta_from meta_columns Meta tree a
+pub rows-once : (tree : List Row) (a b : List MetaRow) → AreLoaded meta_from meta_columns Meta tree a
     → AreLoaded meta_from meta_columns Meta tree b → map (λ (m : MetaRow). Some m) a ≡ map (λ m. Some m) b
 rows-once tree a b one two = sym one.read ∙ ap (map (row_of meta_from)) (one.loaded ∙ sym two.loaded) ∙ two.read
 
-same-rows : (a b : List MetaRow) → map (λ (m : MetaRow). Some m) a ≡ map (λ m. Some m) b → a ≡ b
+pub same-rows : (a b : List MetaRow) → map (λ (m : MetaRow). Some m) a ≡ map (λ m. Some m) b → a ≡ b
 same-rows [] [] e = refl
 same-rows [] (y ∷ ys) e = cc
 same-rows (x ∷ xs) [] e = cc
@@ -92,23 +92,23 @@ same-rows (x ∷ xs) (y ∷ ys) e =
 
 -- where each row has this version, none has another
 this-version : (trees : Trees) (rows : List MetaRow)
-    → AreLoaded meta_from meta_columns Meta (trees (position Meta)) rows → AreOfThisVersion rows
+    → AreLoaded meta_from meta_columns Meta (trees (tree_number Meta)) rows → AreOfThisVersion rows
     → ¬ IsOfOtherVersion trees
 this-version trees rows loaded this other =
     other.other (this other.row
     (subst (λ (ms : List MetaRow). Contains ms other.row)
-    (same-rows other.rows rows (rows-once (trees (position Meta)) other.rows rows other.loaded loaded)) other.there))
+    (same-rows other.rows rows (rows-once (trees (tree_number Meta)) other.rows rows other.loaded loaded)) other.there))
 
 only-one : (row other : MetaRow) → Contains (row ∷ []) other → row ≡ other
 only-one row other (zero, low, is) = is
 only-one row other (suc k, low, is) = absurd (omega (arith, low))
 
-one-version : (rows : List MetaRow) (row : MetaRow) → rows ≡ row ∷ [] → row.version ≡ 1 → AreOfThisVersion rows
+pub one-version : (rows : List MetaRow) (row : MetaRow) → rows ≡ row ∷ [] → row.version ≡ 2 → AreOfThisVersion rows
 one-version rows row is version other there =
-    subst (λ (m : MetaRow). m.version ≡ 1)
+    subst (λ (m : MetaRow). m.version ≡ 2)
     (only-one row other (subst (λ (ms : List MetaRow). Contains ms other) is there)) version
 
-none-bad : (shown : List Row) (rows : List MetaRow) (bad : Row)
+pub none-bad : (shown : List Row) (rows : List MetaRow) (bad : Row)
     → map (row_of meta_from) shown ≡ map (λ (m : MetaRow). Some m) rows → (k : ℕ) → k < length shown
     → slice_index_or shown k bad ≡ bad → row_of meta_from bad ≡ None → ⊥
 none-bad [] rows bad read k low is none = omega (arith, low)
@@ -121,21 +121,21 @@ none-bad (x ∷ xs) (r ∷ rs) bad read (suc k) low is none =
     none-bad xs rs bad rest k (omega (arith, low)) is none
 
 -- rows of which one can't be read tell no version
-pub unread-version : (trees : Trees) → HasBadRow meta_from Meta (trees (position Meta)) → ¬ IsOfOtherVersion trees
+pub unread-version : (trees : Trees) → HasBadRow meta_from Meta (trees (tree_number Meta)) → ¬ IsOfOtherVersion trees
 unread-version trees bad other =
     none-bad bad.shown other.rows bad.bad
     (ap (map (row_of meta_from)) (bad.loaded ∙ sym other.loaded.loaded) ∙ other.loaded.read) bad.there.0 bad.there.1
     bad.there.2 bad.none
 
 module _ (trees : Trees) (rows : List MetaRow)
-    (are : AreTheRows meta_from meta_columns (λ row. row.one ∷ []) Meta (trees (position Meta)) rows) where
-  -- one row with the key 1 and the version 1 is the row of the counter
-  pub meta-row : (row : MetaRow) → rows ≡ row ∷ [] → row.one ≡ 1 → row.version ≡ 1 → IsMetaRow trees row
+    (are : AreTheRows meta_from meta_columns (λ row. row.one ∷ []) Meta (trees (tree_number Meta)) rows) where
+  -- one row with the key 1 and the version 2 is the row of the counter
+  pub meta-row : (row : MetaRow) → rows ≡ row ∷ [] → row.one ≡ 1 → row.version ≡ 2 → IsMetaRow trees row
   meta-row row is one version = record {
-    table = let it : IsTableOf meta_from meta_columns Meta (trees (position Meta)) _ = are.its.table_of in rw is at it;
+    table = let it : IsTableOf meta_from meta_columns Meta (trees (tree_number Meta)) _ = are.its.table_of in rw is at it;
     sole =
         λ other it.
-        let same : other ∷ [] ≡ row ∷ [] = sym (loaded-only (trees (position Meta)) rows other are.loaded it) ∙ is in
+        let same : other ∷ [] ≡ row ∷ [] = sym (loaded-only (trees (tree_number Meta)) rows other are.loaded it) ∙ is in
         cc;
     one = one;
     version = version;
@@ -147,9 +147,10 @@ module _ (trees : Trees) (rows : List MetaRow)
   meta-why Memory none = absurd none
   meta-why (Store failed) none = absurd none
   meta-why Foreign other = record { rows = rows; loaded = are.loaded; row = other.0; there = other.1; other = other.2 }
+  meta-why Old none = absurd none
   meta-why (Damaged None) none = (
     λ s sound within t.
-        none.0 (meta_of s) refl (loaded-only (trees (position Meta)) rows (meta_of s) are.loaded (t Meta)),
+        none.0 (meta_of s) refl (loaded-only (trees (tree_number Meta)) rows (meta_of s) are.loaded (t Meta)),
     tt,
     this-version trees rows are.loaded none.1,
   )
@@ -157,9 +158,9 @@ module _ (trees : Trees) (rows : List MetaRow)
 
 -- the row is found among the rows that were loaded, or they tell why there is none
 pub meta-read : (a b : sqlite.State) (rows : List MetaRow) → HasRead a b
-    → (HasCleanDisk b → AreTheRows meta_from meta_columns (λ row. row.one ∷ []) Meta (a.now.trees (position Meta)) rows)
+    → (HasCleanDisk b → AreTheRows meta_from meta_columns (λ row. row.one ∷ []) Meta (a.now.trees (tree_number Meta)) rows)
     → (r : Result MetaRow OpenFault)
-    → IfOk r (λ row. rows ≡ row ∷ []) → IfOk r (λ row. row.one ≡ 1) → IfOk r (λ row. row.version ≡ 1)
+    → IfOk r (λ row. rows ≡ row ∷ []) → IfOk r (λ row. row.one ≡ 1) → IfOk r (λ row. row.version ≡ 2)
     → IfErr r (IsNoMeta rows) → Reads IsMetaRow (WhyBut IsOfOtherVersion) a b r
 meta-read a b rows read are (Ok row) alone one version why =
     reads-ok IsMetaRow (WhyBut IsOfOtherVersion) a b row read
@@ -174,7 +175,7 @@ meta-unread a b TheFault.Memory failed named = tt
 meta-unread a b (TheFault.Store f) failed named = tt
 meta-unread a b (TheFault.NoTable f) failed named = absurd failed
 meta-unread a b (TheFault.BadRow f) failed named =
-    let none = bad-none meta_from meta_columns Meta (a.now.trees (position Meta)) failed.0 in (
+    let none = bad-none meta_from meta_columns Meta (a.now.trees (tree_number Meta)) failed.0 in (
       broken-none Meta a.now.trees none,
       record { table = Meta; named = named; broken = none },
       unread-version a.now.trees failed.0,

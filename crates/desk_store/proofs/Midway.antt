@@ -1,9 +1,10 @@
 -- How the tables of a transaction go over from one state to another.
-use Rattle.std.proofs.Common.{◌≡◌, ◌≢◌, ◌⊎◌, inl, inr, ℕ, ◌+◌, ◌<◌, ◌≤◌, Bool, true, false, get_or, Result}
+use Rattle.std.proofs.Common.{◌≡◌, ◌≢◌, ◌⊎◌, inl, inr, ℕ, ◌+◌, ◌<◌, ◌≤◌, Bool, true, false, List, [], ◌∷◌, get_or, Result}
 use Rattle.std.proofs.Common.{Ok, Err, OnOk, OnErr, IfErr, refl, sym, ap, ◌∙◌, subst, arith, IsTrue}
 use Rattle.std.proofs.lemmas.Bool.{cases_lt}
 use Rattle.std.specs.Result.{IsErrAnd}
 use Rattle.sqlite.proofs.StateLemmas.{survives_then}
+use Rattle.sqlite.specs.Order.{Row}
 use Rattle.sqlite.specs.State as sqlite
 use Rattle.sqlite.specs.State.{IsRolledBack, IsUnchanged, KeepsCommit, Shows}
 use Rattle.sqlite.specs.Effect.{Database}
@@ -11,9 +12,10 @@ use Rattle.sqlite.specs.Tree.{Trees}
 use Rattle.sqlite_trees.specs.View.{IsShaped}
 use Rattle.sqlite_trees.specs.declared.store.Shape.TheVariants.{Table}
 use Rattle.desk_core.specs.Machine.{State}
-use Rattle.desk_store.specs.StateTables.{HoldsBooks, IsTableIn, TablesAre}
-use Rattle.desk_store.specs.Saving.{Goes, IsMidway, IsUnderWay}
-use Rattle.table_store.specs.Schema.{all_names, position}
+use Rattle.desk_store.specs.MetaColumns.{meta_of}
+use Rattle.desk_store.specs.StateTables.{HoldsBooks, IsTableIn, IsTableSoFar, TablesAre, TablesAreSoFar}
+use Rattle.desk_store.specs.Saving.{Goes, IsMidway, IsUnderWay, turn_of}
+use Rattle.table_store.specs.Schema.{position, tree_number}
 use Rattle.table_store.specs.Transactions.{IsBack, IsOfMemoryOrStore, MayUndo, Stops, StopsBy}
 use Rattle.table_store.specs.Values.{HasTables}
 use Rattle.table_store.specs.Written.{IsReady, Writes, tree_of}
@@ -24,29 +26,36 @@ use Rattle.table_store.specs.declared.fault.TableFault.TheVariants.{Memory, Stor
 use Rattle.table_store.specs.declared.name.TableName.{TableName}
 use Rattle.table_store.specs.declared.name.TableName.TheVariants.{Meta, Categories, Locations, Parts, Lines}
 use Rattle.table_store.specs.declared.name.TableName.TheVariants.{Substitutes, Items, History, Orders}
-use Rattle.table_store.specs.declared.name.TableName.TheVariants.{OrderLines, Builds, Allocations, Kept}
+use Rattle.table_store.specs.declared.name.TableName.TheVariants.{OrderLines, Builds, Allocations, Kept, Spent}
 
 -- ---- the order of the tables
 
-in_own_place : (t : TableName) → get_or all_names (position t) Meta ≡ t
-in_own_place Meta = refl
-in_own_place Categories = refl
-in_own_place Locations = refl
-in_own_place Parts = refl
-in_own_place Lines = refl
-in_own_place Substitutes = refl
-in_own_place Items = refl
-in_own_place History = refl
-in_own_place Orders = refl
-in_own_place OrderLines = refl
-in_own_place Builds = refl
-in_own_place Allocations = refl
-in_own_place Kept = refl
+in_turn : List TableName
+in_turn =
+    Categories ∷ Locations ∷ Parts ∷ Lines ∷ Substitutes ∷ Items ∷ History ∷ Orders ∷ OrderLines ∷ Builds
+    ∷ Allocations ∷ Kept ∷ Spent ∷ Meta ∷ []
 
-one_place : (t u : TableName) → position t ≡ position u → t ≡ u
-one_place t u e = sym (in_own_place t) ∙ ap (λ n. get_or all_names n Meta) e ∙ in_own_place u
+in_own_turn : (t : TableName) → get_or in_turn (turn_of t) Meta ≡ t
+unfolding in_turn
+in_own_turn Meta = refl
+in_own_turn Categories = refl
+in_own_turn Locations = refl
+in_own_turn Parts = refl
+in_own_turn Lines = refl
+in_own_turn Substitutes = refl
+in_own_turn Items = refl
+in_own_turn History = refl
+in_own_turn Orders = refl
+in_own_turn OrderLines = refl
+in_own_turn Builds = refl
+in_own_turn Allocations = refl
+in_own_turn Spent = refl
+in_own_turn Kept = refl
 
-within : (t : TableName) → position t < 13
+one_turn : (t u : TableName) → turn_of t ≡ turn_of u → t ≡ u
+one_turn t u e = sym (in_own_turn t) ∙ ap (λ n. get_or in_turn n Meta) e ∙ in_own_turn u
+
+within : (t : TableName) → turn_of t < 14
 within Meta = omega arith
 within Categories = omega arith
 within Locations = omega arith
@@ -59,37 +68,81 @@ within Orders = omega arith
 within OrderLines = omega arith
 within Builds = omega arith
 within Allocations = omega arith
+within Spent = omega arith
 within Kept = omega arith
+
+-- a further table has its turn by its place
+pub next_turn : (t : TableName) (n : ℕ) → position t ≡ n + 1 → turn_of t ≡ n
+next_turn Meta n e = absurd (omega (arith, e))
+next_turn t n e = omega (arith, e)
+
+-- ---- the row of the counter, which is written last
+
+so_far_one : (s : State) (t : TableName) (tree : List Row) → IsTableIn s t tree → IsTableSoFar s t tree
+so_far_one s Meta tree h = record { row = meta_of s; key = refl; table = h }
+so_far_one s t tree h = h
+
+-- tables that hold a state hold it so far
+pub so_far : (s : State) (trees : Trees) → TablesAre s trees → TablesAreSoFar s trees
+so_far s trees h table = so_far_one s table (trees (tree_number table)) (h table)
+
+further_one : (s : State) (t : TableName) (tree : List Row) → turn_of t < 13 → IsTableSoFar s t tree → IsTableIn s t tree
+further_one s Meta tree low h = absurd (omega (arith, low))
+further_one s t tree low h = h
+
+last_one : (s s' : State) (t : TableName) (tree : List Row) → 13 ≤ turn_of t → IsTableSoFar s t tree
+    → IsTableSoFar s' t tree
+last_one s s' Meta tree high h = h
+last_one s s' t tree high h = absurd (omega (arith, high))
+
+-- ... and all but the last are written of it, whatever was before
+pub all_but_last : (old s : State) (trees : Trees) → TablesAreSoFar s trees → IsMidway old s 13 trees
+all_but_last old s trees h = record {
+  written = λ t low. further_one s t (trees (tree_number t)) low (h t);
+  left = λ t above. last_one s old t (trees (tree_number t)) above (h t);
+}
+
+by_turn : (old new : State) (trees : Trees) → IsMidway old new 13 trees → (t : TableName)
+    → IsTableSoFar new t (trees (tree_number t))
+by_turn old new trees way t =
+    elim (cases_lt (turn_of t) 13) [
+      | inl low ↦ so_far_one new t (trees (tree_number t)) (way.written t low)
+      | inr high ↦ last_one old new t (trees (tree_number t)) high (way.left t high)
+    ]
+
+-- where all but the last are written, the tables hold the new state so far
+pub new_so_far : (old new : State) (trees : Trees) → IsMidway old new 13 trees → TablesAreSoFar new trees
+new_so_far old new trees way table = by_turn old new trees way table
 
 -- ---- one table
 
-module _ (old new : State) (table : TableName) (d e : sqlite.State) (way : IsUnderWay old new (position table) d)
+module _ (old new : State) (table : TableName) (d e : sqlite.State) (way : IsUnderWay old new (turn_of table) d)
     (ready : IsReady e)
     (others : (other : TableName) → other ≢ table → tree_of other e ≡ tree_of other d)
     (is : IsTableIn new table (tree_of table e)) where
-  as_before : (t : TableName) (s : State) → position t ≢ position table → IsTableIn s t (tree_of t d)
-      → IsTableIn s t (tree_of t e)
-  as_before t s apart h = subst (IsTableIn s t) (sym (others t (λ same. apart (ap position same)))) h
+  as_before : (t : TableName) (P : List Row → Type 0) → turn_of t ≢ turn_of table → P (tree_of t d) → P (tree_of t e)
+  as_before t P apart h = subst P (sym (others t (λ same. apart (ap turn_of same)))) h
 
-  written : (t : TableName) → position t < position table + 1 → IsTableIn new t (tree_of t e)
-  written t low = elim (cases_lt (position t) (position table)) [
-    | inl before ↦ as_before t new (λ same. omega (arith, before, same)) (way.midway.written t before)
+  written : (t : TableName) → turn_of t < turn_of table + 1 → IsTableIn new t (tree_of t e)
+  written t low = elim (cases_lt (turn_of t) (turn_of table)) [
+    | inl before ↦ as_before t (IsTableIn new t) (λ same. omega (arith, before, same)) (way.midway.written t before)
     | inr high ↦
-        let same : position t ≡ position table = omega (arith, low, high) in
-        subst (λ u. IsTableIn new u (tree_of u e)) (one_place table t (sym same)) is
+        let same : turn_of t ≡ turn_of table = omega (arith, low, high) in
+        subst (λ u. IsTableIn new u (tree_of u e)) (one_turn table t (sym same)) is
   ]
 
-  left : (t : TableName) → position table + 1 ≤ position t → IsTableIn old t (tree_of t e)
-  left t above = as_before t old (λ same. omega (arith, above, same)) (way.midway.left t (omega (arith, above)))
+  left : (t : TableName) → turn_of table + 1 ≤ turn_of t → IsTableSoFar old t (tree_of t e)
+  left t above =
+      as_before t (IsTableSoFar old t) (λ same. omega (arith, above, same)) (way.midway.left t (omega (arith, above)))
 
   -- the table whose turn it is has become the new state's
-  pub one_more : IsUnderWay old new (position table + 1) e
+  pub one_more : IsUnderWay old new (turn_of table + 1) e
   one_more = record { ready = ready; midway = record { written = written; left = left } }
 
 -- the table whose turn it is was written
-pub one_written : (old new : State) (table : TableName) (d e : sqlite.State) → IsUnderWay old new (position table) d
+pub one_written : (old new : State) (table : TableName) (d e : sqlite.State) → IsUnderWay old new (turn_of table) d
     → Writes table d e → IsTableIn new table (tree_of table e)
-    → IsUnderWay old new (position table + 1) e
+    → IsUnderWay old new (turn_of table + 1) e
 one_written old new table d e way wrote is =
     one_more old new table d e way ((wrote.tables, wrote.shown.mode), wrote.shown.is_open) wrote.others is
 
@@ -105,10 +158,15 @@ survives_same d = record {
 
 -- ---- the first and the last
 
-pub none_yet : (old new : State) (trees : Trees) → TablesAre old trees → IsMidway old new 0 trees
+pub none_yet : (old new : State) (trees : Trees) → TablesAreSoFar old trees → IsMidway old new 0 trees
 none_yet old new trees h = record { written = λ t low. absurd (omega (arith, low)); left = λ t above. h t }
 
-pub all_of_them : (old new : State) (trees : Trees) → IsMidway old new 13 trees → TablesAre new trees
+-- tables that hold a state are all written of it
+pub all_written : (old s : State) (trees : Trees) → TablesAre s trees → IsMidway old s 14 trees
+all_written old s trees h =
+    record { written = λ t low. h t; left = λ t above. absurd (let low = within t in omega (arith, above, low)) }
+
+pub all_of_them : (old new : State) (trees : Trees) → IsMidway old new 14 trees → TablesAre new trees
 all_of_them old new trees h = λ t. h.written t (within t)
 
 -- ---- the transaction
@@ -120,13 +178,13 @@ begun old new d e holds shown tables = record {
   ready = ((tables, shown.mode), shown.is_open);
   midway =
       subst (λ (db : Database). IsMidway old new 0 db.trees) (sym shown.now_is)
-      (none_yet old new d.now.trees holds.books);
+      (none_yet old new d.now.trees (so_far old d.now.trees holds.books));
 }
 
 -- what was committed holds the new state's tables
 pub committed : (old new : State) (d e : sqlite.State)
     → ((db : Trees) → IsTrue e.is_open → e.may_leave db → db ≡ e.committed.trees)
-    → IsUnderWay old new 13 d → Shows d e d.now d.now false → HasTables e → HoldsBooks new e
+    → IsUnderWay old new 14 d → Shows d e d.now d.now false → HasTables e → HoldsBooks new e
 committed old new d e settled way shown tables =
     let all : TablesAre new d.now.trees = all_of_them old new d.now.trees way.midway in
     record {
@@ -150,7 +208,7 @@ undone s d m e settled holds kept back up =
       tables = record {
         schema = ap (λ (db : Database). db.schema) shown ∙ holds.tables.schema;
         shaped =
-            λ table. subst (λ (db : Database). IsShaped Table (db.trees (position table))) (sym shown)
+            λ table. subst (λ (db : Database). IsShaped Table (db.trees (tree_number table))) (sym shown)
             (holds.tables.shaped table);
       };
       books = subst (λ (db : Database). TablesAre s db.trees) (sym shown) holds.books;
@@ -178,6 +236,7 @@ keeps_stopped : (a b : sqlite.State) (c : Cause) → StopsBy a b c → KeepsComm
 keeps_stopped a b (cause.Database error) h = keeps_undone a b h.3
 keeps_stopped a b (cause.NoTable table) h = absurd h
 keeps_stopped a b (cause.BadRow table) h = absurd h
+keeps_stopped a b cause.NoMemory h = absurd h
 
 pub keeps_failed : (a b : sqlite.State) (fault : TableFault) → Stops a b fault → KeepsCommit a b
 keeps_failed a b Memory h = absurd h

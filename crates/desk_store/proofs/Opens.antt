@@ -1,5 +1,5 @@
 -- A database that is opened and read holds the books that were read.
-use Rattle.std.proofs.Common.{◌≡◌, inl, inr, IsTrue, Ok, sym, ap, subst, ◌∙◌}
+use Rattle.std.proofs.Common.{◌≡◌, IsTrue, Ok, sym, ap, subst, ◌∙◌}
 use Rattle.sqlite.specs.Effect.{Database}
 use Rattle.sqlite.specs.Held.{Held, state}
 use Rattle.sqlite.specs.State as sqlite
@@ -11,11 +11,9 @@ use Rattle.desk_core.specs.ShopView.{state_of}
 use Rattle.desk_core.specs.declared.shop.Shop.{Shop}
 use Rattle.desk_store.specs.StateTables.{HoldsBooks, TablesAre}
 use Rattle.desk_store.specs.Loading.{AreBooksOf, Reads}
-use Rattle.desk_store.specs.Opening.{IsOfOtherVersion, WhyBut, WhyNot}
 use Rattle.desk_store.specs.declared.fault.OpenFault.{OpenFault}
-use Rattle.desk_store.specs.declared.fault.OpenFault.TheVariants.{Memory, Store, Foreign, Damaged}
 use Rattle.desk_store.proofs.Readings.{has-read, still-tables, was-clean}
-use Rattle.table_store.specs.Opened.{IsAtRest, IsForeign}
+use Rattle.table_store.specs.Opened.{IsAtRest}
 use Rattle.table_store.specs.Values.{HasTables}
 
 -- a database at rest that is only read stays at rest
@@ -25,18 +23,6 @@ still-rests a b same rest = record {
   free = same.0.mode ∙ rest.free;
   saved = same.0.committed_is ∙ rest.saved ∙ sym same.0.now_is;
 }
-
--- why there is no desk in tables that are none of another schema's
-pub why_not : (trees first : Trees) (e : OpenFault) → trees ≡ first → ¬ IsForeign first
-    → WhyBut IsOfOtherVersion trees e → WhyNot first e
-why_not trees first e same own why = go e (subst (λ t. WhyBut IsOfOtherVersion t e) same why)
-  where
-    go : (e : OpenFault) → WhyBut IsOfOtherVersion first e → WhyNot first e
-    go Memory said = tt
-    go (Store failed) said = tt
-    go Foreign said = inr said
-    go (Damaged told) said =
-        (said.0, said.1, λ else. elim else [ inl foreign ↦ own foreign | inr other ↦ said.2 other ])
 
 module _ {S : Type 0} (g : Ghosts S)
     (settled : (s : S) (db : Trees) → IsTrue (g.view s).is_open → g.recovers s db → db ≡ (g.view s).committed) where
@@ -52,8 +38,8 @@ module _ {S : Type 0} (g : Ghosts S)
         (sym (settled h.store trees rest.is_open may ∙ ap (λ (d : Database). d.trees) rest.saved)) books;
   }
 
-  module _ (opened loaded : Held S) (shop : Shop)
-      (read : Reads AreBooksOf (WhyBut IsOfOtherVersion) (state g opened) (state g loaded) (Ok shop)) where
+  module _ (Why : Trees → OpenFault → Type 0) (opened loaded : Held S) (shop : Shop)
+      (read : Reads AreBooksOf Why (state g opened) (state g loaded) (Ok shop)) where
     -- the books of a shop that was read from a database at rest
     pub opened-books : (HasCleanDisk (state g opened) → IsAtRest (state g opened))
         → (HasCleanDisk (state g opened) → HasTables (state g opened))
@@ -63,5 +49,5 @@ module _ {S : Type 0} (g : Ghosts S)
         let same = read.same clean in
         rests-books (state_of shop) loaded (still-rests (state g opened) (state g loaded) same (rest past))
         (still-tables (state g opened) (state g loaded)
-        (has-read AreBooksOf (WhyBut IsOfOtherVersion) (state g opened) (state g loaded) shop read) tables clean)
+        (has-read AreBooksOf Why (state g opened) (state g loaded) shop read) tables clean)
         (subst (λ (d : Database). TablesAre (state_of shop) d.trees) (sym same.0.now_is) (read.gives clean).tables)

@@ -1,5 +1,5 @@
 -- Calls that read the tables, one after another.
-use Rattle.std.proofs.Common.{List, Option, ◌≡◌, ◌⊎◌, inl, inr, Ok, Err, sym, subst, ◌∙◌, arith}
+use Rattle.std.proofs.Common.{List, Option, ◌≡◌, ◌⊎◌, inl, inr, Ok, Err, OnOk, Result, sym, subst, ◌∙◌, arith}
 use Rattle.sqlite.proofs.Callers.{unchanged_then}
 use Rattle.sqlite.proofs.StateLemmas.{survives_then}
 use Rattle.sqlite.specs.Effect.{Database}
@@ -10,7 +10,7 @@ use Rattle.sqlite_trees.specs.declared.store.Shape.TheVariants.{Table}
 use Rattle.desk_store.specs.Loading.{Reads}
 use Rattle.desk_store.specs.declared.fault.OpenFault.{OpenFault}
 use Rattle.part_core.specs.declared.column.Column.{Column}
-use Rattle.table_store.specs.Schema.{desk_schema, position}
+use Rattle.table_store.specs.Schema.{desk_schema, tree_number}
 use Rattle.table_store.specs.Stored.{FailsToLoad}
 use Rattle.table_store.specs.Transactions.{MayUndo}
 use Rattle.table_store.specs.declared.fault.TableFault.{TableFault}
@@ -68,7 +68,7 @@ still-tables a b read tables clean =
     let same = sym (read.same clean).0.now_is in
     record {
       schema = subst (λ (d : Database). d.schema ≡ desk_schema) same was.schema;
-      shaped = λ table. subst (λ (d : Database). IsShaped Table (d.trees (position table))) same (was.shaped table);
+      shaped = λ table. subst (λ (d : Database). IsShaped Table (d.trees (tree_number table))) same (was.shaped table);
     }
 
 module _ {X : Type 0} (Gives : Trees → X → Type 0) (Why : Trees → OpenFault → Type 0) where
@@ -92,3 +92,18 @@ module _ {X : Type 0} (Gives : Trees → X → Type 0) (Why : Trees → OpenFaul
       → Reads Gives Why a b (Err e)
   reads-why a b e read why =
       record { gives = λ _. tt; why = why; same = λ _. tt; failed = λ clean. inl (read.same clean); crash = read.crash }
+
+module _ {X : Type 0} (Gives : Trees → X → Type 0) (Why Reason : Trees → OpenFault → Type 0) where
+  -- what tells why there is nothing tells it in other words
+  pub reads-as : (a b : State) (r : Result X OpenFault)
+      → (HasCleanDisk b → (e : OpenFault) → Why a.now.trees e → Reason a.now.trees e)
+      → Reads Gives Why a b r → Reads Gives Reason a b r
+  reads-as a b (Ok x) told read =
+      record { gives = read.gives; why = λ _. tt; same = read.same; failed = read.failed; crash = read.crash }
+  reads-as a b (Err e) told read = record {
+    gives = read.gives;
+    why = λ clean. told clean e (read.why clean);
+    same = read.same;
+    failed = read.failed;
+    crash = read.crash;
+  }

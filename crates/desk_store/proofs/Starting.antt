@@ -20,6 +20,7 @@ use Rattle.forest.specs.ItemColumns.{item_columns, item_from}
 use Rattle.alloc_core.specs.AllocationColumns.{allocation_columns, allocation_from}
 use Rattle.order_core.specs.OrderColumns as orders
 use Rattle.build_core.specs.BuildColumns.{build_columns, build_from}
+use Rattle.build_core.specs.SpentColumns.{spent_columns, spent_from}
 use Rattle.desk_core.specs.KeptColumns.{kept_columns, kept_from}
 use Rattle.desk_core.specs.Machine.{start}
 use Rattle.desk_store.specs.StateTables.{TablesAre}
@@ -28,8 +29,9 @@ use Rattle.desk_store.specs.Opening.{IsOfCreating, MayBeMade, open_fault_of}
 use Rattle.desk_store.specs.Saving.{IsUnderWay}
 use Rattle.desk_store.specs.declared.fault.OpenFault.{OpenFault}
 use Rattle.desk_store.specs.declared.fault.OpenFault.TheVariants.{Foreign}
+use Rattle.desk_store.proofs.Midway.{all_written}
 use Rattle.table_store.specs.Making.{IsFresh}
-use Rattle.table_store.specs.Schema.{position}
+use Rattle.table_store.specs.Schema.{tree_number}
 use Rattle.table_store.specs.Transactions.{IsOfMemoryOrStore, IsOfStore, Stops}
 use Rattle.table_store.specs.Values.{IsInside}
 use Rattle.table_store.specs.Written.{IsReady, IsRead, IsTableOf, Writes, tree_of}
@@ -38,7 +40,7 @@ use Rattle.table_store.specs.declared.fault.TableFault.TheVariants.{Memory, Stor
 use Rattle.table_store.specs.declared.name.TableName.{TableName}
 use Rattle.table_store.specs.declared.name.TableName.TheVariants.{Meta, Categories, Locations, Parts, Lines}
 use Rattle.table_store.specs.declared.name.TableName.TheVariants.{Substitutes, Items, History, Orders}
-use Rattle.table_store.specs.declared.name.TableName.TheVariants.{OrderLines, Builds, Allocations, Kept}
+use Rattle.table_store.specs.declared.name.TableName.TheVariants.{OrderLines, Builds, Allocations, Kept, Spent}
 use Rattle.table_store.proofs.Fillings.{holds-empty}
 
 -- an empty tree is the table of no rows
@@ -50,10 +52,10 @@ no_rows from columns table tree none =
 -- beside the row of the counter a new desk's tables have nothing
 pub started : (limits : Limits) (d e : sqlite.State) → IsFresh d → Writes Meta d e
     → IsTableOf meta_from meta_columns Meta (tree_of Meta e) (only (meta_of (start limits)))
-    → IsUnderWay (start limits) (start limits) 13 e
+    → IsUnderWay (start limits) (start limits) 14 e
 started limits d e fresh wrote meta = record {
   ready = ((wrote.tables, wrote.shown.mode), wrote.shown.is_open);
-  midway = record { written = λ table low. each_one table; left = λ table above. each_one table };
+  midway = all_written (start limits) (start limits) e.now.trees each_one;
 }
   where
     each_one : TablesAre (start limits) e.now.trees
@@ -87,6 +89,9 @@ started limits d e fresh wrote meta = record {
     each_one Allocations =
         no_rows allocation_from allocation_columns Allocations (tree_of Allocations e)
         (wrote.others Allocations (λ e. cc) ∙ fresh.empty Allocations)
+    each_one Spent =
+        no_rows spent_from spent_columns Spent (tree_of Spent e)
+        (wrote.others Spent (λ e. cc) ∙ fresh.empty Spent)
     each_one Kept =
         no_rows kept_from kept_columns Kept (tree_of Kept e) (wrote.others Kept (λ e. cc) ∙ fresh.empty Kept)
 
@@ -97,7 +102,7 @@ ready_still d e inside same = (
     record {
       schema = ap (λ (db : Database). db.schema) same.0.now_is ∙ inside.0.schema;
       shaped =
-          λ table. subst (λ (db : Database). IsShaped Table (db.trees (position table))) (sym same.0.now_is)
+          λ table. subst (λ (db : Database). IsShaped Table (db.trees (tree_number table))) (sym same.0.now_is)
           (inside.0.shaped table);
     },
     same.0.mode ∙ inside.1,
@@ -108,7 +113,7 @@ ready_still d e inside same = (
 pub fresh_still : (d e : sqlite.State) → IsFresh d → sqlite.IsUnchanged d e → IsFresh e
 fresh_still d e fresh same = record {
   schema = ap (λ (db : Database). db.schema) same.0.now_is ∙ fresh.schema;
-  empty = λ table. ap (λ (db : Database). db.trees (position table)) same.0.now_is ∙ fresh.empty table;
+  empty = λ table. ap (λ (db : Database). db.trees (tree_number table)) same.0.now_is ∙ fresh.empty table;
 }
 
 -- ---- faults

@@ -3,6 +3,8 @@ pub mod StateTables
 pub mod Saving
 pub mod Outcomes
 pub mod Desks
+pub mod Groups
 pub mod Opening
+pub mod Migrating
 pub mod Loading
 pub mod Exports

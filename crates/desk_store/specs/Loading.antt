@@ -23,7 +23,9 @@ use Rattle.order_core.specs.OrderColumns as orders
 use Rattle.order_core.specs.declared.line.OrderLine.{OrderLine}
 use Rattle.order_core.specs.declared.order.Order.{Order}
 use Rattle.build_core.specs.BuildColumns.{build_columns, build_from}
+use Rattle.build_core.specs.SpentColumns.{spent_columns, spent_from}
 use Rattle.build_core.specs.declared.build.Build.{Build}
+use Rattle.build_core.specs.declared.spent.Spent.{Spent as SpentRow}
 use Rattle.desk_core.specs.KeptColumns.{kept_columns, kept_from}
 use Rattle.desk_core.specs.Machine as machine
 use Rattle.desk_core.specs.ShopView.{state_of}
@@ -32,17 +34,17 @@ use Rattle.desk_core.specs.declared.shop.Shop.{Shop}
 use Rattle.desk_core.specs.declared.shop.assemble.Tables.{Tables}
 use Rattle.desk_store.specs.StateTables.{TablesAre}
 use Rattle.desk_store.specs.MetaColumns.{meta_columns, meta_from, only}
-use Rattle.desk_store.specs.Opening.{IsOfOtherVersion}
+use Rattle.desk_store.specs.Opening.{AreOfVersion, HasOtherVersion, IsOfOtherVersion, IsOld}
 use Rattle.desk_store.specs.declared.fault.OpenFault.{OpenFault}
 use Rattle.desk_store.specs.declared.fault.OpenFault.TheVariants as why
 use Rattle.desk_store.specs.declared.meta.MetaRow.{MetaRow}
-use Rattle.table_store.specs.Schema.{position}
+use Rattle.table_store.specs.Schema.{tree_number}
 use Rattle.table_store.specs.Stored.{AreLoaded}
 use Rattle.table_store.specs.Written.{AreItsRows, IsTableOf}
 use Rattle.table_store.specs.declared.name.TableName.{TableName}
 use Rattle.table_store.specs.declared.name.TableName.TheVariants.{Meta, Categories, Locations, Parts, Lines}
 use Rattle.table_store.specs.declared.name.TableName.TheVariants.{Substitutes, Items, History, Orders}
-use Rattle.table_store.specs.declared.name.TableName.TheVariants.{OrderLines, Builds, Allocations, Kept}
+use Rattle.table_store.specs.declared.name.TableName.TheVariants.{OrderLines, Builds, Allocations, Kept, Spent}
 
 -- ---- calls that read
 
@@ -65,65 +67,74 @@ module _ {R : Type 0} (row_from : List Column → Option R) (columns_of : R → 
 
 pub record ArePartRows (trees : Trees) (categories : List Category) (parts : List Part) : Type 0 where
   pub categories_are : AreTheRows named_from named_columns (λ row. row.number ∷ []) Categories
-      (trees (position Categories)) categories
-  pub parts_are : AreTheRows part_from part_columns (λ row. row.number ∷ []) Parts (trees (position Parts)) parts
+      (trees (tree_number Categories)) categories
+  pub parts_are : AreTheRows part_from part_columns (λ row. row.number ∷ []) Parts (trees (tree_number Parts)) parts
 
 pub record AreBillRows (trees : Trees) (lines : List Line) (substitutes : List Substitute) : Type 0 where
-  pub lines_are : AreTheRows line_from line_columns (λ row. row.number ∷ []) Lines (trees (position Lines)) lines
+  pub lines_are : AreTheRows line_from line_columns (λ row. row.number ∷ []) Lines (trees (tree_number Lines)) lines
   pub substitutes_are : AreTheRows substitute_from substitute_columns (λ row. row.number ∷ []) Substitutes
-      (trees (position Substitutes)) substitutes
+      (trees (tree_number Substitutes)) substitutes
 
 pub record AreStockRows (trees : Trees) (locations : List Location) (items : List Item)
     (history : List Entry) : Type 0 where
   pub locations_are : AreTheRows named_from named_columns (λ row. row.number ∷ []) Locations
-      (trees (position Locations)) locations
-  pub items_are : AreTheRows item_from item_columns (λ row. row.number ∷ []) Items (trees (position Items)) items
+      (trees (tree_number Locations)) locations
+  pub items_are : AreTheRows item_from item_columns (λ row. row.number ∷ []) Items (trees (tree_number Items)) items
   pub history_are : AreTheRows entry_from entry_columns (λ row. row.number ∷ []) History
-      (trees (position History)) history
+      (trees (tree_number History)) history
 
 pub record AreOrderRows (trees : Trees) (orders_in : List Order) (lines : List OrderLine) : Type 0 where
   pub orders_are : AreTheRows orders.order_from orders.order_columns (λ row. row.number ∷ []) Orders
-      (trees (position Orders)) orders_in
+      (trees (tree_number Orders)) orders_in
   pub lines_are : AreTheRows orders.line_from orders.line_columns (λ row. row.number ∷ []) OrderLines
-      (trees (position OrderLines)) lines
+      (trees (tree_number OrderLines)) lines
 
-pub record AreBuildRows (trees : Trees) (builds : List Build) (allocations : List Allocation) : Type 0 where
-  pub builds_are : AreTheRows build_from build_columns (λ row. row.number ∷ []) Builds (trees (position Builds)) builds
+pub record AreBuildRows (trees : Trees) (builds : List Build) (allocations : List Allocation)
+    (spent : List SpentRow) : Type 0 where
+  pub builds_are : AreTheRows build_from build_columns (λ row. row.number ∷ []) Builds (trees (tree_number Builds)) builds
   pub allocations_are : AreTheRows allocation_from allocation_columns (λ row. row.number ∷ []) Allocations
-      (trees (position Allocations)) allocations
+      (trees (tree_number Allocations)) allocations
+  pub spent_are : AreTheRows spent_from spent_columns (λ row. row.number ∷ []) Spent (trees (tree_number Spent)) spent
 
 abbrev pub AreAnswers : Trees → List KeptRow → Type 0
-AreAnswers trees answers = AreItsRows kept_from kept_columns (λ row. row.word) Kept (trees (position Kept)) answers
+AreAnswers trees answers = AreItsRows kept_from kept_columns (λ row. row.word) Kept (trees (tree_number Kept)) answers
 
 -- ---- the row of the counter
 
--- the tree of `meta` is the table of this row alone, which has the key 1 and the version 1, and of no other; so no row
+-- the tree of `meta` is the table of this row alone, which has the key 1 and the version 2, and of no other; so no row
 -- there has another version
 pub record IsMetaRow (trees : Trees) (row : MetaRow) : Type 0 where
-  pub table : IsTableOf meta_from meta_columns Meta (trees (position Meta)) (only row)
-  pub sole : (other : MetaRow) → IsTableOf meta_from meta_columns Meta (trees (position Meta)) (only other)
+  pub table : IsTableOf meta_from meta_columns Meta (trees (tree_number Meta)) (only row)
+  pub sole : (other : MetaRow) → IsTableOf meta_from meta_columns Meta (trees (tree_number Meta)) (only other)
       → other ≡ row
   pub one : row.one ≡ 1
-  pub version : row.version ≡ 1
+  pub version : row.version ≡ 2
   pub this : ¬ IsOfOtherVersion trees
 
--- each of these rows has the version 1
+-- each of these rows has the version 2
 abbrev pub AreOfThisVersion : List MetaRow → Type 0
-AreOfThisVersion rows = (row : MetaRow) → Contains rows row → row.version ≡ 1
+AreOfThisVersion = AreOfVersion 2
 
--- why these rows of `meta` aren't one row with the key 1 and the version 1
+-- why these rows of `meta` aren't one row with the key 1 and the version 2
 abbrev pub IsNoMeta : List MetaRow → OpenFault → Type 0
 IsNoMeta rows why.Memory = ⊥
 IsNoMeta rows (why.Store failed) = ⊥
-IsNoMeta rows why.Foreign = (row : MetaRow) × Contains rows row × (row.version ≢ 1)
+IsNoMeta rows why.Foreign = HasOtherVersion 2 rows
+IsNoMeta rows why.Old = ⊥
 IsNoMeta rows (why.Damaged None) = ((row : MetaRow) → row.one ≡ 1 → rows ≢ row ∷ []) × AreOfThisVersion rows
 IsNoMeta rows (why.Damaged (Some failed)) = ⊥
+
+-- these rows are those of `meta` in the tables of version 1
+pub record AreOldRows (trees : Trees) (rows : List MetaRow) : Type 0 where
+  pub are : AreTheRows meta_from meta_columns (λ row. row.one ∷ []) Meta (trees (tree_number Meta)) rows
+  pub version : AreOfVersion 1 rows
+  pub old : IsOld trees
 
 -- the row that the counter of these tables has
 abbrev pub meta_in : Tables → MetaRow
 meta_in t = record {
   one = 1;
-  version = 1;
+  version = 2;
   next = t.next;
   entries = t.entries;
   max_numbers = t.limits.numbers;
@@ -138,7 +149,7 @@ pub record AreSheets (trees : Trees) (t : Tables) : Type 0 where
   pub bills : AreBillRows trees t.lines.items t.substitutes.items
   pub stock : AreStockRows trees t.locations.items t.items.items t.history.items
   pub orders : AreOrderRows trees t.orders.items t.order_lines.items
-      × AreBuildRows trees t.builds.items t.allocations.items
+      × AreBuildRows trees t.builds.items t.allocations.items t.spent.items
   pub answers : AreAnswers trees t.answers.items
 
 -- these rows are those of the tables

@@ -1,6 +1,7 @@
 -- Why a database is no desk's.
-use Rattle.std.specs.Prelude.{codes, ◌≡◌, ◌≢◌, ◌⊎◌, ℕ, List, Option, None, Some, Contains}
+use Rattle.std.specs.Prelude.{codes, ◌≡◌, ◌≢◌, ◌⊎◌, ℕ, List, [], Option, None, Some, Contains}
 use Rattle.sqlite.specs.Tree.{Trees}
+use Rattle.sqlite_catalog.specs.Listing.{IsSound}
 use Rattle.part_core.specs.NamedRows.{named_columns, named_from}
 use Rattle.part_core.specs.Counter.{IsNext}
 use Rattle.part_core.specs.PartColumns.{part_columns, part_from}
@@ -11,16 +12,17 @@ use Rattle.forest.specs.ItemColumns.{item_columns, item_from}
 use Rattle.alloc_core.specs.AllocationColumns.{allocation_columns, allocation_from}
 use Rattle.order_core.specs.OrderColumns as orders
 use Rattle.build_core.specs.BuildColumns.{build_columns, build_from}
+use Rattle.build_core.specs.SpentColumns.{spent_columns, spent_from}
 use Rattle.desk_core.specs.KeptColumns.{kept_columns, kept_from}
 use Rattle.desk_core.specs.Machine.{IsSoundState, State, start}
 use Rattle.desk_store.specs.StateTables.{TablesAre}
 use Rattle.desk_store.specs.MetaColumns.{meta_columns, meta_from}
 use Rattle.desk_store.specs.declared.fault.OpenFault.{OpenFault}
-use Rattle.desk_store.specs.declared.fault.OpenFault.TheVariants.{Memory, Store, Foreign, Damaged}
+use Rattle.desk_store.specs.declared.fault.OpenFault.TheVariants.{Memory, Store, Foreign, Old, Damaged}
 use Rattle.desk_store.specs.declared.meta.MetaRow.{MetaRow}
 use Rattle.table_store.specs.Faults.{failed_text}
 use Rattle.table_store.specs.Opened.{IsForeign}
-use Rattle.table_store.specs.Schema.{position}
+use Rattle.table_store.specs.Schema.{desk_schema, old_schema, tree_number}
 use Rattle.table_store.specs.Stored.{AreLoaded}
 use Rattle.table_store.specs.Written.{IsTableOfNone, IsTableOfNoneOwn}
 use Rattle.table_store.specs.declared.fault.Cause.TheVariants.{BadRow}
@@ -30,15 +32,37 @@ use Rattle.table_store.specs.declared.fault.TableFault.TheVariants as table_faul
 use Rattle.table_store.specs.declared.name.TableName.{TableName}
 use Rattle.table_store.specs.declared.name.TableName.TheVariants.{Meta, Categories, Locations, Parts, Lines}
 use Rattle.table_store.specs.declared.name.TableName.TheVariants.{Substitutes, Items, History, Orders}
-use Rattle.table_store.specs.declared.name.TableName.TheVariants.{OrderLines, Builds, Allocations, Kept}
+use Rattle.table_store.specs.declared.name.TableName.TheVariants.{OrderLines, Builds, Allocations, Kept, Spent}
 
 -- the rows of `meta` are such rows, and one has another version
 pub record IsOfOtherVersion (trees : Trees) : Type 0 where
   pub rows : List MetaRow
-  pub loaded : AreLoaded meta_from meta_columns Meta (trees (position Meta)) rows
+  pub loaded : AreLoaded meta_from meta_columns Meta (trees (tree_number Meta)) rows
   pub row : MetaRow
   pub there : Contains rows row
-  pub other : row.version ≢ 1
+  pub other : row.version ≢ 2
+
+-- each of these rows has this version
+abbrev pub AreOfVersion : ℕ → List MetaRow → Type 0
+AreOfVersion version rows = (row : MetaRow) → Contains rows row → row.version ≡ version
+
+-- one of these rows has another version
+abbrev pub HasOtherVersion : ℕ → List MetaRow → Type 0
+HasOtherVersion version rows = (row : MetaRow) × Contains rows row × (row.version ≢ version)
+
+-- they are the tables of version 1: the schema is, and `meta` has rows, each of which can be read and has version 1
+pub record IsOld (trees : Trees) : Type 0 where
+  pub listed : IsSound old_schema trees
+  pub rows : List MetaRow
+  pub loaded : AreLoaded meta_from meta_columns Meta (trees (tree_number Meta)) rows
+  pub some : rows ≢ []
+  pub version : AreOfVersion 1 rows
+
+-- they are no desk's: the schema is another one, or it is version 1's and the tables aren't, or it is this version's
+-- and `meta` has another version
+abbrev pub AreForeign : Trees → Type 0
+AreForeign trees =
+    IsForeign trees ⊎ ((IsSound old_schema trees × ¬ IsOld trees) ⊎ (IsSound desk_schema trees × IsOfOtherVersion trees))
 
 -- the tables are those of no sound state whose next number is one that the limits allow
 abbrev pub AreNoBooks : Trees → Type 0
@@ -46,19 +70,20 @@ AreNoBooks trees = (s : State) → IsSoundState s → IsNext s.counter.limits s.
 
 -- the table is that of no rows of the machine, and `kept` of none that stand under their words
 abbrev pub IsBroken : TableName → Trees → Type 0
-IsBroken Meta trees = IsTableOfNone meta_from meta_columns Meta (trees (position Meta))
-IsBroken Categories trees = IsTableOfNone named_from named_columns Categories (trees (position Categories))
-IsBroken Locations trees = IsTableOfNone named_from named_columns Locations (trees (position Locations))
-IsBroken Parts trees = IsTableOfNone part_from part_columns Parts (trees (position Parts))
-IsBroken Lines trees = IsTableOfNone line_from line_columns Lines (trees (position Lines))
-IsBroken Substitutes trees = IsTableOfNone substitute_from substitute_columns Substitutes (trees (position Substitutes))
-IsBroken Items trees = IsTableOfNone item_from item_columns Items (trees (position Items))
-IsBroken History trees = IsTableOfNone entry_from entry_columns History (trees (position History))
-IsBroken Orders trees = IsTableOfNone orders.order_from orders.order_columns Orders (trees (position Orders))
-IsBroken OrderLines trees = IsTableOfNone orders.line_from orders.line_columns OrderLines (trees (position OrderLines))
-IsBroken Builds trees = IsTableOfNone build_from build_columns Builds (trees (position Builds))
-IsBroken Allocations trees = IsTableOfNone allocation_from allocation_columns Allocations (trees (position Allocations))
-IsBroken Kept trees = IsTableOfNoneOwn kept_from kept_columns (λ row. row.word) Kept (trees (position Kept))
+IsBroken Meta trees = IsTableOfNone meta_from meta_columns Meta (trees (tree_number Meta))
+IsBroken Categories trees = IsTableOfNone named_from named_columns Categories (trees (tree_number Categories))
+IsBroken Locations trees = IsTableOfNone named_from named_columns Locations (trees (tree_number Locations))
+IsBroken Parts trees = IsTableOfNone part_from part_columns Parts (trees (tree_number Parts))
+IsBroken Lines trees = IsTableOfNone line_from line_columns Lines (trees (tree_number Lines))
+IsBroken Substitutes trees = IsTableOfNone substitute_from substitute_columns Substitutes (trees (tree_number Substitutes))
+IsBroken Items trees = IsTableOfNone item_from item_columns Items (trees (tree_number Items))
+IsBroken History trees = IsTableOfNone entry_from entry_columns History (trees (tree_number History))
+IsBroken Orders trees = IsTableOfNone orders.order_from orders.order_columns Orders (trees (tree_number Orders))
+IsBroken OrderLines trees = IsTableOfNone orders.line_from orders.line_columns OrderLines (trees (tree_number OrderLines))
+IsBroken Builds trees = IsTableOfNone build_from build_columns Builds (trees (tree_number Builds))
+IsBroken Allocations trees = IsTableOfNone allocation_from allocation_columns Allocations (trees (tree_number Allocations))
+IsBroken Spent trees = IsTableOfNone spent_from spent_columns Spent (trees (tree_number Spent))
+IsBroken Kept trees = IsTableOfNoneOwn kept_from kept_columns (λ row. row.word) Kept (trees (tree_number Kept))
 
 -- the fault names a table that is broken
 pub record NamesBroken (trees : Trees) (failed : Failed) : Type 0 where
@@ -71,16 +96,28 @@ abbrev pub IsDamage : Trees → Option Failed → Type 0
 IsDamage trees None = Unit {0}
 IsDamage trees (Some failed) = NamesBroken trees failed
 
--- what it tells of the tables that there is no desk: they are foreign in this sense, or damaged and not foreign
-abbrev pub WhyBut : (Trees → Type 0) → Trees → OpenFault → Type 0
-WhyBut AreForeign trees Memory = Unit {0}
-WhyBut AreForeign trees (Store failed) = Unit {0}
-WhyBut AreForeign trees Foreign = AreForeign trees
-WhyBut AreForeign trees (Damaged told) = AreNoBooks trees × IsDamage trees told × ¬ AreForeign trees
-
--- the tables are foreign where they are another schema's, or of another version
+-- what it tells of the tables that there is no desk: they are no desk's, those of version 1, or damaged and neither
 abbrev pub WhyNot : Trees → OpenFault → Type 0
-WhyNot = WhyBut (λ trees. IsForeign trees ⊎ IsOfOtherVersion trees)
+WhyNot trees Memory = Unit {0}
+WhyNot trees (Store failed) = Unit {0}
+WhyNot trees Foreign = AreForeign trees
+WhyNot trees Old = IsOld trees
+WhyNot trees (Damaged told) = AreNoBooks trees × IsDamage trees told × ¬ AreForeign trees × ¬ IsOld trees
+
+-- what it tells of tables of this version's schema: they are foreign in this sense, or damaged and not foreign
+abbrev pub WhyBut : (Trees → Type 0) → Trees → OpenFault → Type 0
+WhyBut AreOthers trees Memory = Unit {0}
+WhyBut AreOthers trees (Store failed) = Unit {0}
+WhyBut AreOthers trees Foreign = AreOthers trees
+WhyBut AreOthers trees Old = ⊥
+WhyBut AreOthers trees (Damaged told) = AreNoBooks trees × IsDamage trees told × ¬ AreOthers trees
+
+-- what it tells of tables of version 1's schema that the rows of `meta` aren't version 1's
+abbrev pub WhyNoneOld : Trees → OpenFault → Type 0
+WhyNoneOld trees Memory = Unit {0}
+WhyNoneOld trees (Store failed) = Unit {0}
+WhyNoneOld trees Foreign = IsSound old_schema trees × ¬ IsOld trees
+WhyNoneOld trees _ = ⊥
 
 -- what it tells of tables whose schema and version aren't looked at
 abbrev pub WhyUnread : Trees → OpenFault → Type 0
@@ -88,6 +125,7 @@ WhyUnread = WhyBut (λ trees. ⊥)
 
 -- a fault that the making of a desk may end with
 abbrev pub IsOfCreating : OpenFault → Type 0
+IsOfCreating Old = ⊥
 IsOfCreating (Damaged failed) = ⊥
 IsOfCreating _ = Unit {0}
 
@@ -108,5 +146,6 @@ abbrev pub open_fault_text : OpenFault → Option (List ℕ)
 open_fault_text Memory = Some (codes "no memory")
 open_fault_text (Store failed) = failed_text failed
 open_fault_text Foreign = Some (codes "the file is no workshop's, or of another version")
+open_fault_text Old = Some (codes "the file was written by an earlier version of this program")
 open_fault_text (Damaged (Some failed)) = failed_text failed
 open_fault_text (Damaged None) = Some (codes "the rows of the tables do not fit one another")

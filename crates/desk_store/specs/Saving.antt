@@ -1,5 +1,5 @@
 -- A state goes into the tables in the place of another, one table after the other.
-use Rattle.std.specs.Prelude.{◌⊎◌, ◌<◌, ◌≤◌, ◌^◌, ℕ, All, List, Option, Result, IfErr, OnOk}
+use Rattle.std.specs.Prelude.{◌⊎◌, ◌<◌, ◌≤◌, ◌^◌, ◌-◌, ℕ, All, List, Option, Result, IfErr, OnOk}
 use Rattle.sqlite.specs.Order.{Row}
 use Rattle.sqlite.specs.State as sqlite
 use Rattle.sqlite.specs.State.{HasCleanDisk, KeepsCommit, Survives}
@@ -12,21 +12,28 @@ use Rattle.part_core.specs.declared.column.Column.{Column}
 use Rattle.desk_core.specs.Machine.{IsSoundState, State}
 use Rattle.desk_core.specs.Small.{HasSmallRows}
 use Rattle.desk_core.specs.Staying.{AllStay}
-use Rattle.desk_store.specs.StateTables.{IsTableIn}
+use Rattle.desk_store.specs.StateTables.{IsTableIn, IsTableSoFar}
 use Rattle.desk_store.specs.MetaColumns.{meta_columns, meta_of}
-use Rattle.table_store.specs.Schema.{position}
+use Rattle.table_store.specs.Schema.{position, tree_number}
 use Rattle.table_store.specs.Transactions.{IsOfMemoryOrStore}
 use Rattle.table_store.specs.Values.{AreDropped}
 use Rattle.table_store.specs.Written.{IsReady, IsTableOf, Suits}
 use Rattle.table_store.specs.declared.fault.TableFault.{TableFault}
 use Rattle.table_store.specs.declared.name.TableName.{TableName}
+use Rattle.table_store.specs.declared.name.TableName.TheVariants.{Meta}
 
 -- ---- tables that are written
 
--- the first so many tables are those of the new state, and the others those of the old one
+-- the turn of a table: all are written in their order, but for `meta`, whose turn is the last
+abbrev pub turn_of : TableName → ℕ
+turn_of Meta = 13
+turn_of table = position table - 1
+
+-- so many turns are over: the tables that had theirs are those of the new state, and the others those of the old one, but
+-- that the row of the counter may be another's
 pub record IsMidway (old new : State) (count : ℕ) (trees : Trees) : Type 0 where
-  pub written : (table : TableName) → position table < count → IsTableIn new table (trees (position table))
-  pub left : (table : TableName) → count ≤ position table → IsTableIn old table (trees (position table))
+  pub written : (table : TableName) → turn_of table < count → IsTableIn new table (trees (tree_number table))
+  pub left : (table : TableName) → count ≤ turn_of table → IsTableSoFar old table (trees (tree_number table))
 
 -- so it is within a transaction, and the database answers
 pub record IsUnderWay (old new : State) (count : ℕ) (d : sqlite.State) : Type 0 where
@@ -50,7 +57,7 @@ module _ {R : Type 0} (row_from : List Column → Option R) (columns_of : R → 
     pub own : StandUnderKeys key_of (now_of sheet) × StandUnderKeys key_of sheet.before
     pub small : AreSmall columns_of (now_of sheet) × AreSmall columns_of sheet.before
     pub stays : AreDropped table ⊎ StayThere sheet.before (now_of sheet)
-    pub was : (tree : List Row) → IsTableIn old table tree → IsTableOf row_from columns_of table tree sheet.before
+    pub was : (tree : List Row) → IsTableSoFar old table tree → IsTableOf row_from columns_of table tree sheet.before
     pub is : (tree : List Row) → IsTableOf row_from columns_of table tree (now_of sheet) → IsTableIn new table tree
 
 -- no number that a row may have is too large for a file

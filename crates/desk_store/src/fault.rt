@@ -38,8 +38,10 @@ pub enum OpenFault {
     Memory,
     /// The database failed.
     Store(Failed),
-    /// The database has other tables than a desk's, or those of another version.
+    /// The database has other tables than a desk's, or those of a version that this program doesn't know.
     Foreign,
+    /// The tables are those of version 1, which an earlier program wrote: `Desk::migrate` brings them along.
+    Old,
     /// The rows are the tables of no sound state: a row of a table is none of the machine's, or they are together no
     /// state that a run could have left.
     Damaged(Option<Failed>),
@@ -82,6 +84,9 @@ impl fmt::Display for OpenFault {
             OpenFault::Memory => f.write_str("no memory"),
             OpenFault::Store(failed) => write!(f, "{failed}"),
             OpenFault::Foreign => f.write_str("the file is no workshop's, or of another version"),
+            OpenFault::Old => {
+                f.write_str("the file was written by an earlier version of this program")
+            }
             OpenFault::Damaged(Some(failed)) => write!(f, "{failed}"),
             OpenFault::Damaged(None) => {
                 f.write_str("the rows of the tables do not fit one another")

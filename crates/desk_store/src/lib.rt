@@ -1,13 +1,17 @@
-//! The desk: a shop whose state is kept in a database, one transaction for each request.
+//! The desk: a shop whose state is kept in a database, one transaction for each request or for a group of them.
 #![tactic(auto)]
 
+mod add;
 mod create;
 mod desk;
 mod export;
 mod fault;
+mod group;
 mod laws;
 mod load;
 mod meta;
+mod migrate;
+mod old;
 mod open;
 mod save;
 mod sending;

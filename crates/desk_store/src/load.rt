@@ -13,7 +13,7 @@ ghost use Rattle.desk_store.specs.Loading.{AreAnswers, AreBillRows, AreBooksOf, 
 ghost use Rattle.desk_store.specs.Loading.{AreOrderRows, ArePartRows, AreStockRows};
 ghost use Rattle.desk_store.specs.Loading.{AreSheets, AreTables, AreTheRows, IsMetaRow, IsNoMeta, Reads};
 ghost use Rattle.desk_store.specs.Opening.{IsBroken, IsOfOtherVersion, WhyBut, WhyUnread};
-ghost use Rattle.table_store.specs.Schema.{position};
+ghost use Rattle.table_store.specs.Schema.{tree_number};
 ghost use Rattle.table_store.specs.Values.{HasTables};
 ghost use Rattle.table_store.specs.Written.{IsTableOfNone, Suits};
 
@@ -21,7 +21,7 @@ use crate::fault::OpenFault;
 use crate::meta::MetaRow;
 use alloc_core::Allocation;
 use bom_core::{Line, Substitute};
-use build_core::Build;
+use build_core::{Build, Spent};
 use desk_core::{AssembleFault, Kept, Shop, Tables};
 use order_core::{Order, OrderLine};
 use part_core::{Category, Limits, Part, Stored};
@@ -39,11 +39,11 @@ fn load_rows<S: Alter, R: Stored>(
     requires tables { HasCleanDisk (state S.Store conn.old) → HasTables (state S.Store conn.old) }
     requires suits { Suits R.columns_of R.key_of number_digits table }
     requires breaks { (trees : Trees)
-        → IsTableOfNone R.row_from R.columns_of table (trees (position table))
+        → IsTableOfNone R.row_from R.columns_of table (trees (tree_number table))
         → IsBroken table trees }
     ensures { Reads
         (λ trees rows. AreTheRows R.row_from R.columns_of R.key_of table
-        (trees (position table)) rows.items)
+        (trees (tree_number table)) rows.items)
         WhyUnread (state S.Store conn.old) (state S.Store conn.new) result }
 {
     match load_sheet::<S, R>(alloc, conn, table) {
@@ -68,11 +68,11 @@ fn load_answers<S: Alter>(alloc: Global, conn: &mut Connection<S>) -> Result<Vec
 fn meta_in(rows: &[MetaRow]) -> Result<MetaRow, OpenFault>
     ensures alone { IfOk result (λ row. rows.now ≡ row ∷ []) }
     ensures one { IfOk result (λ row. row.one ≡ 1) }
-    ensures version { IfOk result (λ row. row.version ≡ 1) }
+    ensures version { IfOk result (λ row. row.version ≡ 2) }
     ensures why { IfErr result (IsNoMeta rows.now) }
 {
     for row in rows {
-        if row.version != 1 {
+        if row.version != 2 {
             return Err(OpenFault::Foreign);
         }
     }
@@ -184,33 +184,43 @@ fn load_order_rows<S: Alter>(
     Ok((orders, lines))
 }
 
-/// The rows of the builds and of the allocations.
+/// The rows of the builds, of the allocations and of what was spent.
 fn load_build_rows<S: Alter>(
     alloc: Global,
     conn: &mut Connection<S>,
-) -> Result<(Vec<Build>, Vec<Allocation>), OpenFault>
+) -> Result<(Vec<Build>, Vec<Allocation>, Vec<Spent>), OpenFault>
     requires { HasCleanDisk (state S.Store conn.old) → HasTables (state S.Store conn.old) }
-    ensures { Reads (λ trees rows. AreBuildRows trees rows.0.items rows.1.items) WhyUnread
-        (state S.Store conn.old) (state S.Store conn.new) result }
+    ensures { Reads (λ trees rows. AreBuildRows trees rows.0.items rows.1.items rows.2.items)
+        WhyUnread (state S.Store conn.old) (state S.Store conn.new) result }
 {
     let builds = load_rows::<S, Build>(alloc, conn, TableName::Builds)?;
     let allocations = load_rows::<S, Allocation>(alloc, conn, TableName::Allocations)?;
-    Ok((builds, allocations))
+    let spent = load_rows::<S, Spent>(alloc, conn, TableName::Spent)?;
+    Ok((builds, allocations, spent))
 }
 
-/// The rows of the orders, of their lines, of the builds and of the allocations.
+/// The rows of the orders, of their lines, of the builds, of the allocations and of what was spent.
 fn load_orders<S: Alter>(
     alloc: Global,
     conn: &mut Connection<S>,
-) -> Result<(Vec<Order>, Vec<OrderLine>, Vec<Build>, Vec<Allocation>), OpenFault>
+) -> Result<
+    (
+        Vec<Order>,
+        Vec<OrderLine>,
+        Vec<Build>,
+        Vec<Allocation>,
+        Vec<Spent>,
+    ),
+    OpenFault,
+>
     requires { HasCleanDisk (state S.Store conn.old) → HasTables (state S.Store conn.old) }
     ensures { Reads (λ trees rows. AreOrderRows trees rows.0.items rows.1.items
-        × AreBuildRows trees rows.2.items rows.3.items) WhyUnread
+        × AreBuildRows trees rows.2.items rows.3.items rows.4.items) WhyUnread
         (state S.Store conn.old) (state S.Store conn.new) result }
 {
     let (orders, lines) = load_order_rows(alloc, conn)?;
-    let (builds, allocations) = load_build_rows(alloc, conn)?;
-    Ok((orders, lines, builds, allocations))
+    let (builds, allocations, spent) = load_build_rows(alloc, conn)?;
+    Ok((orders, lines, builds, allocations, spent))
 }
 
 /// The rows of all tables beside the row of the counter.
@@ -227,7 +237,7 @@ fn load_sheets<S: Alter>(
     ensures entries { IfOk result (λ tables. tables.entries ≡ row.entries) }
     ensures limits { IfOk result (λ tables. tables.limits ≡ limits) }
 {
-    let (orders, order_lines, builds, allocations) = load_orders(alloc, conn)?;
+    let (orders, order_lines, builds, allocations, spent) = load_orders(alloc, conn)?;
     let (categories, parts, lines, substitutes) = load_parts(alloc, conn)?;
     let (locations, items, history) = load_stock(alloc, conn)?;
     let answers = load_answers(alloc, conn)?;
@@ -243,6 +253,7 @@ fn load_sheets<S: Alter>(
         orders,
         order_lines,
         builds,
+        spent,
         answers,
         next: row.next,
         entries: row.entries,

@@ -4,21 +4,24 @@
 //! changed, and the row of the counter is written whole. No table is written outside the transaction, so what a crash
 //! leaves has all of it or none.
 //!
-//! The tables are written in their order: where the first so many are those of the state now, one more becomes so. A
-//! further table needs an arm of `write_table`, and the law that its sheet is one of the state.
-ghost use Rattle.std.specs.Prelude.{◌≡◌, ◌⊎◌, ◌+◌, false, IfErr, OnErr, OnOk, Ok, Err};
+//! The tables are written in turns, in their order but for the row of the counter, which is the last: where so many had
+//! their turn and are those of the state now, one more becomes so. A further table needs an arm of `write_table`, and the
+//! law that its sheet is one of the state. The row of the counter is written over whatever row is there, so of many
+//! requests in one transaction it may be written once, after them all.
+ghost use Rattle.std.specs.Prelude.{◌≡◌, ◌⊎◌, ◌+◌, false, All, IfErr, OnErr, OnOk, Ok, Err};
 ghost use Rattle.sqlite.specs.Held.{state};
 ghost use Rattle.sqlite.specs.State.{HasCleanDisk, KeepsCommit, Survives};
+ghost use Rattle.part_core.specs.Columns.{IsSmall};
 ghost use Rattle.part_core.specs.RowKeys.{number_digits};
 ghost use Rattle.desk_core.specs.Machine.{IsSoundState};
 ghost use Rattle.desk_core.specs.ShopView.{state_before, state_of};
 ghost use Rattle.desk_core.specs.Staying.{AllStay};
 ghost use Rattle.desk_store.specs.StateTables.{HoldsBooks, TablesAre};
-ghost use Rattle.desk_store.specs.Saving.{Goes, IsSheetIn, IsUnderWay, MayFollow};
-ghost use Rattle.table_store.specs.Schema.{position};
+ghost use Rattle.desk_store.specs.MetaColumns.{meta_columns, meta_of};
+ghost use Rattle.desk_store.specs.Saving.{Goes, IsSheetIn, IsUnderWay, MayFollow, turn_of};
 ghost use Rattle.table_store.specs.Transactions.{IsOfMemoryOrStore};
 ghost use Rattle.table_store.specs.declared.fault.TableFault.TheVariants.{Memory};
-ghost use Rattle.table_store.specs.declared.name.TableName.TheVariants.{Meta, Kept as KeptTable};
+ghost use Rattle.table_store.specs.declared.name.TableName.TheVariants.{Kept as KeptTable};
 
 use crate::laws::may_follow;
 use crate::meta::MetaRow;
@@ -39,27 +42,26 @@ fn write_sheet<S: Alter, R: Stored + Row<Key = u64>>(
     sheet: &Sheet<R>,
 ) -> Result<(), TableFault>
     requires under_way { HasCleanDisk (state S.Store conn.old)
-        → IsUnderWay (state_before shop.now) (state_of shop.now) (position table)
+        → IsUnderWay (state_before shop.now) (state_of shop.now) (turn_of table)
         (state S.Store conn.old) }
     requires sheet { IsSheetIn R.row_from R.columns_of R.key_of number_digits
         (state_before shop.now) (state_of shop.now) table sheet.now }
-    ensures { Goes (state_before shop.now) (state_of shop.now) (position table + 1)
+    ensures { Goes (state_before shop.now) (state_of shop.now) (turn_of table + 1)
         (state S.Store conn.old) (state S.Store conn.new) result }
 {
     write_pending::<S, R>(alloc, conn, table, sheet)
 }
 
-/// The row of the counter is written.
-fn write_counter<S: Alter>(
+/// The row of the counter is written, in the place of the one that is there.
+pub(crate) fn write_counter<S: Alter>(
     alloc: Global,
     conn: &mut Connection<S>,
     shop: &Shop,
 ) -> Result<(), TableFault>
-    requires follows { MayFollow (state_before shop.now) (state_of shop.now) }
+    requires small { All IsSmall (meta_columns (meta_of (state_of shop.now))) }
     requires under_way { HasCleanDisk (state S.Store conn.old)
-        → IsUnderWay (state_before shop.now) (state_of shop.now) (position Meta)
-        (state S.Store conn.old) }
-    ensures { Goes (state_before shop.now) (state_of shop.now) (position Meta + 1)
+        → IsUnderWay (state_before shop.now) (state_of shop.now) 13 (state S.Store conn.old) }
+    ensures { Goes (state_before shop.now) (state_of shop.now) 14
         (state S.Store conn.old) (state S.Store conn.new) result }
 {
     write_row::<S, MetaRow>(alloc, conn, TableName::Meta, &MetaRow::of(shop))
@@ -73,15 +75,15 @@ fn write_answers<S: Alter>(
 ) -> Result<(), TableFault>
     requires follows { MayFollow (state_before shop.now) (state_of shop.now) }
     requires under_way { HasCleanDisk (state S.Store conn.old)
-        → IsUnderWay (state_before shop.now) (state_of shop.now) (position KeptTable)
+        → IsUnderWay (state_before shop.now) (state_of shop.now) (turn_of KeptTable)
         (state S.Store conn.old) }
-    ensures { Goes (state_before shop.now) (state_of shop.now) (position KeptTable + 1)
+    ensures { Goes (state_before shop.now) (state_of shop.now) (turn_of KeptTable + 1)
         (state S.Store conn.old) (state S.Store conn.new) result }
 {
     write_kept::<S, Kept>(alloc, conn, shop.answers())
 }
 
-/// One table is written, where those before it are.
+/// One table is written, where those whose turn is before it are.
 fn write_table<S: Alter>(
     alloc: Global,
     conn: &mut Connection<S>,
@@ -90,9 +92,9 @@ fn write_table<S: Alter>(
 ) -> Result<(), TableFault>
     requires follows { MayFollow (state_before shop.now) (state_of shop.now) }
     requires under_way { HasCleanDisk (state S.Store conn.old)
-        → IsUnderWay (state_before shop.now) (state_of shop.now) (position table)
+        → IsUnderWay (state_before shop.now) (state_of shop.now) (turn_of table)
         (state S.Store conn.old) }
-    ensures { Goes (state_before shop.now) (state_of shop.now) (position table + 1)
+    ensures { Goes (state_before shop.now) (state_of shop.now) (turn_of table + 1)
         (state S.Store conn.old) (state S.Store conn.new) result }
 {
     match table {
@@ -111,7 +113,26 @@ fn write_table<S: Alter>(
         TableName::Builds => write_sheet(alloc, conn, shop, table, shop.builds().rows()),
         TableName::Allocations => write_sheet(alloc, conn, shop, table, shop.allocations().rows()),
         TableName::Kept => write_answers(alloc, conn, shop),
+        TableName::Spent => write_sheet(alloc, conn, shop, table, shop.builds().spent()),
     }
+}
+
+/// Every table but that of the counter is written.
+pub(crate) fn write_further<S: Alter>(
+    alloc: Global,
+    conn: &mut Connection<S>,
+    shop: &Shop,
+) -> Result<(), TableFault>
+    requires follows { MayFollow (state_before shop.now) (state_of shop.now) }
+    requires under_way { HasCleanDisk (state S.Store conn.old)
+        → IsUnderWay (state_before shop.now) (state_of shop.now) 0 (state S.Store conn.old) }
+    ensures { Goes (state_before shop.now) (state_of shop.now) 13
+        (state S.Store conn.old) (state S.Store conn.new) result }
+{
+    for turn in 0..13 {
+        write_table(alloc, conn, shop, TableName::at(turn + 1))?;
+    }
+    Ok(())
 }
 
 /// Every table is written.
@@ -123,13 +144,11 @@ fn write_tables<S: Alter>(
     requires follows { MayFollow (state_before shop.now) (state_of shop.now) }
     requires under_way { HasCleanDisk (state S.Store conn.old)
         → IsUnderWay (state_before shop.now) (state_of shop.now) 0 (state S.Store conn.old) }
-    ensures { Goes (state_before shop.now) (state_of shop.now) 13
+    ensures { Goes (state_before shop.now) (state_of shop.now) 14
         (state S.Store conn.old) (state S.Store conn.new) result }
 {
-    for place in 0..13 {
-        write_table(alloc, conn, shop, TableName::at(place))?;
-    }
-    Ok(())
+    write_further(alloc, conn, shop)?;
+    write_counter(alloc, conn, shop)
 }
 
 /// The whole transaction. After a fault it is undone, or still open without a commit.

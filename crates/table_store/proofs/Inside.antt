@@ -26,8 +26,8 @@ use Rattle.table_store.specs.Transactions.{IsBack}
 use Rattle.sqlite.specs.Effect.{Database}
 use Rattle.sqlite_trees.specs.View.{IsShaped}
 use Rattle.sqlite_trees.specs.declared.store.Shape.TheVariants.{Table}
-use Rattle.table_store.specs.Schema.{position}
-use Rattle.table_store.specs.Values.{HasTables}
+use Rattle.table_store.specs.Schema.{tree_number}
+use Rattle.table_store.specs.Values.{HasOldTables, HasTables}
 use Rattle.sqlite.specs.declared.error.Error.TheVariants.{ExecuteReturnedResults}
 use Rattle.sqlite.proofs.Callers.{IsPlain, command_of, statement_of, runs_as}
 
@@ -347,5 +347,13 @@ keeps_commit old new (inr back) = record { was_open = back.was_open; committed =
 pub same_tables : (old new : State) → new.now ≡ old.now → HasTables old → HasTables new
 same_tables old new same has = record {
   schema = ap (λ (d : Database). d.schema) same ∙ has.schema;
-  shaped = λ table. subst (λ (d : Database). IsShaped Table (d.trees (position table))) (sym same) (has.shaped table);
+  shaped = λ table. subst (λ (d : Database). IsShaped Table (d.trees (tree_number table))) (sym same) (has.shaped table);
+}
+
+pub same_old_tables : (old new : State) → new.now ≡ old.now → HasOldTables old → HasOldTables new
+same_old_tables old new same has = record {
+  schema = ap (λ (d : Database). d.schema) same ∙ has.schema;
+  shaped =
+      λ table low.
+      subst (λ (d : Database). IsShaped Table (d.trees (tree_number table))) (sym same) (has.shaped table low);
 }

@@ -1,10 +1,11 @@
 -- What the statement that loads a table means, and what it shows.
-use Rattle.std.proofs.Common.{◌≡◌, ◌⊎◌, inl, inr, ℕ, pos, negsuc, List, [], ◌∷◌, map}
+use Rattle.std.proofs.Common.{◌≡◌, ◌⊎◌, ◌<◌, inl, inr, ℕ, pos, negsuc, List, [], ◌∷◌, map}
 use Rattle.std.proofs.Common.{codes, false, None, refl, sym, ap, subst, ◌∙◌, arith}
 use Rattle.std.specs.List.{flat_map}
 use Rattle.std.specs.List.Sorted.{IsPermutation}
 use Rattle.sqlite.specs.declared.types.Value.TheVariants.{Null, Int}
 use Rattle.sqlite.specs.Order.{Row, column}
+use Rattle.sqlite.specs.Schema.{Schema}
 use Rattle.sqlite.specs.Term.{lit, col}
 use Rattle.sqlite.specs.Program.{overlay}
 use Rattle.sqlite.specs.Query.{Query, inner, end, IsAnswer, Output, output}
@@ -22,10 +23,10 @@ use Rattle.sqlite_tied.specs.Compute.{everything}
 use Rattle.table_store.specs.declared.name.TableName.{TableName}
 use Rattle.table_store.specs.declared.name.TableName.TheVariants.{Meta, Categories, Locations, Parts, Lines}
 use Rattle.table_store.specs.declared.name.TableName.TheVariants.{Substitutes, Items, History, Orders}
-use Rattle.table_store.specs.declared.name.TableName.TheVariants.{OrderLines, Builds, Allocations, Kept}
-use Rattle.table_store.specs.Schema.{position, desk_schema}
+use Rattle.table_store.specs.declared.name.TableName.TheVariants.{OrderLines, Builds, Allocations, Kept, Spent}
+use Rattle.table_store.specs.Schema.{desk_schema, old_schema, position, tree_number}
 use Rattle.table_store.specs.Texts.{load_text}
-use Rattle.table_store.specs.Values.{places, shown_row, IsByWord, IsLoaded, HasTables}
+use Rattle.table_store.specs.Values.{places, shown_row, IsByWord, IsLoaded, HasTable, HasTables}
 use Rattle.table_store.proofs.Plans.{IsCommand}
 use Rattle.table_store.proofs.Putting.{of_command}
 use Rattle.table_store.proofs.Ordered.{in_order, loads}
@@ -50,6 +51,7 @@ headings OrderLines = codes "id" ∷ codes "owner" ∷ codes "part" ∷ codes "q
 headings Builds = codes "id" ∷ codes "part" ∷ codes "quantity" ∷ codes "state" ∷ codes "done" ∷ []
 headings Allocations =
     codes "id" ∷ codes "item" ∷ codes "quantity" ∷ codes "side" ∷ codes "owner" ∷ codes "line" ∷ codes "output" ∷ []
+headings Spent = codes "id" ∷ codes "build" ∷ codes "line" ∷ codes "quantity" ∷ []
 headings Kept = codes "word" ∷ codes "command" ∷ codes "answer" ∷ []
 
 abbrev by_word : Query
@@ -67,18 +69,19 @@ by_word = record {
 
 abbrev load_query : TableName → Query
 load_query Kept = by_word
-load_query Meta = in_order (position Meta) (map (col 1) (places Meta))
-load_query Categories = in_order (position Categories) (map (col 1) (places Categories))
-load_query Locations = in_order (position Locations) (map (col 1) (places Locations))
-load_query Parts = in_order (position Parts) (map (col 1) (places Parts))
-load_query Lines = in_order (position Lines) (map (col 1) (places Lines))
-load_query Substitutes = in_order (position Substitutes) (map (col 1) (places Substitutes))
-load_query Items = in_order (position Items) (map (col 1) (places Items))
-load_query History = in_order (position History) (map (col 1) (places History))
-load_query Orders = in_order (position Orders) (map (col 1) (places Orders))
-load_query OrderLines = in_order (position OrderLines) (map (col 1) (places OrderLines))
-load_query Builds = in_order (position Builds) (map (col 1) (places Builds))
-load_query Allocations = in_order (position Allocations) (map (col 1) (places Allocations))
+load_query Meta = in_order (tree_number Meta) (map (col 1) (places Meta))
+load_query Categories = in_order (tree_number Categories) (map (col 1) (places Categories))
+load_query Locations = in_order (tree_number Locations) (map (col 1) (places Locations))
+load_query Parts = in_order (tree_number Parts) (map (col 1) (places Parts))
+load_query Lines = in_order (tree_number Lines) (map (col 1) (places Lines))
+load_query Substitutes = in_order (tree_number Substitutes) (map (col 1) (places Substitutes))
+load_query Items = in_order (tree_number Items) (map (col 1) (places Items))
+load_query History = in_order (tree_number History) (map (col 1) (places History))
+load_query Orders = in_order (tree_number Orders) (map (col 1) (places Orders))
+load_query OrderLines = in_order (tree_number OrderLines) (map (col 1) (places OrderLines))
+load_query Builds = in_order (tree_number Builds) (map (col 1) (places Builds))
+load_query Allocations = in_order (tree_number Allocations) (map (col 1) (places Allocations))
+load_query Spent = in_order (tree_number Spent) (map (col 1) (places Spent))
 
 load_is : (table : TableName) → IsCommand (Select (record { lets = []; body = load_query table }) (headings table))
     (understood desk_schema (load_text table))
@@ -95,6 +98,7 @@ load_is Orders = (refl, refl, refl)
 load_is OrderLines = (refl, refl, refl)
 load_is Builds = (refl, refl, refl)
 load_is Allocations = (refl, refl, refl)
+load_is Spent = (refl, refl, refl)
 load_is Kept = (refl, refl, refl)
 
 unlisted : (table : TableName) → reads_listing desk_schema (load_text table) ≡ false
@@ -111,7 +115,64 @@ unlisted Orders = refl
 unlisted OrderLines = refl
 unlisted Builds = refl
 unlisted Allocations = refl
+unlisted Spent = refl
 unlisted Kept = refl
+
+-- the text means the same in the tables of version 1
+old_load_is : (table : TableName) → position table < 13
+    → IsCommand (Select (record { lets = []; body = load_query table }) (headings table))
+    (understood old_schema (load_text table))
+unfolding understood everything
+old_load_is Meta low = (refl, refl, refl)
+old_load_is Categories low = (refl, refl, refl)
+old_load_is Locations low = (refl, refl, refl)
+old_load_is Parts low = (refl, refl, refl)
+old_load_is Lines low = (refl, refl, refl)
+old_load_is Substitutes low = (refl, refl, refl)
+old_load_is Items low = (refl, refl, refl)
+old_load_is History low = (refl, refl, refl)
+old_load_is Orders low = (refl, refl, refl)
+old_load_is OrderLines low = (refl, refl, refl)
+old_load_is Builds low = (refl, refl, refl)
+old_load_is Allocations low = (refl, refl, refl)
+old_load_is Kept low = (refl, refl, refl)
+old_load_is Spent low = absurd (omega (arith, low))
+
+old_unlisted : (table : TableName) → position table < 13 → reads_listing old_schema (load_text table) ≡ false
+unfolding understood everything
+old_unlisted Meta low = refl
+old_unlisted Categories low = refl
+old_unlisted Locations low = refl
+old_unlisted Parts low = refl
+old_unlisted Lines low = refl
+old_unlisted Substitutes low = refl
+old_unlisted Items low = refl
+old_unlisted History low = refl
+old_unlisted Orders low = refl
+old_unlisted OrderLines low = refl
+old_unlisted Builds low = refl
+old_unlisted Allocations low = refl
+old_unlisted Kept low = refl
+old_unlisted Spent low = absurd (omega (arith, low))
+
+-- the text reads the table, where the schema has it
+record IsUnderstood (table : TableName) (schema : Schema) : Type 0 where
+  pub command : IsCommand (Select (record { lets = []; body = load_query table }) (headings table))
+      (understood schema (load_text table))
+  pub unlisted : reads_listing schema (load_text table) ≡ false
+
+means : (table : TableName) (s : State) → HasTable table s → IsUnderstood table s.now.schema
+means table s has = elim has.listed [
+  | inl own ↦
+      subst (IsUnderstood table) (sym own) (record { command = load_is table; unlisted = unlisted table })
+  | inr old ↦
+      subst (IsUnderstood table) (sym old.0)
+      (record { command = old_load_is table old.1; unlisted = old_unlisted table old.1 })
+]
+
+-- a table among all of them
+pub one_of_all : (table : TableName) (s : State) → HasTables s → HasTable table s
+one_of_all table s has = record { listed = inl has.schema; shaped = has.shaped table }
 
 -- ---- the rows by their words
 
@@ -136,78 +197,81 @@ loads_kept rows shown db is a =
 
 -- ---- any table
 
-answer : (table : TableName) (old new : State) (rows : List Row) → HasTables old
+answer : (table : TableName) (old new : State) (rows : List Row) → HasTable table old
     → Shown (load_text table) [] old new rows → IsAnswer (load_query table) (overlay old.now.trees []) [] rows
 answer table old new rows has h =
-    let known = of_command _ _ (load_is table) in
-    (reads_as (load_text table) [] old new desk_schema has.schema
-    (Select (record { lets = []; body = load_query table }) (headings table)) known.0 known.1 (unlisted table) rows
+    let meant = means table old has in
+    let known = of_command _ _ meant.command in
+    (reads_as (load_text table) [] old new old.now.schema refl
+    (Select (record { lets = []; body = load_query table }) (headings table)) known.0 known.1 meant.unlisted rows
     h).answer Null
 
-pub loads_table : (table : TableName) (old new : State) (rows : List Row) → HasTables old
-    → Shown (load_text table) [] old new rows → IsLoaded table (old.now.trees (position table)) rows
+pub loads_table : (table : TableName) (old new : State) (rows : List Row) → HasTable table old
+    → Shown (load_text table) [] old new rows → IsLoaded table (old.now.trees (tree_number table)) rows
 loads_table Kept old new rows has h =
     loads_kept (old.now.trees 12) rows (overlay old.now.trees []) refl (answer Kept old new rows has h)
 loads_table Meta old new rows has h =
-    loads (position Meta) (map (col 1) (places Meta)) [] (overlay old.now.trees []) rows (has.shaped Meta).0
+    loads (tree_number Meta) (map (col 1) (places Meta)) [] (overlay old.now.trees []) rows has.shaped.0
     (answer Meta old new rows has h)
 loads_table Categories old new rows has h =
-    loads (position Categories) (map (col 1) (places Categories)) [] (overlay old.now.trees []) rows
-    (has.shaped Categories).0 (answer Categories old new rows has h)
+    loads (tree_number Categories) (map (col 1) (places Categories)) [] (overlay old.now.trees []) rows
+    has.shaped.0 (answer Categories old new rows has h)
 loads_table Locations old new rows has h =
-    loads (position Locations) (map (col 1) (places Locations)) [] (overlay old.now.trees []) rows
-    (has.shaped Locations).0 (answer Locations old new rows has h)
+    loads (tree_number Locations) (map (col 1) (places Locations)) [] (overlay old.now.trees []) rows
+    has.shaped.0 (answer Locations old new rows has h)
 loads_table Parts old new rows has h =
-    loads (position Parts) (map (col 1) (places Parts)) [] (overlay old.now.trees []) rows (has.shaped Parts).0
+    loads (tree_number Parts) (map (col 1) (places Parts)) [] (overlay old.now.trees []) rows has.shaped.0
     (answer Parts old new rows has h)
 loads_table Lines old new rows has h =
-    loads (position Lines) (map (col 1) (places Lines)) [] (overlay old.now.trees []) rows (has.shaped Lines).0
+    loads (tree_number Lines) (map (col 1) (places Lines)) [] (overlay old.now.trees []) rows has.shaped.0
     (answer Lines old new rows has h)
 loads_table Substitutes old new rows has h =
-    loads (position Substitutes) (map (col 1) (places Substitutes)) [] (overlay old.now.trees []) rows
-    (has.shaped Substitutes).0 (answer Substitutes old new rows has h)
+    loads (tree_number Substitutes) (map (col 1) (places Substitutes)) [] (overlay old.now.trees []) rows
+    has.shaped.0 (answer Substitutes old new rows has h)
 loads_table Items old new rows has h =
-    loads (position Items) (map (col 1) (places Items)) [] (overlay old.now.trees []) rows (has.shaped Items).0
+    loads (tree_number Items) (map (col 1) (places Items)) [] (overlay old.now.trees []) rows has.shaped.0
     (answer Items old new rows has h)
 loads_table History old new rows has h =
-    loads (position History) (map (col 1) (places History)) [] (overlay old.now.trees []) rows (has.shaped History).0
+    loads (tree_number History) (map (col 1) (places History)) [] (overlay old.now.trees []) rows has.shaped.0
     (answer History old new rows has h)
 loads_table Orders old new rows has h =
-    loads (position Orders) (map (col 1) (places Orders)) [] (overlay old.now.trees []) rows (has.shaped Orders).0
+    loads (tree_number Orders) (map (col 1) (places Orders)) [] (overlay old.now.trees []) rows has.shaped.0
     (answer Orders old new rows has h)
 loads_table OrderLines old new rows has h =
-    loads (position OrderLines) (map (col 1) (places OrderLines)) [] (overlay old.now.trees []) rows
-    (has.shaped OrderLines).0 (answer OrderLines old new rows has h)
+    loads (tree_number OrderLines) (map (col 1) (places OrderLines)) [] (overlay old.now.trees []) rows
+    has.shaped.0 (answer OrderLines old new rows has h)
 loads_table Builds old new rows has h =
-    loads (position Builds) (map (col 1) (places Builds)) [] (overlay old.now.trees []) rows (has.shaped Builds).0
+    loads (tree_number Builds) (map (col 1) (places Builds)) [] (overlay old.now.trees []) rows has.shaped.0
     (answer Builds old new rows has h)
 loads_table Allocations old new rows has h =
-    loads (position Allocations) (map (col 1) (places Allocations)) [] (overlay old.now.trees []) rows
-    (has.shaped Allocations).0 (answer Allocations old new rows has h)
+    loads (tree_number Allocations) (map (col 1) (places Allocations)) [] (overlay old.now.trees []) rows
+    has.shaped.0 (answer Allocations old new rows has h)
+loads_table Spent old new rows has h =
+    loads (tree_number Spent) (map (col 1) (places Spent)) [] (overlay old.now.trees []) rows
+    has.shaped.0 (answer Spent old new rows has h)
 
-plain : (table : TableName) (s : State) → s.now.schema ≡ desk_schema
-    → IsPlain (understood s.now.schema (load_text table))
-plain table s has = subst (λ d. IsPlain (understood d (load_text table))) (sym has) (of_command _ _ (load_is table)).1
+plain : (table : TableName) (s : State) → HasTable table s → IsPlain (understood s.now.schema (load_text table))
+plain table s has = (of_command _ _ (means table s has).command).1
 
-pub loading_changes_nothing : (table : TableName) (old new : State) (rows : List Row) → HasTables old
+pub loading_changes_nothing : (table : TableName) (old new : State) (rows : List Row) → HasTable table old
     → Shown (load_text table) [] old new rows → IsUnchanged old new
 unfolding Shown
 loading_changes_nothing table old new rows has h =
-    let bare = subst IsPlain h.1.is (plain table old has.schema) in
+    let bare = subst IsPlain h.1.is (plain table old has) in
     (subst (ShowsRows old new (load_text table) h.0 (timed [] h.0.formats h.1.now) rows) bare.0 h.2).3
 
-pub loading_commits_nothing : (table : TableName) (old new : State) → (HasCleanDisk old → HasTables old)
+pub loading_commits_nothing : (table : TableName) (old new : State) → (HasCleanDisk old → HasTable table old)
     → Survives old new (CommitsShowing (load_text table) [] old) → Survives old new (λ _. ⊥)
 loading_commits_nothing table old new has s =
     survives_weaker old new _ _
     (λ clean db h.
-    never_commits (load_text table) [] old db (plain table old (has (omega (arith, clean, s.clean))).schema) h)
+    never_commits (load_text table) [] old db (plain table old (has (omega (arith, clean, s.clean)))) h)
     s
 
-pub loading_fails : (table : TableName) (old new : State) (e : Error) → HasTables old
+pub loading_fails : (table : TableName) (old new : State) (e : Error) → HasTable table old
     → FailsToQuery (load_text table) [] old new e → IsUnchanged old new ⊎ IsRolledBack old new
 unfolding FailsToQuery IsNotRun
 loading_fails table old new e has (inl h) = elim h [ inl none ↦ inl none.1 | inr fails ↦ inr fails.3 ]
 loading_fails table old new e has (inr h) =
-    let bare = subst IsPlain h.1.is (plain table old has.schema) in
+    let bare = subst IsPlain h.1.is (plain table old has) in
     inl (subst (FailsToShow old new (load_text table) h.0 (timed [] h.0.formats h.1.now) e) bare.0 h.2).3

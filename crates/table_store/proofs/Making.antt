@@ -1,6 +1,6 @@
 -- What CREATE TABLE makes of the tables before it.
-use Rattle.std.proofs.Common.{◌≡◌, ℕ, ◌+◌, List, [], ◌∷◌, ◌++◌, false, None}
-use Rattle.std.proofs.Common.{Ok, Result, inl, inr, refl, sym, ap, subst, ◌∙◌}
+use Rattle.std.proofs.Common.{◌≡◌, ℕ, ◌+◌, ◌<◌, List, [], ◌∷◌, ◌++◌, false, IsTrue, None}
+use Rattle.std.proofs.Common.{Ok, Result, inl, inr, refl, sym, ap, subst, ◌∙◌, arith}
 use Rattle.std.specs.List.{AllByRecursion}
 use Rattle.sqlite.specs.Table.{Table}
 use Rattle.sqlite.specs.Schema.{Schema}
@@ -13,14 +13,17 @@ use Rattle.sqlite.specs.Effect.{Database}
 use Rattle.sqlite.specs.State.{State, Writes, Executes, CommitsBy, Survives, KeepsCommit, HasCleanDisk}
 use Rattle.sqlite.specs.Listing.{understood}
 use Rattle.sqlite_tied.specs.Compute.{everything}
+use Rattle.sqlite_trees.specs.View.{IsShaped}
+use Rattle.sqlite_trees.specs.declared.store.Shape.TheVariants as shape
 use Rattle.sqlite.proofs.Callers.{IsPlain, command_of, statement_of, runs_as}
 use Rattle.table_store.specs.declared.name.TableName.{TableName}
 use Rattle.table_store.specs.declared.name.TableName.TheVariants.{Meta, Categories, Locations, Parts, Lines}
 use Rattle.table_store.specs.declared.name.TableName.TheVariants.{Substitutes, Items, History, Orders}
-use Rattle.table_store.specs.declared.name.TableName.TheVariants.{OrderLines, Builds, Allocations, Kept}
-use Rattle.table_store.specs.Schema.{position, table_of, schema_up_to}
+use Rattle.table_store.specs.declared.name.TableName.TheVariants.{OrderLines, Builds, Allocations, Kept, Spent}
+use Rattle.table_store.specs.Schema.{desk_schema, old_schema, position, table_of, tree_number, schema_up_to}
 use Rattle.table_store.specs.Texts.{create_text}
-use Rattle.table_store.specs.Making.{HasMade}
+use Rattle.table_store.specs.Making.{HasMade, HasSecond}
+use Rattle.table_store.specs.Values.{HasOldTables, HasTables}
 use Rattle.table_store.proofs.Inside.{Ends, inside_only, shows_inside}
 use Rattle.table_store.proofs.Parts.{went, same_value}
 
@@ -78,6 +81,8 @@ creates OrderLines =
 creates Builds = record { is = refl; plain = (refl, refl); whole = refl; defines = refl; grows = refl; lacks = refl }
 creates Allocations =
     record { is = refl; plain = (refl, refl); whole = refl; defines = refl; grows = refl; lacks = refl }
+creates Spent =
+    record { is = refl; plain = (refl, refl); whole = refl; defines = refl; grows = refl; lacks = refl }
 creates Kept = record { is = refl; plain = (refl, refl); whole = refl; defines = refl; grows = refl; lacks = refl }
 
 one_more : (P : Table → Type 0) (tables : List Table) (table : Table) → AllByRecursion P tables → P table
@@ -125,3 +130,72 @@ creating_commits_nothing name old new has s =
     never : ¬ Ends CreateTable
     never (inl e) = cc
     never (inr e) = let is = e.1 in cc
+
+-- ---- from version 1 to version 2
+
+module _ (old new : State) where
+  rows_kept : KeepsRows old_schema.tables old.now.trees new.now.trees → (table : TableName) → position table < 13
+      → new.now.trees (tree_number table) ≡ old.now.trees (tree_number table)
+  rows_kept k Meta lt = k.0
+  rows_kept k Categories lt = k.1.0
+  rows_kept k Locations lt = k.1.1.0
+  rows_kept k Parts lt = k.1.1.1.0
+  rows_kept k Lines lt = k.1.1.1.1.0
+  rows_kept k Substitutes lt = k.1.1.1.1.1.0
+  rows_kept k Items lt = k.1.1.1.1.1.1.0
+  rows_kept k History lt = k.1.1.1.1.1.1.1.0
+  rows_kept k Orders lt = k.1.1.1.1.1.1.1.1.0
+  rows_kept k OrderLines lt = k.1.1.1.1.1.1.1.1.1.0
+  rows_kept k Builds lt = k.1.1.1.1.1.1.1.1.1.1.0
+  rows_kept k Allocations lt = k.1.1.1.1.1.1.1.1.1.1.1.0
+  rows_kept k Kept lt = k.1.1.1.1.1.1.1.1.1.1.1.1.0
+  rows_kept k Spent lt = absurd (omega (arith, lt))
+
+  -- `spent` is made beside the rows of version 1
+  pub adds_spent : (count : ℕ) → old.now.schema ≡ old_schema → IsTrue old.in_transaction
+      → Executes (create_text Spent) [] old new (Ok count)
+      → HasSecond old new × KeepsCommit old new
+  adds_spent count has inside h =
+      let c = creates Spent in
+      let table = record (table_of Spent) { tree = 0 } in
+      let ran = runs_as (create_text Spent) [] old new old_schema has CreateTable c.is c.plain count h in
+      let w = subst (λ t. Writes old new None CreateTable t [] count) c.whole ran in
+      let made = makes old_schema desk_schema table old new (create_text Spent) count has c.defines c.grows c.lacks w in
+      let shown = shows_inside old new inside w.shown in (
+        record { schema = made.0; spent = made.1; rows = rows_kept made.2; inside = shown.mode },
+        record { was_open = λ _. shown.was_open; committed = λ _. shown.committed_is },
+      )
+
+  -- and a crash leaves nothing new
+  pub adding_commits_nothing : (HasCleanDisk old → (old.now.schema ≡ old_schema) × IsTrue old.in_transaction)
+      → Survives old new (CommitsBy (create_text Spent) [] old) → Survives old new (λ _. ⊥)
+  adding_commits_nothing has s =
+      let c = creates Spent in
+      inside_only (create_text Spent) [] old new old_schema CreateTable c.is c.plain never has s
+    where
+      never : ¬ Ends CreateTable
+      never (inl e) = cc
+      never (inr e) = let is = e.1 in cc
+
+  -- all tables are there then
+  pub second_tables : HasOldTables old → HasSecond old new → HasTables new
+  second_tables had second = record { schema = second.schema; shaped = each }
+    where
+      stays : (table : TableName) → position table < 13 → IsShaped shape.Table (new.now.trees (tree_number table))
+      stays table low = subst (IsShaped shape.Table) (sym (second.rows table low)) (had.shaped table low)
+
+      each : (table : TableName) → IsShaped shape.Table (new.now.trees (tree_number table))
+      each Meta = stays Meta (omega arith)
+      each Categories = stays Categories (omega arith)
+      each Locations = stays Locations (omega arith)
+      each Parts = stays Parts (omega arith)
+      each Lines = stays Lines (omega arith)
+      each Substitutes = stays Substitutes (omega arith)
+      each Items = stays Items (omega arith)
+      each History = stays History (omega arith)
+      each Orders = stays Orders (omega arith)
+      each OrderLines = stays OrderLines (omega arith)
+      each Builds = stays Builds (omega arith)
+      each Allocations = stays Allocations (omega arith)
+      each Kept = stays Kept (omega arith)
+      each Spent = subst (IsShaped shape.Table) (sym second.spent) (tt, tt)

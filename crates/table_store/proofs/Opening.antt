@@ -1,6 +1,6 @@
 -- What the laws of a database tell of the tables that a connection over it finds.
-use Rattle.std.proofs.Common.{◌≡◌, ◌≤◌, ℕ, Bool, true, false, IsTrue, inl, inr, Result}
-use Rattle.std.proofs.Common.{Ok, Err, IfOk, IfErr, refl, sym, subst, ◌∙◌, arith}
+use Rattle.std.proofs.Common.{◌≡◌, ◌≢◌, ◌⊎◌, ◌<◌, ◌≤◌, ℕ, suc, List, [], ◌∷◌, Bool, true, false, IsTrue, inl, inr}
+use Rattle.std.proofs.Common.{Result, Ok, Err, IfOk, IfErr, refl, sym, ap, subst, ◌∙◌, arith}
 use Rattle.sqlite.specs.State.{State, HasCleanDisk}
 use Rattle.sqlite.specs.Table.{Table}
 use Rattle.sqlite.specs.Schema.{Schema}
@@ -13,12 +13,12 @@ use Rattle.sqlite_trees.specs.Objects.{catalog_tree, IsListed}
 use Rattle.sqlite_trees.specs.View.{View, doubt, IsClean, IsOrdered, IsShaped}
 use Rattle.sqlite_trees.specs.declared.store.Shape.TheVariants as shape
 use Rattle.table_store.specs.Opened.{IsForeign}
-use Rattle.table_store.specs.Schema.{position, desk_schema}
-use Rattle.table_store.specs.Values.{HasTables}
+use Rattle.table_store.specs.Schema.{IsOwn, desk_schema, old_schema, position, tree_number}
+use Rattle.table_store.specs.Values.{HasOldTables, HasTables}
 use Rattle.table_store.specs.declared.name.TableName.{TableName}
 use Rattle.table_store.specs.declared.name.TableName.TheVariants.{Meta, Categories, Locations, Parts, Lines}
 use Rattle.table_store.specs.declared.name.TableName.TheVariants.{Substitutes, Items, History, Orders}
-use Rattle.table_store.specs.declared.name.TableName.TheVariants.{OrderLines, Builds, Allocations, Kept}
+use Rattle.table_store.specs.declared.name.TableName.TheVariants.{OrderLines, Builds, Allocations, Kept, Spent}
 
 -- a database whose list of objects is that of a schema has the schema's tables in order
 pub tables_ordered : (v : View) (schema : Schema) → IsOrdered v.shape v.trees
@@ -39,7 +39,7 @@ open_if_sound false is_broken shut sound = let clash : true ≡ false = sym (shu
 -- ---- the desk's tables
 
 abbrev IsPlaced : TableName → Type 0
-IsPlaced name = (table : Table) × Has desk_schema.tables table × (table.tree ≡ position name)
+IsPlaced name = (table : Table) × Has desk_schema.tables table × (table.tree ≡ tree_number name)
 
 placed : (name : TableName) → IsPlaced name
 placed Meta = (_, inl refl, refl)
@@ -55,6 +55,7 @@ placed OrderLines = (_, inr (inr (inr (inr (inr (inr (inr (inr (inr (inl refl)))
 placed Builds = (_, inr (inr (inr (inr (inr (inr (inr (inr (inr (inr (inl refl)))))))))), refl)
 placed Allocations = (_, inr (inr (inr (inr (inr (inr (inr (inr (inr (inr (inr (inl refl))))))))))), refl)
 placed Kept = (_, inr (inr (inr (inr (inr (inr (inr (inr (inr (inr (inr (inr (inl refl)))))))))))), refl)
+placed Spent = (_, inr (inr (inr (inr (inr (inr (inr (inr (inr (inr (inr (inr (inr (inl refl))))))))))))), refl)
 
 abbrev AreShaped : State → Type 0
 AreShaped s = (table : Table) → Has s.now.schema.tables table → IsShaped shape.Table (s.now.trees table.tree)
@@ -68,35 +69,97 @@ desk_shaped s desk shaped = record {
       (shaped it.0 (subst (λ (d : Schema). Has d.tables it.0) (sym desk) it.1));
 }
 
--- trees that list the desk's schema list no other
-not_foreign : (trees : Trees) → IsSound desk_schema trees → ¬ IsForeign trees
-not_foreign trees own (schema, sound, other) =
-    other (lists_once (trees catalog_tree) schema desk_schema sound.lists own.lists)
+-- the tables of version 1
+abbrev IsPlacedOld : TableName → Type 0
+IsPlacedOld name = (table : Table) × Has old_schema.tables table × (table.tree ≡ tree_number name)
+
+placed_old : (name : TableName) → position name < 13 → IsPlacedOld name
+placed_old Meta low = (_, inl refl, refl)
+placed_old Categories low = (_, inr (inl refl), refl)
+placed_old Locations low = (_, inr (inr (inl refl)), refl)
+placed_old Parts low = (_, inr (inr (inr (inl refl))), refl)
+placed_old Lines low = (_, inr (inr (inr (inr (inl refl)))), refl)
+placed_old Substitutes low = (_, inr (inr (inr (inr (inr (inl refl))))), refl)
+placed_old Items low = (_, inr (inr (inr (inr (inr (inr (inl refl)))))), refl)
+placed_old History low = (_, inr (inr (inr (inr (inr (inr (inr (inl refl))))))), refl)
+placed_old Orders low = (_, inr (inr (inr (inr (inr (inr (inr (inr (inl refl)))))))), refl)
+placed_old OrderLines low = (_, inr (inr (inr (inr (inr (inr (inr (inr (inr (inl refl))))))))), refl)
+placed_old Builds low = (_, inr (inr (inr (inr (inr (inr (inr (inr (inr (inr (inl refl)))))))))), refl)
+placed_old Allocations low = (_, inr (inr (inr (inr (inr (inr (inr (inr (inr (inr (inr (inl refl))))))))))), refl)
+placed_old Kept low = (_, inr (inr (inr (inr (inr (inr (inr (inr (inr (inr (inr (inr (inl refl)))))))))))), refl)
+placed_old Spent low = absurd (omega (arith, low))
+
+old_shaped : (s : State) → s.now.schema ≡ old_schema → AreShaped s → HasOldTables s
+old_shaped s old shaped = record {
+  schema = old;
+  shaped = λ name low.
+      let it = placed_old name low in
+      subst (λ t. IsShaped shape.Table (s.now.trees t)) it.2
+      (shaped it.0 (subst (λ (d : Schema). Has d.tables it.0) (sym old) it.1));
+}
+
+either_shaped : (s : State) → IsOwn s.now.schema → AreShaped s → HasTables s ⊎ HasOldTables s
+either_shaped s own shaped = elim own [
+  | inl desk ↦ inl (desk_shaped s desk shaped)
+  | inr old ↦ inr (old_shaped s old shaped)
+]
+
+-- trees list one schema
+pub one_schema : (trees : Trees) (a b : Schema) → IsSound a trees → IsSound b trees → a ≡ b
+one_schema trees a b one two = lists_once (trees catalog_tree) a b one.lists two.lists
+
+abbrev count_of : List Table → ℕ
+count_of [] = 0
+count_of (t ∷ tables) = suc (count_of tables)
+
+-- the schemas of the two versions are two
+pub apart : desk_schema ≢ old_schema
+apart same = let more : 14 ≡ 13 = ap (λ (s : Schema). count_of s.tables) same in absurd (omega (arith, more))
+
+-- trees that list a schema of the desk's list no other
+not_foreign : (trees : Trees) (schema : Schema) → IsSound schema trees → IsOwn schema → ¬ IsForeign trees
+not_foreign trees schema sound own (other, listed, not) =
+    not (subst IsOwn (one_schema trees schema other sound listed) own)
 
 module _ {C E : Type 0} (shows : C → State) where
-  -- nor are they another's whose schema was found to be the desk's
+  -- nor are they another's whose schema was found to be one of the desk's
   pub own_told : (r : Result C E) (conn : C) (trees : Trees) → IfOk r (λ c. c ≡ conn)
-      → IfOk r (λ c. (shows c).now.schema ≡ desk_schema)
+      → IfOk r (λ c. IsOwn (shows c).now.schema)
       → (HasCleanDisk (shows conn) → IsSound (shows conn).now.schema (shows conn).now.trees)
       → (HasCleanDisk (shows conn) → (shows conn).now.trees ≡ trees)
       → IfOk r (λ c. HasCleanDisk (shows c) → ¬ IsForeign trees)
   own_told (Ok c) conn trees same desk sound is = λ clean.
       let here : HasCleanDisk (shows conn) = subst (λ x. HasCleanDisk (shows x)) same clean in
-      let own : (shows conn).now.schema ≡ desk_schema = subst (λ x. (shows x).now.schema ≡ desk_schema) same desk in
-      not_foreign trees
-      (subst (IsSound desk_schema) (is here) (subst (λ s. IsSound s (shows conn).now.trees) own (sound here)))
+      not_foreign trees (shows conn).now.schema (subst (IsSound (shows conn).now.schema) (is here) (sound here))
+      (subst (λ x. IsOwn (shows x).now.schema) same desk)
   own_told (Err e) conn trees same desk sound is = tt
 
-  -- a connection whose schema was found to be the desk's has its tables
+  -- a connection whose schema was found to be one of the desk's has its tables
   pub tables_told : (r : Result C E) (conn : C) → IfOk r (λ c. c ≡ conn)
-      → IfOk r (λ c. (shows c).now.schema ≡ desk_schema)
+      → IfOk r (λ c. IsOwn (shows c).now.schema)
       → (HasCleanDisk (shows conn) → (table : Table) → Has (shows conn).now.schema.tables table
       → IsShaped shape.Table ((shows conn).now.trees table.tree))
-      → IfOk r (λ c. HasCleanDisk (shows c) → HasTables (shows c))
-  tables_told (Ok c) conn same desk shaped =
+      → IfOk r (λ c. HasCleanDisk (shows c) → HasTables (shows c) ⊎ HasOldTables (shows c))
+  tables_told (Ok c) conn same own shaped =
       λ clean.
-      desk_shaped (shows c) desk (subst (λ x. HasCleanDisk (shows x) → AreShaped (shows x)) (sym same) shaped clean)
-  tables_told (Err e) conn same desk shaped = tt
+      either_shaped (shows c) own (subst (λ x. HasCleanDisk (shows x) → AreShaped (shows x)) (sym same) shaped clean)
+  tables_told (Err e) conn same own shaped = tt
+
+  -- the trees of a connection that was handed on are those of its schema
+  pub sound_told : (r : Result C E) (conn : C) → IfOk r (λ c. c ≡ conn)
+      → (HasCleanDisk (shows conn) → IsSound (shows conn).now.schema (shows conn).now.trees)
+      → IfOk r (λ c. HasCleanDisk (shows c) → IsSound (shows c).now.schema (shows c).now.trees)
+  sound_told (Ok c) conn same sound =
+      subst (λ x. HasCleanDisk (shows x) → IsSound (shows x).now.schema (shows x).now.trees) (sym same) sound
+  sound_told (Err e) conn same sound = tt
+
+  -- and a crash leaves of it what it left before
+  pub left_told : (r : Result C E) (conn : C) (Before : Trees → Type 0) → IfOk r (λ c. c ≡ conn)
+      → (HasCleanDisk (shows conn) → (trees : Trees) → (shows conn).may_leave trees → Before trees)
+      → IfOk r (λ c. HasCleanDisk (shows c) → (trees : Trees) → (shows c).may_leave trees → Before trees)
+  left_told (Ok c) conn Before same left =
+      subst (λ x. HasCleanDisk (shows x) → (trees : Trees) → (shows x).may_leave trees → Before trees) (sym same) left
+  left_told (Err e) conn Before same left = tt
 
 module _ {C F S : Type 0} (view : S → View) (recovers : S → Trees → Type 0) where
   -- what a crash leaves of a database that was handed back is what it left before

@@ -1,12 +1,13 @@
 -- A table is one of the desk's where each of its parts is that table's.
-use Rattle.std.proofs.Common.{◌≡◌, ◌≢◌, ◌↔◌, refl, sym, ap, subst, ◌∙◌}
+use Rattle.std.proofs.Common.{◌≡◌, ◌≢◌, ◌↔◌, ◌<◌, ◌≤◌, ℕ, get_or, length, map, take, arith, refl, sym, ap, subst, ◌∙◌}
+use Rattle.std.proofs.lemmas.List.{get_or-map, get_or-take, length-take}
 use Rattle.sqlite.specs.Table.{Table}
-use Rattle.table_store.specs.Schema.{table_of}
+use Rattle.table_store.specs.Schema.{all_names, position, table_of}
 use Rattle.table_store.specs.Shape.{IsNumbered, IsWorded, IsKeyed, HasNoRule, HasParts}
 use Rattle.table_store.specs.declared.name.TableName.{TableName}
 use Rattle.table_store.specs.declared.name.TableName.TheVariants.{Meta, Categories, Locations, Parts, Lines}
 use Rattle.table_store.specs.declared.name.TableName.TheVariants.{Substitutes, Items, History, Orders}
-use Rattle.table_store.specs.declared.name.TableName.TheVariants.{OrderLines, Builds, Allocations, Kept}
+use Rattle.table_store.specs.declared.name.TableName.TheVariants.{OrderLines, Builds, Allocations, Kept, Spent}
 
 pub keyed_by_number : (name : TableName) (t : Table) → name ≢ Kept → IsKeyed name t ↔ IsNumbered t
 keyed_by_number Kept t other = absurd (other refl)
@@ -22,6 +23,7 @@ keyed_by_number Orders t other = (λ h. h, λ h. h)
 keyed_by_number OrderLines t other = (λ h. h, λ h. h)
 keyed_by_number Builds t other = (λ h. h, λ h. h)
 keyed_by_number Allocations t other = (λ h. h, λ h. h)
+keyed_by_number Spent t other = (λ h. h, λ h. h)
 
 same_table : (t u : Table) → t.name ≡ u.name → t.tree ≡ u.tree → t.columns ≡ u.columns → t.key ≡ u.key
     → t.primary ≡ u.primary → t.uniques ≡ u.uniques → t.orders ≡ u.orders → t.checks ≡ u.checks
@@ -70,6 +72,7 @@ rule_free Orders = record { checks = refl; references = refl; computed = refl; s
 rule_free OrderLines = record { checks = refl; references = refl; computed = refl; stamps = refl; counted = refl }
 rule_free Builds = record { checks = refl; references = refl; computed = refl; stamps = refl; counted = refl }
 rule_free Allocations = record { checks = refl; references = refl; computed = refl; stamps = refl; counted = refl }
+rule_free Spent = record { checks = refl; references = refl; computed = refl; stamps = refl; counted = refl }
 rule_free Kept = record { checks = refl; references = refl; computed = refl; stamps = refl; counted = refl }
 
 own_parts : (name : TableName) → HasParts name (table_of name)
@@ -133,6 +136,11 @@ own_parts Allocations = record {
   keyed = record { key = refl; primary = refl; uniques = refl; orders = refl };
   bare = rule_free Allocations;
 }
+own_parts Spent = record {
+  named = record { name_is = refl; tree = refl; columns = refl };
+  keyed = record { key = refl; primary = refl; uniques = refl; orders = refl };
+  bare = rule_free Spent;
+}
 own_parts Kept = record {
   named = record { name_is = refl; tree = refl; columns = refl };
   keyed = record { key = refl; primary = refl; uniques = refl; orders = refl };
@@ -193,6 +201,37 @@ parts_are Builds t h =
 parts_are Allocations t h =
     numbered_is t (table_of Allocations) h.keyed (own_parts Allocations).keyed h.bare (rule_free Allocations)
     h.named.name_is h.named.tree h.named.columns
+parts_are Spent t h =
+    numbered_is t (table_of Spent) h.keyed (own_parts Spent).keyed h.bare (rule_free Spent)
+    h.named.name_is h.named.tree h.named.columns
 
 pub table_by_parts : (name : TableName) (t : Table) → HasParts name t ↔ (t ≡ table_of name)
 table_by_parts name t = (parts_are name t, λ e. subst (HasParts name) (sym e) (own_parts name))
+
+-- ---- the places of the tables
+
+own_place : (name : TableName) → get_or all_names (position name) Meta ≡ name
+own_place Meta = refl
+own_place Categories = refl
+own_place Locations = refl
+own_place Parts = refl
+own_place Lines = refl
+own_place Substitutes = refl
+own_place Items = refl
+own_place History = refl
+own_place Orders = refl
+own_place OrderLines = refl
+own_place Builds = refl
+own_place Allocations = refl
+own_place Kept = refl
+own_place Spent = refl
+
+-- among the first so many tables each stands at its own place
+pub at_place : (name : TableName) (count place : ℕ) (d : Table) → position name ≡ place → place < count → count ≤ 14
+    → get_or (map table_of (take count all_names)) place d ≡ table_of name
+at_place name count place d is low most =
+    let all : length all_names ≡ 14 = refl in
+    let many = length-take count all_names in
+    get_or-map table_of (take count all_names) place Meta d (omega (arith, all, many, low, most))
+    ∙ ap table_of
+    (get_or-take count all_names place Meta low ∙ ap (λ n. get_or all_names n Meta) (sym is) ∙ own_place name)

@@ -1,10 +1,10 @@
 -- A file whose tables are the desk's, as a connection finds it.
-use Rattle.std.specs.Prelude.{◌≡◌, ◌≢◌, false, IsTrue}
+use Rattle.std.specs.Prelude.{◌≡◌, false, IsTrue}
 use Rattle.sqlite.specs.State.{State}
 use Rattle.sqlite.specs.Schema.{Schema}
 use Rattle.sqlite.specs.Tree.{Trees}
 use Rattle.sqlite_catalog.specs.Listing.{IsSound}
-use Rattle.table_store.specs.Schema.{desk_schema}
+use Rattle.table_store.specs.Schema.{IsOwn}
 use Rattle.table_store.specs.declared.fault.TableFault.{TableFault}
 use Rattle.table_store.specs.declared.fault.TableFault.TheVariants.{Memory, Store, NoTable, BadRow}
 
@@ -14,9 +14,9 @@ pub record IsAtRest (s : State) : Type 0 where
   pub free : s.in_transaction ≡ false
   pub saved : s.committed ≡ s.now
 
--- the tables list a schema that isn't the desk's
+-- the tables list a schema that isn't the desk's, of this version or of version 1
 abbrev pub IsForeign : Trees → Type 0
-IsForeign trees = (schema : Schema) × IsSound schema trees × (schema ≢ desk_schema)
+IsForeign trees = (schema : Schema) × IsSound schema trees × ¬ IsOwn schema
 
 -- why tables weren't opened: the database failed, or the tables are none of the desk's
 abbrev pub FailsToOpen : Trees → TableFault → Type 0

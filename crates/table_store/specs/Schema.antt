@@ -1,5 +1,5 @@
 -- The desk's tables, as the database describes them.
-use Rattle.std.specs.Prelude.{true, false, nat_lt, if◌then◌else◌, take, map, codes, ℕ, Bool, List, [], ◌∷◌, Some, None}
+use Rattle.std.specs.Prelude.{◌≡◌, ◌⊎◌, true, false, nat_lt, if◌then◌else◌, take, map, codes, ℕ, Bool, List, [], ◌∷◌, Some, None}
 use Rattle.sqlite_value.specs.Keys.{plain}
 use Rattle.sqlite.specs.declared.types.Value.TheVariants.{Null}
 use Rattle.sqlite.specs.Collation.TheVariants.{Binary}
@@ -13,9 +13,9 @@ use Rattle.sqlite_schema.specs.declared.schema.Stamps.{Stamps}
 use Rattle.table_store.specs.declared.name.TableName.{TableName}
 use Rattle.table_store.specs.declared.name.TableName.TheVariants.{Meta, Categories, Locations, Parts, Lines}
 use Rattle.table_store.specs.declared.name.TableName.TheVariants.{Substitutes, Items, History, Orders}
-use Rattle.table_store.specs.declared.name.TableName.TheVariants.{OrderLines, Builds, Allocations, Kept}
+use Rattle.table_store.specs.declared.name.TableName.TheVariants.{OrderLines, Builds, Allocations, Kept, Spent}
 
--- the place of a table among the thirteen, which is also its tree's number
+-- the place of a table among the fourteen, in the order in which they are made
 abbrev pub position : TableName → ℕ
 position Meta = 0
 position Categories = 1
@@ -30,6 +30,13 @@ position OrderLines = 9
 position Builds = 10
 position Allocations = 11
 position Kept = 12
+position Spent = 13
+
+-- the number of a table's tree: the index that the database makes for the words of `kept` has a tree of its own, which
+-- comes before that of `spent`
+abbrev pub tree_number : TableName → ℕ
+tree_number Spent = 14
+tree_number table = position table
 
 abbrev pub name_of : TableName → List ℕ
 name_of Meta = codes "meta"
@@ -44,6 +51,7 @@ name_of Orders = codes "orders"
 name_of OrderLines = codes "order_lines"
 name_of Builds = codes "builds"
 name_of Allocations = codes "allocations"
+name_of Spent = codes "spent"
 name_of Kept = codes "kept"
 
 -- a column of a STRICT table, without a default
@@ -96,6 +104,8 @@ columns_of Builds =
 columns_of Allocations =
     key (codes "id") ∷ number (codes "item") ∷ number (codes "quantity") ∷ number (codes "side")
     ∷ number (codes "owner") ∷ number (codes "line") ∷ number (codes "output") ∷ []
+columns_of Spent =
+    key (codes "id") ∷ number (codes "build") ∷ number (codes "line") ∷ number (codes "quantity") ∷ []
 columns_of Kept = text (codes "word") ∷ text (codes "command") ∷ text (codes "answer") ∷ []
 
 -- no default reads the time
@@ -120,24 +130,25 @@ keyed name tree columns = record {
 }
 
 abbrev pub table_of : TableName → Table
-table_of Kept = record (keyed (name_of Kept) (position Kept) (columns_of Kept)) {
+table_of Kept = record (keyed (name_of Kept) (tree_number Kept) (columns_of Kept)) {
   key = None;
   primary = 1 ∷ [];
   uniques = (1 ∷ []) ∷ [];
   orders = plain ∷ [];
 }
-table_of Meta = keyed (name_of Meta) (position Meta) (columns_of Meta)
-table_of Categories = keyed (name_of Categories) (position Categories) (columns_of Categories)
-table_of Locations = keyed (name_of Locations) (position Locations) (columns_of Locations)
-table_of Parts = keyed (name_of Parts) (position Parts) (columns_of Parts)
-table_of Lines = keyed (name_of Lines) (position Lines) (columns_of Lines)
-table_of Substitutes = keyed (name_of Substitutes) (position Substitutes) (columns_of Substitutes)
-table_of Items = keyed (name_of Items) (position Items) (columns_of Items)
-table_of History = keyed (name_of History) (position History) (columns_of History)
-table_of Orders = keyed (name_of Orders) (position Orders) (columns_of Orders)
-table_of OrderLines = keyed (name_of OrderLines) (position OrderLines) (columns_of OrderLines)
-table_of Builds = keyed (name_of Builds) (position Builds) (columns_of Builds)
-table_of Allocations = keyed (name_of Allocations) (position Allocations) (columns_of Allocations)
+table_of Meta = keyed (name_of Meta) (tree_number Meta) (columns_of Meta)
+table_of Categories = keyed (name_of Categories) (tree_number Categories) (columns_of Categories)
+table_of Locations = keyed (name_of Locations) (tree_number Locations) (columns_of Locations)
+table_of Parts = keyed (name_of Parts) (tree_number Parts) (columns_of Parts)
+table_of Lines = keyed (name_of Lines) (tree_number Lines) (columns_of Lines)
+table_of Substitutes = keyed (name_of Substitutes) (tree_number Substitutes) (columns_of Substitutes)
+table_of Items = keyed (name_of Items) (tree_number Items) (columns_of Items)
+table_of History = keyed (name_of History) (tree_number History) (columns_of History)
+table_of Orders = keyed (name_of Orders) (tree_number Orders) (columns_of Orders)
+table_of OrderLines = keyed (name_of OrderLines) (tree_number OrderLines) (columns_of OrderLines)
+table_of Builds = keyed (name_of Builds) (tree_number Builds) (columns_of Builds)
+table_of Allocations = keyed (name_of Allocations) (tree_number Allocations) (columns_of Allocations)
+table_of Spent = keyed (name_of Spent) (tree_number Spent) (columns_of Spent)
 
 -- the index that the database makes for the words of `kept`
 abbrev pub kept_index : Index
@@ -153,7 +164,7 @@ kept_index = record {
 abbrev pub all_names : List TableName
 all_names =
     Meta ∷ Categories ∷ Locations ∷ Parts ∷ Lines ∷ Substitutes ∷ Items ∷ History ∷ Orders ∷ OrderLines ∷ Builds
-    ∷ Allocations ∷ Kept ∷ []
+    ∷ Allocations ∷ Kept ∷ Spent ∷ []
 
 -- the schema once so many of the tables are made, in their order
 abbrev pub schema_up_to : ℕ → Schema
@@ -164,4 +175,12 @@ schema_up_to count = record {
 }
 
 abbrev pub desk_schema : Schema
-desk_schema = schema_up_to 13
+desk_schema = schema_up_to 14
+
+-- the schema of version 1, which lacks `spent`
+abbrev pub old_schema : Schema
+old_schema = schema_up_to 13
+
+-- it is the schema of the desk's tables, of this version or of version 1
+abbrev pub IsOwn : Schema → Type 0
+IsOwn schema = (schema ≡ desk_schema) ⊎ (schema ≡ old_schema)

@@ -1,5 +1,5 @@
 -- The rows that the tables hold.
-use Rattle.std.specs.Prelude.{◌≡◌, ◌≢◌, ℕ, Bool, true, false, IsTrue, List, [], ◌∷◌, drop, map, IsSorted, ⊤}
+use Rattle.std.specs.Prelude.{◌≡◌, ◌≢◌, ◌<◌, ◌⊎◌, ℕ, Bool, true, false, IsTrue, List, [], ◌∷◌, drop, map, IsSorted, ⊤}
 use Rattle.sqlite.specs.declared.types.Value.{Value}
 use Rattle.sqlite.specs.declared.types.Value.TheVariants.{Null, Int, Text as Words}
 use Rattle.std.specs.List.Sorted.{IsPermutation}
@@ -19,8 +19,8 @@ use Rattle.sqlite_trees.specs.declared.store.Shape.TheVariants.{Table}
 use Rattle.table_store.specs.declared.name.TableName.{TableName}
 use Rattle.table_store.specs.declared.name.TableName.TheVariants.{Meta, Categories, Locations, Parts, Lines}
 use Rattle.table_store.specs.declared.name.TableName.TheVariants.{Substitutes, Items, History, Orders}
-use Rattle.table_store.specs.declared.name.TableName.TheVariants.{OrderLines, Builds, Allocations, Kept}
-use Rattle.table_store.specs.Schema.{position, columns_of, desk_schema}
+use Rattle.table_store.specs.declared.name.TableName.TheVariants.{OrderLines, Builds, Allocations, Kept, Spent}
+use Rattle.table_store.specs.Schema.{columns_of, desk_schema, old_schema, position, tree_number}
 
 -- a column of this kind, NOT NULL or not, takes the value as it is
 abbrev pub Takes : Kind → Bool → Value → Type 0
@@ -52,16 +52,27 @@ with_row table _ rows = rows
 -- all tables are there, and their rows rise by their numbers
 pub record HasTables (s : State) : Type 0 where
   pub schema : s.now.schema ≡ desk_schema
-  pub shaped : (table : TableName) → IsShaped Table (s.now.trees (position table))
+  pub shaped : (table : TableName) → IsShaped Table (s.now.trees (tree_number table))
+
+-- so it is of the tables of version 1
+pub record HasOldTables (s : State) : Type 0 where
+  pub schema : s.now.schema ≡ old_schema
+  pub shaped : (table : TableName) → position table < 13 → IsShaped Table (s.now.trees (tree_number table))
+
+-- the table is one of this version's tables, or of version 1's, which are there; its rows rise by their numbers
+pub record HasTable (table : TableName) (s : State) : Type 0 where
+  pub listed : (s.now.schema ≡ desk_schema) ⊎ ((s.now.schema ≡ old_schema) × (position table < 13))
+  pub shaped : IsShaped Table (s.now.trees (tree_number table))
 
 abbrev pub IsInside : State → Type 0
 IsInside s = HasTables s × IsTrue s.in_transaction
 
--- lines, their substitutes and allocations go; all else that was written stays
+-- lines, their substitutes, allocations and what was spent go; all else that was written stays
 abbrev pub AreDropped : TableName → Type 0
 AreDropped Lines = ⊤
 AreDropped Substitutes = ⊤
 AreDropped Allocations = ⊤
+AreDropped Spent = ⊤
 AreDropped _ = ⊥
 
 -- where the database has the columns of a row: first the key, which a table under a whole number has as the row's own
@@ -79,6 +90,7 @@ places Orders = 0 ∷ 2 ∷ 3 ∷ 4 ∷ []
 places OrderLines = 0 ∷ 2 ∷ 3 ∷ 4 ∷ 5 ∷ []
 places Builds = 0 ∷ 2 ∷ 3 ∷ 4 ∷ 5 ∷ []
 places Allocations = 0 ∷ 2 ∷ 3 ∷ 4 ∷ 5 ∷ 6 ∷ 7 ∷ []
+places Spent = 0 ∷ 2 ∷ 3 ∷ 4 ∷ []
 places Kept = 1 ∷ 2 ∷ 3 ∷ []
 
 abbrev pub shown_row : TableName → Row → Row
@@ -102,7 +114,7 @@ IsLoaded table rows shown = shown ≡ map (shown_row table) rows
 
 -- within the transaction the table has these rows, and all else is as before
 pub record HasSet (table : TableName) (wanted : List Row) (old new : State) : Type 0 where
-  pub rows : new.now.trees (position table) ≡ wanted
-  pub others : (other : TableName) → other ≢ table → new.now.trees (position other) ≡ old.now.trees (position other)
+  pub rows : new.now.trees (tree_number table) ≡ wanted
+  pub others : (other : TableName) → other ≢ table → new.now.trees (tree_number other) ≡ old.now.trees (tree_number other)
   pub tables : HasTables new
   pub shown : Shows old new new.now old.committed true

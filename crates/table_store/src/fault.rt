@@ -16,6 +16,8 @@ enum Cause {
     NoTable(TableName),
     /// A row of the table is none that the program writes.
     BadRow(TableName),
+    /// There was no memory for a row, within a transaction that had others.
+    NoMemory,
 }
 
 /// What is known of a fault. As text it is one line, for a person.
@@ -43,6 +45,15 @@ impl Failed {
         }
     }
 
+    /// Of a row for which there was no memory.
+    pub fn no_memory() -> Failed
+        ensures { result.cause ≡ Cause.NoMemory }
+    {
+        Failed {
+            cause: Cause::NoMemory,
+        }
+    }
+
     /// Of a row that isn't one of the table.
     pub(crate) fn bad_row(table: TableName) -> Failed
         ensures { result.cause ≡ Cause.BadRow table }
@@ -63,6 +74,7 @@ impl fmt::Display for Failed {
             Cause::Database(error) => write!(f, "the database answered: {error}"),
             Cause::NoTable(table) => write!(f, "the table {} is not as it should be", table.name()),
             Cause::BadRow(table) => write!(f, "a row of the table {} makes no sense", table.name()),
+            Cause::NoMemory => f.write_str("there was no memory for a row"),
         }
     }
 }
@@ -74,7 +86,7 @@ pub enum TableFault {
     Memory,
     /// The database failed, or ran out of memory itself, which ends the transaction too.
     Store(Failed),
-    /// The file's tables aren't the desk's.
+    /// The file's tables aren't the desk's, of this version or of version 1.
     NoTable(Failed),
     /// A table has a row that is none of the program's.
     BadRow(Failed),

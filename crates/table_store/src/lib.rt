@@ -12,11 +12,11 @@ mod shape;
 mod transaction;
 mod write;
 
-pub use create::create_tables;
+pub use create::{add_spent, create_tables};
 pub use fault::{Failed, TableFault};
 pub use kept::write_kept;
 pub use name::TableName;
-pub use open::{has_tables, is_bare, open_tables};
+pub use open::{has_old_tables, has_tables, is_bare, open_tables};
 pub use read::{has_no_row, load_kept, load_sheet};
 pub use rows::{drop_row, load_rows, put_row};
 pub use transaction::{begin, commit, rollback};

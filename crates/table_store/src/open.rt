@@ -1,9 +1,9 @@
 //! Whether a file's tables are the desk's.
 //!
 //! A database may be anyone's until its schema has been compared, table by table and column by column, with that which
-//! `create_tables` makes. A connection says nothing of the order of its rows: so a database is taken from it, and
+//! `create_tables` makes, and with that of version 1. A connection says nothing of the order of its rows: so a database is taken from it, and
 //! opened once more, by which what holds of the database's trees is known of the tables too.
-ghost use Rattle.std.specs.Prelude.{◌≡◌, ◌↔◌, ◌≤◌, false, IsTrue, IfOk, IfErr};
+ghost use Rattle.std.specs.Prelude.{◌≡◌, ◌↔◌, ◌⊎◌, ◌≤◌, false, IsTrue, IfOk, IfErr};
 ghost use Rattle.sqlite.specs.Held.{state};
 ghost use Rattle.sqlite.specs.State.{HasCleanDisk};
 ghost use Rattle.sqlite.specs.Table.{Table};
@@ -14,12 +14,12 @@ ghost use Rattle.sqlite_trees.specs.View.{doubt, IsClean, IsShaped};
 ghost use Rattle.sqlite_trees.specs.declared.store.Shape.TheVariants as shape;
 ghost use Rattle.sqlite.specs.Steps.{IsFresh};
 ghost use Rattle.table_store.specs.Opened.{IsAtRest, IsForeign, FailsToOpen};
-ghost use Rattle.table_store.specs.Schema.{desk_schema, schema_up_to};
+ghost use Rattle.table_store.specs.Schema.{IsOwn, desk_schema, old_schema, schema_up_to};
 ghost use Rattle.table_store.specs.Transactions.{IsOfStore};
-ghost use Rattle.table_store.specs.Values.{HasTables};
+ghost use Rattle.table_store.specs.Values.{HasOldTables, HasTables};
 
 use crate::fault::{Failed, TableFault};
-use crate::shape::odd_table;
+use crate::shape::{is_old, odd_table};
 use sqlite::{Alter, Connection, Error, ErrorCode};
 use std::alloc::Global;
 
@@ -36,6 +36,13 @@ pub fn has_tables<S: Alter>(conn: &Connection<S>) -> bool
     ensures { IsTrue result ↔ ((state S.Store conn.now).now.schema ≡ desk_schema) }
 {
     odd_table(conn.schema()).is_none()
+}
+
+/// Whether the database has the tables of version 1, which lack `spent`, with their columns, and nothing else.
+pub fn has_old_tables<S: Alter>(conn: &Connection<S>) -> bool
+    ensures { IsTrue result ↔ ((state S.Store conn.now).now.schema ≡ old_schema) }
+{
+    is_old(conn.schema())
 }
 
 /// The database of a connection, with the tables of the last commit.
@@ -88,13 +95,13 @@ fn opened<S: Alter + Drop>(alloc: Global, database: S) -> Result<Connection<S>, 
     }
 }
 
-/// The connection, where its tables are the desk's.
+/// The connection, where its tables are the desk's, or those of version 1.
 fn compared<S: Alter + Drop>(conn: Connection<S>) -> Result<Connection<S>, (TableFault, S)>
     requires rest { HasCleanDisk (state S.Store conn) → IsAtRest (state S.Store conn) }
     requires sound { HasCleanDisk (state S.Store conn)
         → IsSound (state S.Store conn).now.schema (state S.Store conn).now.trees }
     ensures same { IfOk result (λ c. c ≡ conn) }
-    ensures desk { IfOk result (λ c. (state S.Store c).now.schema ≡ desk_schema) }
+    ensures own { IfOk result (λ c. IsOwn (state S.Store c).now.schema) }
     ensures foreign { IfErr result (λ e. IsClean (S.Store.view e.1)
         → FailsToOpen (state S.Store conn).now.trees e.0) }
     ensures kept { IfErr result (λ e. IsClean (S.Store.view e.1)
@@ -107,6 +114,7 @@ fn compared<S: Alter + Drop>(conn: Connection<S>) -> Result<Connection<S>, (Tabl
 {
     match odd_table(conn.schema()) {
         None => Ok(conn),
+        Some(_) if is_old(conn.schema()) => Ok(conn),
         Some(name) => {
             let fault = TableFault::NoTable(Failed::no_table(name));
             Err((fault, given_back(conn)))
@@ -114,14 +122,17 @@ fn compared<S: Alter + Drop>(conn: Connection<S>) -> Result<Connection<S>, (Tabl
     }
 }
 
-/// The connection opened once more, where its tables are the desk's: `NoTable` where they aren't. What isn't committed
-/// is rolled back. The database that is handed back after a fault has the tables of the last commit.
+/// The connection opened once more, where its tables are the desk's, or those of version 1: `NoTable` where they are
+/// neither. What isn't committed is rolled back. The database that is handed back after a fault has the tables of the
+/// last commit.
 pub fn open_tables<S: Alter + Drop>(
     alloc: Global,
     conn: Connection<S>,
 ) -> Result<Connection<S>, (TableFault, S)>
     ensures tables { IfOk result (λ c. HasCleanDisk (state S.Store c)
-        → HasTables (state S.Store c)) }
+        → HasTables (state S.Store c) ⊎ HasOldTables (state S.Store c)) }
+    ensures sound { IfOk result (λ c. HasCleanDisk (state S.Store c)
+        → IsSound (state S.Store c).now.schema (state S.Store c).now.trees) }
     ensures own { IfOk result (λ c. HasCleanDisk (state S.Store c)
         → ¬ IsForeign (state S.Store conn).committed.trees) }
     ensures rest { IfOk result (λ c. HasCleanDisk (state S.Store c)

@@ -12,7 +12,7 @@ ghost use Rattle.table_store.specs.Faults.{NamesTable};
 ghost use Rattle.table_store.specs.Stored.{column_of, columns_in, row_of, values_of};
 ghost use Rattle.table_store.specs.Stored.{AreLoaded, FailsToLoad, FailsToRead};
 ghost use Rattle.table_store.specs.Transactions.{IsBadRow, IsOfReading, IsOfStore, MayUndo};
-ghost use Rattle.table_store.specs.Values.{HasTables, RiseByWord};
+ghost use Rattle.table_store.specs.Values.{HasTable, HasTables, RiseByWord};
 ghost use Rattle.table_store.specs.Written.{tree_of, AreItsRows, IsTableOfNone, IsTableOfNoneOwn, Suits, SuitKept};
 ghost use Rattle.table_store.specs.declared.name.TableName.TheVariants.{Kept};
 
@@ -106,7 +106,8 @@ fn rows_of<R: Stored>(alloc: Global, table: TableName, rows: &[Row]) -> Result<V
     Ok(read)
 }
 
-/// All rows of a table under numbers, as rows of the machine, in the order of their numbers.
+/// All rows of a table under numbers, as rows of the machine, in the order of their numbers. The table may be one of
+/// version 1.
 ///
 /// `BadRow` where one of them is none. `NoTable` is never answered: whether the tables are there is asked before.
 pub fn load_sheet<S: Alter, R: Stored>(
@@ -114,7 +115,7 @@ pub fn load_sheet<S: Alter, R: Stored>(
     conn: &mut Connection<S>,
     table: TableName,
 ) -> Result<Vec<R>, TableFault>
-    requires { HasCleanDisk (state S.Store conn.old) → HasTables (state S.Store conn.old) }
+    requires { HasCleanDisk (state S.Store conn.old) → HasTable table (state S.Store conn.old) }
     ensures loaded { HasCleanDisk (state S.Store conn.new)
         → IfOk result (λ rows. AreLoaded R.row_from R.columns_of table
         (tree_of table (state S.Store conn.old)) rows.items) }

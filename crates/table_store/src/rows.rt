@@ -4,9 +4,9 @@ ghost use Rattle.sqlite.specs.Held.{state};
 ghost use Rattle.sqlite.specs.State.{HasCleanDisk, IsUnchanged, IsRolledBack, Survives};
 ghost use Rattle.sqlite.specs.Tree.{without_rowid};
 ghost use Rattle.sqlite.specs.Values.{bound};
-ghost use Rattle.table_store.specs.Schema.{position};
+ghost use Rattle.table_store.specs.Schema.{tree_number};
 ghost use Rattle.table_store.specs.Transactions.{IsOfStore};
-ghost use Rattle.table_store.specs.Values.{IsRow, AreDropped, with_row, HasTables, IsInside, IsLoaded, HasSet};
+ghost use Rattle.table_store.specs.Values.{IsRow, AreDropped, with_row, HasTable, IsInside, IsLoaded, HasSet};
 
 use crate::fault::{Failed, TableFault};
 use crate::name::TableName;
@@ -25,7 +25,7 @@ pub fn put_row<S: Alter>(
     requires fits { IsRow table (bound values.now) }
     ensures put { HasCleanDisk (state S.Store conn.new)
         → OnOk result (HasSet table
-        (with_row table (bound values.now) ((state S.Store conn.old).now.trees (position table)))
+        (with_row table (bound values.now) ((state S.Store conn.old).now.trees (tree_number table)))
         (state S.Store conn.old) (state S.Store conn.new)) }
     ensures failed { HasCleanDisk (state S.Store conn.new)
         → OnErr result (IsUnchanged (state S.Store conn.old) (state S.Store conn.new)
@@ -50,7 +50,7 @@ pub fn drop_row<S: Alter>(
     requires dropped { AreDropped table }
     ensures gone { HasCleanDisk (state S.Store conn.new)
         → OnOk result (HasSet table
-        (without_rowid key ((state S.Store conn.old).now.trees (position table)))
+        (without_rowid key ((state S.Store conn.old).now.trees (tree_number table)))
         (state S.Store conn.old) (state S.Store conn.new)) }
     ensures failed { HasCleanDisk (state S.Store conn.new)
         → OnErr result (IsUnchanged (state S.Store conn.old) (state S.Store conn.new)
@@ -64,15 +64,16 @@ pub fn drop_row<S: Alter>(
     }
 }
 
-/// All rows of a table, the key first, in the order of the key: the words of `kept` by their bytes.
+/// All rows of a table, of this version's or of version 1's, the key first, in the order of the key: the words of `kept`
+/// by their bytes.
 pub fn load_rows<S: Alter>(
     conn: &mut Connection<S>,
     table: TableName,
 ) -> Result<Vec<Row>, TableFault>
-    requires { HasCleanDisk (state S.Store conn.old) → HasTables (state S.Store conn.old) }
+    requires { HasCleanDisk (state S.Store conn.old) → HasTable table (state S.Store conn.old) }
     ensures loaded { HasCleanDisk (state S.Store conn.new)
         → IfOk result (λ rows.
-        IsLoaded table ((state S.Store conn.old).now.trees (position table)) rows.items) }
+        IsLoaded table ((state S.Store conn.old).now.trees (tree_number table)) rows.items) }
     ensures same { HasCleanDisk (state S.Store conn.new)
         → OnOk result (IsUnchanged (state S.Store conn.old) (state S.Store conn.new)) }
     ensures failed { HasCleanDisk (state S.Store conn.new)

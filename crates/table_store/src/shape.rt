@@ -1,7 +1,7 @@
 //! Whether a schema is that of the desk's tables.
-ghost use Rattle.std.specs.Prelude.{◌≡◌, ◌↔◌, ◌∷◌, [], length, map, IsTrue, None};
+ghost use Rattle.std.specs.Prelude.{◌≡◌, ◌↔◌, ◌≤◌, ◌∷◌, [], length, map, take, IsTrue, None};
 ghost use Rattle.sqlite_value.specs.Keys.{plain};
-ghost use Rattle.table_store.specs.Schema.{column_of, table_of, all_names, kept_index, desk_schema, no_stamps};
+ghost use Rattle.table_store.specs.Schema.{column_of, table_of, all_names, kept_index, desk_schema, old_schema, no_stamps};
 ghost use Rattle.table_store.specs.Shape.{IsNumbered, IsWorded, HasNoRule, IsNamed, IsKeyed, HasParts, HasKeptIndex};
 
 use crate::name::TableName;
@@ -126,7 +126,7 @@ fn is_named(table: &Table, name: TableName) -> bool
     ensures { IsTrue result ↔ IsNamed name table.now }
 {
     table.name.as_slice() == name.name().as_bytes()
-        && table.tree == name.place()
+        && table.tree == name.tree()
         && are_columns(table.columns.as_slice(), name.columns())
 }
 
@@ -176,12 +176,13 @@ fn has_kept_index(schema: &Schema) -> bool
     }
 }
 
-/// The first table that isn't the one that stands at its place, if there is one.
-fn first_odd(tables: &[Table]) -> Option<TableName>
-    requires { length tables.now ≡ 13 }
-    ensures { (result ≡ None) ↔ (tables.now ≡ map table_of all_names) }
+/// The first of so many tables that isn't the one that stands at its place, if there is one.
+fn first_odd(tables: &[Table], count: usize) -> Option<TableName>
+    requires all { length tables.now ≡ count }
+    requires known { count ≤ 14 }
+    ensures { (result ≡ None) ↔ (tables.now ≡ map table_of (take count all_names)) }
 {
-    for place in 0..13 {
+    for place in 0..count {
         let name = TableName::at(place);
         if !is_table(&tables[place], name) {
             return Some(name);
@@ -194,12 +195,21 @@ fn first_odd(tables: &[Table]) -> Option<TableName>
 pub(crate) fn odd_table(schema: &Schema) -> Option<TableName>
     ensures { (result ≡ None) ↔ (schema.now ≡ desk_schema) }
 {
-    if schema.tables.len() != 13 {
+    if schema.tables.len() != 14 {
         return Some(TableName::Meta);
     }
-    match first_odd(schema.tables.as_slice()) {
+    match first_odd(schema.tables.as_slice(), 14) {
         Some(name) => Some(name),
         None if has_kept_index(schema) => None,
         None => Some(TableName::Kept),
     }
+}
+
+/// Whether the tables are those of version 1.
+pub(crate) fn is_old(schema: &Schema) -> bool
+    ensures { IsTrue result ↔ (schema.now ≡ old_schema) }
+{
+    schema.tables.len() == 13
+        && first_odd(schema.tables.as_slice(), 13).is_none()
+        && has_kept_index(schema)
 }

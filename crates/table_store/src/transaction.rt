@@ -2,7 +2,7 @@
 ghost use Rattle.std.specs.Prelude.{◌≡◌, ◌⊎◌, false, true, IfErr, OnOk, OnErr, IsTrue};
 ghost use Rattle.sqlite.specs.Held.{state};
 ghost use Rattle.sqlite.specs.State.{HasCleanDisk, Survives, Shows, IsUnchanged, IsRolledBack};
-ghost use Rattle.table_store.specs.Values.{HasTables};
+ghost use Rattle.table_store.specs.Values.{HasOldTables, HasTables};
 ghost use Rattle.table_store.specs.Transactions.{Stops, IsBack, IsOfStore};
 
 use crate::fault::{Failed, TableFault};
@@ -18,6 +18,9 @@ pub fn begin<S: Alter>(conn: &mut Connection<S>) -> Result<(), TableFault>
     ensures tables { HasCleanDisk (state S.Store conn.new)
         → HasTables (state S.Store conn.old)
         → OnOk result (HasTables (state S.Store conn.new)) }
+    ensures old_tables { HasCleanDisk (state S.Store conn.new)
+        → HasOldTables (state S.Store conn.old)
+        → OnOk result (HasOldTables (state S.Store conn.new)) }
     ensures stopped { HasCleanDisk (state S.Store conn.new)
         → IfErr result (Stops (state S.Store conn.old) (state S.Store conn.new)) }
     ensures fault { IfErr result IsOfStore }

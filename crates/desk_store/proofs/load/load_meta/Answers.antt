@@ -8,9 +8,13 @@ use Rattle.desk_store.specs.Loading.{AreTheRows}
 use Rattle.desk_store.specs.MetaColumns.{meta_columns, meta_from}
 use Rattle.desk_store.specs.Opening.{IsOfOtherVersion, WhyBut}
 use Rattle.desk_store.specs.declared.meta.MetaRow.{MetaRow}
-use Rattle.table_store.specs.Schema.{position}
+use Rattle.table_store.specs.Schema.{tree_number}
 use Rattle.table_store.specs.declared.name.TableName.TheVariants.{Meta}
+use Rattle.table_store.proofs.Loading.{one_of_all}
 use Rattle.desk_store.proofs.load.load_meta.Goals as goal
+
+pub load_sheet-requires : goal.load_sheet-requires
+load_sheet-requires g c clean = one_of_all Meta (state g.S.Store c.args.conn.now) (c.requires clean)
 
 pub returns-in-Ok : goal.returns-in-Ok
 returns-in-Ok g c =
@@ -18,7 +22,7 @@ returns-in-Ok g c =
     meta-read old (state g.S.Store c.load_sheet.new.conn) c.as_slice.result.now
     (record { same = c.in-Ok.ensures.same; crash = c.load_sheet.ensures.crash })
     (λ clean. subst (λ (rows : List MetaRow).
-    AreTheRows meta_from meta_columns (λ row. row.one ∷ []) Meta (old.now.trees (position Meta)) rows)
+    AreTheRows meta_from meta_columns (λ row. row.one ∷ []) Meta (old.now.trees (tree_number Meta)) rows)
     (sym c.as_slice.ensures.value)
     (record { loaded = c.in-Ok.ensures.loaded clean; its = c.in-Ok.ensures.rows clean number_digits meta-suits }))
     c.meta_in.result c.meta_in.ensures.alone c.meta_in.ensures.one c.meta_in.ensures.version c.meta_in.ensures.why

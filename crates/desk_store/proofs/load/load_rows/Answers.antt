@@ -4,7 +4,12 @@ use Rattle.part_core.specs.RowKeys.{number_digits}
 use Rattle.desk_store.specs.Opening.{WhyUnread}
 use Rattle.desk_store.proofs.Breaking.{of-reading, why-broken}
 use Rattle.desk_store.proofs.Readings.{fails_to_load}
+use Rattle.table_store.proofs.Loading.{one_of_all}
 use Rattle.desk_store.proofs.load.load_rows.Goals as goal
+
+pub load_sheet-requires : goal.load_sheet-requires
+load_sheet-requires g c clean =
+    one_of_all c.args.table (state g.S.Store c.args.conn.now) (c.requires.tables clean)
 
 pub returns-in-Err : goal.returns-in-Err
 returns-in-Err g c =

@@ -4,7 +4,8 @@ use Rattle.sqlite.specs.Held.{state}
 use Rattle.sqlite.specs.State.{HasCleanDisk}
 use Rattle.part_core.specs.Columns.{IsSmall}
 use Rattle.desk_core.specs.ShopView.{state_before, state_of}
-use Rattle.desk_store.specs.MetaColumns.{meta_columns, meta_of, only}
+use Rattle.desk_store.specs.MetaColumns.{meta_columns, only}
+use Rattle.desk_store.specs.StateTables.{HasOneRow}
 use Rattle.desk_store.specs.declared.meta.MetaRow.{MetaRow}
 use Rattle.desk_store.proofs.Kept.{meta_there, own_meta}
 use Rattle.desk_store.proofs.Midway.{both_ok, keeps_row, one_written}
@@ -21,7 +22,7 @@ write_row-requires-clause-ready g c clean = (c.requires.under_way clean).ready
 
 pub write_row-requires-clause-small : goal.write_row-requires-clause-small
 write_row-requires-clause-small g c =
-    subst (λ (m : MetaRow). All IsSmall (meta_columns m)) (sym c.of.ensures) c.requires.follows.counted
+    subst (λ (m : MetaRow). All IsSmall (meta_columns m)) (sym c.of.ensures) c.requires.small
 
 pub returns : goal.returns
 returns g c =
@@ -33,12 +34,13 @@ returns g c =
       under_way = λ clean.
           let clean0 : HasCleanDisk d = omega (arith, clean, c.write_row.ensures.crash.clean) in
           let way = c.requires.under_way clean0 in
+          let there : HasOneRow (tree_of Meta d) = way.midway.left Meta (omega arith) in
           both_ok c.write_row.result
           (λ set put.
-          one_written old new Meta d e way set (meta_there (tree_of Meta e) old new c.of.result c.of.ensures put))
+          one_written old new Meta d e way set
+          (meta_there (tree_of Meta e) there.row new c.of.result there.key c.of.ensures put))
           (c.write_row.ensures.set clean)
-          (c.write_row.ensures.put clean (only (meta_of old)) (own_meta (meta_of old))
-          (way.midway.left Meta (omega arith)));
+          (c.write_row.ensures.put clean (only there.row) (own_meta there.row) there.table);
       commit =
           λ clean.
           keeps_row Meta d e c.write_row.result (c.write_row.ensures.set clean) (c.write_row.ensures.failed clean);

@@ -1,15 +1,14 @@
 use Rattle.std.proofs.Common.{ap, ◌∙◌, ◌+◌, subst, sym}
 use Rattle.sqlite.specs.Held.{state}
 use Rattle.desk_core.specs.ShopView.{state_before, state_of}
-use Rattle.desk_store.specs.Saving.{Goes, IsUnderWay}
+use Rattle.desk_store.specs.Saving.{Goes, IsUnderWay, turn_of}
 use Rattle.desk_store.proofs.Sheets.{allocation-sheet, at_table, build-sheet, category-sheet}
 use Rattle.desk_store.proofs.Sheets.{entry-sheet, item-sheet, line-sheet, location-sheet}
-use Rattle.desk_store.proofs.Sheets.{order-line-sheet, order-sheet, part-sheet, substitute-sheet}
-use Rattle.table_store.specs.Schema.{position}
+use Rattle.desk_store.proofs.Sheets.{order-line-sheet, order-sheet, part-sheet, spent-sheet, substitute-sheet}
 use Rattle.table_store.specs.declared.name.TableName.{TableName}
 use Rattle.table_store.specs.declared.name.TableName.TheVariants.{Categories, Locations, Parts, Lines}
 use Rattle.table_store.specs.declared.name.TableName.TheVariants.{Substitutes, Items, History, Orders}
-use Rattle.table_store.specs.declared.name.TableName.TheVariants.{OrderLines, Builds, Allocations}
+use Rattle.table_store.specs.declared.name.TableName.TheVariants.{OrderLines, Builds, Allocations, Spent}
 use Rattle.desk_store.proofs.save.write_table.Goals as goal
 
 pub write_sheet-requires-clause-sheet : goal.write_sheet-requires-clause-sheet
@@ -73,26 +72,34 @@ write_sheet-requires-in-Allocations-clause-sheet g c =
     c.in-Allocations.is (c.rows-in-Allocations.ensures.value ∙ ap (λ k. k.rows) c.allocations.ensures)
     (allocation-sheet c.args.shop.now c.requires.follows)
 
+pub write_sheet-requires-in-Spent-clause-sheet : goal.write_sheet-requires-in-Spent-clause-sheet
+write_sheet-requires-in-Spent-clause-sheet g c =
+    at_table c.args.table Spent c.spent.result.now c.args.shop.now.builds.spent c.in-Spent.is
+    (c.spent.ensures.value ∙ ap (λ k. k.spent) c.builds-in-Spent.ensures) (spent-sheet c.args.shop.now c.requires.follows)
+
 pub write_counter-requires-clause-under_way : goal.write_counter-requires-clause-under_way
 write_counter-requires-clause-under_way g c clean =
     subst (λ (t : TableName).
-    IsUnderWay (state_before c.args.shop.now) (state_of c.args.shop.now) (position t) (state g.S.Store c.args.conn.now))
+    IsUnderWay (state_before c.args.shop.now) (state_of c.args.shop.now) (turn_of t) (state g.S.Store c.args.conn.now))
     c.in-Meta.is (c.requires.under_way clean)
+
+pub write_counter-requires-clause-small : goal.write_counter-requires-clause-small
+write_counter-requires-clause-small g c = c.requires.follows.counted
 
 pub returns-in-Meta : goal.returns-in-Meta
 returns-in-Meta g c =
-    subst (λ (t : TableName). Goes (state_before c.args.shop.now) (state_of c.args.shop.now) (position t + 1)
+    subst (λ (t : TableName). Goes (state_before c.args.shop.now) (state_of c.args.shop.now) (turn_of t + 1)
     (state g.S.Store c.args.conn.now) (state g.S.Store c.write_counter.new.conn) c.write_counter.result)
     (sym c.in-Meta.is) c.write_counter.ensures
 
 pub write_answers-requires-clause-under_way : goal.write_answers-requires-clause-under_way
 write_answers-requires-clause-under_way g c clean =
     subst (λ (t : TableName).
-    IsUnderWay (state_before c.args.shop.now) (state_of c.args.shop.now) (position t) (state g.S.Store c.args.conn.now))
+    IsUnderWay (state_before c.args.shop.now) (state_of c.args.shop.now) (turn_of t) (state g.S.Store c.args.conn.now))
     c.in-Kept.is (c.requires.under_way clean)
 
 pub returns-in-Kept : goal.returns-in-Kept
 returns-in-Kept g c =
-    subst (λ (t : TableName). Goes (state_before c.args.shop.now) (state_of c.args.shop.now) (position t + 1)
+    subst (λ (t : TableName). Goes (state_before c.args.shop.now) (state_of c.args.shop.now) (turn_of t + 1)
     (state g.S.Store c.args.conn.now) (state g.S.Store c.write_answers.new.conn) c.write_answers.result)
     (sym c.in-Kept.is) c.write_answers.ensures

@@ -1,19 +1,29 @@
 use Rattle.std.proofs.Common.{◌∙◌}
 use Rattle.sqlite.specs.Held.{state}
 use Rattle.sqlite_trees.specs.View.{doubt}
-use Rattle.table_store.proofs.Opening.{own_told, tables_told, harmless_by}
+use Rattle.table_store.proofs.Opening.{harmless_by, left_told, own_told, sound_told, tables_told}
 use Rattle.table_store.proofs.open.open_tables.Goals as goal
 
 pub returns-in-Ok-clause-tables : goal.returns-in-Ok-clause-tables
 returns-in-Ok-clause-tables g c =
-    tables_told (state g.S.Store) c.compared.result c.in-Ok.conn c.compared.ensures.same c.compared.ensures.desk
+    tables_told (state g.S.Store) c.compared.result c.in-Ok.conn c.compared.ensures.same c.compared.ensures.own
     c.in-Ok.ensures.shaped
+
+pub returns-in-Ok-clause-sound : goal.returns-in-Ok-clause-sound
+returns-in-Ok-clause-sound g c =
+    sound_told (state g.S.Store) c.compared.result c.in-Ok.conn c.compared.ensures.same c.in-Ok.ensures.sound
 
 pub returns-in-Ok-clause-own : goal.returns-in-Ok-clause-own
 returns-in-Ok-clause-own g c =
     own_told (state g.S.Store) c.compared.result c.in-Ok.conn (state g.S.Store c.args.conn).committed.trees
-    c.compared.ensures.same c.compared.ensures.desk c.in-Ok.ensures.sound
+    c.compared.ensures.same c.compared.ensures.own c.in-Ok.ensures.sound
     (λ clean. c.in-Ok.ensures.same clean ∙ c.given_back.ensures.trees (c.in-Ok.ensures.live clean))
+
+pub returns-in-Ok-clause-left : goal.returns-in-Ok-clause-left
+returns-in-Ok-clause-left g c =
+    left_told (state g.S.Store) c.compared.result c.in-Ok.conn (state g.S.Store c.args.conn).may_leave
+    c.compared.ensures.same
+    (λ clean trees h. c.given_back.ensures.left trees (c.in-Ok.ensures.left clean trees h))
 
 pub returns-in-Ok-clause-harmless : goal.returns-in-Ok-clause-harmless
 returns-in-Ok-clause-harmless g c =

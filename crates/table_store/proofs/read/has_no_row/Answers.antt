@@ -2,7 +2,11 @@ use Rattle.std.proofs.Common.{◌∙◌, ◌==◌, ap, rules}
 use Rattle.sqlite.specs.Held.{state}
 use Rattle.table_store.specs.Written.{tree_of}
 use Rattle.table_store.proofs.Loads.{no-rows}
+use Rattle.table_store.proofs.Loading.{one_of_all}
 use Rattle.table_store.proofs.read.has_no_row.Goals as goal
+
+pub load_rows-requires : goal.load_rows-requires
+load_rows-requires g c clean = one_of_all c.args.table (state g.S.Store c.args.conn.now) (c.requires clean)
 
 pub returns-clause-value : goal.returns-clause-value
 returns-clause-value g c clean =

@@ -4,7 +4,11 @@ use Rattle.table_store.specs.Values.{IsByWord, RiseByWord}
 use Rattle.table_store.specs.Written.{tree_of}
 use Rattle.table_store.specs.declared.name.TableName.TheVariants.{Kept}
 use Rattle.table_store.proofs.KeptLoads.{repeated-none, kept-are, unread-none-own}
+use Rattle.table_store.proofs.Loading.{one_of_all}
 use Rattle.table_store.proofs.read.load_kept.Goals as goal
+
+pub load_rows-requires : goal.load_rows-requires
+load_rows-requires g c clean = one_of_all Kept (state g.S.Store c.args.conn.now) (c.requires.tables clean)
 
 pub returns-then-not-are_words_rising-clause-none : goal.returns-then-not-are_words_rising-clause-none
 returns-then-not-are_words_rising-clause-none g c clean bad =

@@ -10,7 +10,7 @@ returns-clause-rows g c clean =
     let tree = tree_of c.args.table (state g.S.Store c.args.conn.now) in
     loaded-are g.R.Stored.row_from g.R.Stored.columns_of g.R.Row.key_of c.args.table tree c.as_slice.result.now
     c.rows_of.result
-    ((c.requires (omega (arith, clean, c.load_rows.ensures.crash.clean))).shaped c.args.table).0
+    (c.requires (omega (arith, clean, c.load_rows.ensures.crash.clean))).shaped.0
     (subst (IsLoaded c.args.table tree) (sym c.as_slice.ensures.value) (c.in_ok-rows.ensures.loaded clean))
     c.rows_of.ensures.read c.rows_of.ensures.told
 

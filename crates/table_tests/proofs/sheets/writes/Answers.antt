@@ -13,6 +13,7 @@ use Rattle.part_core.proofs.RowLemmas.{each-empty}
 use Rattle.table_store.specs.Written.{tree_of, IsTableOf}
 use Rattle.table_store.specs.declared.name.TableName.TheVariants.{Categories}
 use Rattle.table_store.proofs.Tables.{table-empty}
+use Rattle.table_store.proofs.Loading.{one_of_all}
 use Rattle.table_tests.proofs.sheets.writes.Goals as goal
 
 abbrev key : Category → List ℕ
@@ -47,3 +48,7 @@ written-requires-clause-before g c clean =
     let tree = tree_of Categories (state g.S.Store c.fresh.new.conn) in
     subst (IsTableOf named_from named_columns Categories tree) (sym c.in_ok-sheet.ensures.before)
     (table-empty named_from named_columns Categories tree ((c.in_ok-fresh.ensures.fresh clean).empty Categories))
+
+pub load_sheet-requires : goal.load_sheet-requires
+load_sheet-requires g c clean =
+    one_of_all Categories (state g.S.Store c.written-2.new.conn) (c.in_ok-written-2.ensures.ready clean).0.0

@@ -1,0 +1,98 @@
+//! A desk that runs requests in groups: what they change is committed together.
+//!
+//! Between `run_grouped` and `commit` the shop is that after all requests so far, and so are the tables that the
+//! transaction shows, but for the row of the counter, which `commit` writes; a crash leaves those of the last commit. A
+//! group needs no beginning: the first request that changes anything begins the transaction, so a group of refusals, of
+//! repeats or of none costs nothing.
+ghost use Rattle.std.specs.Prelude.{◌≡◌, ◌↔◌, ◌⊎◌, None, IsSome, OnErr, OnOk, IfErr, Err};
+ghost use Rattle.sqlite.specs.Held.{state};
+ghost use Rattle.sqlite.specs.State.{HasCleanDisk, Survives};
+ghost use Rattle.desk_core.specs.Machine.{IsSoundState};
+ghost use Rattle.desk_core.specs.ShopView.{state_of};
+ghost use Rattle.desk_store.specs.StateTables.{TablesAre};
+ghost use Rattle.desk_store.specs.Desks.{IsDesk};
+ghost use Rattle.desk_store.specs.Groups.{IsGrouping};
+ghost use Rattle.desk_store.specs.Outcomes.{Tells};
+
+use crate::add::{add, finish};
+use crate::desk::Desk;
+use crate::fault::Fault;
+use desk_core::{Accepted, Request};
+use part_core::Answer;
+use sqlite::Alter;
+use table_store::{Failed, TableFault};
+
+/// What a fault that closes a desk is known by.
+fn why_closed(fault: TableFault) -> Failed {
+    match fault {
+        TableFault::Store(failed) | TableFault::NoTable(failed) | TableFault::BadRow(failed) => {
+            failed
+        }
+        TableFault::Memory => Failed::no_memory(),
+    }
+}
+
+impl<S: Alter> Desk<S> {
+    /// Runs one request of a group. Its answer is to be given after the group is committed.
+    ///
+    /// `Store` where the database failed, which closes the desk and undoes the whole group: a crash leaves the tables of
+    /// the last commit. So it is, too, where memory ran out for a row and the group had others. Every call of a closed
+    /// desk answers `Closed`. After `Refused` and `Memory` nothing has changed.
+    pub fn run_grouped(&mut self, request: &Request) -> Result<Answer, Fault>
+        requires { IsGrouping S.Store self.old }
+        ensures grouping { IsGrouping S.Store self.new }
+        ensures tells { Tells (state_of self.old.shop) request.now result (state_of self.new.shop) }
+        ensures closed { (result ≡ Err Fault.Closed) ↔ IsSome self.old.failed }
+        ensures store { IsSome self.new.failed
+            ↔ ((result ≡ Err Fault.Store) ⊎ IsSome self.old.failed) }
+        ensures crash { Survives (state S.Store self.old.conn) (state S.Store self.new.conn)
+            (λ _. ⊥) }
+        ensures idle { IsSome self.old.failed → self.new ≡ self.old }
+    {
+        if self.failed.is_some() {
+            return Err(Fault::Closed);
+        }
+        let answer = match self.shop.accept(request)? {
+            Accepted::Anew(answer) => answer,
+            // A repeat has changed nothing.
+            Accepted::Again(answer) => return Ok(answer),
+        };
+        match add(self.alloc, &mut self.conn, &self.shop) {
+            Ok(()) => Ok(answer),
+            Err(TableFault::Memory) => {
+                self.shop.back();
+                Err(Fault::Memory)
+            }
+            Err(fault) => {
+                self.shop.back();
+                self.failed = Some(why_closed(fault));
+                Err(Fault::Store)
+            }
+        }
+    }
+
+    /// Ends the group: what its requests changed is committed, all of it or nothing.
+    ///
+    /// `Store` where the database failed, or memory ran out, which closes the desk; what a crash then leaves are the
+    /// tables of the last commit or those of the desk's state. A closed desk answers `Closed`.
+    pub fn commit(&mut self) -> Result<(), Fault>
+        requires { IsGrouping S.Store self.old }
+        ensures desk { IsDesk S.Store self.new }
+        ensures shop { self.new.shop ≡ self.old.shop }
+        ensures closed { (result ≡ Err Fault.Closed) ↔ IsSome self.old.failed }
+        ensures store { IsSome self.new.failed ↔ ((result ≡ Err Fault.Store) ⊎ IsSome self.old.failed) }
+        ensures stops { OnErr result (IsSome self.new.failed) }
+        ensures crash { Survives (state S.Store self.old.conn) (state S.Store self.new.conn)
+            (λ trees. TablesAre (state_of self.old.shop) trees) }
+        ensures idle { IsSome self.old.failed → self.new ≡ self.old }
+    {
+        if self.failed.is_some() {
+            return Err(Fault::Closed);
+        }
+        if let Err(fault) = finish(self.alloc, &mut self.conn, &self.shop) {
+            self.failed = Some(why_closed(fault));
+            return Err(Fault::Store);
+        }
+        Ok(())
+    }
+}
