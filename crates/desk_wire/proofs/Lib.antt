@@ -8,3 +8,4 @@ pub mod Keys
 pub mod Reading
 pub mod Rows
 pub mod ImportReports
+pub mod SerialLists

@@ -1,5 +1,5 @@
 -- An object that is a request has `do`, so it asks for no report.
-use Rattle.std.proofs.Common.{◌≡◌, Bool, false, ◌&&◌, refl, ◌∙◌, Option, Some, None, Ok}
+use Rattle.std.proofs.Common.{◌≡◌, Bool, false, ◌&&◌, refl, Option, Some, None, Ok}
 use Rattle.std.specs.Prelude.{Result, is_none, is_some, codes}
 use Rattle.serde_json.specs.Data.{Data}
 use Rattle.serde_json.specs.Find.{get}

@@ -11,3 +11,7 @@ pub mod Numbers
 pub mod Records
 pub mod Imports
 pub mod ImportReports
+pub mod SerialLists
+pub mod RowCommands
+pub mod NumberedRequests
+pub mod ImportRows

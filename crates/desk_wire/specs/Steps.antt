@@ -42,6 +42,11 @@ abbrev pub Gives : {X : Type 0} → Result X unreads.Unread → Result X What �
 Gives (Ok x) reading = reading ≡ Ok x
 Gives (Err e) reading = Fails e reading
 
+-- the same of what the code has in another form, of which this is the view
+abbrev pub GivesBy : {X Y : Type 0} → (Y → X) → Result Y unreads.Unread → Result X What → Type 0
+GivesBy view (Ok y) reading = reading ≡ Ok (view y)
+GivesBy view (Err e) reading = Fails e reading
+
 -- the same of the line of that number, which a fault carries
 abbrev pub FailsAt : {X : Type 0} → ℕ → ReadError → Result X What → Type 0
 FailsAt number Memory reading = Unit {0}

@@ -39,6 +39,9 @@ mod read;
 mod records;
 mod report;
 mod row;
+mod row_command;
+mod serial_count;
+mod serial_list;
 mod texts;
 mod write;
 

@@ -7,26 +7,63 @@ ghost use Rattle.csv.specs.Records.{fields_of};
 ghost use Rattle.desk_wire.specs.declared.kind.ImportKind.TheVariants as kinds;
 ghost use Rattle.desk_wire.specs.Numbers.{is_row_number};
 ghost use Rattle.desk_wire.specs.Records.{are_texts};
-ghost use Rattle.desk_wire.specs.Steps.{Gives};
+ghost use Rattle.desk_wire.specs.Steps.{Gives, GivesBy};
+ghost use Rattle.desk_wire.specs.RowCommands.{command_by};
 ghost use Rattle.desk_wire.specs.Imports.{names_of, field, number_of, batch_of, serials_of, command_of, key_of, row_of};
 
 use crate::document::Document;
 use crate::fault::{Unread, What};
 use crate::kind::ImportKind;
 use crate::number::{number_in, row_number_in};
-use crate::texts::{listed, row_text_from};
+use crate::row_command::RowCommand;
+use crate::serial_list::SerialList;
+use crate::texts::row_text_from;
 use csv::StringRecord;
-use desk_core::{Command, Key, Request};
-use order_core::OrderCommand;
-use part_core::{Batch, Day, Serials};
+use desk_core::{Key, Request};
+use part_core::{Batch, Day};
 use std::alloc::{AllocError, Global};
-use stock_core::{NewStock, StockCommand};
+use std::marker::Model;
 
-/// A row of a file: its number, which is 1 to 999,999,999, and the request that it is.
+/// A row of a file: its number, which is 1 to 999,999,999, and the request that it is. Its serials are kept as they were
+/// written, so that many rows take little more room than their file. A clause sees the number and the request.
 #[derive(Drop)]
 pub struct ImportRow {
-    pub number: u64,
-    pub request: Request,
+    number: u64,
+    key: Key,
+    day: Day,
+    command: RowCommand,
+}
+
+impl Model for ImportRow {
+    ghost use Rattle.desk_wire.specs.NumberedRequests.{NumberedRequest};
+
+    ghost Value = { NumberedRequest };
+
+    ghost use Rattle.desk_wire.specs.ImportRows.{row_kept};
+
+    ghost view = { row_kept };
+}
+
+impl ImportRow {
+    /// The row's number.
+    pub fn number(&self) -> u64
+        ensures { result ≡ self.now.number }
+    {
+        self.number
+    }
+
+    /// The request that the row is, with its serials made out.
+    pub fn request(&self, alloc: Global) -> Result<Request, AllocError>
+        ensures { IfOk result (λ request. request ≡ self.now.request) }
+    {
+        let key = self.key.copy(alloc)?;
+        let command = self.command.command(alloc)?;
+        Ok(Request {
+            key: Some(key),
+            day: self.day,
+            command,
+        })
+    }
 }
 
 /// The header of a file.
@@ -88,50 +125,48 @@ fn batch(alloc: Global, text: &str) -> Result<Option<Batch>, Unread>
 }
 
 /// Serials, or none where the field is empty.
-fn serials(alloc: Global, text: &str) -> Result<Option<Serials>, Unread>
+fn serials(alloc: Global, text: &str) -> Result<Option<SerialList>, Unread>
     ensures { Gives result (serials_of text.now) }
 {
     if text.is_empty() {
         return Ok(None);
     }
-    let serials = listed(alloc, text)?;
+    let serials = SerialList::new(alloc, text)?;
     Ok(Some(serials))
 }
 
-fn receive(alloc: Global, fields: &StringRecord) -> Result<Command, Unread>
-    ensures { Gives result (command_of kinds.Receipts (fields_of fields.now)) }
+fn receive(alloc: Global, fields: &StringRecord) -> Result<RowCommand, Unread>
+    ensures { GivesBy command_by result (command_of kinds.Receipts (fields_of fields.now)) }
 {
     let line = number(fields, 1)?;
     let location = number(fields, 2)?;
     let quantity = number(fields, 3)?;
     let batch = batch(alloc, field(fields, 4))?;
     let serials = serials(alloc, field(fields, 5))?;
-    Ok(Command::Order(OrderCommand::Receive {
+    Ok(RowCommand::Receive {
         line,
         location,
-        new: NewStock {
-            quantity,
-            batch,
-            serials,
-        },
-    }))
+        quantity,
+        batch,
+        serials,
+    })
 }
 
-fn count(fields: &StringRecord) -> Result<Command, What>
-    ensures { result ≡ command_of kinds.Counts (fields_of fields.now) }
+fn count(fields: &StringRecord) -> Result<RowCommand, Unread>
+    ensures { GivesBy command_by result (command_of kinds.Counts (fields_of fields.now)) }
 {
     let item = number(fields, 1)?;
     let quantity = number(fields, 2)?;
-    Ok(Command::Stock(StockCommand::Count { item, quantity }))
+    Ok(RowCommand::Count { item, quantity })
 }
 
 /// The command of a row, or the first fault of its fields after the number.
-fn command(alloc: Global, kind: ImportKind, fields: &StringRecord) -> Result<Command, Unread>
-    ensures { Gives result (command_of kind (fields_of fields.now)) }
+fn command(alloc: Global, kind: ImportKind, fields: &StringRecord) -> Result<RowCommand, Unread>
+    ensures { GivesBy command_by result (command_of kind (fields_of fields.now)) }
 {
     match kind {
         ImportKind::Receipts => receive(alloc, fields),
-        ImportKind::Counts => Ok(count(fields)?),
+        ImportKind::Counts => count(fields),
     }
 }
 
@@ -175,10 +210,8 @@ pub fn row(
     let command = command(alloc, kind, fields)?;
     Ok(ImportRow {
         number,
-        request: Request {
-            key: Some(key),
-            day,
-            command,
-        },
+        key,
+        day,
+        command,
     })
 }

@@ -28,7 +28,8 @@ fn tells_names_of_documents(rt: HostRuntime) -> Result<(), Fail> {
     )?;
     let rows = rows.map_err(|_| "it is a file")?;
     for row in rows.as_slice() {
-        let key = row.request.key.as_ref().ok_or("it has a key")?;
+        let request = row.request(alloc)?;
+        let key = request.key.as_ref().ok_or("it has a key")?;
         assert_eq!(rt; key.as_str(), "counts/._-/1");
     }
     Ok(())

@@ -53,9 +53,10 @@ fn show_command(alloc: Global, command: &Command) -> Result<String, AllocError> 
 
 /// The number, the key, the day and the command of a row, on a line.
 fn show_row(alloc: Global, row: &ImportRow) -> Result<String, AllocError> {
-    let command = show_command(alloc, &row.request.command)?;
-    let (number, day) = (row.number, row.request.day);
-    let key = match &row.request.key {
+    let request = row.request(alloc)?;
+    let command = show_command(alloc, &request.command)?;
+    let (number, day) = (row.number(), request.day);
+    let key = match &request.key {
         None => "none",
         Some(key) => key.as_str(),
     };

@@ -227,7 +227,7 @@ fn finds_what_is_wrong_with_an_order(rt: HostRuntime) -> Result<(), Fail> {
 }
 
 /// What is wrong with a field of a command on builds.
-const WRONG_BUILDS: [(&str, What); 26] = [
+const WRONG_BUILDS: [(&str, What); 29] = [
     (r#""build","quantity":1"#, What::NoField),
     (r#""build","part":1"#, What::NoField),
     (r#""build","part":"1","quantity":1"#, What::WrongType),
@@ -288,6 +288,12 @@ const WRONG_BUILDS: [(&str, What); 26] = [
     (r#""complete_build","build":[1]"#, What::WrongType),
     (
         r#""complete_build","build":1,"location":1"#,
+        What::UnknownField,
+    ),
+    (r#""consume""#, What::NoField),
+    (r#""consume","allocation":null"#, What::WrongType),
+    (
+        r#""consume","allocation":1,"quantity":1"#,
         What::UnknownField,
     ),
 ];

@@ -193,7 +193,7 @@ fn reads_commands_on_orders(rt: HostRuntime) -> Result<(), Fail> {
 }
 
 /// Commands on builds, each with the line that asks for it.
-const OF_BUILDS: [(&str, &str); 18] = [
+const OF_BUILDS: [(&str, &str); 19] = [
     (
         r#"{"do":"build","day":"2030-01-02","part":1,"quantity":2}"#,
         "build 1 2",
@@ -265,6 +265,10 @@ const OF_BUILDS: [(&str, &str); 18] = [
     (
         r#"{"do":"complete_build","day":"2030-01-02","build":1}"#,
         "complete_build 1",
+    ),
+    (
+        r#"{"do":"consume","day":"2030-01-02","allocation":1}"#,
+        "consume 1",
     ),
 ];
 

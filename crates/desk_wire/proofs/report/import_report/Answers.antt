@@ -1,4 +1,4 @@
-use Rattle.std.proofs.Common.{◌≡◌, List, [], length, drop, inl, inr, sym, ap, ◌∙◌, rules, Option, None}
+use Rattle.std.proofs.Common.{◌≡◌, [], length, drop, inl, inr, sym, ap, ◌∙◌, rules, None}
 use Rattle.std.specs.Prelude.{◌⊎◌}
 use Rattle.std.specs.String.{string_bytes}
 use Rattle.std.specs.Iterator.Adapters.{zip_first, zip_second}
