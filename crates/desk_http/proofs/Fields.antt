@@ -7,8 +7,7 @@ use Rattle.std.specs.List.{filter}
 use Rattle.std.specs.Str.{str_eq_ignore_ascii_case}
 use Rattle.httparse.specs.declared.spans.HeaderSpan.{HeaderSpan}
 use Rattle.httparse.specs.Spans.{span_bytes, header_bytes}
-use Rattle.desk_http.specs.Plans.{values, is_named}
-use Rattle.desk_http.specs.Plans.{found_so_far}
+use Rattle.desk_http.specs.Fields.{values, is_named, found_so_far}
 
 picked : (p : List ℕ × List ℕ → Bool) (y : List ℕ × List ℕ) (ys : List (List ℕ × List ℕ)) (b : Bool) → p y ≡ b
     → map (λ f. f.1) (filter p (y ∷ ys)) ≡ map (λ f. f.1) (cond b (y ∷ filter p ys) (filter p ys))

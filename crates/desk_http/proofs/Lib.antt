@@ -3,6 +3,7 @@ pub mod Numbers
 pub mod Fields
 pub mod Arriving
 pub mod Known
+pub mod Tokens
 pub mod Serving
 pub mod Built
 pub mod Days

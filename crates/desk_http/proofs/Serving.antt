@@ -15,6 +15,7 @@ use Rattle.desk_http.specs.declared.service.NoReply.{NoReply}
 use Rattle.desk_http.specs.declared.service.NoReply.TheVariants.{Failed}
 use Rattle.desk_http.specs.declared.served.Stop.{Stop}
 use Rattle.desk_http.specs.declared.served.Stop.TheVariants.{Ended, ReadFailed, WriteFailed, Memory}
+use Rattle.desk_http.specs.AccessRules.{AccessRules}
 use Rattle.desk_http.specs.Heads.{Class, IsHead}
 use Rattle.desk_http.specs.Targets.{Resource}
 use Rattle.desk_http.specs.Plans.{plan_of}
@@ -40,21 +41,21 @@ head_kept : (bs ys h : List ℕ) (n : ℕ) (class : Class) → n ≤ length bs �
 head_kept bs ys h n class l e is = subst (λ v. IsHead v class) (e ∙ sym (take-append-le n bs ys l)) is
 
 -- a head that is rejected
-pub is_rejected : (r : Option (List ℕ)) (bs h : List ℕ) (n : ℕ) (class : Class) (rejection : Rejection) → n ≤ length bs
+pub is_rejected : (rules : AccessRules) (r : Option (List ℕ)) (bs h : List ℕ) (n : ℕ) (class : Class) (rejection : Rejection) → n ≤ length bs
     → h ≡ take n bs → IsHead h class
-    → Err rejection ≡ plan_of class → IsReceivedFrom (arrival.Head n) (all_of r bs) (Rejected rejection)
-is_rejected None bs h n class rejection l e is p = tt
-is_rejected (Some ys) bs h n class rejection l e is p =
+    → Err rejection ≡ plan_of rules class → IsReceivedFrom rules (arrival.Head n) (all_of r bs) (Rejected rejection)
+is_rejected rules None bs h n class rejection l e is p = tt
+is_rejected rules (Some ys) bs h n class rejection l e is p =
     (class, head_kept bs ys h n class l e is, ap (λ q. received_of q (drop n (bs ++ ys))) p)
 
 -- a body that ended too early
-pub is_incomplete : (r r' : Option (List ℕ)) (bs bs' h : List ℕ) (n len : ℕ) (resource : Resource) (class : Class)
-    → n ≤ length bs → h ≡ take n bs → IsHead h class → Ok (resource, len) ≡ plan_of class
+pub is_incomplete : (rules : AccessRules) (r r' : Option (List ℕ)) (bs bs' h : List ℕ) (n len : ℕ) (resource : Resource) (class : Class)
+    → n ≤ length bs → h ≡ take n bs → IsHead h class → Ok (resource, len) ≡ plan_of rules class
     → Keeps (all_of r bs) (all_of r' bs') → IsAtEnd r'
-    → length bs' < n + len → IsReceivedFrom (arrival.Head n) (all_of r bs) Incomplete
-is_incomplete None r' bs bs' h n len resource class l e is p k end less = tt
-is_incomplete (Some ys) None bs bs' h n len resource class l e is p k end less = absurd k
-is_incomplete (Some ys) (Some zs) bs bs' h n len resource class l e is p k end less =
+    → length bs' < n + len → IsReceivedFrom rules (arrival.Head n) (all_of r bs) Incomplete
+is_incomplete rules None r' bs bs' h n len resource class l e is p k end less = tt
+is_incomplete rules (Some ys) None bs bs' h n len resource class l e is p k end less = absurd k
+is_incomplete rules (Some ys) (Some zs) bs bs' h n len resource class l e is p k end less =
     let all : bs' ≡ bs ++ ys = sym (append-nil bs') ∙ ap (λ v. bs' ++ v) (sym end) ∙ k in
     let short : length (drop n (bs ++ ys)) < len =
     omega (arith, length-drop n (bs ++ ys), ap length all, length-append bs ys) in (
@@ -64,13 +65,13 @@ is_incomplete (Some ys) (Some zs) bs bs' h n len resource class l e is p k end l
     )
 
 -- a body that has come
-pub is_complete : (r r' : Option (List ℕ)) (bs bs' h body : List ℕ) (n len : ℕ) (resource : Resource) (class : Class)
-    → n ≤ length bs → h ≡ take n bs → IsHead h class → Ok (resource, len) ≡ plan_of class
+pub is_complete : (rules : AccessRules) (r r' : Option (List ℕ)) (bs bs' h body : List ℕ) (n len : ℕ) (resource : Resource) (class : Class)
+    → n ≤ length bs → h ≡ take n bs → IsHead h class → Ok (resource, len) ≡ plan_of rules class
     → Keeps (all_of r bs) (all_of r' bs') → n + len ≤ length bs'
-    → body ≡ take len (drop n bs') → IsReceivedFrom (arrival.Head n) (all_of r bs) (Complete (operation resource body))
-is_complete None r' bs bs' h body n len resource class l e is p k fit b = tt
-is_complete (Some ys) None bs bs' h body n len resource class l e is p k fit b = absurd k
-is_complete (Some ys) (Some zs) bs bs' h body n len resource class l e is p k fit b =
+    → body ≡ take len (drop n bs') → IsReceivedFrom rules (arrival.Head n) (all_of r bs) (Complete (operation resource body))
+is_complete rules None r' bs bs' h body n len resource class l e is p k fit b = tt
+is_complete rules (Some ys) None bs bs' h body n len resource class l e is p k fit b = absurd k
+is_complete rules (Some ys) (Some zs) bs bs' h body n len resource class l e is p k fit b =
     let xs = bs ++ ys in
     let fits : len ≤ length (drop n xs) = omega (arith, length-drop n xs, ap length k, length-append bs' zs) in
     let here : n ≤ length bs' = omega arith in
@@ -87,18 +88,19 @@ is_complete (Some ys) (Some zs) bs bs' h body n len resource class l e is p k fi
           ∙ ap (λ q. received_of q (drop n xs)) p,
     )
 
-pub is_too_long : (known : Option (List ℕ)) → IsReceivedFrom arrival.TooLong known (Rejected HeadTooLarge)
-is_too_long None = tt
-is_too_long (Some xs) = refl
+pub is_too_long : (rules : AccessRules) (known : Option (List ℕ))
+    → IsReceivedFrom rules arrival.TooLong known (Rejected HeadTooLarge)
+is_too_long rules None = tt
+is_too_long rules (Some xs) = refl
 
 -- what was read and is still to come are the bytes at the start
-pub is_of_all : (o r : Option (List ℕ)) (bs : List ℕ) (a : HeadArrival) → Keeps (all_of o []) (all_of r bs)
+pub is_of_all : (rules : AccessRules) (o r : Option (List ℕ)) (bs : List ℕ) (a : HeadArrival) → Keeps (all_of o []) (all_of r bs)
     → IfSome (all_of r bs) (λ xs. a ≡ arrival xs)
-    → (q : Received) → IsReceivedFrom a (all_of r bs) q → IsReceived o q
-is_of_all None r bs a k e q is = tt
-is_of_all (Some xs) None bs a k e q is = absurd k
-is_of_all (Some xs) (Some ys) bs a k e q is =
-    subst (λ v. IsReceivedAt (arrival v) v q) k (subst (λ b. IsReceivedAt b (bs ++ ys) q) e is)
+    → (q : Received) → IsReceivedFrom rules a (all_of r bs) q → IsReceived rules o q
+is_of_all rules None r bs a k e q is = tt
+is_of_all rules (Some xs) None bs a k e q is = absurd k
+is_of_all rules (Some xs) (Some ys) bs a k e q is =
+    subst (λ v. IsReceivedAt rules (arrival v) v q) k (subst (λ b. IsReceivedAt rules b (bs ++ ys) q) e is)
 
 module _ {D : Type 0} (performs : D → Operation → Result ReplyView NoReply → D → Type 0) where
   -- what may be said of the bytes where more is known of them

@@ -1,6 +1,8 @@
 pub mod HeadEnds
 pub mod Heads
 pub mod Spans
+pub mod Fields
+pub mod AccessRules
 pub mod Targets
 pub mod Routes
 pub mod Plans

@@ -5,6 +5,7 @@ use Rattle.desk_http.specs.Services.{ReplyView}
 use Rattle.desk_http.specs.declared.rejection.Rejection.{Rejection}
 use Rattle.desk_http.specs.declared.rejection.Rejection.TheVariants.{HeadTooLarge, BadRequest, NotFound, OnlyPost}
 use Rattle.desk_http.specs.declared.rejection.Rejection.TheVariants.{OnlyGet, LengthRequired, BodyTooLarge}
+use Rattle.desk_http.specs.declared.rejection.Rejection.TheVariants.{Misdirected, Forbidden, Unauthorized}
 use Rattle.desk_http.specs.declared.service.Outcome.{Outcome}
 use Rattle.desk_http.specs.declared.service.Outcome.TheVariants.{Answered, Refused, Faulty, Reported}
 use Rattle.desk_http.specs.declared.service.Failure.{Failure}
@@ -32,21 +33,24 @@ status_words status = status_text status
 pub record AreNamed : Type 0 where
   pub ok : status_text 200 ≡ codes "200 OK"
   pub bad_request : status_text 400 ≡ codes "400 Bad Request"
+  pub unauthorized : status_text 401 ≡ codes "401 Unauthorized"
+  pub forbidden : status_text 403 ≡ codes "403 Forbidden"
   pub not_found : status_text 404 ≡ codes "404 Not Found"
   pub not_allowed : status_text 405 ≡ codes "405 Method Not Allowed"
   pub conflict : status_text 409 ≡ codes "409 Conflict"
   pub length_required : status_text 411 ≡ codes "411 Length Required"
   pub body_too_large : status_text 413 ≡ codes "413 Payload Too Large"
+  pub misdirected : status_text 421 ≡ codes "421 Misdirected Request"
   pub head_too_large : status_text 431 ≡ codes "431 Request Header Fields Too Large"
   pub server_error : status_text 500 ≡ codes "500 Internal Server Error"
   pub unavailable : status_text 503 ≡ codes "503 Service Unavailable"
 
--- the status line, the fields, an empty line and the body; `allow` is the line of that field, or nothing
+-- the status line, the fields, an empty line and the body; `further` is the line of one field more, or nothing
 abbrev pub response_bytes : ℕ → List ℕ → List ℕ → List ℕ → List ℕ
-response_bytes status media allow body =
+response_bytes status media further body =
     line (codes "HTTP/1.1 ") (status_words status) ++ line (codes "Content-Type: ") media
     ++ line (codes "Content-Length: ") (decimal (length body))
-    ++ allow ++ line (codes "Connection: close") [] ++ crlf ++ body
+    ++ further ++ line (codes "Connection: close") [] ++ crlf ++ body
 
 abbrev pub json : List ℕ
 json = codes "application/json"
@@ -59,7 +63,7 @@ abbrev pub error_body : ℕ → List ℕ
 error_body status = 123 ∷ 34 ∷ codes "http" ++ 34 ∷ 58 ∷ decimal status ++ 125 ∷ 10 ∷ []
 
 abbrev pub error_response : ℕ → List ℕ → Response
-error_response status allow = response status (response_bytes status json allow (error_body status))
+error_response status further = response status (response_bytes status json further (error_body status))
 
 -- ---- a request that is rejected
 
@@ -69,20 +73,27 @@ rejection_status BadRequest = 400
 rejection_status NotFound = 404
 rejection_status OnlyPost = 405
 rejection_status OnlyGet = 405
+rejection_status Misdirected = 421
+rejection_status Forbidden = 403
+rejection_status Unauthorized = 401
 rejection_status LengthRequired = 411
 rejection_status BodyTooLarge = 413
 
-abbrev pub allow_of : Rejection → List ℕ
-allow_of OnlyPost = codes "Allow: POST" ++ crlf
-allow_of OnlyGet = codes "Allow: GET" ++ crlf
-allow_of HeadTooLarge = []
-allow_of BadRequest = []
-allow_of NotFound = []
-allow_of LengthRequired = []
-allow_of BodyTooLarge = []
+-- what else a rejection tells: which method is allowed, or how a client shows who it is
+abbrev pub further_of : Rejection → List ℕ
+further_of OnlyPost = codes "Allow: POST" ++ crlf
+further_of OnlyGet = codes "Allow: GET" ++ crlf
+further_of Unauthorized = codes "WWW-Authenticate: Bearer" ++ crlf
+further_of HeadTooLarge = []
+further_of BadRequest = []
+further_of NotFound = []
+further_of Misdirected = []
+further_of Forbidden = []
+further_of LengthRequired = []
+further_of BodyTooLarge = []
 
 abbrev pub rejection_response : Rejection → Response
-rejection_response rejection = error_response (rejection_status rejection) (allow_of rejection)
+rejection_response rejection = error_response (rejection_status rejection) (further_of rejection)
 
 -- ---- what the service replied
 

@@ -2,6 +2,7 @@
 use Rattle.std.specs.Prelude.{◌≡◌, ◌≤◌, ◌⊎◌, nat_lt, ℕ, List, length, take, drop}
 use Rattle.std.specs.Prelude.{Option, Some, None, Result, Ok, Err, if◌then◌else◌}
 use Rattle.std.specs.Io.KnownBytes.{Appends, Keeps}
+use Rattle.desk_http.specs.AccessRules.{AccessRules}
 use Rattle.desk_http.specs.Heads.{Class, IsHead}
 use Rattle.desk_http.specs.Targets.{Resource}
 use Rattle.desk_http.specs.Plans.{plan_of}
@@ -33,21 +34,21 @@ abbrev pub received_of : Result (Resource × ℕ) Rejection → List ℕ → Rec
 received_of (Err rejection) rest = Rejected rejection
 received_of (Ok p) rest = if nat_lt (length rest) p.1 then Incomplete else Complete (operation p.0 (take p.1 rest))
 
-abbrev pub IsReceivedAt : HeadArrival → List ℕ → Received → Type 0
-IsReceivedAt arrival.Incomplete xs r = r ≡ Incomplete
-IsReceivedAt arrival.TooLong xs r = r ≡ Rejected HeadTooLarge
-IsReceivedAt (arrival.Head n) xs r =
-    (class : Class) × IsHead (take n xs) class × (r ≡ received_of (plan_of class) (drop n xs))
+abbrev pub IsReceivedAt : AccessRules → HeadArrival → List ℕ → Received → Type 0
+IsReceivedAt rules arrival.Incomplete xs r = r ≡ Incomplete
+IsReceivedAt rules arrival.TooLong xs r = r ≡ Rejected HeadTooLarge
+IsReceivedAt rules (arrival.Head n) xs r =
+    (class : Class) × IsHead (take n xs) class × (r ≡ received_of (plan_of rules class) (drop n xs))
 
--- the bytes are that, as far as they are known
-abbrev pub IsReceived : Option (List ℕ) → Received → Type 0
-IsReceived None r = Unit {0}
-IsReceived (Some xs) r = IsReceivedAt (arrival xs) xs r
+-- the bytes are that to a service with these rules, as far as they are known
+abbrev pub IsReceived : AccessRules → Option (List ℕ) → Received → Type 0
+IsReceived rules None r = Unit {0}
+IsReceived rules (Some xs) r = IsReceivedAt rules (arrival xs) xs r
 
 -- the same, where it is known how far the head goes
-abbrev pub IsReceivedFrom : HeadArrival → Option (List ℕ) → Received → Type 0
-IsReceivedFrom a None r = Unit {0}
-IsReceivedFrom a (Some xs) r = IsReceivedAt a xs r
+abbrev pub IsReceivedFrom : AccessRules → HeadArrival → Option (List ℕ) → Received → Type 0
+IsReceivedFrom rules a None r = Unit {0}
+IsReceivedFrom rules a (Some xs) r = IsReceivedAt rules a xs r
 
 -- ---- what comes of it
 

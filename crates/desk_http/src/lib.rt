@@ -2,10 +2,13 @@
 //! knows what a request is, which are refused and how each is answered, and of the service only its trait.
 #![tactic(auto)]
 
+mod access;
 mod body_length;
+mod field;
 mod head;
 mod head_end;
 mod loopback;
+mod pace;
 mod plan;
 mod receive;
 mod rejection;
@@ -17,12 +20,16 @@ mod serve;
 mod served;
 mod service;
 mod target;
+mod token;
 
+pub use access::Access;
 pub use head::one_class;
 pub use loopback::{Clients, serve_connections};
+pub use plan::untold_requests_pass;
 pub use rejection::Rejection;
 pub use response::statuses_are_named;
 pub use serve::serve_one;
 pub use served::Served;
 pub use service::{Failure, NoReply, Outcome, Reply, Service};
 pub use target::{ImportKind, ReportName};
+pub use token::{Token, first_line};

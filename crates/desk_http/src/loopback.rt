@@ -1,52 +1,58 @@
 //! Clients on the loopback, a request a connection, one connection after another.
 ghost use Rattle.std.specs.Prelude.{◌≡◌, ◌+◌, ◌<◌, ◌^◌, OnErr, OnOk};
 
+use crate::access::Access;
+use crate::pace::{PacedReader, PacedWriter, read_off};
 use crate::serve::serve_one;
+use crate::served::Served;
 use crate::service::Service;
 use std::alloc::Global;
-use std::io::{self, Read};
-use std::net::{Shutdown, TcpListener, TcpStream};
-use std::time::Duration;
+use std::io::{self, ErrorKind};
+use std::net::{OpenListener, Shutdown, TcpStream};
+use std::thread;
+use std::time::{Clock, Duration};
 
-/// How many seconds a client may say or take nothing.
-const PATIENCE: u64 = 10;
+/// How often a descriptor is waited for, where none is left for a connection.
+const TRIES: u32 = 10;
 
-/// Reads on after an answer until the client ends, so that it gets the answer though it sent more than was read. A client
-/// that sends on and on is left.
-fn read_off(mut stream: &TcpStream) {
-    let mut bytes = [0u8; 4096];
-    for _ in 0..64u8 {
-        match stream.read(&mut bytes) {
-            Ok(n) if n > 0 => {}
-            _ => return,
-        }
-    }
-}
+/// How many milliseconds each time.
+const MILLISECONDS: u64 = 200;
+
+/// The codes of the system where the machine, or the program, may have no descriptor more.
+const NO_DESCRIPTOR: [i32; 2] = [23, 24];
 
 /// Answers the request of a connection. Whatever fails costs the connection alone.
-fn answer<S: Service>(alloc: Global, stream: &TcpStream, service: &mut S) -> io::Result<()>
+fn answer<C: Clock, S: Service>(
+    clock: &C,
+    alloc: Global,
+    stream: &TcpStream,
+    service: &mut S,
+    access: &Access,
+) -> io::Result<()>
     requires { S.is_kept service.old }
     ensures { S.is_kept service.new }
 {
-    stream.set_read_timeout(Some(Duration::from_secs(PATIENCE)))?;
-    stream.set_write_timeout(Some(Duration::from_secs(PATIENCE)))?;
-    let (mut reader, mut writer) = (stream, stream);
-    serve_one(alloc, &mut reader, &mut writer, service);
-    stream.shutdown(Shutdown::Write)?;
-    read_off(stream);
-    Ok(())
+    let mut reader = PacedReader::new(clock, stream);
+    let mut writer = PacedWriter::new(clock, stream);
+    match serve_one(alloc, &mut reader, &mut writer, service, access) {
+        Served::Answered(_) => {
+            stream.shutdown(Shutdown::Write)?;
+            read_off(clock, stream)
+        }
+        _ => Ok(()),
+    }
 }
 
 /// The clients of a listener, and how many connections of theirs were accepted.
 #[derive(Drop)]
-pub struct Clients {
-    listener: TcpListener,
+pub struct Clients<L: OpenListener<Stream = TcpStream> + Drop> {
+    listener: L,
     accepted: u64,
 }
 
-impl Clients {
+impl<L: OpenListener<Stream = TcpStream> + Drop> Clients<L> {
     /// The clients of this listener, none of which was accepted yet.
-    pub fn of(listener: TcpListener) -> Self
+    pub fn of(listener: L) -> Self
         ensures { result.accepted ≡ 0 }
     {
         Clients {
@@ -65,15 +71,50 @@ impl Clients {
         self.accepted += 1;
         Ok(stream)
     }
+
+    /// The next connection that is there to be answered. One that its client gave up before is passed over and not
+    /// counted; where no descriptor is left, it waits for one, ten times at most.
+    fn accept_patiently<C: Clock>(&mut self, clock: &C) -> io::Result<TcpStream>
+        requires { self.old.accepted + 1 < 2 ^ 64 }
+        ensures accepted { OnOk result (self.new.accepted ≡ self.old.accepted + 1) }
+        ensures none { OnErr result (self.new.accepted ≡ self.old.accepted) }
+    {
+        let mut tries = 0;
+        'tries: for _ in 0..u64::MAX {
+            let error = match self.accept() {
+                Ok(stream) => return Ok(stream),
+                Err(error) => error,
+            };
+            if error.kind() == ErrorKind::ConnectionAborted {
+                continue 'tries;
+            }
+            if tries >= TRIES || !lacks_descriptor(&error) {
+                return Err(error);
+            }
+            tries += 1;
+            thread::sleep(clock, Duration::from_millis(MILLISECONDS));
+        }
+        Err(io::Error::new(ErrorKind::Other, "no client stays"))
+    }
 }
 
-/// Accepts so many connections and answers each as `serve_one` does, whatever it gives. A client that says or takes
-/// nothing for ten seconds is left. An error is one of the listener, which gives no connection.
-pub fn serve_connections<S: Service>(
+fn lacks_descriptor(error: &io::Error) -> bool {
+    match error.raw_os_error() {
+        Some(code) => NO_DESCRIPTOR.contains(&code),
+        None => false,
+    }
+}
+
+/// Accepts so many connections and answers each as `serve_one` does, whatever it gives. A client that says nothing is
+/// left after a second, and one that is slow when it doesn't keep the pace. An error is one of the listener, which gives
+/// no connection.
+pub fn serve_connections<C: Clock, L: OpenListener<Stream = TcpStream> + Drop, S: Service>(
+    clock: &C,
     alloc: Global,
-    clients: &mut Clients,
+    clients: &mut Clients<L>,
     count: u64,
     service: &mut S,
+    access: &Access,
 ) -> io::Result<()>
     requires kept { S.is_kept service.old }
     requires room { clients.old.accepted + count < 2 ^ 64 }
@@ -81,8 +122,8 @@ pub fn serve_connections<S: Service>(
     ensures accepted { OnOk result (clients.new.accepted ≡ clients.old.accepted + count) }
 {
     for done in 0..count {
-        let stream = clients.accept()?;
-        let _ = answer(alloc, &stream, service);
+        let stream = clients.accept_patiently(clock)?;
+        let _ = answer(clock, alloc, &stream, service, access);
     }
     Ok(())
 }

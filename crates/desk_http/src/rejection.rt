@@ -13,6 +13,12 @@ pub enum Rejection {
     OnlyPost,
     /// The target has the method GET alone: 405.
     OnlyGet,
+    /// The field `Host` names another service, or stands there twice: 421.
+    Misdirected,
+    /// The request is sent for a page of another origin, as its browser says: 403.
+    Forbidden,
+    /// The token that is asked for isn't shown: 401.
+    Unauthorized,
     /// A POST without a length of its body: 411.
     LengthRequired,
     /// A body of more than 1,048,576 bytes: 413.

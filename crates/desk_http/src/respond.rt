@@ -7,7 +7,7 @@ ghost use Rattle.desk_http.specs.Targets.{resource, IsProper};
 
 use crate::rejection::Rejection;
 use crate::response::{
-    allow_line, error_text, failure_status, media_type, outcome_status, rejection_status,
+    error_text, failure_status, further_line, media_type, outcome_status, rejection_status,
     response_text,
 };
 use crate::send::send_response;
@@ -23,7 +23,7 @@ pub fn reject<W: Write>(alloc: Global, writer: &mut W, rejection: Rejection) -> 
         (W.contents writer.old) (W.contents writer.new) result }
 {
     let status = rejection_status(rejection);
-    match error_text(alloc, status, allow_line(rejection)) {
+    match error_text(alloc, status, further_line(rejection)) {
         Ok(text) => send_response(writer, status, text.as_str()),
         Err(_) => Err(Stop::Memory),
     }

@@ -1,7 +1,7 @@
 //! Responses, byte by byte.
 ghost use Rattle.std.specs.Prelude.{◌≡◌, ◌++◌, decimal, length, IfOk, OnOk, string_bytes};
 ghost use Rattle.desk_http.specs.Responses.{AreNamed, line, status_words, response_bytes, error_body, error_response};
-ghost use Rattle.desk_http.specs.Responses.{rejection_status, allow_of, outcome_status, media_of, failure_status};
+ghost use Rattle.desk_http.specs.Responses.{rejection_status, further_of, outcome_status, media_of, failure_status};
 
 use crate::rejection::Rejection;
 use crate::service::{Failure, Outcome};
@@ -31,16 +31,16 @@ fn length_text(alloc: Global, length: usize) -> Result<String, AllocError>
     format!(in alloc; "{length}")
 }
 
-/// A whole response, with the line of `Allow` or nothing in its place.
+/// A whole response, with the line of one field more, or nothing in its place.
 pub fn response_text(
     alloc: Global,
     status: StatusCode,
     media: &str,
-    allow: &str,
+    further: &str,
     body: &str,
 ) -> Result<String, AllocError>
     ensures { IfOk result (λ text. string_bytes text
-        ≡ response_bytes status media.now allow.now body.now) }
+        ≡ response_bytes status media.now further.now body.now) }
 {
     let status_words = status_text(alloc, status)?;
     let length = length_text(alloc, body.len())?;
@@ -48,7 +48,7 @@ pub fn response_text(
     push_line(&mut text, "HTTP/1.1 ", status_words.as_str())?;
     push_line(&mut text, "Content-Type: ", media)?;
     push_line(&mut text, "Content-Length: ", length.as_str())?;
-    text.push_str(allow)?;
+    text.push_str(further)?;
     push_line(&mut text, "Connection: close", "")?;
     text.push_str("\r\n")?;
     text.push_str(body)?;
@@ -62,11 +62,11 @@ fn error_body(alloc: Global, status: u16) -> Result<String, AllocError>
 }
 
 /// The response of an error: its body has the status alone.
-pub fn error_text(alloc: Global, status: StatusCode, allow: &str) -> Result<String, AllocError>
-    ensures { IfOk result (λ text. string_bytes text ≡ (error_response status allow.now).bytes) }
+pub fn error_text(alloc: Global, status: StatusCode, further: &str) -> Result<String, AllocError>
+    ensures { IfOk result (λ text. string_bytes text ≡ (error_response status further.now).bytes) }
 {
     let body = error_body(alloc, status.as_u16())?;
-    response_text(alloc, status, "application/json", allow, body.as_str())
+    response_text(alloc, status, "application/json", further, body.as_str())
 }
 
 pub fn rejection_status(rejection: Rejection) -> StatusCode
@@ -78,17 +78,22 @@ pub fn rejection_status(rejection: Rejection) -> StatusCode
         Rejection::NotFound => StatusCode::NOT_FOUND,
         Rejection::OnlyPost => StatusCode::METHOD_NOT_ALLOWED,
         Rejection::OnlyGet => StatusCode::METHOD_NOT_ALLOWED,
+        Rejection::Misdirected => StatusCode::MISDIRECTED_REQUEST,
+        Rejection::Forbidden => StatusCode::FORBIDDEN,
+        Rejection::Unauthorized => StatusCode::UNAUTHORIZED,
         Rejection::LengthRequired => StatusCode::LENGTH_REQUIRED,
         Rejection::BodyTooLarge => StatusCode::PAYLOAD_TOO_LARGE,
     }
 }
 
-pub fn allow_line(rejection: Rejection) -> &'static str
-    ensures { result.now ≡ allow_of rejection }
+/// The line of what else a rejection tells: which method is allowed, or how a client shows who it is.
+pub fn further_line(rejection: Rejection) -> &'static str
+    ensures { result.now ≡ further_of rejection }
 {
     match rejection {
         Rejection::OnlyPost => "Allow: POST\r\n",
         Rejection::OnlyGet => "Allow: GET\r\n",
+        Rejection::Unauthorized => "WWW-Authenticate: Bearer\r\n",
         _ => "",
     }
 }

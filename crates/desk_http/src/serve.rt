@@ -5,6 +5,7 @@ ghost use Rattle.desk_http.specs.Routes.{all_routes};
 ghost use Rattle.desk_http.specs.Services.{Performs};
 ghost use Rattle.desk_http.specs.Serving.{IsReceived, IsReceivedFrom, Serves, result_of};
 
+use crate::access::Access;
 use crate::head::read_head;
 use crate::plan::make_plan;
 use crate::receive::{HeadArrival, receive_body, receive_head};
@@ -34,6 +35,7 @@ fn serve_head<R: Read, W: Write, S: Service>(
     service: &mut S,
     reads: &mut u64,
     bytes: &mut Vec<u8>,
+    access: &Access,
     router: &Router<Route>,
     n: usize,
 ) -> Result<u16, Stop>
@@ -42,13 +44,13 @@ fn serve_head<R: Read, W: Write, S: Service>(
     requires kept { S.is_kept service.old }
     ensures kept { S.is_kept service.new }
     ensures serves { Serves (Performs S.state S.machine S.left S.relates)
-        (IsReceivedFrom (HeadArrival.Head n) (all_of (R.remaining reader.old) bytes.old.items))
+        (IsReceivedFrom access.now (HeadArrival.Head n) (all_of (R.remaining reader.old) bytes.old.items))
         service.old service.new (W.contents writer.old) (W.contents writer.new) result }
 {
     let head = copy(alloc, &bytes[..n])?;
     let mut spans = [EMPTY_HEADER_SPAN; 64];
     let class = read_head(&head, &mut spans);
-    match make_plan(router, &head, class, &spans) {
+    match make_plan(access, router, &head, class, &spans) {
         Err(rejection) => reject(alloc, writer, rejection),
         Ok((target, len)) => {
             if !receive_body(reader, reads, bytes, n, len)? {
@@ -65,11 +67,12 @@ fn answer_one<R: Read, W: Write, S: Service>(
     reader: &mut R,
     writer: &mut W,
     service: &mut S,
+    access: &Access,
 ) -> Result<u16, Stop>
     requires { S.is_kept service.old }
     ensures kept { S.is_kept service.new }
     ensures serves { Serves (Performs S.state S.machine S.left S.relates)
-        (IsReceived (R.remaining reader.old))
+        (IsReceived access.now (R.remaining reader.old))
         service.old service.new (W.contents writer.old) (W.contents writer.new) result }
 {
     let Ok(router) = make_router(alloc) else {
@@ -81,12 +84,14 @@ fn answer_one<R: Read, W: Write, S: Service>(
         HeadArrival::Incomplete => Err(Stop::Ended),
         HeadArrival::TooLong => reject(alloc, writer, Rejection::HeadTooLarge),
         HeadArrival::Head(n) => serve_head(
-            alloc, reader, writer, service, &mut reads, &mut bytes, &router, n,
+            alloc, reader, writer, service, &mut reads, &mut bytes, access, &router, n,
         ),
     }
 }
 
 /// Reads one request, has the service do what it asks, and answers it.
+///
+/// Who may ask is said by `access`; a request of anyone else is refused, and nothing of it is done.
 ///
 /// A request is read as far as its body goes, and nothing behind it; of a GET no body is read. There is one answer, and
 /// the connection is the caller's to close. There are at most 2,000,000 reads.
@@ -95,15 +100,16 @@ pub fn serve_one<R: Read, W: Write, S: Service>(
     reader: &mut R,
     writer: &mut W,
     service: &mut S,
+    access: &Access,
 ) -> Served
     requires { S.is_kept service.old }
     ensures kept { S.is_kept service.new }
     ensures serves { Serves (Performs S.state S.machine S.left S.relates)
-        (IsReceived (R.remaining reader.old))
+        (IsReceived access.now (R.remaining reader.old))
         service.old service.new (W.contents writer.old) (W.contents writer.new)
         (result_of result) }
 {
-    match answer_one(alloc, reader, writer, service) {
+    match answer_one(alloc, reader, writer, service, access) {
         Ok(status) => Served::Answered(status),
         Err(Stop::Ended) => Served::Ended,
         Err(Stop::ReadFailed) => Served::ReadFailed,

@@ -1,31 +1,37 @@
 //! How connections end that aren't answered whole.
 use crate::counting::Counting;
 use crate::devices::{Sink, Source};
-use crate::play::response;
+use crate::play::{open, response};
 use desk_http::{Served, serve_one};
-use std::alloc::Global;
+use std::alloc::{AllocError, Global};
 use std::io::{self, ErrorKind, Read};
 use std::test::Fail;
 
-const REQUEST: &str = "POST /run HTTP/1.1\r\nHost: localhost\r\nContent-Length: 5\r\n\r\nabcde";
+const REQUEST: &str =
+    "POST /run HTTP/1.1\r\nHost: localhost:8080\r\nContent-Length: 5\r\n\r\nabcde";
 
 /// Serves the request from the source, and tells what was counted beside.
-fn served(alloc: Global, source: &mut Source, sink: &mut Sink) -> (Served, u64) {
+fn served(
+    alloc: Global,
+    source: &mut Source,
+    sink: &mut Sink,
+) -> Result<(Served, u64), AllocError> {
     let mut service = Counting { total: 0 };
-    let served = serve_one(alloc, source, sink, &mut service);
-    (served, service.total)
+    let served = serve_one(alloc, source, sink, &mut service, &open(alloc)?);
+    Ok((served, service.total))
 }
 
 #[test]
-fn fronts_end(rt: HostRuntime) {
+fn fronts_end(rt: HostRuntime) -> Result<(), Fail> {
     let alloc = rt.alloc();
     for length in 0..REQUEST.len() {
         let mut source = Source::new(&REQUEST.as_bytes()[..length], 4096);
         let mut sink = Sink::new(alloc, 4096);
-        let (served, total) = served(alloc, &mut source, &mut sink);
+        let (served, total) = served(alloc, &mut source, &mut sink)?;
         assert!(rt; served == Served::Ended);
         assert!(rt; sink.calls == 0 && total == 0);
     }
+    Ok(())
 }
 
 /// A long head is refused at 8,192 bytes, and waited for before.
@@ -40,7 +46,7 @@ fn heads_without_an_end(rt: HostRuntime) -> Result<(), Fail> {
         let text = vec![in alloc; b'x'; length]?;
         let mut source = Source::new(&text, 4096);
         let mut sink = Sink::new(alloc, 4096);
-        let (served, _) = served(alloc, &mut source, &mut sink);
+        let (served, _) = served(alloc, &mut source, &mut sink)?;
         assert!(rt; served == wanted);
     }
     Ok(())
@@ -48,14 +54,14 @@ fn heads_without_an_end(rt: HostRuntime) -> Result<(), Fail> {
 
 /// Nothing is done where a read fails, and an interrupted one is tried again.
 #[test]
-fn each_read_fails(rt: HostRuntime) {
+fn each_read_fails(rt: HostRuntime) -> Result<(), Fail> {
     let alloc = rt.alloc();
     for fails in 1..20u64 {
         for failure in [ErrorKind::Other, ErrorKind::Interrupted] {
             let mut source = Source::new(REQUEST.as_bytes(), 7);
             (source.fails, source.failure) = (fails, failure);
             let mut sink = Sink::new(alloc, 4096);
-            let (served, total) = served(alloc, &mut source, &mut sink);
+            let (served, total) = served(alloc, &mut source, &mut sink)?;
             let failed = source.calls == fails && failure == ErrorKind::Other;
             if failed {
                 assert!(rt; served == Served::ReadFailed);
@@ -65,6 +71,7 @@ fn each_read_fails(rt: HostRuntime) {
             }
         }
     }
+    Ok(())
 }
 
 /// The line was run where a write fails, and a front of the response is written.
@@ -76,7 +83,7 @@ fn each_write_fails(rt: HostRuntime) -> Result<(), Fail> {
         let mut source = Source::new(REQUEST.as_bytes(), 4096);
         let mut sink = Sink::new(alloc, 10);
         sink.fails = fails;
-        let (served, total) = served(alloc, &mut source, &mut sink);
+        let (served, total) = served(alloc, &mut source, &mut sink)?;
         assert!(rt; total == 5);
         assert!(rt;
             wanted
@@ -96,18 +103,19 @@ fn each_write_fails(rt: HostRuntime) -> Result<(), Fail> {
 
 /// A writer that takes no byte has failed; where no reply is told, nothing is written.
 #[test]
-fn writes_nothing(rt: HostRuntime) {
+fn writes_nothing(rt: HostRuntime) -> Result<(), Fail> {
     let alloc = rt.alloc();
     let mut source = Source::new(REQUEST.as_bytes(), 4096);
     let mut sink = Sink::new(alloc, 0);
-    let (served, total) = served(alloc, &mut source, &mut sink);
+    let (served, total) = served(alloc, &mut source, &mut sink)?;
     assert!(rt; served == Served::WriteFailed && total == 5);
     let untold = "POST /run HTTP/1.1\r\nContent-Length: 6\r\n\r\nuntold";
     let mut source = Source::new(untold.as_bytes(), 4096);
     let mut sink = Sink::new(alloc, 4096);
     let mut service = Counting { total: 0 };
-    let end = serve_one(alloc, &mut source, &mut sink, &mut service);
+    let end = serve_one(alloc, &mut source, &mut sink, &mut service, &open(alloc)?);
     assert!(rt; end == Served::Memory && sink.calls == 0);
+    Ok(())
 }
 
 /// Is interrupted at each read, and counts them.
@@ -124,12 +132,13 @@ impl Read for Interrupted {
 }
 
 #[test]
-fn reads_are_bounded(rt: HostRuntime) {
+fn reads_are_bounded(rt: HostRuntime) -> Result<(), Fail> {
     let alloc = rt.alloc();
     let mut source = Interrupted { calls: 0 };
     let mut sink = Sink::new(alloc, 4096);
     let mut service = Counting { total: 0 };
-    let end = serve_one(alloc, &mut source, &mut sink, &mut service);
+    let end = serve_one(alloc, &mut source, &mut sink, &mut service, &open(alloc)?);
     assert!(rt; end == Served::ReadFailed);
     assert!(rt; source.calls == 2_000_000 && sink.calls == 0);
+    Ok(())
 }

@@ -1,11 +1,15 @@
 //! Tests of requests of HTTP, over a service that counts bytes: what is answered, and how a connection ends.
 #![tactic(auto)]
 
+#[cfg(test)]
+mod access;
 mod counting;
 #[cfg(test)]
 mod devices;
 #[cfg(test)]
 mod ends;
+#[cfg(test)]
+mod loopback;
 #[cfg(test)]
 mod play;
 #[cfg(test)]

@@ -1,7 +1,7 @@
 //! One connection, from the bytes that it is sent to those that answer it.
 use crate::counting::Counting;
 use crate::devices::{Sink, Source};
-use desk_http::{Served, serve_one};
+use desk_http::{Access, Served, Token, serve_one};
 use std::alloc::{AllocError, Global};
 
 /// A response as the rules have it: `allow` is the line of that field, with its CR LF, or nothing.
@@ -34,6 +34,40 @@ pub fn error(
     )
 }
 
+/// What is asked where the service is at port 8080, and asks for no token.
+pub fn open(alloc: Global) -> Result<Access, AllocError> {
+    Access::new(alloc, 8080, None)
+}
+
+/// The same at another port, with this token, where it may be one.
+pub fn guarded(alloc: Global, port: u16, token: &str) -> Result<Access, AllocError> {
+    let mut bytes = Vec::new(alloc);
+    bytes.extend_from_slice(token.as_bytes())?;
+    Access::new(alloc, port, Token::new(bytes))
+}
+
+/// The status that answers a request, 0 where none does, and how much is counted.
+pub fn status_of(alloc: Global, access: &Access, request: &str) -> (u16, u64) {
+    let mut source = Source::new(request.as_bytes(), 4096);
+    let mut sink = Sink::new(alloc, 4096);
+    let mut service = Counting { total: 0 };
+    match serve_one(alloc, &mut source, &mut sink, &mut service, access) {
+        Served::Answered(status) => (status, service.total),
+        _ => (0, service.total),
+    }
+}
+
+/// The status that answers a request, 0 where none does, and what is written.
+pub fn answer_of(alloc: Global, access: &Access, request: &str) -> (u16, Vec<u8>) {
+    let mut source = Source::new(request.as_bytes(), 4096);
+    let mut sink = Sink::new(alloc, 4096);
+    let mut service = Counting { total: 0 };
+    match serve_one(alloc, &mut source, &mut sink, &mut service, access) {
+        Served::Answered(status) => (status, sink.bytes),
+        _ => (0, sink.bytes),
+    }
+}
+
 /// Whether the request is answered so, with this status, where its bytes come `step` at a time and as many are taken,
 /// and so many bytes are counted.
 pub fn is_answered_by(
@@ -42,20 +76,29 @@ pub fn is_answered_by(
     request: &[u8],
     (status, wanted): (u16, &[u8]),
     counted: u64,
-) -> bool {
+) -> Result<bool, AllocError> {
     let mut source = Source::new(request, step);
     let mut sink = Sink::new(alloc, step);
     let mut service = Counting { total: 0 };
-    let served = serve_one(alloc, &mut source, &mut sink, &mut service);
-    served == Served::Answered(status)
-        && sink.bytes.as_slice() == wanted
-        && service.total == counted
+    let served = serve_one(alloc, &mut source, &mut sink, &mut service, &open(alloc)?);
+    Ok(
+        served == Served::Answered(status)
+            && sink.bytes.as_slice() == wanted
+            && service.total == counted,
+    )
 }
 
 /// The same, however its bytes come.
-pub fn is_answered(alloc: Global, request: &[u8], wanted: (u16, &[u8]), counted: u64) -> bool {
-    is_answered_by(alloc, 4096, request, wanted, counted)
-        && is_answered_by(alloc, 1, request, wanted, counted)
+pub fn is_answered(
+    alloc: Global,
+    request: &[u8],
+    wanted: (u16, &[u8]),
+    counted: u64,
+) -> Result<bool, AllocError> {
+    Ok(
+        is_answered_by(alloc, 4096, request, wanted, counted)?
+            && is_answered_by(alloc, 1, request, wanted, counted)?,
+    )
 }
 
 /// Whether the request is answered so and nothing is counted, where the service isn't to see it.
@@ -67,5 +110,5 @@ pub fn is_rejected(
 ) -> Result<bool, AllocError> {
     let wanted = error(alloc, (status, name), allow)?;
     let wanted = (status, wanted.as_str().as_bytes());
-    Ok(is_answered(alloc, request.as_bytes(), wanted, 0))
+    is_answered(alloc, request.as_bytes(), wanted, 0)
 }

@@ -301,7 +301,7 @@ fn does_requests(rt: HostRuntime) -> Result<(), Fail> {
     for (request, status, name, media, body, counted) in DONE {
         let wanted = response(alloc, (status, name), media, "", body)?;
         let bytes = wanted.as_str().as_bytes();
-        let fine = is_answered(alloc, request.as_bytes(), (status, bytes), counted);
+        let fine = is_answered(alloc, request.as_bytes(), (status, bytes), counted)?;
         assert!(rt; fine, "at {request}");
     }
     Ok(())
@@ -329,7 +329,7 @@ fn tells_failures(rt: HostRuntime) -> Result<(), Fail> {
             request.as_bytes(),
             (status, wanted.as_str().as_bytes()),
             0,
-        );
+        )?;
         assert!(rt; fine, "at {request}");
     }
     Ok(())
@@ -358,7 +358,8 @@ fn bounds_heads(rt: HostRuntime) -> Result<(), Fail> {
         request.push_str("\r\n")?;
         let (status, wanted) = if fits { (200, &found) } else { (431, &large) };
         let wanted = (status, wanted.as_str().as_bytes());
-        assert!(rt; is_answered_by(alloc, 4096, request.as_str().as_bytes(), wanted, 0));
+        let fine = is_answered_by(alloc, 4096, request.as_str().as_bytes(), wanted, 0)?;
+        assert!(rt; fine, "at {fields} fields");
     }
     Ok(())
 }

@@ -7,11 +7,14 @@ unfolding digits
 returns c = record {
   ok = refl;
   bad_request = refl;
+  unauthorized = refl;
+  forbidden = refl;
   not_found = refl;
   not_allowed = refl;
   conflict = refl;
   length_required = refl;
   body_too_large = refl;
+  misdirected = refl;
   head_too_large = refl;
   server_error = refl;
   unavailable = refl;

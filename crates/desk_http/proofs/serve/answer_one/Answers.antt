@@ -12,14 +12,14 @@ returns-in-TooLong-clause-serves g c =
     let first = g.R.Read.remaining c.args.reader.now in
     let rest = g.R.Read.remaining c.receive_head.new.reader in
     let bytes = c.receive_head.new.bytes.items in
-    moved performs (IsReceivedFrom TooLong (all_of rest bytes)) (IsReceived first)
-    (is_of_all first rest bytes TooLong (rw c.new-bytes.ensures.items at c.in_ok-receive_head.ensures.bytes)
+    moved performs (IsReceivedFrom c.args.access.now TooLong (all_of rest bytes)) (IsReceived c.args.access.now first)
+    (is_of_all c.args.access.now first rest bytes TooLong (rw c.new-bytes.ensures.items at c.in_ok-receive_head.ensures.bytes)
     (rw c.in-TooLong.is at c.in_ok-receive_head.ensures.head))
     c.args.service.now c.args.service.now (g.W.Write.contents c.args.writer.now)
     (g.W.Write.contents c.reject.new.writer) c.reject.result
-    (rejected performs (IsReceivedFrom TooLong (all_of rest bytes)) HeadTooLarge c.args.service.now
+    (rejected performs (IsReceivedFrom c.args.access.now TooLong (all_of rest bytes)) HeadTooLarge c.args.service.now
     (g.W.Write.contents c.args.writer.now) (g.W.Write.contents c.reject.new.writer) c.reject.result
-    (is_too_long (all_of rest bytes)) c.reject.ensures)
+    (is_too_long c.args.access.now (all_of rest bytes)) c.reject.ensures)
 
 pub returns-clause-serves : goal.returns-clause-serves
 returns-clause-serves g c =
@@ -27,8 +27,8 @@ returns-clause-serves g c =
     let first = g.R.Read.remaining c.args.reader.now in
     let rest = g.R.Read.remaining c.receive_head.new.reader in
     let bytes = c.receive_head.new.bytes.items in
-    moved performs (IsReceivedFrom (Head c.in-Head.n) (all_of rest bytes)) (IsReceived first)
-    (is_of_all first rest bytes (Head c.in-Head.n) (rw c.new-bytes.ensures.items at c.in_ok-receive_head.ensures.bytes)
+    moved performs (IsReceivedFrom c.args.access.now (Head c.in-Head.n) (all_of rest bytes)) (IsReceived c.args.access.now first)
+    (is_of_all c.args.access.now first rest bytes (Head c.in-Head.n) (rw c.new-bytes.ensures.items at c.in_ok-receive_head.ensures.bytes)
     (rw c.in-Head.is at c.in_ok-receive_head.ensures.head))
     c.args.service.now c.serve_head.new.service (g.W.Write.contents c.args.writer.now)
     (g.W.Write.contents c.serve_head.new.writer) c.serve_head.result

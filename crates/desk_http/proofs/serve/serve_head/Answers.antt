@@ -13,15 +13,15 @@ pub returns-in-Err-clause-serves : goal.returns-in-Err-clause-serves
 returns-in-Err-clause-serves g c =
     let performs = Performs g.S.Service.state g.S.Service.machine g.S.Service.left g.S.Service.relates in
     let rest = g.R.Read.remaining c.args.reader.now in
-    rejected performs (IsReceivedFrom (Head c.args.n) (all_of rest c.args.bytes.now.items)) c.in-Err.rejection
+    rejected performs (IsReceivedFrom c.args.access.now (Head c.args.n) (all_of rest c.args.bytes.now.items)) c.in-Err.rejection
     c.args.service.now (g.W.Write.contents c.args.writer.now) (g.W.Write.contents c.reject.new.writer) c.reject.result
-    (is_rejected rest c.args.bytes.now.items c.deref-2.result.now c.args.n
+    (is_rejected c.args.access.now rest c.args.bytes.now.items c.deref-2.result.now c.args.n
     (class_of c.deref-2.result.now c.read_head-class.new.spans c.read_head-class.result) c.in-Err.rejection
     c.requires.inside (c.deref-2.ensures.value ∙ c.in_ok-head.ensures ∙ ap (take c.args.n) c.deref.ensures.value)
     c.read_head-class.ensures.head
     (sym (ap plan c.in-Err.is)
     ∙ c.make_plan.ensures.value
-    ∙ ap (λ v. plan_of (class_of v c.read_head-class.new.spans c.read_head-class.result))
+    ∙ ap (λ v. plan_of c.args.access.now (class_of v c.read_head-class.new.spans c.read_head-class.result))
     (c.deref-3.ensures.value ∙ sym c.deref-2.ensures.value)))
     c.reject.ensures
 
@@ -30,16 +30,16 @@ returns-then-not-branch-clause-serves g c =
     let performs = Performs g.S.Service.state g.S.Service.machine g.S.Service.left g.S.Service.relates in
     let rest = g.R.Read.remaining c.args.reader.now in
     let late = c.in_ok-receive_body-in-Ok.ensures.short c.if-not-branch.true in
-    ended performs (IsReceivedFrom (Head c.args.n) (all_of rest c.args.bytes.now.items)) c.args.service.now
+    ended performs (IsReceivedFrom c.args.access.now (Head c.args.n) (all_of rest c.args.bytes.now.items)) c.args.service.now
     (g.W.Write.contents c.args.writer.now)
-    (is_incomplete rest (g.R.Read.remaining c.receive_body.new.reader) c.args.bytes.now.items
+    (is_incomplete c.args.access.now rest (g.R.Read.remaining c.receive_body.new.reader) c.args.bytes.now.items
     c.receive_body.new.bytes.items c.deref-2.result.now c.args.n c.in-Ok.len (resource c.in-Ok.target)
     (class_of c.deref-2.result.now c.read_head-class.new.spans c.read_head-class.result)
     c.requires.inside (c.deref-2.ensures.value ∙ c.in_ok-head.ensures ∙ ap (take c.args.n) c.deref.ensures.value)
     c.read_head-class.ensures.head
     (sym (ap plan c.in-Ok.is)
     ∙ c.make_plan.ensures.value
-    ∙ ap (λ v. plan_of (class_of v c.read_head-class.new.spans c.read_head-class.result))
+    ∙ ap (λ v. plan_of c.args.access.now (class_of v c.read_head-class.new.spans c.read_head-class.result))
     (c.deref-3.ensures.value ∙ sym c.deref-2.ensures.value))
     c.in_ok-receive_body-in-Ok.ensures.bytes late.0 late.1)
 
@@ -49,17 +49,17 @@ returns-clause-serves g c =
     let rest = g.R.Read.remaining c.args.reader.now in
     let body = take (c.args.n + c.in-Ok.len - c.args.n) (drop c.args.n c.deref-in-Ok.result.now) in
     let same : c.args.n + c.in-Ok.len - c.args.n ≡ c.in-Ok.len = omega arith in
-    performed performs (IsReceivedFrom (Head c.args.n) (all_of rest c.args.bytes.now.items))
+    performed performs (IsReceivedFrom c.args.access.now (Head c.args.n) (all_of rest c.args.bytes.now.items))
     (operation (resource c.in-Ok.target) body) c.args.service.now c.respond.new.service
     (g.W.Write.contents c.args.writer.now) (g.W.Write.contents c.respond.new.writer) c.respond.result
-    (is_complete rest (g.R.Read.remaining c.receive_body.new.reader) c.args.bytes.now.items
+    (is_complete c.args.access.now rest (g.R.Read.remaining c.receive_body.new.reader) c.args.bytes.now.items
     c.receive_body.new.bytes.items c.deref-2.result.now body c.args.n c.in-Ok.len (resource c.in-Ok.target)
     (class_of c.deref-2.result.now c.read_head-class.new.spans c.read_head-class.result)
     c.requires.inside (c.deref-2.ensures.value ∙ c.in_ok-head.ensures ∙ ap (take c.args.n) c.deref.ensures.value)
     c.read_head-class.ensures.head
     (sym (ap plan c.in-Ok.is)
     ∙ c.make_plan.ensures.value
-    ∙ ap (λ v. plan_of (class_of v c.read_head-class.new.spans c.read_head-class.result))
+    ∙ ap (λ v. plan_of c.args.access.now (class_of v c.read_head-class.new.spans c.read_head-class.result))
     (c.deref-3.ensures.value ∙ sym c.deref-2.ensures.value))
     c.in_ok-receive_body-in-Ok.ensures.bytes (c.in_ok-receive_body-in-Ok.ensures.whole c.if-not-branch.false)
     (ap (λ k. take k (drop c.args.n c.deref-in-Ok.result.now)) same

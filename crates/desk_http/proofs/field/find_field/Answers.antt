@@ -1,23 +1,21 @@
 use Rattle.std.proofs.Common.{◌∙◌, ◌++◌, ap, sym, map, drop}
 use Rattle.httparse.specs.Spans.{header_bytes}
-use Rattle.std.specs.Prelude.{codes}
-use Rattle.desk_http.specs.Plans.{values}
-use Rattle.desk_http.specs.Plans.{found_so_far}
+use Rattle.desk_http.specs.Fields.{values, found_so_far}
 use Rattle.desk_http.proofs.Fields.{values_out, values_in, none_yet}
-use Rattle.desk_http.proofs.body_length.read_one_length.Goals as goal
+use Rattle.desk_http.proofs.field.find_field.Goals as goal
 
 pub loop-span-preserved-then-not-is_same_name : goal.loop-span-preserved-then-not-is_same_name
 loop-span-preserved-then-not-is_same_name c =
     c.loop-span.invariant ∙ ap (λ v. found_so_far c.loop-span.found ++ v)
-    (values_out (codes "content-length") c.args.head.now c.args.spans.now c.loop-span.span-index _ c.of.result.now
+    (values_out c.args.name.now c.args.head.now c.args.spans.now c.loop-span.span-index _ c.of.result.now
     c.loop-span-test.true c.of.ensures (sym c.is_same_name.ensures ∙ c.if-not-is_same_name.true))
 
 pub loop-span-preserved : goal.loop-span-preserved
 loop-span-preserved c =
     c.loop-span.invariant ∙ ap
-    (λ v. v ++ values (codes "content-length")
+    (λ v. v ++ values c.args.name.now
     (map (header_bytes c.args.head.now) (drop c.loop-span.span-index c.args.spans.now)))
     (none_yet c.loop-span.found (sym c.is_some.ensures ∙ c.if-is_some.false))
-    ∙ values_in (codes "content-length") c.args.head.now c.args.spans.now c.loop-span.span-index _ c.of.result.now
+    ∙ values_in c.args.name.now c.args.head.now c.args.spans.now c.loop-span.span-index _ c.of.result.now
     c.of-in-loop-span.result.now c.loop-span-test.true c.of.ensures c.of-in-loop-span.ensures
     (sym c.is_same_name.ensures ∙ c.if-not-is_same_name.false)

@@ -1,8 +1,8 @@
 use Rattle.std.proofs.Common.{◌≡◌, drop, map}
 use Rattle.std.specs.List.{list_any}
 use Rattle.httparse.specs.Spans.{header_bytes}
-use Rattle.desk_http.specs.Plans.{is_named}
-use Rattle.desk_http.proofs.body_length.has_field.Given as goal
+use Rattle.desk_http.specs.Fields.{is_named}
+use Rattle.desk_http.proofs.field.has_field.Given as goal
 
 abbrev pub invariant-loop-span : goal.invariant-loop-span
 invariant-loop-span l =

@@ -1,0 +1,152 @@
+//! How long clients are waited for.
+use std::io::{self, ErrorKind, Read, Write};
+use std::net::TcpStream;
+use std::time::{Clock, Duration, Instant};
+
+/// How many seconds a client that is connected may say nothing.
+const SILENCE: u64 = 1;
+
+/// How many seconds a request may take from its first byte, and an answer from its beginning, however short. Nor is the
+/// next byte of a request waited for longer.
+const SECONDS: u64 = 30;
+
+/// How many bytes earn a second more. So a head, which is shorter, has the seconds above, and a body or an answer goes on
+/// as long as so many bytes a second come or are taken.
+const BYTES_A_SECOND: u64 = 10_240;
+
+/// How many bytes of an answer are handed over at a time, so that a client which takes none shows.
+const PIECE: usize = 65_536;
+
+/// For how many seconds a piece is waited for. One of which a part is taken at once is waited for twice.
+const PIECE_SECONDS: u64 = 15;
+
+/// For how many seconds a client that was answered may go on sending.
+const READING_OFF: u64 = 1;
+
+/// How much is left of the time that is allowed since then. Where none is, that is an error.
+fn time_left<C: Clock>(clock: &C, began: Instant, allowed: Duration) -> io::Result<Duration> {
+    match allowed.checked_sub(began.elapsed(clock)?) {
+        Some(left) if !left.is_zero() => Ok(left),
+        _ => Err(io::Error::new(ErrorKind::TimedOut, "the client is too slow")),
+    }
+}
+
+/// When a client began, and how many bytes went by since.
+#[derive(Clone, Copy)]
+struct Pace {
+    began: Instant,
+    bytes: u64,
+}
+
+impl Pace {
+    fn start<C: Clock>(clock: &C) -> io::Result<Self> {
+        Ok(Pace {
+            began: Instant::now(clock)?,
+            bytes: 0,
+        })
+    }
+
+    /// How long the client may still take for its next bytes, so many seconds at most.
+    fn time_left<C: Clock>(&self, clock: &C, longest: u64) -> io::Result<Duration> {
+        let seconds = (self.bytes / BYTES_A_SECOND).saturating_add(SECONDS);
+        let left = time_left(clock, self.began, Duration::from_secs(seconds))?;
+        Ok(left.min(Duration::from_secs(longest)))
+    }
+
+    fn count(&mut self, bytes: usize) {
+        self.bytes = self.bytes.saturating_add(bytes as u64);
+    }
+}
+
+/// Reads what a client sends, as long as it begins at once and keeps the pace.
+#[derive(Drop)]
+pub struct PacedReader<'a, C: Clock> {
+    clock: &'a C,
+    stream: &'a TcpStream,
+    pace: Option<Pace>,
+}
+
+impl<'a, C: Clock> PacedReader<'a, C> {
+    pub fn new(clock: &'a C, stream: &'a TcpStream) -> Self {
+        PacedReader {
+            clock,
+            stream,
+            pace: None,
+        }
+    }
+
+    fn time_left(&self) -> io::Result<Duration> {
+        match &self.pace {
+            None => Ok(Duration::from_secs(SILENCE)),
+            Some(pace) => pace.time_left(self.clock, SECONDS),
+        }
+    }
+}
+
+impl<C: Clock> Read for PacedReader<'_, C> {
+    fn read(&mut self, buf: &mut [u8]) -> io::Result<usize> {
+        self.stream.set_read_timeout(Some(self.time_left()?))?;
+        let mut stream = self.stream;
+        let n = stream.read(buf)?;
+        let mut pace = match self.pace {
+            None => Pace::start(self.clock)?,
+            Some(pace) => pace,
+        };
+        pace.count(n);
+        self.pace = Some(pace);
+        Ok(n)
+    }
+}
+
+/// Writes what a client is answered, as long as it takes it and keeps the pace.
+#[derive(Drop)]
+pub struct PacedWriter<'a, C: Clock> {
+    clock: &'a C,
+    stream: &'a TcpStream,
+    pace: Option<Pace>,
+}
+
+impl<'a, C: Clock> PacedWriter<'a, C> {
+    pub fn new(clock: &'a C, stream: &'a TcpStream) -> Self {
+        PacedWriter {
+            clock,
+            stream,
+            pace: None,
+        }
+    }
+}
+
+impl<C: Clock> Write for PacedWriter<'_, C> {
+    fn write(&mut self, buf: &[u8]) -> io::Result<usize> {
+        let mut pace = match self.pace {
+            None => Pace::start(self.clock)?,
+            Some(pace) => pace,
+        };
+        let left = pace.time_left(self.clock, PIECE_SECONDS)?;
+        self.stream.set_write_timeout(Some(left))?;
+        let mut stream = self.stream;
+        let n = stream.write(&buf[..buf.len().min(PIECE)])?;
+        pace.count(n);
+        self.pace = Some(pace);
+        Ok(n)
+    }
+
+    fn flush(&mut self) -> io::Result<()> {
+        Ok(())
+    }
+}
+
+/// Reads on after an answer until the client ends, so that it gets the answer though it sent more than was read. A client
+/// that sends on and on is left after a second.
+pub fn read_off<C: Clock>(clock: &C, mut stream: &TcpStream) -> io::Result<()> {
+    let began = Instant::now(clock)?;
+    let mut bytes = [0u8; 4096];
+    for _ in 0..u64::MAX {
+        let left = time_left(clock, began, Duration::from_secs(READING_OFF))?;
+        stream.set_read_timeout(Some(left))?;
+        if stream.read(&mut bytes)? == 0 {
+            break;
+        }
+    }
+    Ok(())
+}
