@@ -5,6 +5,7 @@ pub mod Running
 pub mod Rows
 pub mod Replies
 pub mod SentAgain
+pub mod LinesAgain
 pub mod Files
 pub mod CommandLines
 pub mod Faulty
@@ -14,3 +15,4 @@ pub mod Told
 pub mod Closing
 pub mod Taking
 pub mod Leaving
+pub mod Escaping

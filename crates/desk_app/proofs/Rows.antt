@@ -1,7 +1,8 @@
 -- A run over the rows of a file, row by row.
-use Rattle.std.proofs.Common.{◌≡◌, ◌+◌, ◌<◌, ℕ, Bool, true, false, ◌&&◌, List, [], ◌∷◌, ◌++◌, take, drop, length}
+use Rattle.std.proofs.Common.{arith, is_some, true≢false, length-drop, ◌≤◌, ◌≡◌, ◌+◌, ◌<◌, ℕ, Bool, true, false, ◌&&◌, List, [], ◌∷◌, ◌++◌, append-nil, take, drop, length}
 use Rattle.std.proofs.Common.{get_or, ap, sym, refl, ◌∙◌, subst, append_assoc, take-append-drop, ◌⊎◌, inl, inr}
-use Rattle.std.specs.Prelude.{Option, None, Ok, Err}
+use Rattle.std.specs.Prelude.{IfErr, IfOk, Option, None, Result, Ok, Err}
+use Rattle.std.specs.Result.{IsErrAnd}
 use Rattle.std.specs.Io.KnownBytes.{Appends}
 use Rattle.std.proofs.lemmas.List.{take_more, drop_more}
 use Rattle.sqlite.specs.Tree.{Trees}
@@ -9,11 +10,11 @@ use Rattle.desk_core.specs.Machine.{State, Outcome, step}
 use Rattle.desk_store.specs.StateTables.{TablesAre}
 use Rattle.desk_wire.specs.ImportReports.{outcome_text, report_line}
 use Rattle.desk_wire.specs.declared.row.ImportRow.{ImportRow}
-use Rattle.desk_app.specs.declared.run.Told.{Told}
 use Rattle.desk_app.specs.declared.end.Stop.{Stop}
 use Rattle.desk_app.specs.declared.end.Stop.TheVariants.{ReadFailed, WriteFailed, Memory, Store}
+use Rattle.desk_app.specs.declared.run.Told.{Told}
 use Rattle.desk_app.specs.Runs.{by_outcome, CutRequest, IsOfBooks, StaysOpen}
-use Rattle.desk_app.specs.ImportRuns.{are_answers, import_told, rows_after, rows_out, rows_outcomes}
+use Rattle.desk_app.specs.ImportRuns.{are_answers, import_told, rows_after, rows_out, rows_outcomes, rows_told}
 use Rattle.desk_app.specs.ImportRuns.{AreLeftByRows, ImportStopped, IsLeftByImport, RanFront, Reading}
 
 -- the first `at` rows were run from s to s', and this is the text of theirs
@@ -106,6 +107,11 @@ front : (rows : List ImportRow) (i : ℕ) (s s' : State) → s' ≡ rows_after s
 front rows i s s' state =
     record { done = take i rows; rest = drop i rows; split = sym (take-append-drop i rows); state = state }
 
+-- there was no memory for what the row asks
+pub unasked_front : (rows : List ImportRow) (i : ℕ) (s s' : State) (text : List ℕ) (fine : Bool)
+    → RowsRunning rows i s s' text fine → RanFront rows s s'
+unasked_front rows i s s' text fine run = front rows i s s' run.state
+
 -- the row was run, and its line wasn't told
 pub untold_front : (rows : List ImportRow) (i : ℕ) (row : ImportRow) (s s' s'' : State) (text line : List ℕ)
     (fine f : Bool) → i < length rows → row ≡ get_or rows i row
@@ -130,32 +136,112 @@ pub memory_front : (stop : Stop) (rows : List ImportRow) (s s' : State) → stop
     → IsOfBooks stop × RanFront rows s s'
 memory_front stop rows s s' e h = (subst IsOfBooks (sym e) tt, h)
 
+-- the next group of rows couldn't be kept
+pub unkept_front : (stop : Stop) (rows : List ImportRow) (i : ℕ) (s s' s'' : State) (text : List ℕ) (fine : Bool)
+    → RowsRunning rows i s s' text fine → stop ≡ Store → s'' ≡ s' → IsOfBooks stop × RanFront rows s s''
+unkept_front stop rows i s s' s'' text fine run e same =
+    (subst IsOfBooks (sym e) tt, front rows i s s'' (same ∙ run.state))
+
+-- no row was run yet
+pub rows_start : (rows : List ImportRow) (s : State) (text : List ℕ) → text ≡ [] → RowsRunning rows 0 s s text true
+rows_start rows s text none = record {
+  state = refl;
+  after = refl;
+  told = ap (λ v. v ++ rows_out s rows) (sym none);
+  all = refl;
+}
+
+-- all were
+pub rows_end : (rows : List ImportRow) (i : ℕ) (s s' : State) (text : List ℕ) (fine : Bool)
+    → RowsRunning rows i s s' text fine → length rows ≤ i → rows_told s rows ≡ (s', text, fine)
+rows_end rows i s s' text fine run e =
+    let none : drop i rows ≡ [] = no_more (drop i rows) (omega (arith, e, length-drop i rows)) in
+    let state : rows_after s rows ≡ s' = run.after ∙ ap (rows_after s') none in
+    let told : rows_out s rows ≡ text = run.told ∙ ap (λ v. text ++ rows_out s' v) none ∙ append-nil text in
+    let all : are_answers (rows_outcomes s rows) ≡ fine =
+    run.all ∙ ap (λ v. fine && are_answers (rows_outcomes s' v)) none ∙ and_true fine in
+    λ k. (state k, told k, all k)
+  where
+    and_true : (b : Bool) → (b && true) ≡ b
+    and_true true = refl
+    and_true false = refl
+
+    no_more : {X : Type 0} (xs : List X) → length xs ≡ 0 → xs ≡ []
+    no_more [] e = refl
+    no_more (x ∷ xs) e = absurd (omega (arith, e))
+
+-- the state of a run is that of its books
+pub rows_same : (rows : List ImportRow) (i : ℕ) (s s' s'' : State) (text : List ℕ) (fine : Bool) → s'' ≡ s'
+    → RowsRunning rows i s s' text fine → RowsRunning rows i s s'' text fine
+rows_same rows i s s' s'' text fine same run = subst (λ v. RowsRunning rows i s v text fine) (sym same) run
+
 -- ---- what a crash leaves
 
--- books that stay open leave the tables of their state; those that the database closed, also the ones after the row
-pub left_by_rows : {F : Type 0} (stop : Stop) (rows : List ImportRow) (i : ℕ) (row : ImportRow) (s s' s'' : State)
-    (text : List ℕ) (fine : Bool) (trees : Trees) (old new : Option F)
-    → i < length rows → row ≡ get_or rows i row → RowsRunning rows i s s' text fine → CutRequest stop s' s'' row.request
-    → StaysOpen {F = F} {X = Told} old new (Err stop) → old ≡ None
-    → (new ≡ None → TablesAre s'' trees) → TablesAre s'' trees ⊎ TablesAre (step s'' row.request).0 trees
-    → AreLeftByRows rows s s'' trees
-left_by_rows ReadFailed rows i row s s' s'' text fine trees old new h is run cut stays was shown at = absurd cut
-left_by_rows WriteFailed rows i row s s' s'' text fine trees old new h is run cut stays was shown at = absurd cut
-left_by_rows Memory rows i row s s' s'' text fine trees old new h is run cut stays was shown at =
-    inl (shown (stays was))
-left_by_rows Store rows i row s s' s'' text fine trees old new h is run same stays was shown (inl tables) = inl tables
-left_by_rows Store rows i row s s' s'' text fine trees old new h is run same stays was shown (inr tables) =
-    let state : s'' ≡ rows_after s (take i rows) = same ∙ run.state in
-    let after : (step s'' row.request).0 ≡ rows_after s (take i rows ++ row ∷ []) =
-    ap (λ v. (step v row.request).0) state ∙ sym (rows_after-push s (take i rows) row) in
-    inr (record {
-      done = take i rows;
-      next = row;
-      rest = drop (i + 1) rows;
-      split = sym (take-append-drop i rows) ∙ ap (λ v. take i rows ++ v) (dropped rows i row h is);
-      state = state;
-      tables = subst (λ v. TablesAre v trees) after tables;
-    })
+pub left_front : (rows : List ImportRow) (s s' : State) (trees : Trees) → RanFront rows s s' → TablesAre s' trees
+    → AreLeftByRows rows s trees
+left_front rows s s' trees ran tables = record {
+  done = ran.done;
+  rest = ran.rest;
+  split = ran.split;
+  tables = subst (λ v. TablesAre v trees) ran.state tables;
+}
+
+pub left_none : (rows : List ImportRow) (s : State) (trees : Trees) → TablesAre s trees → AreLeftByRows rows s trees
+left_none rows s trees tables = record { done = []; rest = rows; split = refl; tables = tables }
+
+pub left_running : (rows : List ImportRow) (i : ℕ) (s s' : State) (text : List ℕ) (fine : Bool) (trees : Trees)
+    → RowsRunning rows i s s' text fine → TablesAre s' trees → AreLeftByRows rows s trees
+left_running rows i s s' text fine trees run tables = left_front rows s s' trees (front rows i s s' run.state) tables
+
+-- ... of books that may have ended a group
+pub left_next : {L : Type 0} (rows : List ImportRow) (i : ℕ) (s s' s'' : State) (text : List ℕ) (fine : Bool)
+    (trees : Trees) → RowsRunning rows i s s' text fine → s'' ≡ s' → (L → AreLeftByRows rows s trees)
+    → L ⊎ TablesAre s'' trees → AreLeftByRows rows s trees
+left_next rows i s s' s'' text fine trees run same before (inl earlier) = before earlier
+left_next rows i s s' s'' text fine trees run same before (inr tables) =
+    left_running rows i s s'' text fine trees (rows_same rows i s s' s'' text fine same run) tables
+
+-- all rows were run
+pub left_told : (rows : List ImportRow) (s s' : State) (text : List ℕ) (fine : Bool) (trees : Trees)
+    → rows_told s rows ≡ (s', text, fine) → TablesAre s' trees → AreLeftByRows rows s trees
+left_told rows s s' text fine trees told tables = record {
+  done = rows;
+  rest = [];
+  split = sym (append-nil rows);
+  tables = subst (λ v. TablesAre v trees) (sym (ap (λ p. p.0) told)) tables;
+}
+
+-- whatever was told of them, the first were run
+pub ran_some : (r : Result Bool Stop) (rows : List ImportRow) (s s' s'' : State) (text : List ℕ)
+    → IfOk r (λ fine. rows_told s rows ≡ (s', text, fine)) → IfErr r (λ stop. IsOfBooks stop × RanFront rows s s')
+    → s'' ≡ s' → RanFront rows s s''
+ran_some (Ok fine) rows s s' s'' text told cut same =
+    record { done = rows; rest = []; split = sym (append-nil rows); state = same ∙ sym (ap (λ p. p.0) told) }
+ran_some (Err stop) rows s s' s'' text told cut same =
+    record { done = cut.1.done; rest = cut.1.rest; split = cut.1.split; state = same ∙ cut.1.state }
+
+-- the books were open as the last group was ended, and are
+stays_by : {F : Type 0} (old mid new : Option F) (stop : Stop) → StaysOpen {F = F} {X = Bool} old mid (Err stop)
+    → mid ≡ None → new ≡ None → StaysOpen {F = F} {X = Told} old new (Err stop)
+stays_by old mid new ReadFailed h was now = λ _. now
+stays_by old mid new WriteFailed h was now = λ _. now
+stays_by old mid new Memory h was now = λ _. now
+stays_by old mid new Store h was now = absurd (true≢false (sym h ∙ ap is_some was))
+
+pub stays_ended : {F : Type 0} (old mid new : Option F) (r : Result Bool Stop) (stop : Stop) (told : Result Told Stop)
+    → r ≡ Err stop → StaysOpen {F = F} {X = Bool} old mid r → mid ≡ None → new ≡ None
+    → IsErrAnd told (λ d. d ≡ stop) → StaysOpen {F = F} {X = Told} old new told
+stays_ended old mid new r stop (Ok t) is stays was now same = absurd same
+stays_ended {F} old mid new r stop (Err d) is stays was now same =
+    stays_by old mid new d
+    (subst (λ v. StaysOpen {F = F} {X = Bool} old mid (Err v)) (sym same)
+    (subst (λ v. StaysOpen {F = F} {X = Bool} old mid v) is stays)) was now
+
+-- the last group was ended, or it wasn't
+pub left_ended : {L : Type 0} (rows : List ImportRow) (s s'' : State) (trees : Trees) → RanFront rows s s''
+    → (L → AreLeftByRows rows s trees) → L ⊎ TablesAre s'' trees → AreLeftByRows rows s trees
+left_ended rows s s'' trees ran before (inl earlier) = before earlier
+left_ended rows s s'' trees ran before (inr tables) = left_front rows s s'' trees ran tables
 
 -- ---- an import
 
@@ -173,6 +259,6 @@ import_written reading w w' s s' text f k told wrote =
     }
 
 -- what a crash leaves where nothing was run is left by any import
-pub left_alone : (reading : Reading) (s : State) (trees : Trees) → TablesAre s trees → IsLeftByImport reading s s trees
-left_alone (Ok rows) s trees h = inl h
+pub left_alone : (reading : Reading) (s : State) (trees : Trees) → TablesAre s trees → IsLeftByImport reading s trees
+left_alone (Ok rows) s trees h = left_none rows s trees h
 left_alone (Err fault) s trees h = h

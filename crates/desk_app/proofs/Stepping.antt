@@ -2,17 +2,15 @@
 use Rattle.std.proofs.Common.{◌≡◌, ◌+◌, ◌≤◌, ℕ, Bool, true, false, List, [], ◌∷◌, length, nat_le}
 use Rattle.std.proofs.Common.{arith, ap, sym, subst, refl, ◌∙◌, length-take, take, ◌⊎◌, inl, inr}
 use Rattle.std.specs.Prelude.{Ok, Err}
-use Rattle.sqlite.specs.Tree.{Trees}
 use Rattle.desk_core.specs.Machine.{State, Outcome, step}
 use Rattle.desk_core.specs.declared.command.Request.{Request as Req}
-use Rattle.desk_store.specs.StateTables.{TablesAre}
 use Rattle.desk_wire.specs.declared.read.Wish.TheVariants.{Request}
 use Rattle.desk_wire.specs.declared.fault.What.TheVariants.{TooLong}
 use Rattle.desk_app.specs.Cuts.{held}
 use Rattle.desk_wire.specs.Reading.{line}
 use Rattle.desk_app.specs.declared.end.Stop.{Stop}
 use Rattle.desk_app.specs.declared.end.Stop.TheVariants.{ReadFailed, WriteFailed, Memory, Store}
-use Rattle.desk_app.specs.Runs.{by_outcome, is_blank, line_after, line_step, CutLine, CutRequest, IsLeftAt}
+use Rattle.desk_app.specs.Runs.{by_outcome, is_blank, line_after, line_step, CutLine, CutRequest}
 use Rattle.desk_app.proofs.Cutting.{held_short}
 
 pub blank_step : (s : State) (n : ℕ) (l : List ℕ) → is_blank l ≡ true → line_step s n l ≡ (s, [], true)
@@ -55,7 +53,7 @@ outcome_state : (p : State × Outcome) → (by_outcome p).0 ≡ p.0
 outcome_state (s, Ok answer) = refl
 outcome_state (s, Err refusal) = refl
 
-request_step : (s : State) (n : ℕ) (l : List ℕ) (r : Req) → is_blank l ≡ false → line l ≡ Ok (Request r)
+pub request_step : (s : State) (n : ℕ) (l : List ℕ) (r : Req) → is_blank l ≡ false → line l ≡ Ok (Request r)
     → line_step s n l ≡ by_outcome (step s r)
 unfolding line_step
 request_step s n l r filled is = rw (filled, is) refl
@@ -70,8 +68,3 @@ cut_line ReadFailed s s' n l r e h = absurd h
 cut_line WriteFailed s s' n l r e h = absurd h
 cut_line Memory s s' n l r e h = elim h [ inl same ↦ inl same | inr after ↦ inr (after ∙ sym e) ]
 cut_line Store s s' n l r e h = h
-
-pub left_of_line : (s : State) (n : ℕ) (l : List ℕ) (r : Req) (trees : Trees) → line_after s n l ≡ (step s r).0
-    → TablesAre s trees ⊎ TablesAre (step s r).0 trees → IsLeftAt s n l trees
-left_of_line s n l r trees e (inl h) = inl h
-left_of_line s n l r trees e (inr h) = inr (subst (λ t. TablesAre t trees) (sym e) h)

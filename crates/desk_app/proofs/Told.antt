@@ -3,9 +3,9 @@ use Rattle.std.proofs.Common.{◌≡◌, ◌∙◌, List, [], sym, refl, inr}
 use Rattle.std.specs.Prelude.{Option, Some, None, option_map}
 use Rattle.clap.specs.Words.{Text}
 use Rattle.desk_app.specs.declared.words.Task.{Task}
-use Rattle.desk_app.specs.declared.words.Task.TheVariants.{Run, Report, Export, Import, Serve}
+use Rattle.desk_app.specs.declared.words.Task.TheVariants.{Run, Report, Export, Migrate, Import, Serve}
 use Rattle.desk_app.specs.declared.words.Task.TheVariants.{Help, Wrong, Unreadable, Memory}
-use Rattle.desk_app.specs.Words.{Places, DeskTask, run, report, export, import, serve}
+use Rattle.desk_app.specs.Words.{Places, DeskTask, run, report, export, migrate, import, serve}
 use Rattle.desk_app.specs.Words.{desk_task, faults, Tells, AnswersAt, Runs, RunsOn}
 
 pub told_answers : (places : Places) (words : List Text) (w : Option DeskTask) (task : Task) → faults places words ≡ []
@@ -14,8 +14,9 @@ pub told_answers : (places : Places) (words : List Text) (w : Option DeskTask) (
 told_answers places words w (Run file) free same t = (free, sym same ∙ t)
 told_answers places words w (Report file name number) free same t = (free, sym same ∙ t)
 told_answers places words w (Export file table) free same t = (free, sym same ∙ t)
+told_answers places words w (Migrate file) free same t = (free, sym same ∙ t)
 told_answers places words w (Import file kind document day path) free same t = (free, sym same ∙ t)
-told_answers places words w (Serve file port count) free same t = (free, sym same ∙ t)
+told_answers places words w (Serve file port count token) free same t = (free, sym same ∙ t)
 told_answers places words w (Help e) free same t = absurd t
 told_answers places words w (Wrong e) free same t = inr (free, sym same ∙ t.0, t.1)
 told_answers places words w Unreadable free same t = absurd t
@@ -33,10 +34,13 @@ told_runs w (Report file name number) e t =
     let f : Some (run None) ≡ Some (report file.now name number) = sym e ∙ t in
     absurd (cc)
 told_runs w (Export file table) e t = let f : Some (run None) ≡ Some (export file.now table) = sym e ∙ t in absurd (cc)
+told_runs w (Migrate file) e t = let f : Some (run None) ≡ Some (migrate file.now) = sym e ∙ t in absurd (cc)
 told_runs w (Import file kind document day path) e t =
     let f : Some (run None) ≡ Some (import file.now kind document day path.now) = sym e ∙ t in absurd (cc)
-told_runs w (Serve file port count) e t =
-    let f : Some (run None) ≡ Some (serve (option_map (λ path. path.now) file) port count) = sym e ∙ t in absurd (cc)
+told_runs w (Serve file port count token) e t =
+    let f : Some (run None)
+    ≡ Some (serve (option_map (λ path. path.now) file) port count (option_map (λ path. path.now) token)) = sym e ∙ t in
+    absurd (cc)
 told_runs w (Help error) e t = absurd t
 told_runs w (Wrong error) e t = let f = t.0 in absurd (cc)
 told_runs w Unreadable e t = absurd t
@@ -50,10 +54,14 @@ told_runs_on path w (Report file name number) e t =
     let f : Some (run (Some path)) ≡ Some (report file.now name number) = sym e ∙ t in absurd (cc)
 told_runs_on path w (Export file table) e t =
     let f : Some (run (Some path)) ≡ Some (export file.now table) = sym e ∙ t in absurd (cc)
+told_runs_on path w (Migrate file) e t =
+    let f : Some (run (Some path)) ≡ Some (migrate file.now) = sym e ∙ t in absurd (cc)
 told_runs_on path w (Import file kind document day from) e t =
     let f : Some (run (Some path)) ≡ Some (import file.now kind document day from.now) = sym e ∙ t in absurd (cc)
-told_runs_on path w (Serve file port count) e t =
-    let f : Some (run (Some path)) ≡ Some (serve (option_map (λ given. given.now) file) port count) = sym e ∙ t in
+told_runs_on path w (Serve file port count token) e t =
+    let f : Some (run (Some path))
+    ≡ Some (serve (option_map (λ given. given.now) file) port count (option_map (λ given. given.now) token)) =
+    sym e ∙ t in
     absurd (cc)
 told_runs_on path w (Help error) e t = absurd t
 told_runs_on path w (Wrong error) e t = let f = t.0 in absurd (cc)

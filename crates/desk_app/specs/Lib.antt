@@ -3,6 +3,7 @@ pub mod Ends
 pub mod Runs
 pub mod ImportRuns
 pub mod SentAgain
+pub mod LinesAgain
 pub mod Printed
 pub mod Words
 pub mod Statuses
@@ -10,3 +11,5 @@ pub mod Empty
 pub mod FileFaults
 pub mod Closed
 pub mod Services
+pub mod Looks
+pub mod Escaped

@@ -102,54 +102,58 @@ abbrev pub Finished : Option (List ℕ) → Option (List ℕ) → Option (List �
 Finished None w w' s s' all = Unit {0}
 Finished (Some text) w w' s s' all = RunWhole text w w' s s' all
 
--- the first of these lines were run, and their answers written whole; the others were not run. So it is where no line
--- came, and where the books kept none.
-pub record StoppedBetween (lines : List (List ℕ)) (w w' : Option (List ℕ)) (s s' : State) : Type 0 where
+-- the lines of a text begin with these; those of unknown bytes may be any
+abbrev pub BeginWith : Option (List ℕ) → List (List ℕ) → Type 0
+BeginWith None lines = Unit {0}
+BeginWith (Some text) lines = (rest : List (List ℕ)) × (lines_of text ≡ lines ++ rest)
+
+-- the first of the lines were run, and their answers written whole; the others were not run
+pub record StoppedBetween (text w w' : Option (List ℕ)) (s s' : State) : Type 0 where
   pub done : List (List ℕ)
-  pub rest : List (List ℕ)
-  pub split : lines ≡ done ++ rest
+  pub first : BeginWith text done
   pub state : s' ≡ run_after s 1 done
   pub written : Appends w w' (run_out s 1 done)
 
--- of the lines that were run the last has a front of its answer written, the others have theirs whole
-pub record StoppedWriting (lines : List (List ℕ)) (w w' : Option (List ℕ)) (s s' : State) : Type 0 where
+-- of the lines that were run the last were one group, of whose answers a front is written; the others have theirs whole
+pub record StoppedWriting (text w w' : Option (List ℕ)) (s s' : State) : Type 0 where
   pub told : List (List ℕ)
-  pub last : List ℕ
-  pub rest : List (List ℕ)
+  pub group : List (List ℕ)
   pub front : List ℕ
   pub more : List ℕ
-  pub split : lines ≡ told ++ last ∷ rest
-  pub state : s' ≡ run_after s 1 (told ++ last ∷ [])
-  pub answer : line_out (run_after s 1 told) (1 + length told) last ≡ front ++ more
+  pub first : BeginWith text (told ++ group)
+  pub state : s' ≡ run_after s 1 (told ++ group)
+  pub answers : run_out (run_after s 1 told) (1 + length told) group ≡ front ++ more
   pub written : Appends w w' (run_out s 1 told ++ front)
 
 -- of the lines that were run the last may have nothing of its answer written, the others have theirs
 -- whole
-pub record StoppedForMemory (lines : List (List ℕ)) (w w' : Option (List ℕ)) (s s' : State) : Type 0 where
+pub record StoppedForMemory (text w w' : Option (List ℕ)) (s s' : State) : Type 0 where
   pub told : List (List ℕ)
   pub untold : List (List ℕ)
-  pub rest : List (List ℕ)
-  pub split : lines ≡ (told ++ untold) ++ rest
+  pub first : BeginWith text (told ++ untold)
   pub one : length untold ≤ 1
   pub state : s' ≡ run_after s 1 (told ++ untold)
   pub written : Appends w w' (run_out s 1 told)
 
--- some of the lines were run, and their answers written, by what it was that failed
-abbrev pub Stopped : Stop → Option (List ℕ) → Option (List ℕ) → Option (List ℕ) → State → State
-    → Type 0
-Stopped stop None w w' s s' = Unit {0}
-Stopped ReadFailed (Some text) w w' s s' = StoppedBetween (lines_of text) w w' s s'
-Stopped WriteFailed (Some text) w w' s s' = StoppedWriting (lines_of text) w w' s s'
-Stopped Memory (Some text) w w' s s' = StoppedForMemory (lines_of text) w w' s s'
-Stopped Store (Some text) w w' s s' = StoppedBetween (lines_of text) w w' s s'
+-- The database failed in a group, or as it was committed, and the books are closed. The lines before the group have
+-- their answers written whole, and those of the group nothing of theirs. A crash leaves the tables before the group, or,
+-- where the commit failed, those after it.
+pub record StoppedInGroup (text w w' : Option (List ℕ)) (s s' : State) (leaves : Trees → Type 0) : Type 0 where
+  pub told : List (List ℕ)
+  pub group : List (List ℕ)
+  pub first : BeginWith text (told ++ group)
+  pub state : s' ≡ run_after s 1 (told ++ group)
+  pub written : Appends w w' (run_out s 1 told)
+  pub left : (trees : Trees) → leaves trees
+      → TablesAre (run_after s 1 told) trees ⊎ TablesAre (run_after s 1 (told ++ group)) trees
 
--- the line was run, and a front of its answer is written
-pub record CutWriting (w w' : Option (List ℕ)) (s s' : State) (number : ℕ) (line : List ℕ) : Type 0 where
-  pub front : List ℕ
-  pub more : List ℕ
-  pub state : s' ≡ line_after s number line
-  pub answer : line_out s number line ≡ front ++ more
-  pub written : Appends w w' front
+-- some of the lines were run, by what it was that failed; these tables a crash may leave of the books
+abbrev pub Stopped : Stop → Option (List ℕ) → Option (List ℕ) → Option (List ℕ) → State → State
+    → (Trees → Type 0) → Type 0
+Stopped ReadFailed text w w' s s' leaves = StoppedBetween text w w' s s'
+Stopped WriteFailed text w w' s s' leaves = StoppedWriting text w w' s s'
+Stopped Memory text w w' s s' leaves = StoppedForMemory text w w' s s'
+Stopped Store text w w' s s' leaves = StoppedInGroup text w w' s s' leaves
 
 -- a request that the books did not answer, or whose answer was not told: where memory ran out it was run or not; where
 -- the database failed it was not
@@ -184,30 +188,63 @@ StaysOpen old new (Err WriteFailed) = old ≡ None → new ≡ None
 StaysOpen old new (Err Memory) = old ≡ None → new ≡ None
 StaysOpen old new (Err Store) = IsSome new
 
--- a line that was not answered whole; where memory ran out it was run or not, and nothing is written; where the
--- database failed it was not run
-abbrev pub CutShort : Stop → Option (List ℕ) → Option (List ℕ) → State → State → ℕ → List ℕ → Type 0
-CutShort ReadFailed w w' s s' number line = ⊥
-CutShort WriteFailed w w' s s' number line = CutWriting w w' s s' number line
-CutShort Memory w w' s s' number line = ((s' ≡ s) ⊎ (s' ≡ line_after s number line)) × Keeps w w'
-CutShort Store w w' s s' number line = (s' ≡ s) × Keeps w w'
+-- the books were asked: they were open and are, unless the database failed, which closes them
+abbrev pub EndsOpen : {F X : Type 0} → Option F → Option F → Result X Stop → Type 0
+EndsOpen old new (Ok x) = (old ≡ None) × (new ≡ None)
+EndsOpen old new (Err ReadFailed) = (old ≡ None) × (new ≡ None)
+EndsOpen old new (Err WriteFailed) = (old ≡ None) × (new ≡ None)
+EndsOpen old new (Err Memory) = (old ≡ None) × (new ≡ None)
+EndsOpen old new (Err Store) = IsSome new
 
--- what a crash leaves where the database may have failed at this line: the tables before it or after it
-abbrev pub IsLeftAt : State → ℕ → List ℕ → Trees → Type 0
-IsLeftAt s number line trees = TablesAre s trees ⊎ TablesAre (line_after s number line) trees
+-- what waits to be written when a group ends: all of it is, or a front where the writer failed, or nothing where the
+-- database did
+abbrev pub CutSettling : Stop → Option (List ℕ) → Option (List ℕ) → List ℕ → Type 0
+CutSettling WriteFailed w w' text = (front : List ℕ) × (more : List ℕ) × (text ≡ front ++ more) × Appends w w' front
+CutSettling Store w w' text = Keeps w w'
+CutSettling _ w w' text = ⊥
 
--- the first of these lines lead to the state, and the tables are those after the next line too
-pub record HasNext (lines : List (List ℕ)) (s s' : State) (trees : Trees) : Type 0 where
-  pub done : List (List ℕ)
-  pub next : List ℕ
-  pub rest : List (List ℕ)
-  pub split : lines ≡ done ++ next ∷ rest
-  pub state : s' ≡ run_after s 1 done
-  pub tables : TablesAre (run_after s 1 (done ++ next ∷ [])) trees
+-- it is the writer that stops it, or the database
+abbrev pub IsOfSettling : Stop → Type 0
+IsOfSettling WriteFailed = Unit {0}
+IsOfSettling Store = Unit {0}
+IsOfSettling _ = ⊥
 
--- what a crash leaves of books that a run over these bytes left in this state: its tables or, where the database
--- failed, those after the line that came next; of unknown bytes, after some line
-abbrev pub IsLeft : Option (List ℕ) → State → State → Trees → Type 0
-IsLeft None s s' trees =
-    TablesAre s' trees ⊎ ((number : ℕ) × (line : List ℕ) × TablesAre (line_after s' number line) trees)
-IsLeft (Some text) s s' trees = TablesAre s' trees ⊎ HasNext (lines_of text) s s' trees
+-- ---- lines that were run, of which the last wait for the end of their group
+
+-- the first lines have their answers written, and those of the group wait with theirs; one line more may have been run,
+-- which has none; these tables a crash may leave, and they are those before the group
+pub record Halting (text w w' : Option (List ℕ)) (s s' : State) (waits : List ℕ) (leaves : Trees → Type 0) : Type 0 where
+  pub told : List (List ℕ)
+  pub group : List (List ℕ)
+  pub untold : List (List ℕ)
+  pub first : BeginWith text ((told ++ group) ++ untold)
+  pub one : length untold ≤ 1
+  pub state : s' ≡ run_after s 1 ((told ++ group) ++ untold)
+  pub written : Appends w w' (run_out s 1 told)
+  pub answers : waits ≡ run_out (run_after s 1 told) (1 + length told) group
+  pub left : (trees : Trees) → leaves trees → TablesAre (run_after s 1 told) trees
+
+-- the group ends behind its last answer
+abbrev pub HaltsWhole : Option (List ℕ) → Option (List ℕ) → Option (List ℕ) → State → State → List ℕ
+    → (Trees → Type 0) → Type 0
+HaltsWhole text w w' s s' waits leaves = (h : Halting text w w' s s' waits leaves) × (h.untold ≡ [])
+
+-- these are all lines of the text
+abbrev pub AreAll : Option (List ℕ) → List (List ℕ) → Type 0
+AreAll None lines = Unit {0}
+AreAll (Some text) lines = lines_of text ≡ lines
+
+-- all lines were run, and the last of them wait
+abbrev pub Gathered : Option (List ℕ) → Option (List ℕ) → Option (List ℕ) → State → State → Bool → List ℕ
+    → (Trees → Type 0) → Type 0
+Gathered text w w' s s' all waits leaves =
+    (h : Halting text w w' s s' waits leaves) × (h.untold ≡ []) × AreAll text (h.told ++ h.group)
+    × (all ≡ all_fine s 1 (h.told ++ h.group))
+
+-- the lines stop before the last group is ended, or as a group was ended
+abbrev pub Halts : Stop → Option (List ℕ) → Option (List ℕ) → Option (List ℕ) → State → State → List ℕ
+    → (Trees → Type 0) → Type 0
+Halts ReadFailed text w w' s s' waits leaves = HaltsWhole text w w' s s' waits leaves
+Halts Memory text w w' s s' waits leaves = Halting text w w' s s' waits leaves
+Halts WriteFailed text w w' s s' waits leaves = StoppedWriting text w w' s s'
+Halts Store text w w' s s' waits leaves = StoppedInGroup text w w' s s' leaves

@@ -90,23 +90,33 @@ abbrev pub IsFailed : NoReply → Type 0
 IsFailed (Failed e) = Unit {0}
 IsFailed Untold = ⊥
 
--- books that weren't closed aren't, unless the database failed; where it failed, they are closed
+-- books that weren't closed aren't, unless the database failed; where it failed, they are closed; where memory ran out
+-- they were open and are
 abbrev pub StaysOpenBy : {F : Type 0} → Option F → Option F → Option NoReply → Type 0
 StaysOpenBy old new None = old ≡ None → new ≡ None
-StaysOpenBy old new (Some (Failed Memory)) = old ≡ None → new ≡ None
+StaysOpenBy old new (Some (Failed Memory)) = (old ≡ None) × (new ≡ None)
 StaysOpenBy old new (Some (Failed Store)) = IsSome new
 StaysOpenBy old new (Some Untold) = old ≡ None → new ≡ None
 
+-- a report is made of open books alone: of others it is told that the database failed
+abbrev pub IsShownOfOpen : {F : Type 0} → Option F → Operation → Option NoReply → Type 0
+IsShownOfOpen old (RunLine line) why = Unit {0}
+IsShownOfOpen old (ImportFile kind document day rows) why = Unit {0}
+IsShownOfOpen old (ShowReport name number) None = old ≡ None
+IsShownOfOpen old (ShowReport name number) (Some (Failed Memory)) = old ≡ None
+IsShownOfOpen old (ShowReport name number) (Some (Failed Store)) = IsSome old
+IsShownOfOpen old (ShowReport name number) (Some Untold) = old ≡ None
+
 -- what a crash leaves of books in this state: its tables or, where the database failed, those after the request that
--- failed
+-- failed; of a file those after the first of its rows
 abbrev pub IsLeftByOperation : Operation → State → State → Trees → Type 0
 IsLeftByOperation (RunLine line) s s' trees = TablesAre s' trees ⊎ TablesAre (run_line s' line).0 trees
 IsLeftByOperation (ImportFile kind document day rows) s s' trees =
-    IsLeftByImport (import (import_kind kind) document day rows) s s' trees
+    IsLeftByImport (import (import_kind kind) document day rows) s trees
 IsLeftByOperation (ShowReport name number) s s' trees = TablesAre s' trees
 
 -- of books with these faults of the database before and after, of which a crash may leave these tables
 abbrev pub Relates : {F : Type 0} → Option F → Option F → (Trees → Type 0) → State → State → Operation
     → Option NoReply → Type 0
 Relates old new may_leave s s' o why =
-    StaysOpenBy old new why × (old ≡ None → (trees : Trees) → may_leave trees → IsLeftByOperation o s s' trees)
+    StaysOpenBy old new why × IsShownOfOpen old o why × (old ≡ None → (trees : Trees) → may_leave trees → IsLeftByOperation o s s' trees)

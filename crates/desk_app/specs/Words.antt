@@ -24,7 +24,7 @@ use Rattle.desk_wire.specs.Kinds.{import_kind_named}
 use Rattle.desk_wire.specs.Numbers.{number_in}
 use Rattle.desk_wire.specs.declared.kind.ImportKind.{ImportKind}
 use Rattle.desk_app.specs.declared.words.Task.{Task}
-use Rattle.desk_app.specs.declared.words.Task.TheVariants.{Run, Report, Export, Import, Serve}
+use Rattle.desk_app.specs.declared.words.Task.TheVariants.{Run, Report, Export, Migrate, Import, Serve}
 use Rattle.desk_app.specs.declared.words.Task.TheVariants.{Help, Wrong, Unreadable, Memory}
 
 -- no more words, or `run`
@@ -70,7 +70,7 @@ abbrev pub table_names : List Text
 table_names =
     codes "meta" ∷ codes "categories" ∷ codes "locations" ∷ codes "parts" ∷ codes "lines" ∷ codes "substitutes"
     ∷ codes "items" ∷ codes "history" ∷ codes "orders" ∷ codes "order_lines" ∷ codes "builds" ∷ codes "allocations"
-    ∷ codes "kept" ∷ []
+    ∷ codes "kept" ∷ codes "spent" ∷ []
 
 abbrev pub kind_names : List Text
 kind_names = codes "receipts" ∷ codes "counts" ∷ []
@@ -97,6 +97,10 @@ word_rule id = record (new_rule id) { value_names = 1; required = true; action =
 abbrev pub option_rule : Text → Rule
 option_rule id = record (word_rule id) { long = Some id }
 
+-- an option that may be left out
+abbrev pub optional_rule : Text → Rule
+optional_rule id = record (new_rule id) { long = Some id; value_names = 1; action = Some Set }
+
 abbrev pub needed : Rule → Rule
 needed rule = record rule { required = true }
 
@@ -116,6 +120,9 @@ abbrev pub export_line : Listing table_names → App
 export_line names =
     with_rule (with_rule (new_app (codes "export")) (needed file_rule)) (among names.at (word_rule (codes "table")))
 
+abbrev pub migrate_line : App
+migrate_line = with_rule (new_app (codes "migrate")) (needed file_rule)
+
 -- `--kind KIND`, of the names that are listed there
 abbrev pub kind_rule : Listing kind_names → Rule
 kind_rule names = among names.at (option_rule (codes "kind"))
@@ -128,18 +135,20 @@ import_line names =
 
 abbrev pub serve_line : App
 serve_line =
-    with_rule (with_rule (with_rule (new_app (codes "serve")) file_rule) (option_rule (codes "port")))
-    (option_rule (codes "count"))
+    with_rule
+    (with_rule (with_rule (with_rule (new_app (codes "serve")) file_rule) (option_rule (codes "port")))
+    (optional_rule (codes "count"))) (optional_rule (codes "token"))
 
 abbrev pub top_line : App
 top_line =
     on_top (λ shape. record shape { disable_help_subcommand = true; has_version = true }) (new_app (codes "invdesk"))
 
--- the program's command line, as `clap` sees it: it has a version, and five subcommands, none of them of help
+-- the program's command line, as `clap` sees it: it has a version, and six subcommands, none of them of help
 abbrev pub command_line : Places → App
 command_line places =
-    with_subcommand (with_subcommand (with_subcommand (with_subcommand (with_subcommand top_line run_line.top)
-    (report_line places.reports).top) (export_line places.tables).top) (import_line places.kinds).top) serve_line.top
+    with_subcommand (with_subcommand (with_subcommand (with_subcommand (with_subcommand (with_subcommand top_line
+    run_line.top) (report_line places.reports).top) (export_line places.tables).top) migrate_line.top)
+    (import_line places.kinds).top) serve_line.top
 
 abbrev pub IsReportLine : App → Type 0
 IsReportLine app = (names : Listing report_names) × (app ≡ report_line names)
@@ -186,16 +195,18 @@ table_named name =
     else if bytes_eq name (codes "builds") then Some table.Builds
     else if bytes_eq name (codes "allocations") then Some table.Allocations
     else if bytes_eq name (codes "kept") then Some table.Kept
+    else if bytes_eq name (codes "spent") then Some table.Spent
     else None
 
--- a task of a desk: a run, with the file if one is named; a report of a number; a table; the rows at a path;
--- so many connections to a port
+-- a task of a desk: a run, with the file if one is named; a report of a number; a table; that a file is brought along;
+-- the rows at a path; so many connections to a port, or any number, with the file of a token if one is named
 pub data DeskTask : Type 0 where
   run : Option Text → DeskTask
   report : Text → ReportName → ℕ → DeskTask
   export : Text → TableName → DeskTask
+  migrate : Text → DeskTask
   import : Text → ImportKind → Text → CivilDay → Text → DeskTask
-  serve : Option Text → ℕ → ℕ → DeskTask
+  serve : Option Text → ℕ → Option ℕ → Option Text → DeskTask
 
 abbrev pub report_with : Option Text → Option ReportName → Option ℕ → Option DeskTask
 report_with None name number = None
@@ -216,6 +227,9 @@ report_in rows = report_with (first_of (codes "db") rows) (option_and_then repor
 unfoldable pub export_in : List Row → Option DeskTask
 export_in rows = export_with (first_of (codes "db") rows) (option_and_then table_named (first_of (codes "table") rows))
 
+unfoldable pub migrate_in : List Row → Option DeskTask
+migrate_in rows = option_map migrate (first_of (codes "db") rows)
+
 infixl 10 ◌>>=◌
 abbrev ◌>>=◌ : {A B : Type 0} → Option A → (A → Option B) → Option B
 None >>= f = None
@@ -230,11 +244,16 @@ import_in rows = do
   path ← first_of (codes "path") rows
   Some (import file kind document day path)
 
+-- no count, or one that a serving may have
+abbrev pub count_in : Option Text → Option (Option ℕ)
+count_in None = Some None
+count_in (Some text) = option_map (λ count. Some count) (number_up_to 1000000 text)
+
 unfoldable pub serve_in : List Row → Option DeskTask
 serve_in rows = do
   port ← option_and_then (number_up_to 65535) (first_of (codes "port") rows)
-  count ← option_and_then (number_up_to 1000000) (first_of (codes "count") rows)
-  Some (serve (first_of (codes "db") rows) port count)
+  count ← count_in (first_of (codes "count") rows)
+  Some (serve (first_of (codes "db") rows) port count (first_of (codes "token") rows))
 
 abbrev pub rows_in : ArgMatches → List Row
 rows_in m = rows_of (found_of m)
@@ -249,6 +268,7 @@ desk_task_met None = Some (run None)
 desk_task_met (Some met) =
     if bytes_eq met.0 (codes "report") then report_in met.1
     else if bytes_eq met.0 (codes "export") then export_in met.1
+    else if bytes_eq met.0 (codes "migrate") then migrate_in met.1
     else if bytes_eq met.0 (codes "import") then import_in met.1
     else if bytes_eq met.0 (codes "serve") then serve_in met.1
     else Some (run (first_of (codes "db") met.1))
@@ -262,8 +282,10 @@ abbrev pub desk_task_of : Task → Option DeskTask
 desk_task_of (Run file) = Some (run (option_map (λ path. path.now) file))
 desk_task_of (Report file name number) = Some (report file.now name number)
 desk_task_of (Export file table) = Some (export file.now table)
+desk_task_of (Migrate file) = Some (migrate file.now)
 desk_task_of (Import file kind document day path) = Some (import file.now kind document day path.now)
-desk_task_of (Serve file port count) = Some (serve (option_map (λ path. path.now) file) port count)
+desk_task_of (Serve file port count token) =
+    Some (serve (option_map (λ path. path.now) file) port count (option_map (λ path. path.now) token))
 desk_task_of (Help e) = None
 desk_task_of (Wrong e) = None
 desk_task_of Unreadable = None
@@ -277,8 +299,9 @@ abbrev pub file_of : Task → Option (Bor Text)
 file_of (Run file) = file
 file_of (Report file name number) = Some file
 file_of (Export file table) = Some file
+file_of (Migrate file) = Some file
 file_of (Import file kind document day path) = Some file
-file_of (Serve file port count) = file
+file_of (Serve file port count token) = file
 file_of (Help e) = None
 file_of (Wrong e) = None
 file_of Unreadable = None
@@ -289,8 +312,9 @@ abbrev pub Tells : Option DeskTask → Task → Type 0
 Tells desk_task (Run file) = desk_task ≡ desk_task_of (Run file)
 Tells desk_task (Report file name number) = desk_task ≡ desk_task_of (Report file name number)
 Tells desk_task (Export file table) = desk_task ≡ desk_task_of (Export file table)
+Tells desk_task (Migrate file) = desk_task ≡ desk_task_of (Migrate file)
 Tells desk_task (Import file kind document day path) = desk_task ≡ desk_task_of (Import file kind document day path)
-Tells desk_task (Serve file port count) = desk_task ≡ desk_task_of (Serve file port count)
+Tells desk_task (Serve file port count token) = desk_task ≡ desk_task_of (Serve file port count token)
 Tells desk_task (Help e) = ⊥
 Tells desk_task (Wrong e) = (desk_task ≡ None) × (kind_of e ≡ ValueValidation)
 Tells desk_task Unreadable = ⊥
@@ -312,10 +336,12 @@ AnswersAt places words (Report file name number) =
     (faults places words ≡ []) × (desk_task places words ≡ desk_task_of (Report file name number))
 AnswersAt places words (Export file table) =
     (faults places words ≡ []) × (desk_task places words ≡ desk_task_of (Export file table))
+AnswersAt places words (Migrate file) =
+    (faults places words ≡ []) × (desk_task places words ≡ desk_task_of (Migrate file))
 AnswersAt places words (Import file kind document day path) =
     (faults places words ≡ []) × (desk_task places words ≡ desk_task_of (Import file kind document day path))
-AnswersAt places words (Serve file port count) =
-    (faults places words ≡ []) × (desk_task places words ≡ desk_task_of (Serve file port count))
+AnswersAt places words (Serve file port count token) =
+    (faults places words ≡ []) × (desk_task places words ≡ desk_task_of (Serve file port count token))
 AnswersAt places words (Help e) = IsShown (kind_of e) × IsAmong (kind_of e) (faults places words)
 AnswersAt places words (Wrong e) =
     ((¬ IsShown (kind_of e)) × (kind_of e ≢ OutOfMemory) × IsAmong (kind_of e) (faults places words))
@@ -332,8 +358,9 @@ abbrev pub Runs : Task → Type 0
 Runs (Run file) = file ≡ None
 Runs (Report file name number) = ⊥
 Runs (Export file table) = ⊥
+Runs (Migrate file) = ⊥
 Runs (Import file kind document day path) = ⊥
-Runs (Serve file port count) = ⊥
+Runs (Serve file port count token) = ⊥
 Runs (Help e) = ⊥
 Runs (Wrong e) = ⊥
 Runs Unreadable = ⊥
@@ -344,8 +371,9 @@ abbrev pub RunsOn : Text → Task → Type 0
 RunsOn path (Run file) = option_map (λ given. given.now) file ≡ Some path
 RunsOn path (Report file name number) = ⊥
 RunsOn path (Export file table) = ⊥
+RunsOn path (Migrate file) = ⊥
 RunsOn path (Import file kind document day from) = ⊥
-RunsOn path (Serve file port count) = ⊥
+RunsOn path (Serve file port count token) = ⊥
 RunsOn path (Help e) = ⊥
 RunsOn path (Wrong e) = ⊥
 RunsOn path Unreadable = ⊥
@@ -356,8 +384,9 @@ abbrev pub HelpsBy : ErrorKind → Task → Type 0
 HelpsBy kind (Run file) = ⊥
 HelpsBy kind (Report file name number) = ⊥
 HelpsBy kind (Export file table) = ⊥
+HelpsBy kind (Migrate file) = ⊥
 HelpsBy kind (Import file of document day path) = ⊥
-HelpsBy kind (Serve file port count) = ⊥
+HelpsBy kind (Serve file port count token) = ⊥
 HelpsBy kind (Help e) = kind_of e ≡ kind
 HelpsBy kind (Wrong e) = ⊥
 HelpsBy kind Unreadable = ⊥

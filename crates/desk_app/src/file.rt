@@ -10,12 +10,13 @@ ghost use Rattle.desk_core.specs.Machine.{IsSoundState, State};
 ghost use Rattle.desk_core.specs.ShopView.{state_of};
 ghost use Rattle.desk_store.specs.StateTables.{TablesAre};
 ghost use Rattle.desk_store.specs.Desks.{IsDesk};
+ghost use Rattle.desk_store.specs.Migrating.{EitherAre};
 ghost use Rattle.desk_store.specs.Exports.{AppendsFront, table_text};
 ghost use Rattle.report_core.specs.Reports.{report_lines};
-ghost use Rattle.table_store.specs.Schema.{desk_schema};
+ghost use Rattle.table_store.specs.Schema.{IsOwn};
 ghost use Rattle.desk_app.specs.Empty.{AreLargest, IsEmpty};
-ghost use Rattle.desk_app.specs.FileFaults.{IsBare, IsOfMaking, MayBeNew, TellsWhy};
-ghost use Rattle.desk_app.specs.Printed.{IsPrinted, printed};
+ghost use Rattle.desk_app.specs.FileFaults.{IsBare, IsOfMaking, MayBeMoved, MayBeNew, TellsUnmoved, TellsWhy};
+ghost use Rattle.desk_app.specs.Printed.{IsPrinted, migrated_text, printed};
 
 use crate::database::FileFault;
 use crate::end::{RunEnd, Stop};
@@ -28,7 +29,14 @@ use report_core::{ReportName, report};
 use sqlite::{Alter, Connection};
 use std::alloc::Global;
 use std::io::Write;
-use table_store::{TableName, has_tables, is_bare};
+use table_store::{TableName, has_old_tables, has_tables, is_bare};
+
+/// Whether the database has the tables of a desk, of this version or of version 1, and nothing else.
+fn has_own_tables<S: Alter>(conn: &Connection<S>) -> bool
+    ensures { IsTrue result ↔ IsOwn (state S.Store conn.now).now.schema }
+{
+    has_tables(conn) || has_old_tables(conn)
+}
 
 /// A new desk, with the largest limits, in a database that has nothing.
 fn make_desk<S: Alter + Drop>(
@@ -56,7 +64,7 @@ fn make_desk<S: Alter + Drop>(
 
 /// The desk whose tables the database has.
 fn open_desk<S: Alter + Drop>(alloc: Global, conn: Connection<S>) -> Result<Desk<S>, (FileFault, S)>
-    requires { (state S.Store conn).now.schema ≡ desk_schema }
+    requires { IsOwn (state S.Store conn).now.schema }
     ensures desk { IfOk result (λ desk. IsDesk S.Store desk) }
     ensures open { IfOk result (λ desk. desk.failed ≡ None) }
     ensures found { IfOk result (λ desk. HasCleanDisk (state S.Store desk.conn)
@@ -108,10 +116,52 @@ pub fn take_desk<S: Alter + Drop>(
     if is_bare(&conn) {
         return make_desk(alloc, conn, Limits::LARGEST);
     }
-    if !has_tables(&conn) {
+    if !has_own_tables(&conn) {
         return Err((FileFault::OtherTables, conn.into_store()));
     }
     open_desk(alloc, conn)
+}
+
+/// The desk that the database has, after tables that an earlier program left are made this version's. A database that has
+/// nothing is refused, and stays so. The database is handed back beside a fault.
+pub fn migrate_desk<S: Alter + Drop>(
+    alloc: Global,
+    conn: Connection<S>,
+) -> Result<Desk<S>, (FileFault, S)>
+    ensures desk { IfOk result (λ desk. IsDesk S.Store desk) }
+    ensures open { IfOk result (λ desk. desk.failed ≡ None) }
+    ensures found { IfOk result (λ desk. HasCleanDisk (state S.Store desk.conn)
+        → EitherAre (state_of desk.shop) (state S.Store conn).committed.trees) }
+    ensures why { IfErr result (λ e. IsClean (S.Store.view e.1)
+        → TellsUnmoved (state S.Store conn) e.0) }
+    ensures kept { IfErr result (λ e. IsClean (S.Store.view e.1)
+        → IsTrue (S.Store.view e.1).is_open
+        → (S.Store.view e.1).trees ≡ (state S.Store conn).committed.trees) }
+    ensures crash { IfErr result (λ e. IsClean (S.Store.view e.1) → (trees : Trees)
+        → S.Store.recovers e.1 trees → (state S.Store conn).may_leave trees
+        ⊎ MayBeMoved (state S.Store conn).committed.trees trees e.0) }
+{
+    if !has_own_tables(&conn) {
+        return Err((FileFault::OtherTables, conn.into_store()));
+    }
+    match Desk::migrate(alloc, conn) {
+        Ok(desk) => Ok(desk),
+        Err((fault, database)) => Err((FileFault::from(fault), database)),
+    }
+}
+
+/// Prints that a file was brought along.
+pub fn print_migrated<W: Write>(writer: &mut W) -> RunEnd
+    ensures whole { (all : Bool) → result ≡ RunEnd.Done all
+        → (all ≡ true) × Appends (W.contents writer.old) (W.contents writer.new) migrated_text }
+    ensures front { result ≡ RunEnd.WriteFailed
+        → AppendsFront (W.contents writer.old) (W.contents writer.new) migrated_text }
+    ensures only { (result ≡ RunEnd.Done true) ⊎ (result ≡ RunEnd.WriteFailed) }
+{
+    match send(writer, b"migrated\n") {
+        Ok(()) => RunEnd::Done(true),
+        Err(WriteFailed) => RunEnd::WriteFailed,
+    }
 }
 
 /// Tells the report of that name as text, as it is printed.

@@ -1,14 +1,16 @@
-//! The import of a file. Every row is read before the first is run. The rows are run in their order, and
-//! what each changes is kept before the next one is run. No row is run after a failure. The report is
-//! written once all have been run: where a row wasn't answered there is none, and the rows before it stay.
-ghost use Rattle.std.specs.Prelude.{◌≡◌, ◌≢◌, Bool, None, IfOk, IfErr, IsSome, MatchResult, Ok};
+//! The import of a file. Every row is read before the first is run. The rows are run in their order, in groups of up to a
+//! thousand, and what a group changes is kept together. No row is run after a failure. The report is written once all have
+//! been run and kept: where a row wasn't answered there is none, and the rows before it stay, but for those of a group in
+//! which the database failed.
+ghost use Rattle.std.specs.Prelude.{◌≡◌, ◌≢◌, ◌≤◌, ◌⊎◌, [], Bool, None, IfOk, IfErr, IsSome, MatchResult, Ok};
 ghost use Rattle.std.specs.String.{string_bytes};
 ghost use Rattle.sqlite.specs.Tree.{Trees};
 ghost use Rattle.desk_core.specs.Books.{AreInOrder};
+ghost use Rattle.desk_store.specs.StateTables.{TablesAre};
 ghost use Rattle.desk_wire.specs.Imports.{import};
 ghost use Rattle.desk_app.specs.declared.end.Stop.{Stop};
 ghost use Rattle.desk_app.specs.Ends.{end_of};
-ghost use Rattle.desk_app.specs.Runs.{IsOfBooks, StaysOpen};
+ghost use Rattle.desk_app.specs.Runs.{EndsOpen, IsOfBooks, StaysOpen};
 ghost use Rattle.desk_app.specs.ImportRuns.{import_told, rows_told, AreLeftByRows, ImportStopped};
 ghost use Rattle.desk_app.specs.ImportRuns.{ImportedWhole, IsLeftByImport, RanFront, RanSome};
 
@@ -23,6 +25,63 @@ use part_core::Day;
 use std::alloc::Global;
 use std::io::Write;
 
+/// So many rows are kept together.
+const GROUP: u64 = 1_000;
+
+/// Counts a row more in the group, and ends the group before where it is full.
+fn next_in_group<B: Books>(books: &mut B, waiting: u64) -> Result<u64, Stop>
+    requires grouping { B.are_grouping books.old }
+    requires count { waiting ≤ 1000 }
+    ensures count { IfOk result (λ count. count ≤ 1000) }
+    ensures store { IfErr result (λ stop. stop ≡ Stop.Store) }
+    ensures grouping { B.are_grouping books.new }
+    ensures same { B.state_in books.new ≡ B.state_in books.old }
+    ensures stays_open { StaysOpen (B.failure_of books.old) (B.failure_of books.new) result }
+    ensures was_open { B.failure_of books.new ≡ None → B.failure_of books.old ≡ None }
+    ensures left { (trees : Trees) → B.may_leave books.new trees
+        → B.may_leave books.old trees ⊎ TablesAre (B.state_in books.new) trees }
+{
+    if waiting < GROUP {
+        return Ok(waiting + 1);
+    }
+    match books.commit() {
+        Ok(()) => Ok(1),
+        Err(_) => Err(Stop::Store),
+    }
+}
+
+/// Runs the rows in their order, and tells their report. The last group isn't ended.
+fn add_rows<B: Books>(
+    alloc: Global,
+    rows: &[ImportRow],
+    books: &mut B,
+    text: &mut String,
+) -> Result<bool, Stop>
+    requires kept { B.are_kept books.old }
+    requires none { string_bytes text.old ≡ [] }
+    ensures ok { IfOk result (λ fine. rows_told (B.state_in books.old) rows.now
+        ≡ (B.state_in books.new, string_bytes text.new, fine)) }
+    ensures cut { IfErr result (λ stop. IsOfBooks stop
+        × RanFront rows.now (B.state_in books.old) (B.state_in books.new)) }
+    ensures grouping { B.are_grouping books.new }
+    ensures stays_open { StaysOpen (B.failure_of books.old) (B.failure_of books.new) result }
+    ensures was_open { B.failure_of books.new ≡ None → B.failure_of books.old ≡ None }
+    ensures left { B.failure_of books.old ≡ None → (trees : Trees)
+        → B.may_leave books.new trees
+        → AreLeftByRows rows.now (B.state_in books.old) trees }
+{
+    let mut waiting = 0;
+    let mut fine = true;
+    for row in rows {
+        waiting = next_in_group(books, waiting)?;
+        let request = row.request(alloc)?;
+        let told = tell_outcome(alloc, books, &request)?;
+        push_report_line(text, row.number(), told.text.as_str())?;
+        fine = fine && told.fine;
+    }
+    Ok(fine)
+}
+
 /// Runs the rows in their order, and tells their report.
 pub(crate) fn tell_rows<B: Books>(
     alloc: Global,
@@ -36,17 +95,18 @@ pub(crate) fn tell_rows<B: Books>(
         × RanFront rows.now (B.state_in books.old) (B.state_in books.new)) }
     ensures kept { B.are_kept books.new }
     ensures stays_open { StaysOpen (B.failure_of books.old) (B.failure_of books.new) result }
+    ensures ends_open { EndsOpen (B.failure_of books.old) (B.failure_of books.new) result }
     ensures left { B.failure_of books.old ≡ None → (trees : Trees)
         → B.may_leave books.new trees
-        → AreLeftByRows rows.now (B.state_in books.old) (B.state_in books.new) trees }
+        → AreLeftByRows rows.now (B.state_in books.old) trees }
 {
     let mut text = String::new(alloc);
-    let mut fine = true;
-    for row in rows {
-        let told = tell_outcome(alloc, books, &row.request)?;
-        push_report_line(&mut text, row.number, told.text.as_str())?;
-        fine = fine && told.fine;
+    let added = add_rows(alloc, rows, books, &mut text);
+    match books.commit() {
+        Ok(()) => {}
+        Err(_) => return Err(Stop::Store),
     }
+    let fine = added?;
     Ok(Told { text, fine })
 }
 
@@ -72,7 +132,7 @@ fn tell_import<B: Books>(
     ensures left { B.failure_of books.old ≡ None → (trees : Trees)
         → B.may_leave books.new trees
         → IsLeftByImport (import kind document.now day bytes.now)
-        (B.state_in books.old) (B.state_in books.new) trees }
+        (B.state_in books.old) trees }
 {
     match import_rows(alloc, bytes, kind, document, day) {
         Ok(rows) => tell_rows(alloc, &rows, books),
@@ -107,7 +167,7 @@ fn import_all<B: Books, W: Write>(
     ensures left { B.failure_of books.old ≡ None → (trees : Trees)
         → B.may_leave books.new trees
         → IsLeftByImport (import kind document.now day bytes.now)
-        (B.state_in books.old) (B.state_in books.new) trees }
+        (B.state_in books.old) trees }
 {
     let told = tell_import(alloc, bytes, kind, document, day, books)?;
     send(writer, told.text.as_bytes())?;
@@ -143,7 +203,7 @@ pub fn import_file<B: Books, W: Write>(
     ensures left { B.failure_of books.old ≡ None → (trees : Trees)
         → B.may_leave books.new trees
         → IsLeftByImport (import kind document.now day bytes.now)
-        (B.state_in books.old) (B.state_in books.new) trees }
+        (B.state_in books.old) trees }
 {
     match import_all(alloc, bytes, kind, document, day, writer, books) {
         Ok(all) => RunEnd::Done(all),

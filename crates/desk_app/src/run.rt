@@ -1,9 +1,10 @@
-//! A run over the lines of a reader. After each line the books hold the state after all lines so far,
-//! and their answers are written whole. A line is run, and what it changes is kept, before its answer
-//! is written: where the writer fails that line is run, and a front of its answer is written. No line
-//! is run after a failure. Where a database has failed, the books are closed, and its tables are those
-//! before that line or after it.
-ghost use Rattle.std.specs.Prelude.{◌≡◌, ◌≢◌, ◌⊎◌, ◌≤◌, ℕ, List, Bool, None, false};
+//! A run over the lines of a reader. The lines that one read gave whole are run as a group: what they change is kept
+//! together, and their answers are written after it, in one write. No answer waits for a line that hasn't been read, so
+//! of a clerk who types, each line is a group of its own. A group ends, too, once its answers are long. No line is run
+//! after a failure. Where the writer fails the group is kept, and a front of its answers is written. Where a database has
+//! failed, the books are closed, nothing of the group's answers is written, and the tables are those before the group or,
+//! where the commit failed, maybe those after it.
+ghost use Rattle.std.specs.Prelude.{◌≡◌, ◌≢◌, ◌⊎◌, ◌<◌, ◌≤◌, ◌++◌, ℕ, List, [], Bool, None, false};
 ghost use Rattle.std.specs.Prelude.{length, true, IfOk, OnOk, IfErr, OnErr, Err, IsSome};
 ghost use Rattle.std.specs.String.{string_bytes};
 ghost use Rattle.std.specs.Io.KnownBytes.{Appends};
@@ -13,11 +14,13 @@ ghost use Rattle.desk_core.specs.Machine.{IsSoundState, step};
 ghost use Rattle.desk_core.specs.ShopView.{state_of};
 ghost use Rattle.desk_store.specs.StateTables.{TablesAre};
 ghost use Rattle.desk_app.specs.declared.end.Stop.{Stop};
+ghost use Rattle.desk_app.specs.Cuts.{has_end, unread};
 ghost use Rattle.desk_app.specs.Ends.{end_of};
 ghost use Rattle.report_core.specs.Reports.{report_lines};
 ghost use Rattle.desk_app.specs.Runs.{by_outcome, by_report, is_blank, line_step, line_after};
-ghost use Rattle.desk_app.specs.Runs.{line_out, is_fine, CutLine, CutRequest, CutShort};
-ghost use Rattle.desk_app.specs.Runs.{Finished, IsLeft, IsLeftAt, IsOfBooks, StaysOpen, Stopped};
+ghost use Rattle.desk_app.specs.Runs.{line_out, is_fine, CutLine, CutRequest, CutSettling};
+ghost use Rattle.desk_app.specs.Runs.{EndsOpen, Finished, Gathered, Halts, IsOfBooks, IsOfSettling};
+ghost use Rattle.desk_app.specs.Runs.{StaysOpen, Stopped};
 
 use crate::books::Books;
 use crate::end::{RunEnd, Stop};
@@ -29,6 +32,9 @@ use part_core::CoreFault;
 use report_core::{ReportName, report};
 use std::alloc::Global;
 use std::io::{Read, Write};
+
+/// A group ends once so many bytes of answers wait.
+const ENOUGH: usize = 65_536;
 
 /// What is answered to a line, and whether nothing was refused or faulty.
 #[derive(Drop)]
@@ -47,25 +53,23 @@ fn is_blank(line: &[u8]) -> bool
     }
 }
 
-/// Runs a request, and tells its outcome.
+/// Runs a request of a group, and tells its outcome.
 pub(crate) fn tell_outcome<B: Books>(
     alloc: Global,
     books: &mut B,
     request: &Request,
 ) -> Result<Told, Stop>
-    requires { B.are_kept books.old }
+    requires { B.are_grouping books.old }
     ensures ok { IfOk result (λ told. by_outcome (step (B.state_in books.old) request.now)
         ≡ (B.state_in books.new, string_bytes told.text, told.fine)) }
     ensures cut { IfErr result (λ stop. CutRequest stop (B.state_in books.old)
         (B.state_in books.new) request.now) }
-    ensures kept { B.are_kept books.new }
+    ensures grouping { B.are_grouping books.new }
     ensures stays_open { StaysOpen (B.failure_of books.old) (B.failure_of books.new) result }
-    ensures left { B.failure_of books.old ≡ None → (trees : Trees)
-        → B.may_leave books.new trees
-        → TablesAre (B.state_in books.new) trees
-        ⊎ TablesAre (step (B.state_in books.new) request.now).0 trees }
+    ensures ends_open { EndsOpen (B.failure_of books.old) (B.failure_of books.new) result }
+    ensures left { (trees : Trees) → B.may_leave books.new trees → B.may_leave books.old trees }
 {
-    match books.run(request) {
+    match books.run_grouped(request) {
         Ok(answer) => Ok(Told {
             text: answer_text(alloc, &answer)?,
             fine: true,
@@ -107,11 +111,12 @@ fn tell_of_books<B: Books>(
     name: ReportName,
     of: u64,
 ) -> Result<Told, Stop>
-    requires { B.are_kept books.now }
+    requires { B.are_grouping books.now }
     ensures ok { IfOk result (λ told.
         by_report (B.state_in books.now) (report_lines name of (B.state_in books.now))
         ≡ (B.state_in books.now, string_bytes told.text, told.fine)) }
     ensures stop { IfErr result IsOfBooks }
+    ensures open { result ≢ Err Stop.Store → B.failure_of books.now ≡ None }
     ensures closed { result ≡ Err Stop.Store → IsSome (B.failure_of books.now) }
 {
     match books.shop() {
@@ -120,20 +125,19 @@ fn tell_of_books<B: Books>(
     }
 }
 
-/// Runs one line that isn't blank, and tells what is answered.
+/// Runs one line of a group, which isn't blank, and tells what is answered.
 #[tactic(auto, unfolding(crate::specs::Runs::line_step))]
 fn tell<B: Books>(alloc: Global, books: &mut B, number: u64, line: &[u8]) -> Result<Told, Stop>
     requires filled { is_blank line.now ≡ false }
-    requires kept { B.are_kept books.old }
+    requires grouping { B.are_grouping books.old }
     ensures ok { IfOk result (λ told. line_step (B.state_in books.old) number line.now
         ≡ (B.state_in books.new, string_bytes told.text, told.fine)) }
     ensures cut { IfErr result (λ stop. CutLine stop (B.state_in books.old)
         (B.state_in books.new) number line.now) }
-    ensures kept { B.are_kept books.new }
+    ensures grouping { B.are_grouping books.new }
     ensures stays_open { StaysOpen (B.failure_of books.old) (B.failure_of books.new) result }
-    ensures left { B.failure_of books.old ≡ None → (trees : Trees)
-        → B.may_leave books.new trees
-        → IsLeftAt (B.state_in books.new) number line.now trees }
+    ensures was_open { B.failure_of books.new ≡ None → B.failure_of books.old ≡ None }
+    ensures left { (trees : Trees) → B.may_leave books.new trees → B.may_leave books.old trees }
 {
     match read_line(alloc, line, number) {
         Ok(Wish::Request(request)) => tell_outcome(alloc, books, &request),
@@ -146,37 +150,132 @@ fn tell<B: Books>(alloc: Global, books: &mut B, number: u64, line: &[u8]) -> Res
     }
 }
 
-/// Runs one line, of which as much is here as is held, and writes its answer. True where nothing
-/// was refused or faulty.
-fn answer<B: Books, W: Write>(
+/// Runs one line of a group, of which as much is here as is held, and adds its answer to those that wait. True where
+/// nothing was refused or faulty.
+fn add_line<B: Books>(
     alloc: Global,
-    writer: &mut W,
     books: &mut B,
     number: u64,
     line: &[u8],
+    text: &mut Vec<u8>,
 ) -> Result<bool, Stop>
     requires short { length line.now ≤ 65537 }
-    requires kept { B.are_kept books.old }
+    requires grouping { B.are_grouping books.old }
     ensures fine { IfOk result (λ fine. fine ≡ is_fine (B.state_in books.old) number line.now) }
     ensures ok { OnOk result (B.state_in books.new
         ≡ line_after (B.state_in books.old) number line.now) }
-    ensures out { OnOk result (Appends (W.contents writer.old) (W.contents writer.new)
-        (line_out (B.state_in books.old) number line.now)) }
-    ensures cut { IfErr result (λ stop.
-        CutShort stop (W.contents writer.old) (W.contents writer.new)
-        (B.state_in books.old) (B.state_in books.new) number line.now) }
-    ensures kept { B.are_kept books.new }
+    ensures text { OnOk result (text.new.items ≡ text.old.items
+        ++ line_out (B.state_in books.old) number line.now) }
+    ensures cut { IfErr result (λ stop. CutLine stop (B.state_in books.old)
+        (B.state_in books.new) number line.now) }
+    ensures unanswered { OnErr result (text.new.items ≡ text.old.items) }
+    ensures grouping { B.are_grouping books.new }
     ensures stays_open { StaysOpen (B.failure_of books.old) (B.failure_of books.new) result }
-    ensures left { B.failure_of books.old ≡ None → (trees : Trees)
-        → B.may_leave books.new trees
-        → IsLeftAt (B.state_in books.new) number line.now trees }
+    ensures was_open { B.failure_of books.new ≡ None → B.failure_of books.old ≡ None }
+    ensures left { (trees : Trees) → B.may_leave books.new trees → B.may_leave books.old trees }
 {
     if is_blank(line) {
         return Ok(true);
     }
     let told = tell(alloc, books, number, line)?;
-    send(writer, told.text.as_bytes())?;
+    text.extend_from_slice(told.text.as_bytes())?;
     Ok(told.fine)
+}
+
+/// Ends a group: what it changed is kept, and then its answers are written, all of them or, where the writer fails, a
+/// front.
+fn settle<B: Books, W: Write>(writer: &mut W, books: &mut B, text: &mut Vec<u8>) -> Result<(), Stop>
+    requires { B.are_grouping books.old }
+    ensures written { OnOk result (Appends (W.contents writer.old) (W.contents writer.new)
+        text.old.items) }
+    ensures none { OnOk result (text.new.items ≡ []) }
+    ensures cut { IfErr result (λ stop. CutSettling stop (W.contents writer.old)
+        (W.contents writer.new) text.old.items) }
+    ensures kept { B.are_kept books.new }
+    ensures same { B.state_in books.new ≡ B.state_in books.old }
+    ensures stays_open { StaysOpen (B.failure_of books.old) (B.failure_of books.new) result }
+    ensures ends_open { EndsOpen (B.failure_of books.old) (B.failure_of books.new) result }
+    ensures left { (trees : Trees) → B.may_leave books.new trees
+        → B.may_leave books.old trees ⊎ TablesAre (B.state_in books.new) trees }
+{
+    match books.commit() {
+        Ok(()) => {}
+        Err(_) => return Err(Stop::Store),
+    }
+    if text.len() == 0 {
+        return Ok(());
+    }
+    send(writer, text.as_slice())?;
+    text.clear();
+    Ok(())
+}
+
+/// Ends the group where no further line was read whole, or where its answers are long.
+fn settle_if_due<B: Books, W: Write>(
+    lines: &Lines,
+    writer: &mut W,
+    books: &mut B,
+    text: &mut Vec<u8>,
+) -> Result<(), Stop>
+    requires { B.are_grouping books.old }
+    ensures ok { OnOk result (((books.new ≡ books.old)
+        × (W.contents writer.new ≡ W.contents writer.old) × (text.new.items ≡ text.old.items))
+        ⊎ (B.are_kept books.new × (B.state_in books.new ≡ B.state_in books.old)
+        × (text.new.items ≡ []) × Appends (W.contents writer.old) (W.contents writer.new)
+        text.old.items)) }
+    ensures cut { IfErr result (λ stop. CutSettling stop (W.contents writer.old)
+        (W.contents writer.new) text.old.items) }
+    ensures kept { OnErr result (B.are_kept books.new) }
+    ensures waits { has_end (unread lines.now) ≡ false → OnOk result (text.new.items ≡ []) }
+    ensures bounded { OnOk result (length text.new.items < 65536) }
+    ensures same { B.state_in books.new ≡ B.state_in books.old }
+    ensures grouping { B.are_grouping books.new }
+    ensures stays_open { StaysOpen (B.failure_of books.old) (B.failure_of books.new) result }
+    ensures was_open { B.failure_of books.new ≡ None → B.failure_of books.old ≡ None }
+    ensures left { (trees : Trees) → B.may_leave books.new trees
+        → B.may_leave books.old trees ⊎ TablesAre (B.state_in books.new) trees }
+{
+    if text.len() < ENOUGH && lines.has_line() {
+        return Ok(());
+    }
+    settle(writer, books, text)
+}
+
+/// Runs each line of the reader, in groups, and ends all groups but the last, whose answers wait: true where nothing was
+/// refused or faulty.
+fn gather<B: Books, R: Read, W: Write>(
+    alloc: Global,
+    reader: &mut R,
+    writer: &mut W,
+    books: &mut B,
+    text: &mut Vec<u8>,
+) -> Result<bool, Stop>
+    requires kept { B.are_kept books.old }
+    requires none { text.old.items ≡ [] }
+    ensures done { IfOk result (λ all. Gathered (R.remaining reader.old) (W.contents writer.old)
+        (W.contents writer.new) (B.state_in books.old) (B.state_in books.new) all text.new.items
+        (λ trees. (B.failure_of books.old ≡ None) × B.may_leave books.new trees)) }
+    ensures stopped { IfErr result (λ stop. Halts stop (R.remaining reader.old)
+        (W.contents writer.old) (W.contents writer.new) (B.state_in books.old)
+        (B.state_in books.new) text.new.items
+        (λ trees. (B.failure_of books.old ≡ None) × B.may_leave books.new trees)) }
+    ensures grouping { B.are_grouping books.new }
+    ensures kept { IfErr result (λ stop. IsOfSettling stop → B.are_kept books.new) }
+    ensures stays_open { StaysOpen (B.failure_of books.old) (B.failure_of books.new) result }
+    ensures was_open { B.failure_of books.new ≡ None → B.failure_of books.old ≡ None }
+{
+    let mut lines = Lines::new(alloc)?;
+    let mut line = Vec::new(alloc);
+    let mut all = true;
+    for number in 1..u64::MAX {
+        settle_if_due(&lines, writer, books, text)?;
+        if !lines.next_line(reader, &mut line)? {
+            return Ok(all);
+        }
+        let fine = add_line(alloc, books, number, &line, text)?;
+        all = all && fine;
+    }
+    Err(Stop::ReadFailed)
 }
 
 /// Answers each line of the reader: true where nothing was refused or faulty.
@@ -191,25 +290,28 @@ fn answer_all<B: Books, R: Read, W: Write>(
         (W.contents writer.new) (B.state_in books.old) (B.state_in books.new) all) }
     ensures stopped { IfErr result (λ stop.
         Stopped stop (R.remaining reader.old) (W.contents writer.old)
-        (W.contents writer.new) (B.state_in books.old) (B.state_in books.new)) }
+        (W.contents writer.new) (B.state_in books.old) (B.state_in books.new)
+        (λ trees. (B.failure_of books.old ≡ None) × B.may_leave books.new trees)) }
     ensures kept { B.are_kept books.new }
     ensures stays_open { StaysOpen (B.failure_of books.old) (B.failure_of books.new) result }
-    ensures left { B.failure_of books.old ≡ None → (trees : Trees)
-        → B.may_leave books.new trees
-        → IsLeft (R.remaining reader.old) (B.state_in books.old)
-        (B.state_in books.new) trees }
 {
-    let mut lines = Lines::new(alloc)?;
-    let mut line = Vec::new(alloc);
-    let mut all = true;
-    for number in 1..u64::MAX {
-        if !lines.next_line(reader, &mut line)? {
-            return Ok(all);
+    let mut text = Vec::new(alloc);
+    match gather(alloc, reader, writer, books, &mut text) {
+        Ok(all) => {
+            settle(writer, books, &mut text)?;
+            Ok(all)
         }
-        let fine = answer(alloc, writer, books, number, &line)?;
-        all = all && fine;
+        Err(Stop::ReadFailed) => {
+            settle(writer, books, &mut text)?;
+            Err(Stop::ReadFailed)
+        }
+        Err(Stop::Memory) => {
+            settle(writer, books, &mut text)?;
+            Err(Stop::Memory)
+        }
+        Err(Stop::WriteFailed) => Err(Stop::WriteFailed),
+        Err(Stop::Store) => Err(Stop::Store),
     }
-    Err(Stop::ReadFailed)
 }
 
 /// Answers each line of the reader, one line each but for blank lines.
@@ -225,16 +327,15 @@ pub fn run_lines<B: Books, R: Read, W: Write>(
         (W.contents writer.new) (B.state_in books.old) (B.state_in books.new) all }
     ensures stopped { (stop : Stop) → result ≡ end_of stop
         → Stopped stop (R.remaining reader.old) (W.contents writer.old)
-        (W.contents writer.new) (B.state_in books.old) (B.state_in books.new) }
+        (W.contents writer.new) (B.state_in books.old) (B.state_in books.new)
+        (λ trees. (B.failure_of books.old ≡ None) × B.may_leave books.new trees) }
     ensures kept { B.are_kept books.new }
     ensures in_order { AreInOrder (B.state_in books.new) }
     ensures stays_open { B.failure_of books.old ≡ None → result ≢ RunEnd.Store
         → B.failure_of books.new ≡ None }
     ensures closed { result ≡ RunEnd.Store → IsSome (B.failure_of books.new) }
-    ensures left { B.failure_of books.old ≡ None → (trees : Trees)
-        → B.may_leave books.new trees
-        → IsLeft (R.remaining reader.old) (B.state_in books.old)
-        (B.state_in books.new) trees }
+    ensures left { B.failure_of books.old ≡ None → result ≢ RunEnd.Store → (trees : Trees)
+        → B.may_leave books.new trees → TablesAre (B.state_in books.new) trees }
 {
     match answer_all(alloc, reader, writer, books) {
         Ok(all) => RunEnd::Done(all),

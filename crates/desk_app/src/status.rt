@@ -43,7 +43,7 @@ pub fn early_status(task: &Task<'_>) -> Option<u8>
 {
     match task {
         Task::Run(_) | Task::Report(..) | Task::Export(..) => None,
-        Task::Import { .. } | Task::Serve { .. } => None,
+        Task::Migrate(_) | Task::Import { .. } | Task::Serve { .. } => None,
         Task::Help(_) => Some(0),
         Task::Wrong(_) | Task::Unreadable => Some(WRONG_WORDS),
         Task::Memory => Some(MEMORY),

@@ -6,10 +6,11 @@ ghost use Rattle.part_core.specs.Day.{day_of};
 ghost use Rattle.report_core.specs.Names.{report_named};
 ghost use Rattle.desk_wire.specs.Numbers.{number_in};
 ghost use Rattle.desk_wire.specs.Kinds.{import_kind_named};
-ghost use Rattle.desk_app.specs.Words.{file_rule, option_rule, word_rule, run_line, serve_line, IsKindRule};
+ghost use Rattle.desk_app.specs.Words.{file_rule, option_rule, optional_rule, word_rule, run_line};
+ghost use Rattle.desk_app.specs.Words.{migrate_line, serve_line, IsKindRule};
 ghost use Rattle.desk_app.specs.Words.{IsReportLine, IsExportLine, IsImportLine, IsCommandLine};
 ghost use Rattle.desk_app.specs.Words.{document_named, number_up_to, table_named, report_in};
-ghost use Rattle.desk_app.specs.Words.{export_in, import_in, serve_in, desk_task_met};
+ghost use Rattle.desk_app.specs.Words.{export_in, migrate_in, import_in, count_in, serve_in, desk_task_met};
 ghost use Rattle.desk_app.specs.Words.{given_in, rows_in, AsksFor, Tells, Parses, file_of};
 ghost use Rattle.desk_app.specs.Words.{asks_run, asks_help, asks_version, run_on};
 ghost use Rattle.desk_app.specs.Words.{run_with, is_path, Answers, Runs, RunsOn, HelpsBy};
@@ -32,6 +33,8 @@ pub enum Task<'a> {
     Report(&'a str, ReportName, u64),
     /// A table of the desk in the file is printed.
     Export(&'a str, TableName),
+    /// The file, if an earlier program wrote it, is brought along.
+    Migrate(&'a str),
     /// The rows of the file at the path are run by the desk in the file.
     Import {
         file: &'a str,
@@ -40,11 +43,13 @@ pub enum Task<'a> {
         day: Day,
         path: &'a str,
     },
-    /// So many connections to a port of the loopback are served, by the desk in the file, or by a new one in memory.
+    /// So many connections to a port of the loopback are served, or one after another without an end, by the desk in the
+    /// file, or by a new one in memory. Where a token is asked for, it stands in the file at the path.
     Serve {
         file: Option<&'a str>,
         port: u16,
-        count: u64,
+        count: Option<u64>,
+        token: Option<&'a str>,
     },
     /// Help, or the version, is printed.
     Help(Error),
@@ -63,6 +68,7 @@ impl<'a> Task<'a> {
     {
         match self {
             Task::Run(file) | Task::Serve { file, .. } => *file,
+            Task::Migrate(file) => Some(*file),
             Task::Report(file, _, _) | Task::Export(file, _) | Task::Import { file, .. } => {
                 Some(*file)
             }
@@ -80,10 +86,12 @@ const REPORT_EXAMPLE: &str = "Example: invdesk report --db workshop.db ledger 2"
 
 const EXPORT_EXAMPLE: &str = "Example: invdesk export --db workshop.db items";
 
+const MIGRATE_EXAMPLE: &str = "Example: invdesk migrate --db workshop.db";
+
 const IMPORT_EXAMPLE: &str =
     "Example: invdesk import --db workshop.db --kind receipts --document D7 --day 2026-05-02 delivery.csv";
 
-const SERVE_EXAMPLE: &str = "Example: invdesk serve --db workshop.db --port 8080 --count 100";
+const SERVE_EXAMPLE: &str = "Example: invdesk serve --db workshop.db --port 8080";
 
 /// The names of the reports.
 const REPORTS: [&str; 6] = [
@@ -96,7 +104,7 @@ const REPORTS: [&str; 6] = [
 ];
 
 /// The names of the tables.
-const TABLES: [&str; 13] = [
+const TABLES: [&str; 14] = [
     "meta",
     "categories",
     "locations",
@@ -110,6 +118,7 @@ const TABLES: [&str; 13] = [
     "builds",
     "allocations",
     "kept",
+    "spent",
 ];
 
 /// The names of the kinds of imports.
@@ -144,6 +153,17 @@ fn option<'a>(alloc: Global, id: &'a str, name: &'a str) -> Arg<'a>
     ensures local { result.global ≡ false }
 {
     word(alloc, id, name).long(id)
+}
+
+/// An option that may be left out.
+fn optional<'a>(alloc: Global, id: &'a str, name: &'a str) -> Arg<'a>
+    ensures rule { rule_of result ≡ optional_rule id.now }
+    ensures local { result.global ≡ false }
+{
+    Arg::new(alloc, id)
+        .long(id)
+        .value_name(name)
+        .action(ArgAction::Set)
 }
 
 fn run_command<'a>(alloc: Global) -> Result<Command<'a>, AllocError>
@@ -185,6 +205,18 @@ fn export_command<'a>(alloc: Global) -> Result<Command<'a>, AllocError>
         .arg(table)
 }
 
+fn migrate_command<'a>(alloc: Global) -> Result<Command<'a>, AllocError>
+    ensures { IfOk result (λ command. app_of command ≡ migrate_line) }
+{
+    let file = file(alloc)
+        .required(true)
+        .help("The file that keeps the workshop");
+    Command::new(alloc, "migrate")
+        .about("Brings a file of an earlier version of this program along")
+        .after_help(MIGRATE_EXAMPLE)
+        .arg(file)
+}
+
 /// The option that says what the rows of a file are.
 fn kind_option<'a>(alloc: Global) -> Arg<'a>
     ensures rule { IsKindRule (rule_of result) }
@@ -215,13 +247,19 @@ fn serve_command<'a>(alloc: Global) -> Result<Command<'a>, AllocError>
     ensures { IfOk result (λ command. app_of command ≡ serve_line) }
 {
     let port = option(alloc, "port", "P").help("The port of the loopback, 1 to 65535");
-    let count = option(alloc, "count", "N").help("How many connections, 1 to 1000000");
+    let count = optional(alloc, "count", "N").help(
+        "How many connections, 1 to 1000000; without it, until it is stopped",
+    );
+    let token = optional(alloc, "token", "FILE").help(
+        "The file with the token that clients have to show; without it, any program may ask",
+    );
     Command::new(alloc, "serve")
         .about("Answers requests over HTTP, one a connection")
         .after_help(SERVE_EXAMPLE)
         .arg(file(alloc))?
         .arg(port)?
-        .arg(count)
+        .arg(count)?
+        .arg(token)
 }
 
 fn command<'a>(alloc: Global) -> Result<Command<'a>, AllocError>
@@ -234,6 +272,7 @@ fn command<'a>(alloc: Global) -> Result<Command<'a>, AllocError>
         .subcommand(run_command(alloc)?)?
         .subcommand(report_command(alloc)?)?
         .subcommand(export_command(alloc)?)?
+        .subcommand(migrate_command(alloc)?)?
         .subcommand(import_command(alloc)?)?
         .subcommand(serve_command(alloc)?)
 }
@@ -269,6 +308,7 @@ fn table_named(name: &str) -> Option<TableName>
         "builds" => Some(TableName::Builds),
         "allocations" => Some(TableName::Allocations),
         "kept" => Some(TableName::Kept),
+        "spent" => Some(TableName::Spent),
         _ => None,
     }
 }
@@ -327,10 +367,17 @@ fn serve_port(matches: &ArgMatches<'_>) -> Option<u16>
     Some(port as u16)
 }
 
-fn serve_count(matches: &ArgMatches<'_>) -> Option<u64>
-    ensures { result ≡ option_and_then (number_up_to 1000000) (given_in (codes "count") matches.now) }
+/// How many connections, if it is said; none where what is said is no such number.
+fn serve_count(matches: &ArgMatches<'_>) -> Option<Option<u64>>
+    ensures { result ≡ count_in (given_in (codes "count") matches.now) }
 {
-    number_up_to(1_000_000, given(matches, "count")?)
+    match given(matches, "count") {
+        None => Some(None),
+        Some(text) => match number_up_to(1_000_000, text) {
+            None => None,
+            Some(count) => Some(Some(count)),
+        },
+    }
 }
 
 /// The report that is asked for, if the words name one.
@@ -352,6 +399,15 @@ fn export_task<'a>(matches: &ArgMatches<'a>) -> Option<Task<'a>>
     let file = given(matches, "db")?;
     let table = export_table(matches)?;
     Some(Task::Export(file, table))
+}
+
+/// The migration that is asked for, if the words name a file.
+#[tactic(auto, unfolding(crate::specs::Words::migrate_in))]
+fn migrate_task<'a>(matches: &ArgMatches<'a>) -> Option<Task<'a>>
+    ensures { AsksFor (migrate_in (rows_in matches.now)) result }
+{
+    let file = given(matches, "db")?;
+    Some(Task::Migrate(file))
 }
 
 /// The import of that document that is asked for, if the words name one.
@@ -381,7 +437,7 @@ fn import_task<'a>(alloc: Global, matches: &ArgMatches<'a>) -> Result<Option<Tas
     Ok(import_of(matches, document))
 }
 
-/// The serving that is asked for, if the words name a port and a count.
+/// The serving that is asked for, if the words name a port, and no count or one that it may have.
 #[tactic(auto, unfolding(crate::specs::Words::serve_in))]
 fn serve_task<'a>(matches: &ArgMatches<'a>) -> Option<Task<'a>>
     ensures { AsksFor (serve_in (rows_in matches.now)) result }
@@ -389,7 +445,13 @@ fn serve_task<'a>(matches: &ArgMatches<'a>) -> Option<Task<'a>>
     let file = given(matches, "db");
     let port = serve_port(matches)?;
     let count = serve_count(matches)?;
-    Some(Task::Serve { file, port, count })
+    let token = given(matches, "token");
+    Some(Task::Serve {
+        file,
+        port,
+        count,
+        token,
+    })
 }
 
 /// The task that words ask for in which nothing is wrong but, it may be, the form of a value.
@@ -399,6 +461,7 @@ fn task_by<'a>(alloc: Global, matches: &ArgMatches<'a>) -> Result<Option<Task<'a
     match matches.subcommand() {
         Some(("report", matches)) => Ok(report_task(matches)),
         Some(("export", matches)) => Ok(export_task(matches)),
+        Some(("migrate", matches)) => Ok(migrate_task(matches)),
         Some(("import", matches)) => import_task(alloc, matches),
         Some(("serve", matches)) => Ok(serve_task(matches)),
         Some((_, matches)) => Ok(Some(Task::Run(given(matches, "db")))),
@@ -439,11 +502,22 @@ fn wants(alloc: Global, matches: &ArgMatches<'_>) -> Result<&'static str, AllocE
     }
 }
 
-/// That a value isn't what it is to be.
+/// The command whose values are told of: that of the word, under the name by which it is called.
+fn faulty_command<'a>(alloc: Global, word: Option<&str>) -> Result<Command<'a>, AllocError> {
+    match word {
+        Some("report") => report_command(alloc)?.bin_name("invdesk report"),
+        Some("import") => import_command(alloc)?.bin_name("invdesk import"),
+        Some("serve") => serve_command(alloc)?.bin_name("invdesk serve"),
+        _ => command(alloc),
+    }
+}
+
+/// That a value isn't what it is to be, with the usage of its word.
 fn wrong_value(alloc: Global, matches: &ArgMatches<'_>) -> Result<Error, AllocError>
     ensures { IfOk result (λ e. kind_of e ≡ ErrorKind.ValueValidation) }
 {
-    command(alloc)?.error(ErrorKind::ValueValidation, wants(alloc, matches)?)
+    let wanted = wants(alloc, matches)?;
+    faulty_command(alloc, matches.subcommand_name())?.error(ErrorKind::ValueValidation, wanted)
 }
 
 /// The task that words ask for in which `clap` finds nothing wrong.
@@ -461,7 +535,7 @@ fn told_by<'a>(alloc: Global, matches: &ArgMatches<'a>) -> Task<'a>
 }
 
 /// Reads the words, of which the first is the program's name: no more, or `run`, `report`, `export`,
-/// `import` or `serve` with theirs.
+/// `migrate`, `import` or `serve` with theirs.
 pub fn read_words<'a, S: AsStr>(alloc: Global, words: &'a [S]) -> Task<'a>
     ensures answers { Answers (map S.text words.now) result }
     ensures runs { asks_run (map S.text words.now) ≡ true → Runs result }

@@ -97,3 +97,16 @@ impl Write for Sink {
         Ok(())
     }
 }
+
+/// Is interrupted at each read, and counts them.
+#[derive(Drop)]
+pub struct Interrupted {
+    pub calls: u64,
+}
+
+impl Read for Interrupted {
+    fn read(&mut self, _buf: &mut [u8]) -> io::Result<usize> {
+        self.calls = self.calls.wrapping_add(1);
+        Err(io::Error::from(ErrorKind::Interrupted))
+    }
+}

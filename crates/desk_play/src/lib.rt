@@ -1,8 +1,12 @@
-//! What tests play a desk with: lines on books with nothing in them, readers and writers that are slow or fail, and what a
-//! test fails by.
+//! What tests play a desk with: lines on books with nothing in them, requests of HTTP, readers and writers that are slow or
+//! fail, disks that stop, all tables as a text, and what a test fails by.
 #![tactic(auto)]
 
+pub mod ask;
 pub mod devices;
+pub mod each_stop;
+pub mod old;
 pub mod outcomes;
 pub mod play;
 pub mod stops;
+pub mod tables;

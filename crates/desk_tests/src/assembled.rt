@@ -83,6 +83,7 @@ fn tables_of(alloc: Global, shop: &Shop) -> Result<Tables, Fail> {
         orders: rows_of(alloc, shop.orders().orders())?,
         order_lines: rows_of(alloc, shop.orders().lines())?,
         builds: rows_of(alloc, shop.builds().rows())?,
+        spent: rows_of(alloc, shop.builds().spent())?,
         answers: rows_of(alloc, shop.answers())?,
         next: shop.counter().next(),
         entries: shop.yard().entries(),

@@ -63,7 +63,7 @@ const ANSWERS: &str = r#"{"entries":0,"ids":[1]}
 "#;
 
 /// A workshop that builds: a build with a done and a begun output and with allocations of both kinds, one with an output
-/// of two, and one that is complete and used something.
+/// of two on which something was spent, and one that is complete and used something.
 const BUILD_LINES: &str = r#"{"day":"2030-01-02","do":"add_location","name":"A"}
 {"day":"2030-01-02","do":"add_part","flags":["component","trackable"],"name":"Motor"}
 {"day":"2030-01-02","do":"add_part","flags":["component"],"name":"Screw"}
@@ -93,6 +93,8 @@ const BUILD_LINES: &str = r#"{"day":"2030-01-02","do":"add_location","name":"A"}
 {"build":24,"day":"2030-01-02","do":"allocate_build","item":14,"line":10,"quantity":2}
 {"day":"2030-01-02","do":"complete_output","location":1,"output":25}
 {"build":24,"day":"2030-01-02","do":"complete_build"}
+{"build":22,"day":"2030-01-02","do":"allocate_build","item":14,"line":10,"quantity":3}
+{"allocation":28,"day":"2030-01-02","do":"consume"}
 "#;
 
 const BUILD_ANSWERS: &str = r#"{"entries":0,"ids":[1]}
@@ -124,11 +126,17 @@ const BUILD_ANSWERS: &str = r#"{"entries":0,"ids":[1]}
 {"entries":0,"ids":[26]}
 {"entries":1,"ids":[]}
 {"entries":2,"ids":[27]}
+{"entries":0,"ids":[28]}
+{"entries":2,"ids":[29,30]}
 "#;
 
 /// Each breaks another clause of what a sound state is, or is no row.
-const DAMAGES: [&str; 26] = [
+const DAMAGES: [&str; 30] = [
     "UPDATE parts SET template = 99 WHERE id = 3",
+    "UPDATE parts SET template = 4 WHERE id = 3",
+    "UPDATE parts SET template = 3, flags = 21 WHERE id = 3",
+    "INSERT INTO parts VALUES (9, 'T', NULL, 10, 1, 0), (10, 'U', NULL, 9, 1, 0)",
+    "INSERT INTO parts VALUES (9, 'T', NULL, NULL, 1, 0), (10, 'U', NULL, 9, 1, 0), (11, 'V', NULL, 10, 1, 0), (12, 'W', NULL, 11, 1, 0), (14, 'X', NULL, 12, 1, 0)",
     "UPDATE parts SET category = 99 WHERE id = 3",
     "UPDATE parts SET flags = 999 WHERE id = 3",
     "UPDATE parts SET name = '' WHERE id = 3",
@@ -153,7 +161,7 @@ const DAMAGES: [&str; 26] = [
     "UPDATE meta SET next = 23",
     "UPDATE meta SET entries = 1",
     "DELETE FROM meta",
-    "INSERT INTO meta VALUES (2, 1, 24, 8, 9, 9)",
+    "INSERT INTO meta VALUES (2, 2, 24, 8, 9, 9)",
 ];
 
 /// Each breaks another clause on orders, on their lines, on allocations, or on what is sent.
@@ -193,8 +201,9 @@ const DAMAGED_ORDERS: [&str; 33] = [
     "UPDATE history SET ref = 99 WHERE place = 3",
 ];
 
-/// Each breaks another clause on builds, on their outputs, on what is allocated for them, or on what they used.
-const DAMAGED_BUILDS: [&str; 39] = [
+/// Each breaks another clause on builds, on their outputs, on what is allocated for them, on what they used, or on what was
+/// spent on them.
+const DAMAGED_BUILDS: [&str; 53] = [
     "INSERT INTO builds VALUES (0, 9, 1, 0, 0)",
     "INSERT INTO builds VALUES (99, 9, 1, 0, 0)",
     "UPDATE builds SET part = 99 WHERE id = 24",
@@ -234,10 +243,24 @@ const DAMAGED_BUILDS: [&str; 39] = [
     "DELETE FROM lines WHERE id = 7",
     "UPDATE items SET ref = 99 WHERE id = 27",
     "UPDATE history SET ref = 99 WHERE place = 4",
+    "UPDATE spent SET id = 0",
+    "UPDATE spent SET id = 99",
+    "UPDATE spent SET build = 99",
+    "UPDATE spent SET build = 24, quantity = 2",
+    "UPDATE spent SET line = 99",
+    "UPDATE spent SET line = 7",
+    "UPDATE spent SET build = 16, line = 6, quantity = 1",
+    "UPDATE spent SET build = 16, line = 8, quantity = 1",
+    "UPDATE spent SET quantity = 0",
+    "UPDATE spent SET quantity = -3",
+    "UPDATE spent SET quantity = 11",
+    "UPDATE spent SET build = 16, line = 7, quantity = 7",
+    "INSERT INTO spent VALUES (1, 22, 10, 1)",
+    "DELETE FROM lines WHERE id = 10",
 ];
 
 /// Each leaves tables with builds that some sound state has, if no run.
-const HARMLESS_BUILDS: [&str; 11] = [
+const HARMLESS_BUILDS: [&str; 16] = [
     "INSERT INTO builds VALUES (1, 9, 1, 0, 0)",
     "UPDATE builds SET quantity = 1000000000 WHERE id = 24",
     "UPDATE builds SET state = 1 WHERE id = 24",
@@ -249,10 +272,16 @@ const HARMLESS_BUILDS: [&str; 11] = [
     "UPDATE items SET serial = 'F1', quantity = 1 WHERE id = 23",
     "UPDATE items SET ref = 16 WHERE id = 27",
     "DELETE FROM allocations",
+    "UPDATE spent SET id = 1",
+    "UPDATE spent SET quantity = 10",
+    "UPDATE spent SET build = 16, line = 7, quantity = 6",
+    "INSERT INTO spent VALUES (1, 16, 7, 6)",
+    "DELETE FROM spent",
 ];
 
 /// Each leaves tables that some sound state has, if no run.
-const HARMLESS: [&str; 10] = [
+const HARMLESS: [&str; 11] = [
+    "INSERT INTO parts VALUES (9, 'T', NULL, NULL, 1, 0), (10, 'U', NULL, 9, 1, 0), (11, 'V', NULL, 10, 1, 0), (12, 'W', NULL, 11, 1, 0)",
     "INSERT INTO builds VALUES (1, 5, 1, 0, 0)",
     "UPDATE parts SET name = 'Washer' WHERE id = 3",
     "INSERT INTO orders VALUES (1, 0, 'x', 0)",
@@ -267,7 +296,7 @@ const HARMLESS: [&str; 10] = [
 
 /// Each leaves tables that are no desk's of today.
 const FOREIGN: [&str; 3] = [
-    "UPDATE meta SET version = 2",
+    "UPDATE meta SET version = 3",
     "DROP TABLE builds",
     "CREATE TABLE more (id INTEGER PRIMARY KEY) STRICT",
 ];

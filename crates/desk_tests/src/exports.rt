@@ -25,6 +25,10 @@ const LINES: &str = r#"{"day":"2030-01-02","do":"add_location","name":"Shelf \"A
 {"build":10,"day":"2030-01-03","do":"allocate_build","item":3,"line":9,"quantity":20}
 {"day":"2030-01-03","do":"complete_output","location":1,"output":11}
 {"day":"2030-01-03","do":"build","part":8,"quantity":2}
+{"day":"2030-01-03","do":"build","part":8,"quantity":1}
+{"build":14,"day":"2030-01-03","do":"issue_build"}
+{"build":14,"day":"2030-01-03","do":"allocate_build","item":3,"line":9,"quantity":3}
+{"allocation":15,"day":"2030-01-03","do":"consume"}
 "#;
 
 const ANSWERS: &str = r#"{"entries":0,"ids":[1]}
@@ -44,12 +48,16 @@ const ANSWERS: &str = r#"{"entries":0,"ids":[1]}
 {"entries":0,"ids":[12]}
 {"entries":1,"ids":[]}
 {"entries":0,"ids":[13]}
+{"entries":0,"ids":[14]}
+{"entries":0,"ids":[]}
+{"entries":0,"ids":[15]}
+{"entries":2,"ids":[16,17]}
 "#;
 
-const EXPORTS: [(TableName, &str); 10] = [
+const EXPORTS: [(TableName, &str); 11] = [
     (
         TableName::Meta,
-        "one,version,next,entries,max_numbers,max_entries\n1,1,14,3,10000000000,10000000000\n",
+        "one,version,next,entries,max_numbers,max_entries\n1,2,18,5,10000000000,10000000000\n",
     ),
     (
         TableName::Locations,
@@ -65,11 +73,11 @@ const EXPORTS: [(TableName, &str); 10] = [
     ),
     (
         TableName::Items,
-        "id,part,batch,serial,status,quantity,place,ref\n3,2,,,0,70,0,1\n11,8,\"L, 1\",F1,0,1,0,1\n",
+        "id,part,batch,serial,status,quantity,place,ref\n3,2,,,0,67,0,1\n11,8,\"L, 1\",F1,0,1,0,1\n16,2,,,0,3,4,14\n",
     ),
     (
         TableName::History,
-        "n,day,kind,item,part,quantity,place,ref\n1,2030-01-02,1,3,2,100,0,1\n2,2030-01-03,6,3,2,30,5,0\n3,2030-01-03,2,11,8,1,0,1\n",
+        "n,day,kind,item,part,quantity,place,ref\n1,2030-01-02,1,3,2,100,0,1\n2,2030-01-03,6,3,2,30,5,0\n3,2030-01-03,2,11,8,1,0,1\n4,2030-01-03,8,16,2,3,0,1\n5,2030-01-03,3,16,2,3,4,14\n",
     ),
     (
         TableName::Orders,
@@ -85,8 +93,9 @@ const EXPORTS: [(TableName, &str); 10] = [
     ),
     (
         TableName::Builds,
-        "id,part,quantity,state,done\n10,8,4,1,1\n13,8,2,0,0\n",
+        "id,part,quantity,state,done\n10,8,4,1,1\n13,8,2,0,0\n14,8,1,1,0\n",
     ),
+    (TableName::Spent, "id,build,line,quantity\n17,14,9,3\n"),
 ];
 
 /// The table is exported as this text, and as a front of it through a writer that fails.

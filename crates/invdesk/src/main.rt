@@ -4,22 +4,27 @@
 #![tactic(auto)]
 
 mod serve;
+mod token;
 
+ghost use Rattle.std.specs.Prelude.{IfOk};
 ghost use Rattle.sqlite.specs.Files.{over_files};
 ghost use Rattle.desk_store.specs.Desks.{IsDesk};
 
 use crate::serve::serve;
 use desk_app::{
     Books, BooksService, CountedBooks, DEVICE, FaultyFile, FileFault, MEMORY, RunEnd, Task,
-    connect, early_status, end_of_work, import_file, let_go, print_export, print_report, read_file,
-    read_words, run_in_memory, run_lines, status_of, status_of_fault, take_desk,
+    WatchedDesk, connect, connect_to_old, early_status, end_of_work, escaped, import_file, let_go,
+    migrate_desk, print_export, print_migrated, print_report, read_file, read_words, run_in_memory,
+    run_lines, status_of, status_of_fault, take_desk, told_line,
 };
 use desk_core::Shop;
 use desk_store::Desk;
 use desk_wire::{Document, ImportKind};
 use part_core::{Day, Limits};
 use sqlite::{File, FileStore};
+use std::alloc::AllocError;
 use std::env::{self, Env};
+use std::fmt::Display;
 use std::fs;
 use std::io::{self, Input, IsTerminal, Stderr};
 use std::process::ExitCode;
@@ -42,10 +47,30 @@ fn given<R: Env + AllocGlobal>(rt: &R) -> Result<Vec<String>, Task<'static>> {
     }
 }
 
+/// The words of a fault as they are told to a person, of which each line is escaped.
+fn told_words<R: AllocGlobal>(rt: &R, fault: &clap::Error) -> Result<String, AllocError> {
+    let text = fault.to_string(rt.alloc())?;
+    let mut told = String::new(rt.alloc());
+    for line in text.lines() {
+        told.push_str(escaped(rt.alloc(), line)?.as_str())?;
+        told.push_str("\n")?;
+    }
+    Ok(told)
+}
+
+/// Tells on the standard error what is wrong with the words. Where there is no memory for it, the status alone tells.
+fn tell_words<R: Eprint + AllocGlobal>(rt: &R, fault: &clap::Error) -> io::Result<()> {
+    match told_words(rt, fault) {
+        Ok(told) => eprint!(rt; "{told}"),
+        Err(_) => Ok(()),
+    }
+}
+
 /// Prints what the words ask for, and gives the status to end with at once, unless a desk is asked for.
-fn at_once<R: Print + Eprint>(rt: &R, task: &Task<'_>) -> Option<u8> {
+fn at_once<R: Print + Eprint + AllocGlobal>(rt: &R, task: &Task<'_>) -> Option<u8> {
     let printed = match task {
-        Task::Help(text) | Task::Wrong(text) => text.print(rt),
+        Task::Help(text) => text.print(rt),
+        Task::Wrong(fault) => tell_words(rt, fault),
         Task::Unreadable => eprintln!(rt; "invdesk: a word isn't UTF-8"),
         _ => Ok(()),
     };
@@ -55,13 +80,20 @@ fn at_once<R: Print + Eprint>(rt: &R, task: &Task<'_>) -> Option<u8> {
     }
 }
 
+/// Tells a line on the standard error. Where there is no memory for it, or the standard error fails too, the status
+/// alone tells.
+fn tell_line<T: Display + Drop>(rt: &HostRuntime, what: T) {
+    if let Ok(line) = told_line(rt.alloc(), &what) {
+        let _ = eprintln!(rt; "invdesk: {line}");
+    }
+}
+
 /// The bytes of the file at the path that is imported. Where it can't be opened, it is told why.
 fn bytes_at(rt: &HostRuntime, path: &str) -> Result<Vec<u8>, RunEnd> {
     let mut file = match fs::open(rt, path) {
         Ok(file) => file,
         Err(error) => {
-            // Where the standard error fails too, the status alone tells.
-            let _ = eprintln!(rt; "invdesk: {path}: {error}");
+            tell_line(rt, format_args!("{path}: {error}"));
             return Err(if error.kind() == io::ErrorKind::OutOfMemory {
                 RunEnd::Memory
             } else {
@@ -106,17 +138,21 @@ fn terminal(rt: &HostRuntime) -> Option<Stderr> {
     stderr.is_terminal().then_some(stderr)
 }
 
-/// Does what the words ask for, on the desk.
-fn act(rt: &HostRuntime, task: &Task<'_>, desk: &mut Desk<FileStore<File>>) -> RunEnd
-    requires { IsDesk over_files desk.old }
-    ensures { IsDesk over_files desk.new }
+/// What a line ends with that tells of a fault of the database, while clients are served.
+const SERVED: &str = "; all requests fail until the service is started again";
+
+/// Prints what the words ask for, of the desk.
+fn print(rt: &HostRuntime, task: &Task<'_>, desk: &Desk<FileStore<File>>) -> RunEnd
+    requires { IsDesk over_files desk.now }
 {
-    let alloc = rt.alloc();
     let mut writer = io::writer(rt);
     match task {
-        Task::Report(_, name, number) => print_report(alloc, desk, *name, *number, &mut writer),
+        Task::Report(_, name, number) => {
+            print_report(rt.alloc(), desk, *name, *number, &mut writer)
+        }
         Task::Export(_, table) => print_export(desk, *table, &mut writer),
-        _ => run_lines(alloc, &mut rt.reader(), &mut writer, desk),
+        Task::Migrate(_) => print_migrated(&mut writer),
+        _ => RunEnd::Done(true),
     }
 }
 
@@ -129,41 +165,108 @@ fn closed(desk: Desk<FileStore<File>>, end: RunEnd) -> RunEnd
     end
 }
 
-/// Does what the words ask for, and closes the desk.
-fn done(rt: &HostRuntime, task: &Task<'_>, mut desk: Desk<FileStore<File>>) -> RunEnd
+/// Answers the lines of the standard input, and closes the desk of the file, which is told by that name.
+fn run_on(rt: &HostRuntime, desk: Desk<FileStore<File>>, name: String) -> RunEnd
+    requires { IsDesk over_files desk }
+{
+    let mut watched = WatchedDesk::new(desk, name, "", rt.stderr());
+    let (mut reader, mut writer) = (rt.reader(), io::writer(rt));
+    let end = run_lines(rt.alloc(), &mut reader, &mut writer, &mut watched);
+    closed(watched.into_desk(), end)
+}
+
+/// Serves clients, so many or until it is stopped, and closes the desk.
+fn serve_on(
+    rt: &HostRuntime,
+    port: u16,
+    count: Option<u64>,
+    token: Option<&str>,
+    desk: Desk<FileStore<File>>,
+    name: String,
+) -> RunEnd
+    requires { IsDesk over_files desk }
+{
+    let watched = WatchedDesk::new(desk, name, SERVED, rt.stderr());
+    let mut service = BooksService { books: watched };
+    let end = serve(rt, port, count, token, &mut service);
+    closed(service.books.into_desk(), end)
+}
+
+/// Runs the rows of the file at the path, and closes the desk.
+fn import_on(
+    rt: &HostRuntime,
+    path: &str,
+    kind: ImportKind,
+    document: &Document,
+    day: Day,
+    desk: Desk<FileStore<File>>,
+    name: String,
+) -> RunEnd
+    requires { IsDesk over_files desk }
+{
+    let watched = WatchedDesk::new(desk, name, "", rt.stderr());
+    let mut counted = CountedBooks::new(watched, terminal(rt));
+    let end = import(rt, path, kind, document, day, &mut counted);
+    closed(counted.into_books().into_desk(), end)
+}
+
+/// Does what the words ask for, and closes the desk of the file, which is told by that name.
+fn done(rt: &HostRuntime, task: &Task<'_>, desk: Desk<FileStore<File>>, name: String) -> RunEnd
     requires { IsDesk over_files desk }
 {
     match task {
-        Task::Serve { port, count, .. } => {
-            let mut service = BooksService { books: desk };
-            let end = serve(rt, *port, *count, &mut service);
-            closed(service.books, end)
-        }
+        Task::Run(_) => run_on(rt, desk, name),
+        Task::Serve {
+            port,
+            count,
+            token,
+            ..
+        } => serve_on(rt, *port, *count, *token, desk, name),
         Task::Import {
             kind,
             document,
             day,
             path,
             ..
-        } => {
-            let mut books = CountedBooks::new(desk, terminal(rt));
-            let end = import(rt, path, *kind, document, *day, &mut books);
-            closed(books.into_books(), end)
-        }
+        } => import_on(rt, path, *kind, document, *day, desk, name),
         _ => {
-            let end = act(rt, task, &mut desk);
+            let end = print(rt, task, &desk);
             closed(desk, end)
         }
     }
 }
 
-/// Does what the words ask for, with the desk of the file.
-fn act_on_file(rt: &HostRuntime, path: &str, task: &Task<'_>) -> Result<RunEnd, FileFault> {
+/// The desk of the file, which is made where there is none.
+fn taken(rt: &HostRuntime, path: &str) -> Result<Desk<FileStore<File>>, FileFault>
+    ensures { IfOk result (IsDesk over_files) }
+{
     let conn = connect(rt, path)?;
     match take_desk(rt.alloc(), conn) {
-        Ok(desk) => Ok(done(rt, task, desk)),
+        Ok(desk) => Ok(desk),
         Err((fault, _database)) => Err(fault),
     }
+}
+
+/// The desk of the file, which has to be there, once an old file is brought along.
+fn migrated(rt: &HostRuntime, path: &str) -> Result<Desk<FileStore<File>>, FileFault>
+    ensures { IfOk result (IsDesk over_files) }
+{
+    let conn = connect_to_old(rt, path)?;
+    match migrate_desk(rt.alloc(), conn) {
+        Ok(desk) => Ok(desk),
+        Err((fault, _database)) => Err(fault),
+    }
+}
+
+/// Does what the words ask for, with the desk of the file.
+fn act_on_file(rt: &HostRuntime, path: &str, task: &Task<'_>) -> Result<RunEnd, FileFault> {
+    let name = escaped(rt.alloc(), path)?;
+    if let Task::Migrate(_) = task {
+        let desk = migrated(rt, path)?;
+        return Ok(done(rt, task, desk, name));
+    }
+    let desk = taken(rt, path)?;
+    Ok(done(rt, task, desk, name))
 }
 
 /// Does what the words ask for with a file, and says why not, where the file is the reason.
@@ -172,9 +275,7 @@ fn status_on_file(rt: &HostRuntime, path: &str, task: &Task<'_>) -> u8 {
         Ok(end) => status_of(end),
         Err(fault) => {
             let status = status_of_fault(&fault);
-            let faulty = FaultyFile { path, fault };
-            // Where the standard error fails too, the status alone tells.
-            let _ = eprintln!(rt; "invdesk: {faulty}");
+            tell_line(rt, FaultyFile { path, fault });
             status
         }
     }
@@ -183,9 +284,15 @@ fn status_on_file(rt: &HostRuntime, path: &str, task: &Task<'_>) -> u8 {
 /// Does what the words ask for, with new books in memory.
 fn act_in_memory(rt: &HostRuntime, task: &Task<'_>) -> RunEnd {
     let alloc = rt.alloc();
-    if let Task::Serve { port, count, .. } = task {
+    if let Task::Serve {
+        port,
+        count,
+        token,
+        ..
+    } = task
+    {
         let books = Shop::new(alloc, Limits::LARGEST);
-        return serve(rt, *port, *count, &mut BooksService { books });
+        return serve(rt, *port, *count, *token, &mut BooksService { books });
     }
     run_in_memory(alloc, &mut rt.reader(), &mut io::writer(rt))
 }

@@ -2,7 +2,7 @@
 use crate::requests::{LINES, NOTHING};
 use desk_app::BooksService;
 use desk_core::Shop;
-use desk_http::{Clients, serve_connections};
+use desk_http::{Access, Clients, serve_connections};
 use desk_play::outcomes::holds;
 use part_core::Limits;
 use std::alloc::Global;
@@ -40,7 +40,9 @@ fn serve_loopback(rt: HostRuntime) -> Result<(), Fail> {
     // One that drops its connection amid the request costs nothing but the connection.
     let third = asked(&rt, &listener, "GET /repo")?;
     let fourth = asked(&rt, &listener, LINES[1][0])?;
-    serve_connections(alloc, &mut Clients::of(listener), 4, &mut service)?;
+    let access = Access::new(alloc, listener.local_addr()?.port(), None)?;
+    let mut clients = Clients::of(listener);
+    serve_connections(&rt, alloc, &mut clients, 4, &mut service, &access)?;
     got(alloc, first, FIRST)?;
     got(alloc, second, NOTHING[0][1])?;
     got(alloc, third, "")?;

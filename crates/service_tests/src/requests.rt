@@ -6,7 +6,7 @@ ghost use Rattle.sqlite.specs.State.{HasCleanDisk};
 use crate::delivery::{ORDERED, ORDERED_OUT};
 use desk_app::{Books, BooksService};
 use desk_core::Shop;
-use desk_http::{Served, serve_one};
+use desk_http::{Access, Served, serve_one};
 use desk_play::devices::Sink;
 use desk_play::outcomes::holds;
 use desk_play::play::{created, plays_on};
@@ -103,6 +103,23 @@ pub const NOTHING: [[&str; 2]; 5] = [
     ],
 ];
 
+/// A request for a page of another origin, one under another name, and the same as the first from elsewhere: it alone is
+/// done.
+const FOREIGN: [[&str; 2]; 3] = [
+    [
+        "POST /run HTTP/1.1\r\nOrigin: null\r\nContent-Length: 51\r\n\r\n{\"day\":\"2030-01-02\",\"do\":\"add_location\",\"name\":\"E\"}",
+        "HTTP/1.1 403 Forbidden\r\nContent-Type: application/json\r\nContent-Length: 13\r\nConnection: close\r\n\r\n{\"http\":403}\n",
+    ],
+    [
+        "GET /report/stock/2 HTTP/1.1\r\nHost: evil.example\r\n\r\n",
+        "HTTP/1.1 421 Misdirected Request\r\nContent-Type: application/json\r\nContent-Length: 13\r\nConnection: close\r\n\r\n{\"http\":421}\n",
+    ],
+    [
+        "POST /run HTTP/1.1\r\nHost: localhost:8080\r\nContent-Length: 51\r\n\r\n{\"day\":\"2030-01-02\",\"do\":\"add_location\",\"name\":\"E\"}",
+        "HTTP/1.1 200 OK\r\nContent-Type: application/json\r\nContent-Length: 25\r\nConnection: close\r\n\r\n{\"entries\":0,\"ids\":[12]}\n",
+    ],
+];
+
 /// A request whose body is one byte short.
 const SHORT: &str =
     "POST /run HTTP/1.1\r\nContent-Length: 51\r\n\r\n{\"day\":\"2030-01-02\",\"do\":\"add_location\",\"name\":\"D\"";
@@ -119,7 +136,8 @@ fn asks<B: Books>(
 {
     let mut reader = bytes.as_bytes();
     let mut sink = Sink::new(alloc, 4096);
-    let served = serve_one(alloc, &mut reader, &mut sink, service);
+    let access = Access::new(alloc, 8080, None)?;
+    let served = serve_one(alloc, &mut reader, &mut sink, service, &access);
     holds(sink.bytes.as_slice() == answer.as_bytes(), "another answer")?;
     Ok(served)
 }
@@ -150,6 +168,7 @@ fn is_served<B: Books>(alloc: Global, service: &mut BooksService<B>) -> Result<(
     asks_all(alloc, service, LINES.as_slice())?;
     asks_all(alloc, service, REPORTS.as_slice())?;
     asks_all(alloc, service, NOTHING.as_slice())?;
+    asks_all(alloc, service, FOREIGN.as_slice())?;
     let served = asks(alloc, service, SHORT, "")?;
     holds(served == Served::Ended, "a short body is run")
 }

@@ -47,6 +47,27 @@ pub fn families(alloc: Global, example: &Example) -> Result<(), Fail> {
     holds(!shop.catalogue().descends(2, 6), "2 is no variant")
 }
 
+/// What the lowest of a chain is made of, and of which family it is, after `template-chain`.
+pub fn chain(alloc: Global, example: &Example) -> Result<(), Fail> {
+    let shop = shop_after(alloc, example)?;
+    let lines = shop.boms().effective(shop.catalogue(), 5)?;
+    holds(lines.len() == 1, "one line holds for the lowest")?;
+    let number = lines.first().ok_or("a line")?.number;
+    holds(number == 7, "line 7 holds for the lowest")?;
+    holds(
+        shop.catalogue().family(5) == 2,
+        "the family is of the first",
+    )?;
+    holds(
+        shop.catalogue().descends(5, 2),
+        "the lowest is a variant of the first",
+    )?;
+    holds(
+        !shop.catalogue().descends(2, 5),
+        "the first is none of the lowest",
+    )
+}
+
 fn ask_tower(shop: &Shop) -> Result<(), Fail>
     requires { IsSoundState (state_of shop.now) }
 {

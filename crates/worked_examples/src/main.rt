@@ -67,6 +67,8 @@ fn ask(rt: &HostRuntime) -> Result<(), Fail> {
     tell(rt, "calls: bills", calls::bills(alloc, &bills))?;
     let rows = Example::read(rt, "refused-rows")?;
     tell(rt, "calls: families", calls::families(alloc, &rows))?;
+    let chain = Example::read(rt, "template-chain")?;
+    tell(rt, "calls: a chain", calls::chain(alloc, &chain))?;
     let tower = Example::read(rt, "nesting-deep")?;
     tell(rt, "calls: a tower", calls::tower(alloc, &tower))?;
     let robot = Example::read(rt, "robot-build")?;
@@ -110,7 +112,8 @@ fn main(rt: HostRuntime) -> Result<(), Fail> {
     }
     tell(&rt, "words: what they ask for", words::play(&rt))?;
     ask(&rt)?;
-    for name in ["robot-build", "cell-shipped"] {
+    // `cell-shipped` begins as `robot-build` does.
+    for name in ["cell-shipped", "consume-tracked"] {
         tell(&rt, name, stop(&rt, name))?;
     }
     limit(&rt, alloc)?;

@@ -11,6 +11,7 @@ fn told(alloc: Global, task: &Task<'_>) -> Result<String, AllocError> {
         Task::Run(Some(file)) => format!(in alloc; "run {file}"),
         Task::Report(file, name, number) => format!(in alloc; "report {file} {name:?} {number}"),
         Task::Export(file, table) => format!(in alloc; "export {file} {table:?}"),
+        Task::Migrate(file) => format!(in alloc; "migrate {file}"),
         Task::Import {
             file,
             kind,
@@ -21,10 +22,12 @@ fn told(alloc: Global, task: &Task<'_>) -> Result<String, AllocError> {
             let (document, day) = (document.as_str(), day.text(alloc)?);
             format!(in alloc; "import {file} {kind:?} {document} {day} {path}")
         }
-        Task::Serve { file, port, count } => match file {
-            None => format!(in alloc; "serve {port} {count}"),
-            Some(file) => format!(in alloc; "serve {file} {port} {count}"),
-        },
+        Task::Serve {
+            file,
+            port,
+            count,
+            token,
+        } => format!(in alloc; "serve {file:?} {port} {count:?} {token:?}"),
         Task::Help(text) | Task::Wrong(text) => {
             let text = format!(in alloc; "{text}")?;
             format!(in alloc; "{text:?}")

@@ -14,3 +14,7 @@ pub returns-in-Ok-clause-quiet : goal.returns-in-Ok-clause-quiet
 returns-in-Ok-clause-quiet g c =
     let ok = c.in-Ok.ensures.ok in
     (ok.0, ok.1, subst (λ conn. IsClosed conn ok.0) c.close.ensures ok.2)
+
+pub returns-in-Err-clause-kept : goal.returns-in-Err-clause-kept
+returns-in-Err-clause-kept g c =
+    subst (λ conn. IsClosed conn c.in-Err.database) c.close.ensures c.in-Err.ensures.err.0

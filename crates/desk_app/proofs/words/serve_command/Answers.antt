@@ -3,7 +3,7 @@ use Rattle.std.proofs.lemmas.Result.{IfOk-weaker}
 use Rattle.clap.specs.Words.{App, app_of, new_app, rule_of, with_rule}
 use Rattle.clap.specs.Simple.{app_of_fields}
 use Rattle.clap.specs.declared.builder.arg.Arg.{Arg}
-use Rattle.desk_app.specs.Words.{file_rule, option_rule}
+use Rattle.desk_app.specs.Words.{file_rule, option_rule, optional_rule}
 use Rattle.desk_app.proofs.CommandLines.{rule_added}
 use Rattle.desk_app.proofs.words.serve_command.Goals as goal
 
@@ -15,19 +15,27 @@ returns c =
     ap rule_of c.help-port.ensures ∙ c.option.ensures.rule in
     let port_local : c.help-port.result.global ≡ false =
     ap (λ (a : Arg). a.global) c.help-port.ensures ∙ c.option.ensures.local in
-    let count_is : rule_of c.help-count.result ≡ option_rule (codes "count") =
-    ap rule_of c.help-count.ensures ∙ c.option-2.ensures.rule in
+    let count_is : rule_of c.help-count.result ≡ optional_rule (codes "count") =
+    ap rule_of c.help-count.ensures ∙ c.optional.ensures.rule in
     let count_local : c.help-count.result.global ≡ false =
-    ap (λ (a : Arg). a.global) c.help-count.ensures ∙ c.option-2.ensures.local in
+    ap (λ (a : Arg). a.global) c.help-count.ensures ∙ c.optional.ensures.local in
+    let token_is : rule_of c.help-token.result ≡ optional_rule (codes "token") =
+    ap rule_of c.help-token.ensures ∙ c.optional-2.ensures.rule in
+    let token_local : c.help-token.result.global ≡ false =
+    ap (λ (a : Arg). a.global) c.help-token.ensures ∙ c.optional-2.ensures.local in
     let one : App = with_rule (new_app (codes "serve")) file_rule in
     let two : App = with_rule one (option_rule (codes "port")) in
+    let three : App = with_rule two (optional_rule (codes "count")) in
     let one_is =
     rule_added c.after_help.result c.file.result c.in_ok-arg.field-0 (new_app (codes "serve")) file_rule
     c.in_ok-arg.ensures c.file.ensures.local line_is c.file.ensures.rule in
     let two_is =
     rule_added c.in_ok-arg.field-0 c.help-port.result c.in_ok-arg-2.field-0 one (option_rule (codes "port"))
     c.in_ok-arg-2.ensures port_local one_is port_is in
-    IfOk-weaker c.arg-3.result _ _
-    (λ r added. rule_added c.in_ok-arg-2.field-0 c.help-count.result r two (option_rule (codes "count")) added
-    count_local two_is count_is)
-    c.arg-3.ensures
+    let three_is =
+    rule_added c.in_ok-arg-2.field-0 c.help-count.result c.in_ok-arg-3.field-0 two (optional_rule (codes "count"))
+    c.in_ok-arg-3.ensures count_local two_is count_is in
+    IfOk-weaker c.arg-4.result _ _
+    (λ r added. rule_added c.in_ok-arg-3.field-0 c.help-token.result r three (optional_rule (codes "token")) added
+    token_local three_is token_is)
+    c.arg-4.ensures

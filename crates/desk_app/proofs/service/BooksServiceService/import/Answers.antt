@@ -6,6 +6,7 @@ use Rattle.desk_app.proofs.service.BooksServiceService.import.Goals as goal
 pub returns-in-None-clause-relates : goal.returns-in-None-clause-relates
 returns-in-None-clause-relates g c = (
   (λ x. x),
+  tt,
   λ before trees there. left_alone (import (import_kind c.args.kind) c.args.document.now c.args.day c.args.rows.now)
       (g.B.Books.state_in c.args.self.now.books) trees
       (g.met.B.Books.leave_their_tables c.args.self.now.books c.requires.kept before trees there),

@@ -1,0 +1,7 @@
+use Rattle.invdesk.proofs.serve_on.Goals as goal
+
+pub serve-end-requires : goal.serve-end-requires
+serve-end-requires c = rw c.new-watched.ensures c.requires
+
+pub closed-requires : goal.closed-requires
+closed-requires c = rw c.into_desk.ensures c.serve-end.ensures
