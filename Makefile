@@ -9,8 +9,10 @@ try:
 run:
 	cd crates/invdesk && rt run < stdin
 
-# The gate: every proof from nothing, the must-fail edits, the tests, and the program's stored run.
+# The gate: whether each wrong body still applies; and then every proof from nothing, the must-fail edits, the tests, and
+# the program's stored run.
 test:
+	python3 tools/check_edits.py
 	rt ci
 
 # The program, built once it is proved.
@@ -29,10 +31,11 @@ bench: build
 	python3 tools/bench_http.py $(PROGRAM)
 	python3 tools/bench_calls.py
 
-# Files as Python's sqlite3 finds them, and files that are refused; deliveries and stocktakes that Python's csv and, where
-# it is there, LibreOffice wrote.
+# Files as Python's sqlite3 finds them, and files that are refused; the program killed amid a pipe of lines (all of it by
+# '--kills 100 --lines 100000'); deliveries and stocktakes that Python's csv and, where it is there, LibreOffice wrote.
 file: build
 	python3 tools/check_file.py $(PROGRAM)
+	python3 tools/check_kills.py $(PROGRAM)
 	python3 tools/check_import.py $(PROGRAM)
 
 # The program as a server, asked by Python's http.client, by curl and by bare sockets, and killed.

@@ -1,10 +1,11 @@
 #!/usr/bin/env python3
-"""Times the program on a file: 20,000 and 40,000 finds and removals, on a disk and on a memory disk. Beside them, in the
-same run, the same three writes for each request: by Python's sqlite3; by a C program with prepared statements over the
-system's library, where there is a `cc` and that library; and by the kit's `sqlite` alone. All are in WAL with
-synchronous FULL. Then the opening of a file of 50,000 and of 100,000 rows, half of them items and half their entries,
-and transfers of single pieces among 1,000 items and among 20,000. Then imports of 10,000 and 20,000 counts, beside the
-same requests as lines. Prints seconds, ratios and peak memory.
+"""Times the program on a file: 20,000 and 40,000 finds and removals, on a disk and on a memory disk, once by a pipe and
+once line by line, each sent when the one before it was answered. Beside them, in the same run, the same writes in groups
+of the same size and alone: by Python's sqlite3; by a C program with prepared statements over the system's library, where
+there is a `cc` and that library; and alone by the kit's `sqlite`. All are in WAL with synchronous FULL. Then the opening
+of a file of 50,000 and of 100,000 rows, half of them items and half their entries, and transfers of single pieces among
+1,000 items and among 20,000. Then imports of 10,000, 20,000 and 100,000 counts, the first two beside the same requests as
+lines. Prints seconds, ratios and peak memory.
 
 The program over the kit's sqlite, tools/bench/three_writes.rt.txt, is no crate of the repository: a folder of its own
 gets it, and there `rt run` proves that it is safe and builds it, in some minutes.
@@ -24,6 +25,8 @@ BENCH = pathlib.Path(__file__).resolve().parent / "bench"
 KIT_CRATES = "anyhow sqlite sqlite_value sqlite_sql sqlite_schema sqlite_trees sqlite_disk sqlite_catalog"
 DAY = '"day":"2030-01-02"'
 COUNTS = (20_000, 40_000)
+# What a pipe holds, and so what one read gives: its lines are a group.
+PIPE = 65_536
 START = f"""{{{DAY},"do":"add_location","name":"A"}}
 {{{DAY},"do":"add_part","flags":["component"],"name":"Screw"}}
 """
@@ -50,8 +53,21 @@ def timed(words, lines):
     return seconds
 
 
-def by_python(path, count):
-    """The same writes: an item's row, an entry and the counter, one transaction for each request."""
+def line_by_line(path, lines):
+    """The seconds of lines of which each is sent when the one before it was answered."""
+    words = [sys.argv[1], "run", "--db", path]
+    with subprocess.Popen(words, stdin=subprocess.PIPE, stdout=subprocess.PIPE, bufsize=0) as child:
+        begin = time.monotonic()
+        for line in lines:
+            child.stdin.write(line.encode())
+            answer = child.stdout.readline()
+            if not answer.startswith(b'{"entries"'):
+                sys.exit(f"bench_file: {line!r} is answered {answer!r}")
+        return time.monotonic() - begin
+
+
+def by_python(path, count, group):
+    """The same writes: an item's row and an entry for each request, and the counter for each group, in one transaction."""
     conn = sqlite3.connect(path, isolation_level=None)
     conn.execute("PRAGMA journal_mode = WAL")
     conn.execute("PRAGMA synchronous = FULL")
@@ -71,7 +87,8 @@ def by_python(path, count):
     for entry in range(1, count + 1):
         item = (entry + 1) // 2 + 2
         quantity = 100 if entry % 2 else 70
-        conn.execute("BEGIN")
+        if entry % group == 1 or group == 1:
+            conn.execute("BEGIN")
         conn.execute(
             "INSERT OR REPLACE INTO items VALUES (?1, ?2, ?3, ?4, ?5, ?6, ?7, ?8)",
             (item, 2, None, None, 0, quantity, 0, 1),
@@ -80,10 +97,11 @@ def by_python(path, count):
             "INSERT OR REPLACE INTO history VALUES (?1, ?2, ?3, ?4, ?5, ?6, ?7, ?8)",
             (entry, "2030-01-02", 1, item, 2, quantity, 0, 1),
         )
-        conn.execute(
-            "INSERT OR REPLACE INTO meta VALUES (?1, ?2, ?3, ?4, ?5, ?6)", (1, 1, item + 1, entry, 10**10, 10**10)
-        )
-        conn.execute("COMMIT")
+        if entry % group == 0 or entry == count:
+            conn.execute(
+                "INSERT OR REPLACE INTO meta VALUES (?1, ?2, ?3, ?4, ?5, ?6)", (1, 1, item + 1, entry, 10**10, 10**10)
+            )
+            conn.execute("COMMIT")
     seconds = time.monotonic() - begin
     conn.close()
     return seconds
@@ -109,9 +127,11 @@ def kit_program(folder):
     return str(built) if os.access(built, os.X_OK) else None
 
 
-def by_program(program, path, count):
-    """The seconds that a program tells; it tells them as such or in nanoseconds."""
-    told = subprocess.run([program, path, str(count)], capture_output=True, text=True, check=True).stdout.strip()
+def by_program(program, path, count, group):
+    """The seconds that a program tells; it tells them as such or in nanoseconds. Where the requests are alone it is told of
+    no group."""
+    words = [program, path, str(count), *([str(group)] if group > 1 else [])]
+    told = subprocess.run(words, capture_output=True, text=True, check=True).stdout.strip()
     return float(told) if "." in told else int(told) / 1e9
 
 
@@ -121,20 +141,36 @@ def in_turn(count):
         yield remove(i + 3)
 
 
+def of_program(folder, count, lines, grouped):
+    """The program's seconds for the lines, by a pipe or line by line."""
+    path = str(folder / f"turns-{count}-{grouped}.db")
+    timed(("run", "--db", path), START)
+    return timed(("run", "--db", path), "".join(lines)) if grouped else line_by_line(path, lines)
+
+
 def beside_others(folder, name, programs):
-    """The program beside the others, on each count."""
+    """The program beside the others on each count, in groups and alone, as lines a second."""
     others = {"Python's sqlite3": by_python}
     for what, program in programs.items():
         if program:
-            others[what] = lambda path, count, program=program: by_program(program, path, count)
+            others[what] = lambda path, count, group, program=program: by_program(program, path, count, group)
+    before = None
     for count in COUNTS:
-        path = str(folder / f"turns-{count}.db")
-        timed(("run", "--db", path), START)
-        ours = timed(("run", "--db", path), "".join(in_turn(count)))
-        print(f"{count} finds and removals on {name}: {ours:.2f} s, {count / ours:.0f} a second", flush=True)
+        lines = list(in_turn(count))
+        group = PIPE * count // sum(len(line) for line in lines)
+        print(f"{count} finds and removals on {name}, a second: in groups of {group}, and alone", flush=True)
+        ours = {size: of_program(folder, count, lines, size > 1) for size in (group, 1)}
+        print(f"    the program: {count / ours[group]:.0f}, {count / ours[1]:.0f}", flush=True)
         for at, (what, act) in enumerate(others.items()):
-            theirs = act(str(folder / f"other-{at}-{count}.db"), count)
-            print(f"    {what}: {theirs:.2f} s; the program has {theirs / ours:.2f} of its speed", flush=True)
+            path = str(folder / f"other-{at}-{count}")
+            sizes = (1,) if "kit" in what else (group, 1)
+            theirs = {size: act(f"{path}-{size}.db", count, size) for size in sizes}
+            rates = ", ".join(f"{count / theirs[size]:.0f}" if size in theirs else "-" for size in (group, 1))
+            shares = ", ".join(f"{theirs[size] / ours[size]:.2f}" if size in theirs else "-" for size in (group, 1))
+            print(f"    {what}: {rates}; the program has {shares} of its speed", flush=True)
+        if before:
+            print(f"    by a pipe {ours[group] / before:.2f} times the time of half as many", flush=True)
+        before = ours[group]
 
 
 def opening(folder):
@@ -169,32 +205,38 @@ def measured(folder, words, lines=""):
     return time.monotonic() - begin, used.ru_maxrss
 
 
+def with_items(folder, name):
+    """Books of 1,000 items."""
+    db = str(folder / f"{name}.db")
+    timed(("run", "--db", db), START + "".join(found(10) for _ in range(1_000)))
+    return db
+
+
 def imports(folder):
     """Each row counts one of 1,000 items, and finds another quantity than before."""
     before = None
-    for count in (10_000, 20_000):
+    for count in (10_000, 20_000, 100_000):
         counted = [(i + 1, i % 1_000 + 3, 1_000 + i) for i in range(count)]
         rows = "number,item,quantity\n" + "".join(f"{n},{item},{quantity}\n" for n, item, quantity in counted)
-        lines = "".join(
-            f'{{{DAY},"do":"count","item":{item},"key":"counts/C1/{n}","quantity":{quantity}}}\n'
-            for n, item, quantity in counted
-        )
         path = folder / "counted.csv"
         path.write_text(rows)
         words = ("--kind", "counts", "--document", "C1", "--day", "2030-01-02", str(path))
-        books = [str(folder / f"{what}-{count}.db") for what in ("rows", "lines")]
-        for db in books:
-            timed(("run", "--db", db), START + "".join(found(10) for _ in range(1_000)))
-        ours, peak = measured(folder, ("import", "--db", books[0], *words))
-        theirs, beside = measured(folder, ("run", "--db", books[1]), lines)
+        ours, peak = measured(folder, ("import", "--db", with_items(folder, f"rows-{count}"), *words))
         print(
-            f"{count} counts imported: {ours:.2f} s, {count / ours:.0f} a second, {theirs / ours:.2f} of the rate of"
-            f" lines; {peak} KiB at most, of lines {beside}, of a file of {len(rows) // 1024}",
+            f"{count} counts imported: {ours:.2f} s, {count / ours:.0f} a second; {peak} KiB at most, of a file of"
+            f" {len(rows) // 1024}",
             flush=True,
         )
+        if count <= 20_000:
+            lines = "".join(
+                f'{{{DAY},"do":"count","item":{item},"key":"counts/C1/{n}","quantity":{quantity}}}\n'
+                for n, item, quantity in counted
+            )
+            theirs, beside = measured(folder, ("run", "--db", with_items(folder, f"lines-{count}")), lines)
+            print(f"    {theirs / ours:.2f} of the rate of lines, of which {beside} KiB at most", flush=True)
         if before:
-            print(f"    {ours / before:.2f} times the time of half as many", flush=True)
-        before = ours
+            print(f"    {ours / before[1]:.2f} times the time of {before[0]}", flush=True)
+        before = (count, ours)
 
 
 with tempfile.TemporaryDirectory(dir=".") as disk, tempfile.TemporaryDirectory(dir="/dev/shm") as memory:

@@ -2,19 +2,24 @@
 """Runs the program on files and looks at them with Python's sqlite3: that after each word the named file alone, copied
 away from its log, has the books; that the tables are STRICT and have their columns; that a file is kept between two
 runs, and not changed by a report or an export; that exports and reports are what the tables have; that a first start
-that was killed, or met a full disk, starts again; and that a file is refused, with its name and the reason, that isn't a
-workshop's, or whose rows were changed, one change for each clause of what a sound state is.
+that was killed, or met a full disk, starts again; that a file is refused, with its name and the reason, that isn't a
+workshop's, or whose rows were changed, one change for each clause of what a sound state is; and that files of an earlier
+version of the program are told as such, and brought along with all that they have. That a look at a file that can't be
+opened makes nothing, and tells what lies there; that a fault of the disk is told once, with the file and the reason; that
+control characters are escaped; and what is told of wrong words.
 
 usage: tools/check_file.py PROGRAM"""
 import contextlib
 import csv
 import io
+import json
 import os
 import pathlib
 import random
 import resource
 import shutil
 import signal
+import socket
 import sqlite3
 import subprocess
 import sys
@@ -35,7 +40,12 @@ COLUMNS = {
     "builds": "id part quantity state done",
     "allocations": "id item quantity side owner line output",
     "kept": "word command answer",
+    "spent": "id build line quantity",
 }
+# Files that the program as it was before version 2 made: one with nothing, one of a workshop that keeps the answer of
+# each request, and one with rows in each table.
+OLD = pathlib.Path(__file__).parent / "data" / "old"
+OLD_TABLES = [table for table in COLUMNS if table != "spent"]
 LINES = """\
 {"day":"2030-01-02","do":"add_location","name":"A"}
 {"day":"2030-01-02","do":"add_category","name":"Bought"}
@@ -84,11 +94,26 @@ LINES = """\
 {"build":38,"day":"2030-01-02","do":"allocate_build","item":10,"line":27,"quantity":2}
 {"day":"2030-01-02","do":"complete_output","location":1,"output":39}
 {"build":38,"day":"2030-01-02","do":"complete_build"}
+{"build":36,"day":"2030-01-02","do":"allocate_build","item":10,"line":27,"quantity":3}
+{"allocation":42,"day":"2030-01-02","do":"consume"}
 """
+# Changes of an old file after which it isn't brought along.
+UNMOVED = [
+    ("UPDATE items SET serial = 'M1' WHERE id = 12", "do not fit one another", "an old file with a serial twice"),
+    ("INSERT INTO meta VALUES (2, 1, 1, 0, 10, 10)", "do not fit one another", "an old file with two counters"),
+    ("UPDATE meta SET version = 3", "another version", "an old file of another version"),
+    ("DELETE FROM meta", "another version", "an old file without its counter"),
+    ("UPDATE meta SET next = -1", "another version", "an old file whose counter can't be read"),
+    ("CREATE TABLE more (id INTEGER PRIMARY KEY) STRICT", "no workshop's", "an old file with a table more"),
+]
 AGAIN = '{"day":"2030-01-03","do":"found","key":"k","location":1,"part":3,"quantity":100}\n'
 # A change of the rows, and the clause that it breaks.
 DAMAGES = [
     ("UPDATE parts SET template = 99 WHERE id = 3", "a template that isn't there"),
+    ("UPDATE parts SET template = 4 WHERE id = 3", "a template that isn't flagged so"),
+    ("UPDATE parts SET template = 3, flags = flags | 1 WHERE id = 3", "a part that is its own template"),
+    ("UPDATE parts SET flags = flags | 1, template = CASE id WHEN 4 THEN 3 WHEN 8 THEN 4 WHEN 14 THEN 8 WHEN 26 THEN 14 END",
+     "a chain of five parts"),
     ("UPDATE parts SET category = 99 WHERE id = 3", "a category that isn't there"),
     ("UPDATE categories SET parent = 2 WHERE id = 2", "a category in itself"),
     ("UPDATE locations SET parent = 1 WHERE id = 1", "a location in itself"),
@@ -115,7 +140,7 @@ DAMAGES = [
     ("UPDATE meta SET entries = 1", "another count of entries"),
     ("UPDATE meta SET max_numbers = 0", "a limit that is none"),
     ("DELETE FROM meta", "no row of the counter"),
-    ("INSERT INTO meta VALUES (2, 1, 14, 5, 9, 9)", "two rows of the counter"),
+    ("INSERT INTO meta VALUES (2, 2, 14, 5, 9, 9)", "two rows of the counter"),
     ("INSERT INTO orders VALUES (99, 0, 'x', 0)", "an order that is to come"),
     ("UPDATE orders SET partner = '' WHERE id = 15", "a partner that is none"),
     ("UPDATE orders SET side = 2 WHERE id = 15", "a side that is none"),
@@ -171,7 +196,18 @@ DAMAGES = [
     ("INSERT INTO allocations VALUES (1, 30, 1, 1, 31, 7, 32)", "more allocated than a line needs for an output"),
     ("UPDATE items SET ref = 99 WHERE id = 41", "an item that was used by no build"),
     ("UPDATE history SET ref = 99 WHERE place = 4", "an entry that tells of no build"),
-    ("UPDATE meta SET version = 2", "another version"),
+    ("UPDATE spent SET id = 99", "what was spent under a number that is to come"),
+    ("UPDATE spent SET build = 99", "what was spent on no build"),
+    ("UPDATE spent SET build = 38", "what was spent on a complete build"),
+    ("UPDATE spent SET line = 99", "what was spent on no line of a bill"),
+    ("UPDATE spent SET line = 6", "what was spent on another part's line"),
+    ("UPDATE spent SET build = 31, line = 7", "what was spent on a tracked line"),
+    ("UPDATE spent SET build = 31, line = 25", "what was spent on a consumable line"),
+    ("UPDATE spent SET quantity = 0", "nothing that was spent"),
+    ("UPDATE spent SET quantity = 11", "more spent than a line wants of the build"),
+    ("UPDATE spent SET build = 31, line = 6, quantity = 7", "more spent and allocated than a line wants of the build"),
+    ("INSERT INTO spent VALUES (1, 36, 27, 1)", "what was spent on one line in two rows"),
+    ("UPDATE meta SET version = 3", "another version"),
     ("DROP TABLE builds", "a table that is missing"),
     ("CREATE TABLE more (id INTEGER PRIMARY KEY) STRICT", "a table more"),
 ]
@@ -215,7 +251,7 @@ def look(path):
 def kept(program, path):
     """The file after each word: what was answered is in the file alone, and what only reads leaves it byte for byte."""
     tables = look(path)
-    expect(len(tables["items"]) == 13, f"the file alone has the items {tables['items']}")
+    expect(len(tables["items"]) == 14, f"the file alone has the items {tables['items']}")
     before = pathlib.Path(path).read_bytes()
     for words in (("report", "ledger", "3"), ("report", "ledger", "99"), ("export", "items"), ("run",)):
         run(program, words[0], "--db", path, *words[1:])
@@ -307,7 +343,7 @@ def refused(program, folder, path):
         conn.execute("CREATE TABLE note (id INTEGER PRIMARY KEY) STRICT")
         conn.commit()
     told(program, other, "no workshop's", "a database of others")
-    version = changed(path, str(folder / "version.db"), "UPDATE meta SET version = 2")
+    version = changed(path, str(folder / "version.db"), "UPDATE meta SET version = 3")
     told(program, version, "another version", "a workshop's of another version")
     flags = changed(path, str(folder / "flags.db"), "UPDATE parts SET flags = 999 WHERE id = 3")
     told(program, flags, "the table parts", "a bad row")
@@ -326,6 +362,260 @@ def refused(program, folder, path):
         told(program, str(locked), "may not be read and written", "a file of another user", user=NOBODY)
 
 
+def rows_of(path, tables):
+    with contextlib.closing(sqlite3.connect(f"file:{path}?mode=ro&immutable=1", uri=True)) as conn:
+        return {table: conn.execute(f"SELECT * FROM {table} ORDER BY 1").fetchall() for table in tables}
+
+
+def as_old(path, tables):
+    """Whether the program's file has the tables of the old one: the counter's row but for the version, and nothing spent."""
+    now = look(path)
+    version = {row[1] for row in now["meta"]}
+    same = all(now[table] == tables[table] for table in OLD_TABLES if table != "meta")
+    counter = [row[:1] + row[2:] for row in now["meta"]] == [row[:1] + row[2:] for row in tables["meta"]]
+    return same and counter and version == {2} and now["spent"] == []
+
+
+def brought(program, folder, old):
+    """An old file is refused as one, and stays as it is; brought along it has the same rows, and its keys their answers."""
+    path = shutil.copy(old, folder / old.name)
+    tables = rows_of(path, OLD_TABLES)
+    before = pathlib.Path(path).read_bytes()
+    told(program, str(path), "invdesk migrate --db FILE", f"the old file {old.name}")
+    expect(pathlib.Path(path).read_bytes() == before, f"{old.name} is changed by a report")
+    moved = run(program, "migrate", "--db", str(path))
+    expect((moved.returncode, moved.stdout) == (0, "migrated\n"), f"{old.name} is told as {moved.stdout!r}{moved.stderr}")
+    expect(as_old(path, tables), f"{old.name} has other rows once it is brought along")
+    exported(program, str(path), look(path))
+    after = pathlib.Path(path).read_bytes()
+    again = run(program, "migrate", "--db", str(path))
+    expect((again.returncode, again.stdout) == (0, "migrated\n"), f"{old.name} isn't opened once more")
+    expect(pathlib.Path(path).read_bytes() == after, f"{old.name} is changed once more")
+    for word, command, answer in tables["kept"]:
+        fields = {name: value for name, value in json.loads(command).items() if value is not None}
+        if "serials" in fields:
+            fields["serials"] = ",".join(fields["serials"])
+        line = json.dumps({**fields, "day": "2030-02-01", "key": word}, sort_keys=True)
+        repeat = run(program, "run", "--db", str(path), lines=line + "\n").stdout
+        expect(repeat == answer + "\n", f"the key {word} of {old.name} is answered {repeat!r}")
+    expect(as_old(path, tables), f"{old.name} is changed by repeats")
+
+
+def not_brought(program, folder):
+    """What no run of the old program left isn't brought along, and stays as it is."""
+    for number, (change, reason, what) in enumerate(UNMOVED):
+        path = changed(OLD / "cell-shipped.db", str(folder / f"old-{number}.db"), change)
+        before = pathlib.Path(path).read_bytes()
+        moved = run(program, "migrate", "--db", path)
+        expect(moved.returncode == 3 and moved.stdout == "", f"{what} is brought along")
+        expect(moved.stderr.startswith(f"invdesk: {path}: ") and reason in moved.stderr, f"{what}: {moved.stderr!r}")
+        expect(pathlib.Path(path).read_bytes() == before, f"{what} is changed")
+        print(f"{what}: {moved.stderr.splitlines()[0]}")
+    absent = folder / "absent.db"
+    nothing = run(program, "migrate", "--db", str(absent))
+    expect(nothing.returncode == 3 and not absent.exists(), f"a file is made: {nothing.stderr!r}")
+    empty = folder / "nothing.db"
+    empty.write_bytes(b"")
+    nothing = run(program, "migrate", "--db", str(empty))
+    expect(nothing.returncode == 3 and "no workshop's" in nothing.stderr, f"an empty file is taken: {nothing.stderr!r}")
+    expect(run(program, "migrate", "--db", str(empty)).returncode == 3, "an empty file is made a workshop's")
+
+
+def listing(room):
+    """What lies in a folder: names, kinds, modes, links and contents."""
+    found = {}
+    for path in sorted(room.iterdir()):
+        kind = path.lstat()
+        what = os.readlink(path) if path.is_symlink() else path.read_bytes() if path.is_file() else None
+        found[path.name] = (kind.st_mode, kind.st_nlink, what)
+    return found
+
+
+def link(room):
+    (room / "w.db").symlink_to("nowhere")
+
+
+def second(room):
+    os.link(room / "w.db", room / "other")
+
+
+def journal(room):
+    (room / "w.db-journal").write_bytes(b"a change that didn't end")
+
+
+def linked_log(room):
+    (room / "w.db-wal").unlink(missing_ok=True)
+    (room / "w.db-wal").symlink_to("elsewhere")
+
+
+def log_folder(room):
+    (room / "w.db-wal").unlink(missing_ok=True)
+    (room / "w.db-wal").mkdir()
+
+
+def second_log(room):
+    (room / "w.db-wal").touch()
+    os.link(room / "w.db-wal", room / "other")
+
+
+def pipe(room):
+    os.mkfifo(room / "w.db")
+
+
+def nothing(room):
+    pass
+
+
+# What lies at a file's name and beside it, whether the file is there, its name, and what is told.
+NAMES = [
+    (nothing, False, ":memory:", "keeps such a name for itself"),
+    (nothing, False, "file:w.db", "keeps such a name for itself"),
+    (nothing, False, "no/w.db", "folder isn't there"),
+    (nothing, False, "", "folder isn't there"),
+    (link, False, "w.db", "a link to a file that isn't there"),
+    (second, True, "w.db", "has a second name"),
+    (second, True, "other", "has a second name"),
+    (journal, True, "w.db", "the journal of a change"),
+    (journal, False, "w.db", "the journal of a change"),
+    (linked_log, True, "w.db", "a link lies where its log is to be"),
+    (linked_log, False, "w.db", "a link lies where its log is to be"),
+    (log_folder, True, "w.db", "a folder or a device lies where its log is to be"),
+    (log_folder, False, "w.db", "a folder or a device lies where its log is to be"),
+    (second_log, True, "w.db", "log has a second name"),
+    (pipe, False, "w.db", "a folder or a device"),
+    (nothing, True, "w.db/", "folder"),
+]
+
+
+def looked_at(program, folder, path):
+    """A file that can't be opened: what lies there is told, and nothing is made."""
+    for number, (make, there, name, reason) in enumerate(NAMES):
+        room = folder / f"room{number}"
+        room.mkdir()
+        if there:
+            shutil.copy(path, room / "w.db")
+        make(room)
+        before = listing(room)
+        told(program, name, reason, f"{make.__name__} at {name!r}", cwd=room)
+        expect(listing(room) == before, f"{make.__name__} at {name!r} makes {listing(room).keys() ^ before.keys()}")
+    room = folder / "linked"
+    room.mkdir()
+    (room / "way").symlink_to(path)
+    expect(run(program, "report", "--db", str(room / "way"), "ledger", "3").returncode == 0, "a link to a workshop")
+    expect(list(listing(room)) == ["way"], "a log beside a link")
+    private = str(room / "private.db")
+    shutil.copy(path, private)
+    os.chmod(private, 0o600)
+    run(program, "report", "--db", private, "ledger", "3")
+    expect(os.stat(private + "-wal").st_mode & 0o777 == 0o600, "a log that others may read")
+    pathlib.Path(private + "-journal").write_bytes(bytes(512))
+    expect(run(program, "report", "--db", private, "ledger", "3").returncode == 0, "an ended journal")
+    if os.geteuid() == 0:
+        os.chmod(room, 0o755)
+        shutil.copy(path, room / "open.db")
+        os.chmod(room / "open.db", 0o666)
+        told(program, str(room / "new.db"), "can't be made in its folder", "a folder of another user", user=NOBODY)
+        told(program, str(room / "open.db"), "can't be made in its folder", "a log in that folder", user=NOBODY)
+        expect(not (room / "new.db").exists(), "a file of another user's folder")
+
+
+def is_plain(text):
+    """No control character but the ends of lines."""
+    return all(c == "\n" or (ord(c) >= 32 and not 127 <= ord(c) < 160) for c in text)
+
+
+def escaped(program, folder):
+    """Control characters in what is told to a person."""
+    wild = "\x1b[31m\x7f\x9b\r\n\t"
+    cases = [
+        ("report", "--db", f"{folder}/{wild}/w.db", "ledger", "1"),
+        ("report", "--db", f"{folder}/w.db", wild, "1"),
+        ("run", wild),
+        (wild,),
+        ("run", f"--{wild}"),
+        ("import", "--db", f"{folder}/wild.db", "--kind", "counts", "--document", "D", "--day", "2030-01-02", f"{folder}/{wild}"),
+        ("import", "--db", f"{folder}/wild.db", "--kind", wild, "--document", "D", "--day", "2030-01-02", "x"),
+    ]
+    for words in cases:
+        told_ = run(program, *words)
+        expect(told_.returncode in (2, 3) and is_plain(told_.stderr), f"{words} is told as {told_.stderr!r}")
+    umlaut = run(program, "report", "--db", f"{folder}/no/Ärger.db", "ledger", "1")
+    expect("no/Ärger.db: " in umlaut.stderr, f"a name is told as {umlaut.stderr!r}")
+    first = run(program, *cases[0]).stderr.splitlines()[0]
+    wanted = f"invdesk: {folder}/\\u{{1b}}[31m\\u{{7f}}\\u{{9b}}\\u{{0d}}\\u{{0a}}\\u{{09}}/w.db: its folder isn't there"
+    expect(first == wanted, f"a path is told as {first!r}")
+
+
+def words(program, folder):
+    """Words that begin with a hyphen, and the usage beside a wrong value."""
+    room = folder / "words"
+    room.mkdir()
+    (room / "-x.csv").write_text("number,item,quantity\n")
+    expect(run(program, "run", "--db=-x", cwd=room).returncode == 0 and (room / "-x").exists(), "--db=-x")
+    expect(run(program, "run", "--db", "-y", cwd=room).returncode == 2, "--db -y")
+    expect(run(program, "run", "--", "-y", cwd=room).returncode == 2, "-- -y")
+    given = ("import", "--db", "w.db", "--kind", "counts", "--document", "D", "--day", "2030-01-02")
+    expect(run(program, *given, "--", "-x.csv", cwd=room).returncode == 0, "import -- -x.csv")
+    expect(run(program, *given, "-x.csv", cwd=room).returncode == 2, "import -x.csv")
+    wrong = {
+        "serve": ("--port", "0", "--count", "1"),
+        "report": ("--db", "w.db", "ledger", "one"),
+        "import": (*given[1:-1], "2030-02-30", "x"),
+    }
+    for word, values in wrong.items():
+        told_ = run(program, word, *values, cwd=room)
+        expect(told_.returncode == 2 and f"Usage: invdesk {word} " in told_.stderr, f"{word} is told as {told_.stderr!r}")
+
+
+def few_bytes(size):
+    def limit():
+        resource.setrlimit(resource.RLIMIT_FSIZE, (size, size))
+        signal.signal(signal.SIGXFSZ, signal.SIG_IGN)
+
+    return limit
+
+
+def faults(program, folder, path):
+    """The disk is full as the program writes: the fault is told once, with the file and the reason."""
+    line = '{"day":"2030-01-03","do":"add_location","name":"%s"}\n'
+    lines = "".join(line % ("L" * 40 + str(number)) for number in range(2000))
+    size = os.path.getsize(path) + 8192
+    rows = "number,item,quantity\n" + "".join(f"{number},10,{100 + number}\n" for number in range(1, 2001))
+    (folder / "counts.csv").write_text(rows)
+    imported = ("--kind", "counts", "--document", "D", "--day", "2030-01-03", str(folder / "counts.csv"))
+    for number, (word, *more) in enumerate((("run",), ("import", *imported))):
+        copy = shutil.copy(path, folder / f"full{number}.db")
+        ended = run(program, word, "--db", str(copy), *more, lines=lines, preexec_fn=few_bytes(size))
+        first, *rest = ended.stderr.splitlines()
+        expect(ended.returncode == 3, f"{word} on a full disk ends with {ended.returncode}")
+        expect(first.startswith(f"invdesk: {copy}: the database answered: "), f"{word} tells {first!r}")
+        expect(rest == ["invdesk: store or device failed"], f"{word} tells {rest!r} besides")
+        print(f"{word} on a full disk: {first}")
+    copy = shutil.copy(path, folder / "served.db")
+    with contextlib.closing(socket.socket()) as free:
+        free.bind(("127.0.0.1", 0))
+        port = free.getsockname()[1]
+    served = subprocess.Popen(
+        [program, "serve", "--db", str(copy), "--port", str(port), "--count", "60"],
+        stdout=subprocess.PIPE, stderr=subprocess.PIPE, text=True, preexec_fn=few_bytes(4 * size),
+    )
+    served.stdout.readline()
+    statuses = []
+    for number in range(60):
+        body = (line % ("L" * 40 + str(number))).strip().encode()
+        with contextlib.closing(socket.create_connection(("127.0.0.1", port))) as client:
+            client.sendall(b"POST /run HTTP/1.1\r\nHost: 127.0.0.1:%d\r\nContent-Length: %d\r\n\r\n%s" % (port, len(body), body))
+            statuses.append(client.recv(64).split()[1])
+        if statuses[-1] == b"500" and statuses.count(b"500") == 1:
+            told_ = served.stderr.readline()
+            expect(told_.startswith(f"invdesk: {copy}: the database answered: "), f"serve tells {told_!r}")
+            expect("started again" in told_, f"serve tells {told_!r}")
+            print(f"serve on a full disk: {told_.strip()}")
+    rest = served.communicate(timeout=60)[1]
+    expect(b"200" in statuses and statuses[-1] == b"500", f"serve answers {statuses}")
+    expect("the database answered" not in rest, f"serve tells it again: {rest!r}")
+
+
 def main(program):
     with tempfile.TemporaryDirectory() as name:
         folder = pathlib.Path(name)
@@ -341,6 +631,13 @@ def main(program):
         expect(new.returncode == 1, "a new file has a ledger")
         damaged(program, folder, path)
         refused(program, folder, path)
+        for old in sorted(OLD.glob("*.db")):
+            brought(program, folder, old)
+        not_brought(program, folder)
+        looked_at(program, folder, path)
+        escaped(program, folder)
+        words(program, folder)
+        faults(program, folder, path)
         started_again(program, folder)
     print("check_file: all as it should be")
 

@@ -2,15 +2,19 @@
 """Runs the program as a server on the loopback and asks it as clients do, with Python's http.client, with curl where it is
 there, and with bare sockets: each route and each error; a request that is sent in pieces, cut off at a byte, or sent again
 under its key after its connection was dropped; made-up bytes; many connections one after another, of which no descriptor
-and no memory may stay; and a server that is killed, whose file has to be the books before or after each request.
+and no memory may stay; and a server that is killed, whose file has to be the books before or after each request. What a
+web page sends is refused, and who doesn't show the token; clients that are silent or slow are left; descriptors are waited
+for; and a server that goes on is stopped by a signal, and its books are copied. It takes about a minute.
 
 usage: tools/check_http.py PROGRAM"""
+import concurrent.futures
 import contextlib
 import http.client
 import json
 import os
 import pathlib
 import random
+import resource
 import shutil
 import signal
 import socket
@@ -18,6 +22,8 @@ import sqlite3
 import subprocess
 import sys
 import tempfile
+import threading
+import time
 
 DAY = "2030-01-02"
 LOCATION = {"day": DAY, "do": "add_location", "name": "A"}
@@ -25,6 +31,7 @@ PART = {"day": DAY, "do": "add_part", "flags": ["component", "purchaseable"], "n
 RECEIPTS = "number,line,location,quantity,batch,serials\n1,4,1,100,L1,\n2,4,1,50,,\n"
 CONNECTIONS = 10_000
 MADE_UP = 1_000
+TOKEN = "0123456789abcdefghijklmnopqrstuvwxyz~!"
 
 
 def expect(holds, text):
@@ -40,13 +47,15 @@ def free_port():
 
 
 class Server:
-    """The program, serving so many connections."""
+    """The program, serving so many connections, or going on where no count is given."""
 
-    def __init__(self, program, count, *words):
+    def __init__(self, program, count, *words, descriptors=None):
         self.port = free_port()
+        counted = [] if count is None else ["--count", str(count)]
+        limited = descriptors and (lambda: limit_descriptors(0, descriptors))
         self.process = subprocess.Popen(
-            [program, "serve", *words, "--port", str(self.port), "--count", str(count)],
-            stdout=subprocess.PIPE, stderr=subprocess.PIPE)
+            [program, "serve", *words, "--port", str(self.port), *counted],
+            stdout=subprocess.PIPE, stderr=subprocess.PIPE, preexec_fn=limited)
         told = self.process.stdout.readline()
         expect(told == f"listening on 127.0.0.1:{self.port}\n".encode(), f"it tells {told!r}")
 
@@ -73,6 +82,28 @@ class Server:
                     answer += piece
             return answer
 
+    def closed(self, pieces, pause):
+        """What a client that sends the pieces with such pauses is answered, and after how many seconds."""
+        answer = b""
+        with contextlib.closing(socket.create_connection(("127.0.0.1", self.port))) as stream:
+            begun = time.monotonic()
+            with contextlib.suppress(ConnectionError):
+                for piece in pieces:
+                    stream.sendall(piece)
+                    stream.settimeout(pause)
+                    with contextlib.suppress(TimeoutError):
+                        answer = stream.recv(65536)
+                        break
+                stream.settimeout(60)
+                while piece := stream.recv(65536):
+                    answer += piece
+            return answer, time.monotonic() - begun
+
+    def stopped(self):
+        """Stops it by a signal, as a service is stopped."""
+        self.process.send_signal(signal.SIGTERM)
+        expect(self.ended() == -signal.SIGTERM, "a signal doesn't stop it")
+
     def ended(self):
         """The status that it ends with, after its last connection."""
         status = self.process.wait(timeout=20)
@@ -86,7 +117,13 @@ class Server:
 
 
 def posted(body, path="/run", fields=""):
-    return f"POST {path} HTTP/1.1\r\nHost: a\r\nContent-Length: {len(body)}\r\n{fields}\r\n{body}".encode()
+    return f"POST {path} HTTP/1.1\r\nContent-Length: {len(body)}\r\n{fields}\r\n{body}".encode()
+
+
+def limit_descriptors(process, count):
+    """Lets the process have so many descriptors; 0 is this one."""
+    _, most = resource.prlimit(process, resource.RLIMIT_NOFILE)
+    resource.prlimit(process, resource.RLIMIT_NOFILE, (count, most))
 
 
 def routes(program):
@@ -184,7 +221,12 @@ def by_curl(program):
 
 
 def descriptors(server):
-    return len(os.listdir(f"/proc/{server.process.pid}/fd"))
+    """How many are open while no client is there; the last client's may take a moment to be closed."""
+    counts = []
+    for _ in range(10):
+        time.sleep(0.1)
+        counts.append(len(os.listdir(f"/proc/{server.process.pid}/fd")))
+    return min(counts)
 
 
 def memory(server):
@@ -259,9 +301,181 @@ def killed(program, folder):
     expect(server.ended() == 0, "it doesn't end well")
 
 
+def pages(program):
+    """What web pages send, and names that aren't the service's."""
+    server = Server(program, 24)
+    own = f"127.0.0.1:{server.port}"
+    local = f"localhost:{server.port}"
+    for number, (status, fields) in enumerate((
+        (200, {}),
+        (200, {"Host": local}),
+        (200, {"Origin": f"http://{own}", "Sec-Fetch-Site": "same-origin"}),
+        (200, {"Host": local, "Origin": f"http://{local}", "Sec-Fetch-Site": "none"}),
+        (421, {"Host": "evil.example"}),
+        (421, {"Host": "localhost"}),
+        (421, {"Host": f"localhost.evil.example:{server.port}"}),
+        (421, {"Host": f"127.0.0.1:{server.port % 65535 + 1}"}),
+        (403, {"Origin": "null"}),
+        (403, {"Origin": "http://evil.example"}),
+        (403, {"Origin": f"https://{own}"}),
+        (403, {"Sec-Fetch-Site": "cross-site"}),
+    )):
+        line = json.dumps(dict(LOCATION, name=f"L{number}"))
+        got, headers, answer = server.asked("POST", "/run", line, **fields)
+        expect(got == status, f"a line with {fields} is answered {got}")
+        if status != 200:
+            text = b'{"http":%d}\n' % status
+            expect(answer == text and headers["Content-Type"] == "application/json", f"{fields}: {answer!r}")
+        got, _, answer = server.asked("POST", "/run", line)
+        expect(got == (409 if status == 200 else 200), f"with {fields} a line is done, or isn't")
+    expect(server.ended() == 0, "it doesn't end well")
+    server = Server(program, 3)
+    for fields, status in ((f"Host: {own}\r\nHost: {own}\r\n", 421), ("Origin: null\r\n", 403), ("ORIGIN:null\r\n", 403)):
+        answer = server.sent(f"GET /report/stock/1 HTTP/1.1\r\n{fields}\r\n".encode())
+        expect(answer.startswith(f"HTTP/1.1 {status} ".encode()), f"{fields!r} is answered {answer[:40]!r}")
+    expect(server.ended() == 0, "it doesn't end well")
+
+
+def tokens(program, folder):
+    """The file of a token, and who shows it."""
+    path = pathlib.Path(folder, "token")
+
+    def kept(text, mode):
+        path.write_text(text)
+        path.chmod(mode)
+
+    def refused(what):
+        words = [program, "serve", "--port", str(free_port()), "--count", "1", "--token", str(path)]
+        done = subprocess.run(words, capture_output=True, check=False)
+        expect(done.returncode == 3 and not done.stdout, f"{what} ends with {done.returncode}")
+        expect(str(path).encode() in done.stderr, f"of {what} is told {done.stderr!r}")
+
+    refused("no file")
+    for text, mode in ((TOKEN, 0o640), (TOKEN, 0o604), (TOKEN, 0o620), (TOKEN[:31], 0o600), (TOKEN * 4, 0o600),
+                       (TOKEN + " \n", 0o600), ("\n" + TOKEN, 0o600), (TOKEN + "\r\n", 0o600), ("", 0o600)):
+        kept(text, mode)
+        refused(f"{text!r} in a file of mode {mode:o}")
+    for text, mode in ((TOKEN, 0o600), (f"{TOKEN}\nmore\n", 0o400)):
+        kept(text, mode)
+        server = Server(program, 6, "--token", str(path))
+        for status, fields in ((200, {"Authorization": f"Bearer {TOKEN}"}), (401, {}),
+                               (401, {"Authorization": f"Bearer {TOKEN[:-1]}"}), (401, {"Authorization": TOKEN}),
+                               (401, {"Authorization": f"Bearer {TOKEN}a"}),
+                               (403, {"Authorization": f"Bearer {TOKEN}", "Origin": "null"})):
+            got, headers, answer = server.asked("POST", "/run", json.dumps(LOCATION), **fields)
+            expect(got == status, f"{fields} is answered {got}, {answer!r}")
+            expect(headers["WWW-Authenticate"] == ("Bearer" if status == 401 else None), f"{got} asks for no token")
+        expect(server.ended() == 0, "it doesn't end well")
+
+
+def silent(program):
+    """Clients that say nothing are left after a second, and so are those that send on after an answer."""
+    server = Server(program, 4)
+    with contextlib.closing(socket.create_connection(("127.0.0.1", server.port))):
+        begun = time.monotonic()
+        expect(server.asked("GET", "/x")[0] == 404, "a client behind a silent one isn't answered")
+        seconds = time.monotonic() - begun
+        expect(0.5 < seconds < 3, f"a silent client is left after {seconds:.1f} s")
+    begun = time.monotonic()
+    with contextlib.closing(socket.create_connection(("127.0.0.1", server.port))) as stream:
+        stream.sendall(b"GET /x HTTP/1.1\r\n\r\n")
+        with contextlib.suppress(ConnectionError):
+            while time.monotonic() < begun + 10:
+                stream.sendall(b"x" * 100)
+                time.sleep(0.05)
+    expect(time.monotonic() < begun + 3, "a client that sends on and on is read for long")
+    with contextlib.closing(socket.create_connection(("127.0.0.1", server.port))) as stream:
+        stream.sendall(b"GET /rep")
+    expect(server.ended() == 0, "it doesn't end well")
+
+
+def slow_head(program):
+    """A client that sends a byte now and then is left half a minute after its first."""
+    server = Server(program, 1)
+    answer, seconds = server.closed([b"GET /x HTTP/1.1\r\n"] + [b"a"] * 200, 0.5)
+    expect(answer == b"" and 28 < seconds < 40, f"a slow head is left after {seconds:.1f} s with {answer!r}")
+    expect(server.ended() == 0, "it doesn't end well")
+
+
+HEAD = b"POST /run HTTP/1.1\r\nContent-Length: 400000\r\n\r\n"
+
+
+def fair_body(program):
+    """A body of 10 KiB a second goes on past half a minute."""
+    server = Server(program, 1)
+    answer, seconds = server.closed([HEAD] + [b"a" * 4_000] * 100, 0.36)
+    expect(answer.startswith(b"HTTP/1.1 400 ") and seconds > 34, f"a fair body is left after {seconds:.1f} s with {answer!r}")
+    expect(server.ended() == 0, "it doesn't end well")
+
+
+def slow_body(program):
+    """A body of less is left."""
+    server = Server(program, 1)
+    answer, seconds = server.closed([HEAD] + [b"a" * 1_000] * 400, 0.5)
+    expect(answer == b"" and 28 < seconds < 60, f"a slow body is left after {seconds:.1f} s with {answer!r}")
+    expect(server.ended() == 0, "it doesn't end well")
+
+
+def slow_taker(program):
+    """A client that doesn't take its answer is left after half a minute; the answer has more than the system holds for it."""
+    server = Server(program, 2)
+    rows = "number,item,quantity\n" + 174_000 * "1,9,1\n"
+    with contextlib.closing(socket.socket()) as stream:
+        stream.setsockopt(socket.SOL_SOCKET, socket.SO_RCVBUF, 4096)
+        stream.connect(("127.0.0.1", server.port))
+        stream.sendall(posted(rows, f"/import/counts/C1/{DAY}"))
+        begun = time.monotonic()
+        connection = http.client.HTTPConnection("127.0.0.1", server.port, timeout=90)
+        with contextlib.closing(connection):
+            connection.request("GET", "/x")
+            expect(connection.getresponse().status == 404, "who comes behind isn't answered")
+        seconds = time.monotonic() - begun
+        expect(14 < seconds < 60, f"a client that takes nothing is left after {seconds:.1f} s")
+    expect(server.ended() == 0, "it doesn't end well")
+
+
+def crowded(program):
+    """Where no descriptor is left one is waited for, and then the service ends; standard output that is full is named."""
+    server = Server(program, 1, descriptors=4)
+    begun = time.monotonic()
+    with contextlib.closing(socket.create_connection(("127.0.0.1", server.port))):
+        status = server.process.wait(timeout=20)
+    told = server.process.stderr.read()
+    seconds = time.monotonic() - begun
+    expect(status == 3 and 1.5 < seconds < 6, f"without a descriptor it ends with {status} after {seconds:.1f} s")
+    expect(f"127.0.0.1:{server.port}: ".encode() in told, f"without a descriptor it tells {told!r}")
+    server = Server(program, 1, descriptors=4)
+    threading.Timer(0.7, limit_descriptors, (server.process.pid, 64)).start()
+    expect(server.asked("GET", "/x")[0] == 404, "a descriptor isn't waited for")
+    expect(server.ended() == 0, "it doesn't end well")
+    with open("/dev/full", "wb") as full:
+        words = [program, "serve", "--port", str(free_port()), "--count", "1"]
+        done = subprocess.run(words, stdout=full, stderr=subprocess.PIPE, check=False)
+    expect(done.returncode == 3 and b"standard output" in done.stderr, f"at a full device it tells {done.stderr!r}")
+
+
+def goes_on(program, folder):
+    """Without a count it goes on until it is stopped; started once more, it leaves all in the one file."""
+    path = os.path.join(folder, "on.db")
+    server = Server(program, None, "--db", path)
+    for number in range(300):
+        expect(server.run(dict(LOCATION, name=f"L{number}"))[0] == 200, "it doesn't go on")
+    expect(server.process.poll() is None, "it ends by itself")
+    server.stopped()
+    expect(os.path.getsize(f"{path}-wal") > 10_000, "what was done last isn't in the log")
+    done = subprocess.run([program, "run", "--db", path], stdin=subprocess.DEVNULL, capture_output=True, check=False)
+    expect(done.returncode == 0, f"the books of a server that was stopped end with {done.returncode}")
+    copy = os.path.join(folder, "copy.db")
+    shutil.copy(path, copy)
+    with contextlib.closing(sqlite3.connect(copy)) as database:
+        count = database.execute("SELECT count(*) FROM locations").fetchone()[0]
+    expect(count == 300, f"a copy has {count} locations of 300")
+
+
 def words(program):
     """Words that are wrong, and a port that is taken."""
-    for given in (["--port", "0", "--count", "1"], ["--port", "65536", "--count", "1"], ["--port", "8080"],
+    for given in (["--port", "0", "--count", "1"], ["--port", "65536", "--count", "1"], ["--count", "8"],
+                  ["--port", "8080", "--token"],
                   ["--port", "8080", "--count", "0"], ["--port", "8080", "--count", "1000001"]):
         done = subprocess.run([program, "serve", *given], capture_output=True, check=False)
         expect(done.returncode == 2, f"{given} end with {done.returncode}")
@@ -274,14 +488,22 @@ def words(program):
 
 
 def main(program):
-    words(program)
-    routes(program)
-    heads(program)
-    by_curl(program)
-    made_up(program)
-    with tempfile.TemporaryDirectory() as folder:
+    with concurrent.futures.ThreadPoolExecutor() as beside, tempfile.TemporaryDirectory() as folder:
+        waits = [beside.submit(slow, program) for slow in (slow_head, fair_body, slow_body, slow_taker)]
+        words(program)
+        routes(program)
+        heads(program)
+        by_curl(program)
+        pages(program)
+        tokens(program, folder)
+        silent(program)
+        crowded(program)
+        made_up(program)
+        goes_on(program, folder)
         killed(program, folder)
-    many(program)
+        many(program)
+        for wait in waits:
+            wait.result()
     print("check_http: all as it has to be")
 
 

@@ -4,7 +4,8 @@ quotes or only those that need it, with a byte order mark and without; with batc
 ends in them. Then on files that LibreOffice saved of a spreadsheet, where its `soffice` is found. Looks at what the
 program tells, and with sqlite3 at what is kept: that a file sent again, on another day too, is told the same and changes
 nothing; that a row with another quantity is KeyTaken in its line alone; that of a faulty file nothing is run; which
-status a missing path, a folder and wrong words end with; and what a terminal is told of the rows that are done.
+status a missing path, a folder and wrong words end with; what a terminal is told of the rows that are done; and that a
+file of a MiB takes little memory, whatever serials its rows list. It prints the seconds that this takes.
 
 usage: tools/check_import.py PROGRAM"""
 import codecs
@@ -234,11 +235,30 @@ def terminals():
         expect("2500 rows", counted(folder, 2_500), (b"1000 rows done\n2000 rows done\n", b""))
 
 
+def small():
+    """A file of a MiB, whose rows would take gigabytes with their serials made out. No row has a line of an order."""
+    with workshop() as folder:
+        rows = itertools.takewhile(lambda row: row[0] * 18 < 1_048_576, ([n, 99, 1, 1, "", "1-1000"] for n in itertools.count(1)))
+        path = folder / "small.csv"
+        path.write_bytes(written(RECEIPTS, rows))
+        words = ("import", "--db", str(folder / "w.db"), "--kind", "receipts", "--document", "S", "--day", "2030-03-01")
+        with subprocess.Popen([sys.argv[1], *words, str(path)], stdout=subprocess.PIPE) as sent:
+            told = sent.stdout.read()
+            usage = os.wait4(sent.pid, 0)[2]
+            sent.returncode = 1
+        lines = told.splitlines()
+        refused = [line for line in lines if line.endswith(b'\t{"refused":"NoSuch"}')]
+        expect("a small file", len(lines) > 50_000 and len(refused) == len(lines), True)
+        expect("less than 200 MB of a small file", usage.ru_maxrss < 200_000, True)
+        print(f"check_import: {len(lines)} rows of 1,000 serials took {usage.ru_utime:.1f} s and {usage.ru_maxrss // 1000} MB")
+
+
 forms()
 by_office()
 corrections()
 faults()
 statuses()
 terminals()
+small()
 print("check_import: all as it should be" if failures == 0 else f"check_import: {failures} differ")
 sys.exit(failures != 0)

@@ -24,7 +24,7 @@ def kind_of(name, kind, is_optional):
 
 
 COMMANDS = {do: {name: kind_of(name, *of) for name, *of in fields} for do, fields in FIELDS.items()}
-LATER = "consume build_line output complete auto_allocates".split()
+LATER = "consumes build_line output complete auto_allocates".split()
 STRANGE = [None, True, False, 0, 1, -1, 1.5, "", "x", "7", [], [1], ["x"], [None], {}, {"a": 1}, 2**64, 10**30, -0.0]
 # Numbers as they may be spelled: a number with a sign, a fraction or an exponent is none.
 SPELLED = ["1e3", "1.0", "-0", "1E0", "18446744073709551615", "18446744073709551616", "0.5", "-1"]

@@ -1,6 +1,6 @@
-/* The writes of so many requests through the system's sqlite: three_writes FILE COUNT. Each is one transaction with an
- * item's row, an entry of the history and the row of the counter, by prepared statements. It prints the seconds that
- * they took, without opening and closing. */
+/* The writes of so many requests through the system's sqlite: three_writes FILE COUNT [GROUP]. Each request puts an item's
+ * row and an entry of the history, by prepared statements. So many requests as GROUP says, or one, are one transaction,
+ * which ends with the row of the counter. It prints the seconds that they took, without opening and closing. */
 #include <sqlite3.h>
 #include <stdio.h>
 #include <stdlib.h>
@@ -61,8 +61,9 @@ static void put_counter(sqlite3_stmt *statement, sqlite3_int64 next, sqlite3_int
 
 int main(int count, char **words)
 {
-    if (count != 3)
+    if (count != 3 && count != 4)
         return 2;
+    sqlite3_int64 requests = atoll(words[2]), group = count == 4 ? atoll(words[3]) : 1;
     must(sqlite3_open(words[1], &db));
     text("PRAGMA journal_mode = WAL");
     text("PRAGMA synchronous = FULL");
@@ -79,13 +80,16 @@ int main(int count, char **words)
     sqlite3_stmt *commit = prepared("COMMIT");
     struct timespec from, to;
     clock_gettime(CLOCK_MONOTONIC, &from);
-    for (sqlite3_int64 n = 1; n <= atoll(words[2]); n++) {
+    for (sqlite3_int64 n = 1; n <= requests; n++) {
         sqlite3_int64 of = (n + 1) / 2 + 2, quantity = n % 2 ? 100 : 70;
-        once(begin);
+        if (n % group == 1 || group == 1)
+            once(begin);
         put_item(item, of, quantity);
         put_entry(entry, n, of, quantity);
-        put_counter(counter, of + 1, n);
-        once(commit);
+        if (n % group == 0 || n == requests) {
+            put_counter(counter, of + 1, n);
+            once(commit);
+        }
     }
     clock_gettime(CLOCK_MONOTONIC, &to);
     printf("%.6f\n", (double)(to.tv_sec - from.tv_sec) + (double)(to.tv_nsec - from.tv_nsec) / 1e9);

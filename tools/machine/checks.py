@@ -115,8 +115,8 @@ class Checks:
         self.when(any(it.name == c.name for it in self.m.parts.values()), "NameTaken")
         if c.template is not None:
             self.no_flag(c.template, "template")
-            self.when("template" in c.flags, "WrongFlag")
             self.in_service(c.template)
+            self.when(len(self.m.chain(c.template)) > 3, "TooDeep")
         self.when("virtual" in c.flags and c.flags - {"virtual", "component"}, "WrongFlag")
 
     def of_retire_part(self, c):
@@ -302,7 +302,7 @@ class Checks:
             return
         for line in m.effective(m.builds[build].part):
             it = m.lines[line]
-            is_short = m.for_line("build", build, line, c.output) < it.quantity * m.items[c.output].quantity
+            is_short = m.for_line("build", build, line, c.output) < m.need(build, line, c.output)
             self.when(m.is_tracked(line) and not it.optional and is_short, "Short")
         heights = [m.height(it.item) for _, it in m.allocations_of("build", build, c.output)]
         self.when(1 + max(heights, default=0) > 16, "TooDeep")
@@ -322,11 +322,8 @@ class Checks:
         self.loose(c.item)
         self.allocatable(c.item)
         self.when(c.quantity > m.free(c.item), "Allocated")
-        if c.output is None:
-            need, allocated = line.quantity * build.quantity, m.for_line("build", c.build, c.line)
-        else:
-            need, allocated = line.quantity * m.items[c.output].quantity, m.for_line("build", c.build, c.line, c.output)
-        self.when(allocated + c.quantity > need, "OverNeed")
+        allocated = m.for_line("build", c.build, c.line, c.output)
+        self.when(allocated + c.quantity > m.need(c.build, c.line, c.output), "OverNeed")
 
     def of_auto_allocate(self, c):
         self.state_in(c.build, "Pending", "Production")
@@ -341,5 +338,11 @@ class Checks:
         self.when(build.done < build.quantity, "Short")
         for line in m.effective(build.part):
             it = m.lines[line]
-            is_short = m.for_line("build", c.build, line) < it.quantity * build.quantity
+            is_short = m.for_line("build", c.build, line) < m.need(c.build, line)
             self.when(m.is_untracked(line) and not it.optional and is_short, "Short")
+
+    def of_consume(self, c):
+        it = self.m.allocations[c.allocation]
+        if it.side == "build":
+            self.state_in(it.owner, "Production")
+        self.when(it.side == "order" or it.output != 0, "Mismatch")

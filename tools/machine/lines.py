@@ -51,6 +51,7 @@ COMMANDS = {
     "auto_allocate": "build:row substitutes:yes optional:yes",
     "release": "allocation:row",
     "complete_build": "build:row",
+    "consume": "allocation:row",
 }
 # Each field as its name, its kind, and whether it may be left out.
 FIELDS = {do: [(*it.rstrip("?").split(":"), it.endswith("?")) for it in said.split()] for do, said in COMMANDS.items()}

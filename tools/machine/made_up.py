@@ -13,7 +13,7 @@ OFTEN = {
     "add_category": 1, "add_location": 1, "retire_part": 1, "drop_line": 1, "drop_substitute": 1, "hold_build": 1,
     "cancel_build": 1, "cancel_order": 1, "set_status": 3, "add_line": 5, "build": 5, "order_line": 5, "issue_order": 5,
     "ship": 5, "auto_allocate": 5, "receive": 6, "complete_build": 6, "allocate_sale": 8, "outputs": 8,
-    "complete_output": 8, "install": 8, "issue_build": 8, "found": 12, "allocate_build": 14}
+    "complete_output": 8, "install": 8, "issue_build": 8, "consume": 8, "found": 12, "allocate_build": 14}
 WORDS = ["Bolt", "Motor", "Größe", "漢", "🔩"]
 NAMES = [f"{word} {n}" for word in WORDS for n in range(40)] + ['"quoted"', "back\\slash", "a/b", "=1", "a,b", "x" * 200]
 DAMAGE = [b",", b'"', b"\n", b"\r", b"0", b"7", b"-", b"x", b" ", b"\xff", b"\xc3\xa9", b"\x00", b"\n\n", b""]
@@ -28,7 +28,11 @@ def style_of(r):
     chain = 0
     if r.random() < 0.25:
         chain, often["install"], often["uninstall"], often["disassemble"] = r.randint(17, 22), 300, 2, 1
-    return {**style, "newest": r.choice([3, 8, 30]), "parts": r.choice([8, 20, 40]), "chain": chain, "often": often}
+    is_builder = not chain and r.random() < 0.4
+    if is_builder:
+        often.update(allocate_build=60, auto_allocate=20, consume=60, build=15, issue_build=20, cancel_build=1, found=30)
+    return {**style, "newest": r.choice([3, 8, 30]), "parts": r.choice([8, 20, 40]), "chain": chain, "often": often,
+            "builder": is_builder}
 
 
 def typed(do, made):
@@ -45,7 +49,7 @@ class Maker:
 
     def __init__(self, r, machine):
         self.r, self.m, self.style, self.serials_made = r, machine, style_of(r), 0
-        self.first = self.chain(self.style["chain"])
+        self.first = self.builder() if self.style["builder"] else self.chain(self.style["chain"])
         # How often what fits is not looked for, and how often each command came to each end.
         self.wild, self.ends = 0.05, collections.Counter()
 
@@ -59,7 +63,10 @@ class Maker:
         if len(m.parts) < style["parts"] and r.random() < 0.5:
             do = r.choice(["add_part", "add_part", "add_line"])
             return do, self.fields(do)
-        do, made = self.rarest() if r.random() < 0.4 else self.likely()
+        if self.to_consume() and r.random() < 0.2:
+            do, made = "consume", self.consume()
+        else:
+            do, made = self.rarest() if r.random() < 0.4 else self.likely()
         self.ends[do, self.end_of(do, made)] += 1
         return do, made
 
@@ -96,10 +103,35 @@ class Maker:
             return str(end)
         return "done"
 
+    def named(self, name):
+        """The part of that name; now and then another."""
+        return self.one([n for n, it in self.m.parts.items() if it.name == name], self.m.parts)
+
+    def builder(self):
+        """Requests for assemblies in a chain of templates that are made of what stands in another, and for builds of them
+        and stock."""
+        chains = {"Table": ["template", "assembly"], "Nail": ["template", "component"]}
+        for name, flags in chains.items():
+            for at, its in enumerate([flags, flags, flags, flags[1:]][:self.r.randint(2, 4)]):
+                yield "add_part", lambda name=name, at=at, its=its: {
+                    "name": f"{name} {at}", "category": None, "template": self.named(f"{name} {at - 1}") if at else None,
+                    "flags": its}
+        yield "add_part", lambda: {"name": "Glue", "category": None, "template": None, "flags": ["component"]}
+        for at, component in (0, "Nail 0"), (1, "Nail 1"), (1, "Glue"):
+            yield "add_line", lambda at=at, component=component: {
+                "assembly": self.named(f"Table {at}"), "component": self.named(component),
+                "quantity": self.r.randint(1, 9), "optional": self.r.random() < 0.2, "consumable": False,
+                "inherited": True, "variants": component != "Glue"}
+        yield "add_substitute", lambda: {"line": self.row("line"), "part": self.named("Glue")}
+        for _ in range(12):
+            yield "found", self.found_wanted
+            yield "build", lambda: {"part": self.named(f"Table {self.r.randint(0, 3)}"), "quantity": self.r.randint(1, 5)}
+            yield "issue_build", self.issue_build
+
     def chain(self, count):
         """Requests for so many parts of which each goes into the one before, and for items of each."""
         def part(at):
-            return self.one([n for n, it in self.m.parts.items() if it.name == f"Link {at}"], self.m.parts)
+            return self.named(f"Link {at}")
 
         for at in range(count):
             flags = ["assembly", "component", "trackable"]
@@ -216,7 +248,7 @@ class Maker:
         templates = self.parts("template")
         if templates and r.random() < 0.45:
             template = self.one(templates)
-        elif r.random() < 0.35:
+        if r.random() < 0.35:
             flags.add("template")
         if r.random() < 0.06:
             flags = flags & {"component"} | {"virtual"}
@@ -239,8 +271,20 @@ class Maker:
 
     # commands of stock
 
+    def wanted(self):
+        """The components that builds want which may still have something allocated."""
+        m = self.m
+        builds = [it for it in m.builds.values() if it.state in ("Pending", "Production")]
+        return [m.lines[line].component for it in builds for line in m.effective(it.part) if not m.lines[line].consumable]
+
     def found(self):
-        part = self.one(self.parts())
+        part = self.one(self.wanted() if self.r.random() < 0.4 else [], self.parts())
+        return {"part": part, "location": self.row("location"), **self.stock(part)}
+
+    def found_wanted(self):
+        """Stock of a component that a build wants, or of a part that descends from it."""
+        part = self.one(self.wanted(), self.parts("component"))
+        part = self.one([n for n in self.m.parts if part in self.m.chain(n)], [part])
         return {"part": part, "location": self.row("location"), **self.stock(part)}
 
     def add(self):
@@ -386,7 +430,16 @@ class Maker:
         item = self.one([n for n in self.items("at") if line in m.lines and self.takes(line, n)], self.items("at"))
         if build not in m.builds or line not in m.lines or item not in m.items:
             return {"build": build, "line": line, "item": item, "quantity": 1, "output": output}
-        of, which = (m.items[output], output) if output in m.items else (m.builds[build], None)
-        left, free = m.lines[line].quantity * of.quantity - m.for_line("build", build, line, which), m.free(item)
+        which = output if output in m.items else None
+        left, free = m.need(build, line, which) - m.for_line("build", build, line, which), m.free(item)
         quantity = r.choice([max(min(left, free), 1)] * 3 + [1, free + 1, left + 1])
         return {"build": build, "line": line, "item": item, "quantity": quantity, "output": output}
+
+    def to_consume(self):
+        """The allocations that can be used up; they are seldom there for long."""
+        m = self.m
+        return [n for n, it in m.allocations.items()
+                if it.side == "build" and not it.output and m.builds[it.owner].state == "Production"]
+
+    def consume(self):
+        return {"allocation": self.one(self.to_consume(), self.m.allocations)}

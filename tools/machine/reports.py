@@ -23,6 +23,7 @@ HEADERS = {
     "builds": "id part quantity state done",
     "allocations": "id item quantity side owner line output",
     "kept": "word command answer",
+    "spent": "id build line quantity",
 }
 
 
@@ -63,7 +64,7 @@ def shortage(m, build):
         for n in m.effective(it.part):
             line = m.lines[n]
             if not line.consumable:
-                required = line.quantity * (it.quantity - it.done if m.is_tracked(n) else it.quantity)
+                required = line.quantity * (it.quantity - it.done) if m.is_tracked(n) else m.need(build, n)
                 allocated = m.for_line("build", build, n)
                 yield n, m.parts[line.component].name, required, allocated, required - allocated
 
@@ -91,7 +92,7 @@ def place_of(it):
 def table(m, name):
     """The rows of a table, its header first."""
     if name == "meta":
-        rows = [(1, 1, m.next, len(m.history), m.most_numbers, m.most_entries)]
+        rows = [(1, 2, m.next, len(m.history), m.most_numbers, m.most_entries)]
     elif name == "kept":
         rows = [(key, it.command, answer_line(it.answer)) for key, it in sorted(m.kept.items())]
     elif name == "history":
@@ -108,6 +109,7 @@ def table(m, name):
             "order_lines": lambda it: (it.order, it.part, it.quantity, it.done),
             "builds": lambda it: (it.part, it.quantity, BUILD_STATES.index(it.state), it.done),
             "allocations": lambda it: (it.item, it.quantity, int(it.side == "build"), it.owner, it.line, it.output),
+            "spent": lambda it: (it.build, it.line, it.quantity),
         }[name]
         rows = [(n, *of(it)) for n, it in sorted(getattr(m, name).items())]
     return [HEADERS[name].split()] + [["" if it is None else str(it) for it in row] for row in rows]
