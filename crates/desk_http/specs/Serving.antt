@@ -1,5 +1,5 @@
 -- What a connection is answered, and what becomes of the service.
-use Rattle.std.specs.Prelude.{◌≡◌, ◌≤◌, ◌⊎◌, nat_lt, ℕ, List, length, take, drop}
+use Rattle.std.specs.Prelude.{◌≡◌, ◌≤◌, ◌⊎◌, nat_lt, ℕ, zero, suc, List, length, take, drop}
 use Rattle.std.specs.Prelude.{Option, Some, None, Result, Ok, Err, if◌then◌else◌}
 use Rattle.std.specs.Io.KnownBytes.{Appends, Keeps}
 use Rattle.desk_http.specs.AccessRules.{AccessRules}
@@ -108,3 +108,12 @@ module _ {D : Type 0} (performs : D → Operation → Result ReplyView NoReply �
   PerformsAndSends d o d' w w' r =
       ((p : Response) × Replies d o d' p × Sends p w w' r)
       ⊎ ((r ≡ Err Memory) × ((outcome : Result ReplyView NoReply) × performs d o outcome d') × Keeps w w')
+
+  -- what a connection did to the service: nothing, or one operation, whatever came of it
+  abbrev pub IsOneStep : D → D → Type 0
+  IsOneStep d d' = (d' ≡ d) ⊎ ((o : Operation) × (outcome : Result ReplyView NoReply) × performs d o outcome d')
+
+  -- what so many connections did to it, one after another
+  abbrev pub AreSteps : ℕ → D → D → Type 0
+  AreSteps zero d d' = d' ≡ d
+  AreSteps (suc n) d d' = (middle : D) × AreSteps n d middle × IsOneStep middle d'

@@ -1,5 +1,7 @@
 //! Clients on the loopback, a request a connection, one connection after another.
-ghost use Rattle.std.specs.Prelude.{◌≡◌, ◌+◌, ◌<◌, ◌^◌, OnErr, OnOk};
+ghost use Rattle.std.specs.Prelude.{◌≡◌, ◌+◌, ◌<◌, ◌≤◌, ◌^◌, ℕ, OnErr, OnOk};
+ghost use Rattle.desk_http.specs.Services.{Performs};
+ghost use Rattle.desk_http.specs.Serving.{AreSteps, IsOneStep};
 
 use crate::access::Access;
 use crate::pace::{PacedReader, PacedWriter, read_off};
@@ -21,7 +23,18 @@ const MILLISECONDS: u64 = 200;
 /// The codes of the system where the machine, or the program, may have no descriptor more.
 const NO_DESCRIPTOR: [i32; 2] = [23, 24];
 
-/// Answers the request of a connection. Whatever fails costs the connection alone.
+/// Ends a connection: one that was answered is read off first, so that the client gets the answer whole.
+fn end<C: Clock>(clock: &C, stream: &TcpStream, served: Served) -> io::Result<()> {
+    match served {
+        Served::Answered(_) => {
+            stream.shutdown(Shutdown::Write)?;
+            read_off(clock, stream)
+        }
+        _ => Ok(()),
+    }
+}
+
+/// Answers the request of a connection, which does one operation at most. Whatever fails costs the connection alone.
 fn answer<C: Clock, S: Service>(
     clock: &C,
     alloc: Global,
@@ -30,17 +43,14 @@ fn answer<C: Clock, S: Service>(
     access: &Access,
 ) -> io::Result<()>
     requires { S.is_kept service.old }
-    ensures { S.is_kept service.new }
+    ensures kept { S.is_kept service.new }
+    ensures step { IsOneStep (Performs S.state S.machine S.left S.relates)
+        service.old service.new }
 {
     let mut reader = PacedReader::new(clock, stream);
     let mut writer = PacedWriter::new(clock, stream);
-    match serve_one(alloc, &mut reader, &mut writer, service, access) {
-        Served::Answered(_) => {
-            stream.shutdown(Shutdown::Write)?;
-            read_off(clock, stream)
-        }
-        _ => Ok(()),
-    }
+    let served = serve_one(alloc, &mut reader, &mut writer, service, access);
+    end(clock, stream, served)
 }
 
 /// The clients of a listener, and how many connections of theirs were accepted.
@@ -119,6 +129,8 @@ pub fn serve_connections<C: Clock, L: OpenListener<Stream = TcpStream> + Drop, S
     requires kept { S.is_kept service.old }
     requires room { clients.old.accepted + count < 2 ^ 64 }
     ensures kept { S.is_kept service.new }
+    ensures steps { (n : ℕ) × (n ≤ count)
+        × AreSteps (Performs S.state S.machine S.left S.relates) n service.old service.new }
     ensures accepted { OnOk result (clients.new.accepted ≡ clients.old.accepted + count) }
 {
     for done in 0..count {
