@@ -55,9 +55,13 @@ fn is_one_held(catalogue: &Catalogue, yard: &Yard, part: Id, serials: &[Serial])
         .any(|serial| !yard.serial_free(catalogue, serial, part))
 }
 
-/// Whether a serial stands twice in the list, or is held in the part's family.
+/// Whether a serial stands twice in the list, or is held in the part's family. The family is asked first, since it costs
+/// less: of a delivery that is read again the first serial tells.
 pub fn are_taken(catalogue: &Catalogue, yard: &Yard, part: Id, serials: &[Serial]) -> bool
     ensures { result ≡ are_taken part (parts_of catalogue.now) (stock_of yard.now) serials.now }
 {
-    stands_twice(serials) || is_one_held(catalogue, yard, part, serials)
+    if is_one_held(catalogue, yard, part, serials) {
+        return true;
+    }
+    stands_twice(serials)
 }
