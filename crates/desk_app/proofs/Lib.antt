@@ -5,6 +5,7 @@ pub mod Running
 pub mod Rows
 pub mod Replies
 pub mod SentAgain
+pub mod LineRequests
 pub mod LinesAgain
 pub mod Files
 pub mod CommandLines

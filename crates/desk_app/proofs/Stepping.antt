@@ -49,7 +49,7 @@ step-held s n l = rw (blank-held l, line-held l) refl
 
 -- ---- a line that asks for a request
 
-outcome_state : (p : State × Outcome) → (by_outcome p).0 ≡ p.0
+pub outcome_state : (p : State × Outcome) → (by_outcome p).0 ≡ p.0
 outcome_state (s, Ok answer) = refl
 outcome_state (s, Err refusal) = refl
 

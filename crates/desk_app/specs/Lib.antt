@@ -3,6 +3,7 @@ pub mod Ends
 pub mod Runs
 pub mod ImportRuns
 pub mod SentAgain
+pub mod LineRequests
 pub mod LinesAgain
 pub mod Printed
 pub mod Words

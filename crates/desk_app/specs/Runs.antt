@@ -79,28 +79,19 @@ abbrev pub all_fine : State → ℕ → List (List ℕ) → Bool
 all_fine s number [] = true
 all_fine s number (l ∷ ls) = is_fine s number l && all_fine (line_after s number l) (number + 1) ls
 
--- what is answered to a text
-abbrev pub lines_out : State → List ℕ → List ℕ
-lines_out s bytes = run_out s 1 (lines_of bytes)
+-- ---- how a run ends
 
-abbrev pub lines_after : State → List ℕ → State
-lines_after s bytes = run_after s 1 (lines_of bytes)
+-- these lines were run, and all their answers written
+pub record RanLines (lines : List (List ℕ)) (w w' : Option (List ℕ)) (s s' : State) (all : Bool) : Type 0 where
+  pub state : s' ≡ run_after s 1 lines
+  pub written : Appends w w' (run_out s 1 lines)
+  pub fine : all ≡ all_fine s 1 lines
 
-abbrev pub lines_fine : State → List ℕ → Bool
-lines_fine s bytes = all_fine s 1 (lines_of bytes)
-
--- ---- how a run ends, of known bytes and with a writer of known contents
-
--- all lines were run, and all their answers written
-pub record RunWhole (text : List ℕ) (w w' : Option (List ℕ)) (s s' : State) (all : Bool) : Type 0 where
-  pub state : s' ≡ lines_after s text
-  pub written : Appends w w' (lines_out s text)
-  pub fine : all ≡ lines_fine s text
-
+-- all lines of the text were; of unknown bytes, some lines
 abbrev pub Finished : Option (List ℕ) → Option (List ℕ) → Option (List ℕ) → State → State → Bool
     → Type 0
-Finished None w w' s s' all = Unit {0}
-Finished (Some text) w w' s s' all = RunWhole text w w' s s' all
+Finished None w w' s s' all = (lines : List (List ℕ)) × RanLines lines w w' s s' all
+Finished (Some text) w w' s s' all = RanLines (lines_of text) w w' s s' all
 
 -- the lines of a text begin with these; those of unknown bytes may be any
 abbrev pub BeginWith : Option (List ℕ) → List (List ℕ) → Type 0

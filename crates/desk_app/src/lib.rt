@@ -32,7 +32,7 @@ pub use escape::{escaped, told_line};
 pub use file::{migrate_desk, print_export, print_migrated, print_report, take_desk};
 pub use import::import_file;
 pub use memory::run_in_memory;
-pub use run::run_lines;
+pub use run::{lines_are_requests, run_lines};
 pub use service::BooksService;
 pub use status::{DEVICE, MEMORY, NOT_ALL, WRONG_WORDS, early_status, status_of, status_of_fault};
 pub use watched::WatchedDesk;

@@ -16,6 +16,7 @@ ghost use Rattle.desk_store.specs.StateTables.{TablesAre};
 ghost use Rattle.desk_app.specs.declared.end.Stop.{Stop};
 ghost use Rattle.desk_app.specs.Cuts.{has_end, unread};
 ghost use Rattle.desk_app.specs.Ends.{end_of};
+ghost use Rattle.desk_app.specs.LineRequests.{LinesAreRequests};
 ghost use Rattle.report_core.specs.Reports.{report_lines};
 ghost use Rattle.desk_app.specs.Runs.{by_outcome, by_report, is_blank, line_step, line_after};
 ghost use Rattle.desk_app.specs.Runs.{line_out, is_fine, CutLine, CutRequest, CutSettling};
@@ -232,6 +233,8 @@ fn settle_if_due<B: Books, W: Write>(
     ensures grouping { B.are_grouping books.new }
     ensures stays_open { StaysOpen (B.failure_of books.old) (B.failure_of books.new) result }
     ensures was_open { B.failure_of books.new ≡ None → B.failure_of books.old ≡ None }
+    ensures open { IfErr result (λ stop.
+        stop ≡ Stop.WriteFailed → B.failure_of books.new ≡ None) }
     ensures left { (trees : Trees) → B.may_leave books.new trees
         → B.may_leave books.old trees ⊎ TablesAre (B.state_in books.new) trees }
 {
@@ -263,6 +266,8 @@ fn gather<B: Books, R: Read, W: Write>(
     ensures kept { IfErr result (λ stop. IsOfSettling stop → B.are_kept books.new) }
     ensures stays_open { StaysOpen (B.failure_of books.old) (B.failure_of books.new) result }
     ensures was_open { B.failure_of books.new ≡ None → B.failure_of books.old ≡ None }
+    ensures open { IfErr result (λ stop.
+        stop ≡ Stop.WriteFailed → B.failure_of books.new ≡ None) }
 {
     let mut lines = Lines::new(alloc)?;
     let mut line = Vec::new(alloc);
@@ -293,7 +298,7 @@ fn answer_all<B: Books, R: Read, W: Write>(
         (W.contents writer.new) (B.state_in books.old) (B.state_in books.new)
         (λ trees. (B.failure_of books.old ≡ None) × B.may_leave books.new trees)) }
     ensures kept { B.are_kept books.new }
-    ensures stays_open { StaysOpen (B.failure_of books.old) (B.failure_of books.new) result }
+    ensures ends_open { EndsOpen (B.failure_of books.old) (B.failure_of books.new) result }
 {
     let mut text = Vec::new(alloc);
     match gather(alloc, reader, writer, books, &mut text) {
@@ -331,14 +336,20 @@ pub fn run_lines<B: Books, R: Read, W: Write>(
         (λ trees. (B.failure_of books.old ≡ None) × B.may_leave books.new trees) }
     ensures kept { B.are_kept books.new }
     ensures in_order { AreInOrder (B.state_in books.new) }
-    ensures stays_open { B.failure_of books.old ≡ None → result ≢ RunEnd.Store
-        → B.failure_of books.new ≡ None }
+    ensures open { result ≢ RunEnd.Store
+        → (B.failure_of books.old ≡ None) × (B.failure_of books.new ≡ None) }
     ensures closed { result ≡ RunEnd.Store → IsSome (B.failure_of books.new) }
-    ensures left { B.failure_of books.old ≡ None → result ≢ RunEnd.Store → (trees : Trees)
-        → B.may_leave books.new trees → TablesAre (B.state_in books.new) trees }
+    ensures left { result ≢ RunEnd.Store → (trees : Trees) → B.may_leave books.new trees
+        → TablesAre (B.state_in books.new) trees }
 {
     match answer_all(alloc, reader, writer, books) {
         Ok(all) => RunEnd::Done(all),
         Err(stop) => stop.end(),
     }
 }
+
+/// The law that lines change the books by the requests alone that they ask for, in their order: a blank line, a report and
+/// a faulty line change nothing.
+pub fn lines_are_requests()
+    ensures { LinesAreRequests }
+{}

@@ -1,11 +1,11 @@
-use Rattle.std.proofs.Common.{◌≡◌, ◌&&◌, ◌∙◌, ◌⊎◌, inl, inr}
+use Rattle.std.proofs.Common.{◌≡◌, ◌&&◌, ◌∙◌, ◌⊎◌, sym, inl, inr}
 use Rattle.std.specs.Prelude.{None}
 use Rattle.desk_app.specs.Cuts.{left}
 use Rattle.desk_app.specs.Runs.{is_fine, Halts, IsOfSettling}
-use Rattle.desk_app.specs.declared.end.Stop.TheVariants.{Memory}
+use Rattle.desk_app.specs.declared.end.Stop.TheVariants.{Memory, ReadFailed, WriteFailed}
 use Rattle.desk_app.proofs.Running.{running_due, running_line, running_start, kept_start, gathered, halting, halts_line}
-use Rattle.desk_app.proofs.Running.{halts_reading, halts_start, halts_unsettled, if_err, if_err_as, line_settles}
-use Rattle.desk_app.proofs.Running.{reading_settles, stays_reading}
+use Rattle.desk_app.proofs.Running.{halts_reading, halts_start, halts_unsettled, if_err, if_err_as, line_settles, line_writes}
+use Rattle.desk_app.proofs.Running.{reading_settles, reading_writes, stays_reading}
 use Rattle.desk_app.proofs.run.gather.Goals as goal
 use Rattle.desk_app.proofs.run.gather.Goals.{then-all, else-all}
 
@@ -179,3 +179,32 @@ returns-clause-stopped g c = halting _ _ _ _ _ _ _ _ _ _ c.loop-number.invariant
 
 pub returns-clause-kept : goal.returns-clause-kept
 returns-clause-kept g c settles = absurd settles
+
+pub returns-in_err-lines-clause-open : goal.returns-in_err-lines-clause-open
+returns-in_err-lines-clause-open g c =
+    if_err (λ stop. stop ≡ Memory) (λ stop. stop ≡ WriteFailed → g.B.Books.failure_of c.args.books.now ≡ None)
+    c.from_residual.result (λ stop e is. absurd (let both : Memory ≡ WriteFailed = sym e ∙ is in cc))
+    c.from_residual.ensures.1
+
+pub returns-in_err-settle_if_due-clause-open : goal.returns-in_err-settle_if_due-clause-open
+returns-in_err-settle_if_due-clause-open g c =
+    if_err_as (λ stop. stop ≡ WriteFailed → g.B.Books.failure_of c.settle_if_due.new.books ≡ None)
+    c.from_residual-in_err-settle_if_due.result c.in_err-settle_if_due.field-0.0
+    c.from_residual-in_err-settle_if_due.ensures.1 c.in_err-settle_if_due.ensures.open
+
+pub returns-in_err-next_line-clause-open : goal.returns-in_err-next_line-clause-open
+returns-in_err-next_line-clause-open g c =
+    if_err_as (λ stop. stop ≡ WriteFailed → g.B.Books.failure_of c.settle_if_due.new.books ≡ None)
+    c.from_residual-in_err-next_line.result c.in_err-next_line.field-0.0 c.from_residual-in_err-next_line.ensures.1
+    (reading_writes c.in_err-next_line.field-0.0 c.in_err-next_line.ensures.reading)
+
+pub returns-in_err-fine-clause-open : goal.returns-in_err-fine-clause-open
+returns-in_err-fine-clause-open g c =
+    let cut = rw c.deref.ensures.value at c.in_err-fine.ensures.cut in
+    if_err_as (λ stop. stop ≡ WriteFailed → g.B.Books.failure_of c.add_line.new.books ≡ None)
+    c.from_residual-in_err-fine.result c.in_err-fine.field-0.0 c.from_residual-in_err-fine.ensures.1
+    (line_writes c.in_err-fine.field-0.0 (g.B.Books.state_in c.settle_if_due.new.books)
+    (g.B.Books.state_in c.add_line.new.books) c.loop-number.number c.next_line.new.line.items cut)
+
+pub returns-clause-open : goal.returns-clause-open
+returns-clause-open g c is = absurd (let e : ReadFailed ≡ WriteFailed = is in cc)
