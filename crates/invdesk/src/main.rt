@@ -156,26 +156,37 @@ fn print(rt: &HostRuntime, task: &Task<'_>, desk: &Desk<FileStore<File>>) -> Run
     }
 }
 
-/// Closes the desk after work that ended so, and lets go of its file.
-fn closed(desk: Desk<FileStore<File>>, end: RunEnd) -> RunEnd
+/// Closes the desk of the file at the path after work that ended so, and lets go of the file. Where it can't be closed,
+/// it is told why, unless a fault has closed the desk before, which was told then.
+fn closed(rt: &HostRuntime, path: &str, desk: Desk<FileStore<File>>, end: RunEnd) -> RunEnd
     requires { IsDesk over_files desk }
 {
+    let was_open = desk.failed().is_none();
     let (end, left) = end_of_work(desk, end);
+    if let Err((error, _)) = &left {
+        if was_open {
+            tell_line(rt, format_args!("{path}: {error}"));
+        }
+    }
     let_go(left);
     end
 }
 
-/// Answers the lines of the standard input, and closes the desk of the file, which is told by that name.
-fn run_on(rt: &HostRuntime, desk: Desk<FileStore<File>>, name: String) -> RunEnd
+/// A desk after work on it, and how the work ended.
+type Worked = (Desk<FileStore<File>>, RunEnd);
+
+/// Answers the lines of the standard input with the desk, whose file is told by that name.
+fn run_on(rt: &HostRuntime, desk: Desk<FileStore<File>>, name: String) -> Worked
     requires { IsDesk over_files desk }
+    ensures { IsDesk over_files result.0 }
 {
     let mut watched = WatchedDesk::new(desk, name, "", rt.stderr());
     let (mut reader, mut writer) = (rt.reader(), io::writer(rt));
     let end = run_lines(rt.alloc(), &mut reader, &mut writer, &mut watched);
-    closed(watched.into_desk(), end)
+    (watched.into_desk(), end)
 }
 
-/// Serves clients, so many or until it is stopped, and closes the desk.
+/// Serves clients, so many or until it is stopped.
 fn serve_on(
     rt: &HostRuntime,
     port: u16,
@@ -183,16 +194,17 @@ fn serve_on(
     token: Option<&str>,
     desk: Desk<FileStore<File>>,
     name: String,
-) -> RunEnd
+) -> Worked
     requires { IsDesk over_files desk }
+    ensures { IsDesk over_files result.0 }
 {
     let watched = WatchedDesk::new(desk, name, SERVED, rt.stderr());
     let mut service = BooksService { books: watched };
     let end = serve(rt, port, count, token, &mut service);
-    closed(service.books.into_desk(), end)
+    (service.books.into_desk(), end)
 }
 
-/// Runs the rows of the file at the path, and closes the desk.
+/// Runs the rows of the file at the path.
 fn import_on(
     rt: &HostRuntime,
     path: &str,
@@ -201,18 +213,20 @@ fn import_on(
     day: Day,
     desk: Desk<FileStore<File>>,
     name: String,
-) -> RunEnd
+) -> Worked
     requires { IsDesk over_files desk }
+    ensures { IsDesk over_files result.0 }
 {
     let watched = WatchedDesk::new(desk, name, "", rt.stderr());
     let mut counted = CountedBooks::new(watched, terminal(rt));
     let end = import(rt, path, kind, document, day, &mut counted);
-    closed(counted.into_books().into_desk(), end)
+    (counted.into_books().into_desk(), end)
 }
 
-/// Does what the words ask for, and closes the desk of the file, which is told by that name.
-fn done(rt: &HostRuntime, task: &Task<'_>, desk: Desk<FileStore<File>>, name: String) -> RunEnd
+/// Does what the words ask for with the desk, whose file is told by that name.
+fn done(rt: &HostRuntime, task: &Task<'_>, desk: Desk<FileStore<File>>, name: String) -> Worked
     requires { IsDesk over_files desk }
+    ensures { IsDesk over_files result.0 }
 {
     match task {
         Task::Run(_) => run_on(rt, desk, name),
@@ -231,7 +245,7 @@ fn done(rt: &HostRuntime, task: &Task<'_>, desk: Desk<FileStore<File>>, name: St
         } => import_on(rt, path, *kind, document, *day, desk, name),
         _ => {
             let end = print(rt, task, &desk);
-            closed(desk, end)
+            (desk, end)
         }
     }
 }
@@ -261,12 +275,12 @@ fn migrated(rt: &HostRuntime, path: &str) -> Result<Desk<FileStore<File>>, FileF
 /// Does what the words ask for, with the desk of the file.
 fn act_on_file(rt: &HostRuntime, path: &str, task: &Task<'_>) -> Result<RunEnd, FileFault> {
     let name = escaped(rt.alloc(), path)?;
-    if let Task::Migrate(_) = task {
-        let desk = migrated(rt, path)?;
-        return Ok(done(rt, task, desk, name));
-    }
-    let desk = taken(rt, path)?;
-    Ok(done(rt, task, desk, name))
+    let desk = match task {
+        Task::Migrate(_) => migrated(rt, path)?,
+        _ => taken(rt, path)?,
+    };
+    let (desk, end) = done(rt, task, desk, name);
+    Ok(closed(rt, path, desk, end))
 }
 
 /// Does what the words ask for with a file, and says why not, where the file is the reason.
