@@ -48,8 +48,12 @@ machine: build
 	python3 tools/check_machine.py $(PROGRAM)
 	python3 tools/check_opening.py $(PROGRAM)
 
+# The program with growths of memory refused to it, by a small C library that is loaded before it.
+memory: build
+	python3 tools/check_memory.py $(PROGRAM)
+
 # The wrong bodies that the gate leaves out: each has to be refused. It takes hours; 'make refuse CRATES=forest' tries one crate's.
 refuse:
 	python3 tools/refuse.py $(CRATES)
 
-.PHONY: try run test build install bench file http machine refuse
+.PHONY: try run test build install bench file http machine memory refuse
