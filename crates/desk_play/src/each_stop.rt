@@ -5,6 +5,7 @@ ghost use Rattle.sqlite.specs.Files.{over_files};
 ghost use Rattle.desk_store.specs.Desks.{IsDesk};
 
 use crate::outcomes::holds;
+use crate::play::plays_on;
 use crate::tables::tables_text;
 use desk_core::{Request, Shop, answer_line};
 use desk_store::{Desk, Fault};
@@ -140,6 +141,21 @@ pub fn fused(
     })
 }
 
+/// A connection to the files, or the files where the disk stopped before.
+pub fn connected<D: Disk + Drop>(
+    alloc: Global,
+    files: Files<D>,
+    salt: u64,
+) -> Result<Connection<FileStore<D>>, Files<D>> {
+    if !files.may_be_used() {
+        return Err(files);
+    }
+    match Connection::open_files(alloc, files, Options::new(salt)) {
+        Ok(conn) => Ok(conn),
+        Err((_, left)) => Err(left.into_files()),
+    }
+}
+
 /// The desk of the files, or the files where the disk stopped before.
 pub fn opened<D: Disk + Drop>(
     alloc: Global,
@@ -148,17 +164,26 @@ pub fn opened<D: Disk + Drop>(
 ) -> Result<Desk<FileStore<D>>, Files<D>>
     ensures { IfOk result (λ desk. IsDesk over_files desk) }
 {
-    if !files.may_be_used() {
-        return Err(files);
-    }
-    let conn = match Connection::open_files(alloc, files, Options::new(salt)) {
+    let conn = match connected(alloc, files, salt) {
         Ok(conn) => conn,
-        Err((_, left)) => return Err(left.into_files()),
+        Err(left) => return Err(left),
     };
     match Desk::open(alloc, conn) {
         Ok(desk) => Ok(desk),
         Err((_, database)) => Err(database.close()),
     }
+}
+
+/// The desk of files that ran the lines, which are answered so.
+pub fn filled(alloc: Global, lines: &str, answers: &str) -> Result<Desk<FileStore<Memory>>, Fail>
+    ensures { IfOk result (λ desk. IsDesk over_files desk) }
+{
+    let mut desk = match opened(alloc, fresh(alloc)?, 8) {
+        Ok(desk) => desk,
+        Err(_) => return Err(Fail::from("a new desk isn't opened")),
+    };
+    plays_on(alloc, &mut desk, lines, answers)?;
+    Ok(desk)
 }
 
 /// The desk of the files after a stop, which loses what was not synced.
@@ -236,7 +261,7 @@ fn stop_after(
 }
 
 /// Stops at each call of the log or of the database in turn, until all are answered: how many stops there were.
-pub fn stops(alloc: Global, unbroken: &Unbroken, of_log: bool) -> Result<u64, Fail> {
+pub fn stops_amid_requests(alloc: Global, unbroken: &Unbroken, of_log: bool) -> Result<u64, Fail> {
     let files = fresh(alloc)?;
     for calls in 0..4_000u64 {
         if stop_after(alloc, &files, unbroken, calls, of_log)? {

@@ -3,7 +3,7 @@
 use desk_app::{RunEnd, run_lines};
 use desk_play::devices::{Sink, Source};
 use desk_play::play::created;
-use desk_play::stops::{Keyed, lines_in, stops_in_groups};
+use desk_play::stops::{Keyed, Sending, lines_in, stops_in_groups};
 use sqlite::Connection;
 use std::alloc::Global;
 use std::io::{self, ErrorKind, Read, Write};
@@ -230,6 +230,6 @@ fn a_writer_fails_at_a_byte(rt: HostRuntime) -> Result<(), Fail> {
 fn a_stop_amid_groups(rt: HostRuntime) -> Result<(), Fail> {
     let alloc = rt.alloc();
     let keyed = Keyed::new(alloc, FEW, FEW_ANSWERS)?;
-    assert!(rt; stops_in_groups(alloc, &keyed, 120, true)? > 1);
+    assert!(rt; stops_in_groups(alloc, &keyed, Sending::Lines(120), true)? > 1);
     Ok(())
 }

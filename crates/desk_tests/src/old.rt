@@ -1,10 +1,12 @@
 //! Tables that an earlier program left, those of version 1: they are told from others, and brought along.
 use desk_play::devices::Sink;
-use desk_play::old::made_old;
+use desk_play::each_stop::connected;
+use desk_play::old::{OldFiles, made_old, stops_amid_migration};
 use desk_play::outcomes::holds;
 use desk_play::play::{created, plays_on};
 use desk_store::{Desk, OpenFault};
-use sqlite::{Alter, Connection, MemStore};
+use sqlite::{Alter, Connection, Files, MemStore};
+use sqlite_disk::Disk;
 use std::alloc::Global;
 use std::test::Fail;
 use table_store::TableName;
@@ -78,6 +80,17 @@ const ANSWERS: &str = r#"{"entries":0,"ids":[1]}
 {"entries":5,"ids":[]}
 {"entries":1,"ids":[]}
 {"entries":3,"ids":[]}
+"#;
+
+/// A shorter workshop, for stops.
+const FEW: &str = r#"{"day":"2030-01-02","do":"add_location","key":"a","name":"A"}
+{"day":"2030-01-02","do":"add_part","flags":["component","trackable"],"key":"b","name":"Motor"}
+{"day":"2030-01-02","do":"found","key":"c","location":1,"part":2,"quantity":1,"serials":"M1"}
+"#;
+
+const FEW_ANSWERS: &str = r#"{"entries":0,"ids":[1]}
+{"entries":0,"ids":[2]}
+{"entries":1,"ids":[3]}
 "#;
 
 /// What is there of each part then.
@@ -174,20 +187,25 @@ fn unmoved<S: Alter + Drop>(alloc: Global, conn: Connection<S>) -> Option<(OpenF
     }
 }
 
+/// The files, once they were told to be old ones.
+fn told_old<D: Disk + Drop>(alloc: Global, files: Files<D>) -> Result<Files<D>, Fail> {
+    let Ok(conn) = connected(alloc, files, 7) else {
+        return Err(Fail::from("no database"));
+    };
+    match refused(alloc, conn) {
+        Some((OpenFault::Old, database)) => Ok(database.close()),
+        _ => Err(Fail::from("old files that are opened, or told as others")),
+    }
+}
+
+/// However often old files are looked at, they are old.
 #[test]
 fn old_tables_are_told_and_left_alone(rt: HostRuntime) -> Result<(), Fail> {
     let alloc = rt.alloc();
-    let conn = old_tables(alloc, "")?;
-    let Some((OpenFault::Old, database)) = refused(alloc, conn) else {
-        return Err(Fail::from("an old file that is opened, or told as another"));
-    };
-    let Ok(conn) = Connection::over(alloc, database) else {
-        return Err(Fail::from("no database"));
-    };
-    holds(
-        matches!(refused(alloc, conn), Some((OpenFault::Old, _))),
-        "an old file that was changed",
-    )
+    let old = OldFiles::closed(alloc, LINES, ANSWERS)?;
+    let files = told_old(alloc, old.files)?;
+    told_old(alloc, files)?;
+    Ok(())
 }
 
 #[test]
@@ -247,4 +265,30 @@ fn old_tables_are_brought_along(rt: HostRuntime) -> Result<(), Fail> {
         refused(alloc, desk.close()).is_none(),
         "a file that isn't opened",
     )
+}
+
+/// A stop at each call of the log, while files are brought along that an earlier program closed.
+#[test]
+fn a_stop_at_each_call_of_the_log(rt: HostRuntime) -> Result<(), Fail> {
+    let alloc = rt.alloc();
+    let old = OldFiles::closed(alloc, FEW, FEW_ANSWERS)?;
+    assert!(rt; stops_amid_migration(alloc, &old, true)? > 1);
+    Ok(())
+}
+
+#[test]
+fn a_stop_at_each_call_of_the_database(rt: HostRuntime) -> Result<(), Fail> {
+    let alloc = rt.alloc();
+    let old = OldFiles::closed(alloc, FEW, FEW_ANSWERS)?;
+    assert!(rt; stops_amid_migration(alloc, &old, false)? > 1);
+    Ok(())
+}
+
+/// The same where the earlier program was killed: what it did last is still in the log.
+#[test]
+fn a_stop_at_each_call_of_a_log_that_is_full(rt: HostRuntime) -> Result<(), Fail> {
+    let alloc = rt.alloc();
+    let old = OldFiles::killed(alloc, FEW, FEW_ANSWERS)?;
+    assert!(rt; stops_amid_migration(alloc, &old, true)? > 1);
+    Ok(())
 }

@@ -1,4 +1,5 @@
-//! A stop at each call of the disk amid requests on parts, bills and stock.
+//! A stop at each call of the disk amid requests on parts, bills and stock, in groups and alone.
+use desk_play::each_stop::{Unbroken, stops_amid_requests};
 use desk_play::stops::{Keyed, stops_at_each_call};
 use std::test::Fail;
 
@@ -32,4 +33,13 @@ fn a_stop_at_each_call_of_the_log(rt: HostRuntime) -> Result<(), Fail> {
 fn a_stop_at_each_call_of_the_database(rt: HostRuntime) -> Result<(), Fail> {
     let alloc = rt.alloc();
     stops_at_each_call(alloc, &Keyed::new(alloc, LINES, ANSWERS)?, false)
+}
+
+/// A stop at each call of the log, where each request is committed alone.
+#[test]
+fn a_stop_amid_requests_alone(rt: HostRuntime) -> Result<(), Fail> {
+    let alloc = rt.alloc();
+    let unbroken = Unbroken::new(alloc, LINES, ANSWERS)?;
+    assert!(rt; stops_amid_requests(alloc, &unbroken, true)? > 1);
+    Ok(())
 }

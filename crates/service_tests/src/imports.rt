@@ -7,13 +7,14 @@ ghost use Rattle.desk_core.specs.ShopView.{state_of};
 use crate::delivery::{
     DELIVERY, DELIVERY_OUT, ORDERED, ORDERED_OUT, OTHER, OTHER_OUT, STOCK, STOCK_OUT,
 };
-use desk_app::{CountedBooks, RunEnd, Stop, import_file, read_file};
+use desk_app::{CountedBooks, RunEnd, Stop, read_file};
 use desk_core::Shop;
 use desk_play::devices::{Sink, Source};
+use desk_play::imports::imports;
 use desk_play::outcomes::holds;
 use desk_play::play::plays_on_shop;
-use desk_wire::{Document, ImportKind};
-use part_core::{Day, Limits};
+use desk_wire::ImportKind;
+use part_core::Limits;
 use std::alloc::Global;
 use std::io::ErrorKind;
 use std::test::Fail;
@@ -25,36 +26,6 @@ fn ordered(alloc: Global) -> Result<Shop, Fail>
     let mut shop = Shop::new(alloc, Limits::LARGEST);
     plays_on_shop(alloc, &mut shop, ORDERED, ORDERED_OUT)?;
     Ok(shop)
-}
-
-fn document(alloc: Global) -> Result<Document, Fail> {
-    match Document::new(String::from_str(alloc, "D1")?) {
-        Some(document) => Ok(document),
-        None => Err(Fail::from("it is a document")),
-    }
-}
-
-fn day(text: &str) -> Result<Day, Fail> {
-    match Day::parse(text) {
-        Some(day) => Ok(day),
-        None => Err(Fail::from("it is a day")),
-    }
-}
-
-/// How the import of a file ends, and what it writes.
-fn imports(
-    alloc: Global,
-    shop: &mut Shop,
-    kind: ImportKind,
-    on: &str,
-    file: &str,
-    sink: &mut Sink,
-) -> Result<RunEnd, Fail>
-    requires { IsSoundState (state_of shop.old) }
-    ensures { IsSoundState (state_of shop.new) }
-{
-    let bytes = file.as_bytes();
-    Ok(import_file(alloc, bytes, kind, &document(alloc)?, day(on)?, sink, shop))
 }
 
 fn delivers(alloc: Global, shop: &mut Shop, on: &str, sink: &mut Sink) -> Result<RunEnd, Fail>
@@ -210,15 +181,14 @@ fn tells_how_many(alloc: Global, times: u64, told: &str) -> Result<(), Fail> {
     let file = counted(alloc, times)?;
     let mut terminal = Sink::new(alloc, 4096);
     let mut books = CountedBooks::new(shop, Some(&mut terminal));
-    let end = import_file(
+    let end = imports(
         alloc,
-        file.as_bytes(),
-        ImportKind::Counts,
-        &document(alloc)?,
-        day("2030-03-02")?,
-        &mut Sink::new(alloc, 4096),
         &mut books,
-    );
+        ImportKind::Counts,
+        "2030-03-02",
+        file.as_str(),
+        &mut Sink::new(alloc, 4096),
+    )?;
     let mut shop = books.into_books();
     holds(end == RunEnd::Done(true), "a row is refused")?;
     holds(

@@ -9,3 +9,5 @@ mod imports;
 mod loopback;
 #[cfg(test)]
 mod requests;
+#[cfg(test)]
+mod stops;
