@@ -9,10 +9,11 @@ try:
 run:
 	cd crates/invdesk && rt run < stdin
 
-# The gate: whether each wrong body still applies; and then every proof from nothing, the must-fail edits, the tests, and
-# the program's stored run.
+# The gate: whether each wrong body still applies, and each name that the documents cite stands where they say; and then
+# every proof from nothing, the must-fail edits, the tests, and the program's stored run.
 test:
 	python3 tools/check_edits.py
+	python3 tools/check_names.py
 	rt ci
 
 # The program, built once it is proved.
