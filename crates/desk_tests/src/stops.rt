@@ -23,6 +23,17 @@ const ANSWERS: &str = r#"{"entries":0,"ids":[1]}
 {"entries":0,"ids":[]}
 "#;
 
+/// A few, each of which is committed alone.
+const FEW: &str = r#"{"day":"2030-01-02","do":"add_location","name":"A"}
+{"day":"2030-01-02","do":"add_part","flags":["component"],"name":"Screw"}
+{"day":"2030-01-02","do":"found","location":1,"part":2,"quantity":100}
+"#;
+
+const FEW_ANSWERS: &str = r#"{"entries":0,"ids":[1]}
+{"entries":0,"ids":[2]}
+{"entries":1,"ids":[3]}
+"#;
+
 #[test]
 fn a_stop_at_each_call_of_the_log(rt: HostRuntime) -> Result<(), Fail> {
     let alloc = rt.alloc();
@@ -39,7 +50,7 @@ fn a_stop_at_each_call_of_the_database(rt: HostRuntime) -> Result<(), Fail> {
 #[test]
 fn a_stop_amid_requests_alone(rt: HostRuntime) -> Result<(), Fail> {
     let alloc = rt.alloc();
-    let unbroken = Unbroken::new(alloc, LINES, ANSWERS)?;
+    let unbroken = Unbroken::new(alloc, FEW, FEW_ANSWERS)?;
     assert!(rt; stops_amid_requests(alloc, &unbroken, true)? > 1);
     Ok(())
 }
