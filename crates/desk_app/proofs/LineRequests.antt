@@ -1,5 +1,5 @@
 -- Lines change the state by the requests that they ask for.
-use Rattle.std.proofs.Common.{◌≡◌, ◌+◌, ◌++◌, ◌∷◌, [], ℕ, List, Bool, true, false, ap, refl, sym, ◌∙◌, rw}
+use Rattle.std.proofs.Common.{◌≡◌, ◌+◌, ◌++◌, ◌∷◌, [], ℕ, List, Bool, true, false, ap, refl, sym, ◌∙◌}
 use Rattle.std.specs.Prelude.{Option, Some, None, Result, Ok, Err, if◌then◌else◌}
 use Rattle.desk_core.specs.Machine.{State, Outcome, run, step}
 use Rattle.desk_core.specs.declared.command.Request.{Request as Req}
