@@ -99,7 +99,7 @@ fn stopped(alloc: Global, files: Files<Fused>) -> Result<(Reached, Files<Fused>)
     };
     match close_desk(desk) {
         Ok(files) => Ok((Reached::Closed, files)),
-        Err(database) => Ok((Reached::Moved, database.close())),
+        Err((_, database)) => Ok((Reached::Moved, database.close())),
     }
 }
 

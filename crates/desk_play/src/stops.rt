@@ -75,7 +75,7 @@ fn tables_received(alloc: Global, lines: &str, answers: &str, file: &str) -> Res
 fn closed_files(alloc: Global, lines: &str, answers: &str) -> Result<Files<Memory>, Fail> {
     match close_desk(filled(alloc, lines, answers)?) {
         Ok(files) => Ok(files),
-        Err(database) => {
+        Err((_, database)) => {
             drop(database.close());
             Err(Fail::from("a desk that isn't closed"))
         }
