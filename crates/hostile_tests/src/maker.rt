@@ -7,7 +7,7 @@ use part_core::{
 use std::alloc::Global;
 use std::test::Fail;
 
-/// How often each command is made, of 415 times.
+/// How often each command is made beside the others.
 pub const OFTEN: [(&str, u64); 43] = [
     ("add_category", 3),
     ("add_location", 3),
@@ -194,7 +194,11 @@ impl Maker {
 
     /// Which command is made next.
     pub fn verb(&mut self) -> &'static str {
-        let mut left = self.lots.below(415);
+        let mut all = 0u64;
+        for (_, times) in OFTEN {
+            all = all.saturating_add(times);
+        }
+        let mut left = self.lots.below(all);
         for (verb, times) in OFTEN {
             if left < times {
                 return verb;
