@@ -31,7 +31,8 @@ fn runs_on<S: Alter>(
     requires { IsDesk S.Store desk.old }
     ensures { IsDesk S.Store desk.new }
 {
-    for (request, wanted) in requests.iter().zip(wanted.iter()) {
+    for pair in requests.iter().zip(wanted.iter()) {
+        let (request, wanted) = pair;
         let outcome = desk.run(request);
         holds(is_told(&outcome, wanted), "another outcome")?;
     }

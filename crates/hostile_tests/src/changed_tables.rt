@@ -58,6 +58,20 @@ const SUBSTITUTES: [(&str, &str, &str); 2] = [
     ),
 ];
 
+/// A connection to the database.
+fn connected(alloc: Global, database: MemStore) -> Result<Connection<MemStore>, Fail> {
+    match Connection::over(alloc, database) {
+        Ok(conn) => Ok(conn),
+        Err(_) => Err(Fail::from("no database")),
+    }
+}
+
+/// Changes what is in the database.
+fn change(conn: &mut Connection<MemStore>, sql: &str) -> Result<(), Fail> {
+    conn.execute(sql, &[])?;
+    Ok(())
+}
+
 /// The fault for which the tables aren't opened, and their database.
 fn refused(alloc: Global, conn: Connection<MemStore>) -> Result<(OpenFault, MemStore), Fail> {
     match Desk::open(alloc, conn) {
@@ -66,12 +80,8 @@ fn refused(alloc: Global, conn: Connection<MemStore>) -> Result<(OpenFault, MemS
     }
 }
 
-/// All tables of the desk of a database once the change is undone.
-fn undone(alloc: Global, database: MemStore, undo: &str) -> Result<String, Fail> {
-    let Ok(mut conn) = Connection::over(alloc, database) else {
-        return Err(Fail::from("no database"));
-    };
-    conn.execute(undo, &[])?;
+/// All tables of the desk that is opened.
+fn opened(alloc: Global, conn: Connection<MemStore>) -> Result<String, Fail> {
     match Desk::open(alloc, conn) {
         Ok(desk) => tables_of(alloc, &desk),
         Err(_) => Err(Fail::from("tables that aren't as they were")),
@@ -79,13 +89,15 @@ fn undone(alloc: Global, database: MemStore, undo: &str) -> Result<String, Fail>
 }
 
 /// Changes the tables after the lines, and undoes it: the fault in between.
-fn fault_of(alloc: Global, start: Start, change: &str, undo: &str) -> Result<OpenFault, Fail> {
+fn fault_of(alloc: Global, start: Start, sql: &str, undo: &str) -> Result<OpenFault, Fail> {
     let desk = desk_after(alloc, start)?;
     let before = tables_of(alloc, &desk)?;
     let mut conn = desk.close();
-    conn.execute(change, &[])?;
+    change(&mut conn, sql)?;
     let (fault, database) = refused(alloc, conn)?;
-    let after = undone(alloc, database, undo)?;
+    let mut conn = connected(alloc, database)?;
+    change(&mut conn, undo)?;
+    let after = opened(alloc, conn)?;
     holds(after.as_str() == before.as_str(), "other tables")?;
     Ok(fault)
 }
@@ -93,8 +105,8 @@ fn fault_of(alloc: Global, start: Start, change: &str, undo: &str) -> Result<Ope
 #[test]
 fn a_robot(rt: HostRuntime) -> Result<(), Fail> {
     let alloc = rt.alloc();
-    for (what, change, undo) in ROBOTS {
-        let fault = fault_of(alloc, (ROBOT, ROBOT_ANSWERS), change, undo)?;
+    for (what, sql, undo) in ROBOTS {
+        let fault = fault_of(alloc, (ROBOT, ROBOT_ANSWERS), sql, undo)?;
         assert!(rt; matches!(fault, OpenFault::Damaged(_)), "{what}");
     }
     Ok(())
@@ -103,8 +115,8 @@ fn a_robot(rt: HostRuntime) -> Result<(), Fail> {
 #[test]
 fn substitutes(rt: HostRuntime) -> Result<(), Fail> {
     let alloc = rt.alloc();
-    for (what, change, undo) in SUBSTITUTES {
-        let fault = fault_of(alloc, (BOLTS, BOLTS_ANSWERS), change, undo)?;
+    for (what, sql, undo) in SUBSTITUTES {
+        let fault = fault_of(alloc, (BOLTS, BOLTS_ANSWERS), sql, undo)?;
         assert!(rt; matches!(fault, OpenFault::Damaged(_)), "{what}");
     }
     Ok(())
@@ -113,26 +125,22 @@ fn substitutes(rt: HostRuntime) -> Result<(), Fail> {
 #[test]
 fn another_version(rt: HostRuntime) -> Result<(), Fail> {
     let alloc = rt.alloc();
-    let change = "UPDATE meta SET version = 3";
+    let sql = "UPDATE meta SET version = 3";
     let undo = "UPDATE meta SET version = 2";
-    let fault = fault_of(alloc, (ROBOT, ROBOT_ANSWERS), change, undo)?;
+    let fault = fault_of(alloc, (ROBOT, ROBOT_ANSWERS), sql, undo)?;
     assert!(rt; matches!(fault, OpenFault::Foreign));
     Ok(())
 }
 
-/// A database with another table alone, and one with none, are no desk's; in the first no desk is made either.
-#[test]
-fn another_table_alone(rt: HostRuntime) -> Result<(), Fail> {
-    let alloc = rt.alloc();
-    let (fault, _) = refused(alloc, Connection::open_in_memory(alloc)?)?;
-    assert!(rt; matches!(fault, OpenFault::Foreign));
+/// A database with nothing in it but what the SQL makes.
+fn other_database(alloc: Global, sql: &str) -> Result<Connection<MemStore>, Fail> {
     let mut conn = Connection::open_in_memory(alloc)?;
-    conn.execute("CREATE TABLE more (id INTEGER PRIMARY KEY) STRICT", &[])?;
-    let (fault, database) = refused(alloc, conn)?;
-    assert!(rt; matches!(fault, OpenFault::Foreign));
-    let Ok(conn) = Connection::over(alloc, database) else {
-        return Err(Fail::from("no database"));
-    };
+    change(&mut conn, sql)?;
+    Ok(conn)
+}
+
+/// Fails where a desk is made in the database.
+fn isnt_made_in(alloc: Global, conn: Connection<MemStore>) -> Result<(), Fail> {
     if !conn.is_autocommit() {
         return Err(Fail::from("a transaction is open"));
     }
@@ -141,4 +149,16 @@ fn another_table_alone(rt: HostRuntime) -> Result<(), Fail> {
         matches!(made, Err((OpenFault::Foreign, _))),
         "a desk is made",
     )
+}
+
+/// A database with another table alone, and one with none, are no desk's; in the first no desk is made either.
+#[test]
+fn another_table_alone(rt: HostRuntime) -> Result<(), Fail> {
+    let alloc = rt.alloc();
+    let (fault, _) = refused(alloc, other_database(alloc, "")?)?;
+    assert!(rt; matches!(fault, OpenFault::Foreign));
+    let sql = "CREATE TABLE more (id INTEGER PRIMARY KEY) STRICT";
+    let (fault, database) = refused(alloc, other_database(alloc, sql)?)?;
+    assert!(rt; matches!(fault, OpenFault::Foreign));
+    isnt_made_in(alloc, connected(alloc, database)?)
 }

@@ -10,10 +10,10 @@ use desk_http::Served;
 use desk_play::ask::ask;
 use desk_play::devices::{Sink, Source};
 use desk_play::each_stop::tables_of;
+use desk_play::imports::{day, document};
 use desk_play::play::{created, plays_on};
 use desk_store::Desk;
-use desk_wire::{Document, ImportKind, read_request};
-use part_core::Day;
+use desk_wire::{ImportKind, read_request};
 use sqlite::{Connection, MemStore};
 use std::alloc::{AllocError, Global};
 use std::io::Read;
@@ -100,11 +100,9 @@ pub fn imports(
     sink: &mut Sink,
 ) -> Result<(RunEnd, String), Fail> {
     let mut desk = desk_after(alloc, (ORDERED, ORDERED_ANSWERS))?;
-    let name = String::from_str(alloc, "D1")?;
-    let document = Document::new(name).ok_or("it is a document")?;
-    let day = Day::parse("2030-03-01").ok_or("it is a day")?;
     let end = match read_file(alloc, source) {
         Ok(bytes) => {
+            let (document, day) = (document(alloc)?, day("2030-03-01")?);
             let kind = ImportKind::Receipts;
             import_file(alloc, &bytes, kind, &document, day, sink, &mut desk)
         }
