@@ -7,10 +7,10 @@ ghost use Rattle.desk_core.specs.ShopView.{state_of};
 use crate::delivery::{
     DELIVERY, DELIVERY_OUT, ORDERED, ORDERED_OUT, OTHER, OTHER_OUT, STOCK, STOCK_OUT,
 };
-use desk_app::{CountedBooks, RunEnd, Stop, read_file};
+use desk_app::{CountedBooks, RunEnd, Stop, import_file, read_file};
 use desk_core::Shop;
 use desk_play::devices::{Sink, Source};
-use desk_play::imports::imports;
+use desk_play::imports::{day, document, imports};
 use desk_play::outcomes::holds;
 use desk_play::play::plays_on_shop;
 use desk_wire::ImportKind;
@@ -181,14 +181,15 @@ fn tells_how_many(alloc: Global, times: u64, told: &str) -> Result<(), Fail> {
     let file = counted(alloc, times)?;
     let mut terminal = Sink::new(alloc, 4096);
     let mut books = CountedBooks::new(shop, Some(&mut terminal));
-    let end = imports(
+    let end = import_file(
         alloc,
-        &mut books,
+        file.as_bytes(),
         ImportKind::Counts,
-        "2030-03-02",
-        file.as_str(),
+        &document(alloc)?,
+        day("2030-03-02")?,
         &mut Sink::new(alloc, 4096),
-    )?;
+        &mut books,
+    );
     let mut shop = books.into_books();
     holds(end == RunEnd::Done(true), "a row is refused")?;
     holds(
