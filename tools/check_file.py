@@ -3,10 +3,10 @@
 away from its log, has the books; that the tables are STRICT and have their columns; that a file is kept between two
 runs, and not changed by a report or an export; that exports and reports are what the tables have; that a first start
 that was killed, or met a full disk, starts again; that a file is refused, with its name and the reason, that isn't a
-workshop's, or whose rows were changed, one change for each clause of what a sound state is; and that files of an earlier
-version of the program are told as such, and brought along with all that they have. That a look at a file that can't be
-opened makes nothing, and tells what lies there; that a fault of the disk is told once, with the file and the reason; that
-control characters are escaped; and what is told of wrong words.
+workshop's, or whose rows were changed, one change for each clause of what a sound state is; and that files of an
+earlier version of the program are recognised, and brought along with all that they have. That a look at a file that
+can't be opened makes nothing, and says what lies there; that a fault of the disk is reported once, with the file and
+the reason; that control characters are escaped; and what is said of wrong words.
 
 usage: tools/check_file.py PROGRAM"""
 import contextlib
@@ -22,29 +22,14 @@ import signal
 import socket
 import sqlite3
 import subprocess
-import sys
 import tempfile
 import time
 
-COLUMNS = {
-    "meta": "one version next entries max_numbers max_entries",
-    "categories": "id name parent",
-    "locations": "id name parent",
-    "parts": "id name category template flags retired",
-    "lines": "id assembly component quantity flags",
-    "substitutes": "id line part",
-    "items": "id part batch serial status quantity place ref",
-    "history": "n day kind item part quantity place ref",
-    "orders": "id side partner state",
-    "order_lines": "id owner part quantity done",
-    "builds": "id part quantity state done",
-    "allocations": "id item quantity side owner line output",
-    "kept": "word command answer",
-    "spent": "id build line quantity",
-}
+from shared import COLUMNS, TOP, expect, reader_of_words, rows_of, run, serve
+
 # Files that the program as it was before version 2 made: one with nothing, one of a workshop that keeps the answer of
 # each request, and one with rows in each table.
-OLD = pathlib.Path(__file__).parent / "data" / "old"
+OLD = TOP / "tools" / "data" / "old"
 OLD_TABLES = [table for table in COLUMNS if table != "spent"]
 LINES = """\
 {"day":"2030-01-02","do":"add_location","name":"A"}
@@ -112,8 +97,8 @@ DAMAGES = [
     ("UPDATE parts SET template = 99 WHERE id = 3", "a template that isn't there"),
     ("UPDATE parts SET template = 4 WHERE id = 3", "a template that isn't flagged so"),
     ("UPDATE parts SET template = 3, flags = flags | 1 WHERE id = 3", "a part that is its own template"),
-    ("UPDATE parts SET flags = flags | 1, template = CASE id WHEN 4 THEN 3 WHEN 8 THEN 4 WHEN 14 THEN 8 WHEN 26 THEN 14 END",
-     "a chain of five parts"),
+    ("UPDATE parts SET flags = flags | 1,"
+     " template = CASE id WHEN 4 THEN 3 WHEN 8 THEN 4 WHEN 14 THEN 8 WHEN 26 THEN 14 END", "a chain of five parts"),
     ("UPDATE parts SET category = 99 WHERE id = 3", "a category that isn't there"),
     ("UPDATE categories SET parent = 2 WHERE id = 2", "a category in itself"),
     ("UPDATE locations SET parent = 1 WHERE id = 1", "a location in itself"),
@@ -217,15 +202,6 @@ SIZES = (1, 41, 4096, 8192, 65536, 131072)
 NOBODY = 65534
 
 
-def run(program, *words, lines="", **more):
-    return subprocess.run([program, *words], input=lines, capture_output=True, text=True, check=False, **more)
-
-
-def expect(holds, text):
-    if not holds:
-        sys.exit(f"check_file: {text}")
-
-
 def made(program, path):
     """A file of a small workshop, which is gone on with in a second run."""
     first = run(program, "run", "--db", path, lines=LINES)
@@ -243,9 +219,9 @@ def look(path):
             expect(strict == set(COLUMNS), f"the strict tables are {sorted(strict)}")
             for table, columns in COLUMNS.items():
                 found = [row[1] for row in conn.execute(f"PRAGMA table_info({table})")]
-                expect(found == columns.split(), f"{table} has the columns {found}")
+                expect(found == columns, f"{table} has the columns {found}")
             expect(conn.execute("PRAGMA integrity_check").fetchone() == ("ok",), "the file isn't whole")
-            return {table: conn.execute(f"SELECT * FROM {table} ORDER BY 1").fetchall() for table in COLUMNS}
+            return rows_of(conn)
 
 
 def kept(program, path):
@@ -267,7 +243,7 @@ def exported(program, path, tables):
         expect(told.returncode == 0, f"the export of {table} ends with {told.returncode}")
         records = list(csv.reader(io.StringIO(told.stdout)))
         wanted = [["" if value is None else str(value) for value in row] for row in rows]
-        expect(records == [COLUMNS[table].split(), *wanted], f"the export of {table} is {told.stdout!r}")
+        expect(records == [COLUMNS[table], *wanted], f"the export of {table} is {told.stdout!r}")
 
 
 def damaged(program, folder, path):
@@ -285,14 +261,14 @@ def killed(program, path, wait):
         start.stdin.close()
 
 
-def full(program, path, size):
-    """A first start on a disk that has room for files of that size alone."""
+def few_bytes(size):
+    """What lets a program write files of that size alone, as on a full disk."""
 
     def limit():
         resource.setrlimit(resource.RLIMIT_FSIZE, (size, size))
         signal.signal(signal.SIGXFSZ, signal.SIG_IGN)
 
-    run(program, "run", "--db", path, lines=LINES, preexec_fn=limit)
+    return limit
 
 
 def started_again(program, folder):
@@ -307,7 +283,7 @@ def started_again(program, folder):
             expect(again.returncode == 0, f"a killed first start is refused: {again.stderr}")
             expect(again.stdout == wanted, f"after a killed first start other answers: {again.stdout!r}")
         else:
-            full(program, path, SIZES[number // 2 % len(SIZES)])
+            run(program, "run", "--db", path, lines=LINES, preexec_fn=few_bytes(SIZES[number // 2 % len(SIZES)]))
             again = run(program, "run", "--db", path)
             expect(again.returncode == 0, f"a first start on a full disk is refused ever after: {again.stderr}")
         look(path)
@@ -362,13 +338,14 @@ def refused(program, folder, path):
         told(program, str(locked), "may not be read and written", "a file of another user", user=NOBODY)
 
 
-def rows_of(path, tables):
+def rows_of_old(path):
+    """The rows of an old file, which nothing changes meanwhile."""
     with contextlib.closing(sqlite3.connect(f"file:{path}?mode=ro&immutable=1", uri=True)) as conn:
-        return {table: conn.execute(f"SELECT * FROM {table} ORDER BY 1").fetchall() for table in tables}
+        return rows_of(conn, OLD_TABLES)
 
 
 def as_old(path, tables):
-    """Whether the program's file has the tables of the old one: the counter's row but for the version, and nothing spent."""
+    """Whether the file has the tables of the old one: the counter's row but for the version, and nothing spent."""
     now = look(path)
     version = {row[1] for row in now["meta"]}
     same = all(now[table] == tables[table] for table in OLD_TABLES if table != "meta")
@@ -377,14 +354,15 @@ def as_old(path, tables):
 
 
 def brought(program, folder, old):
-    """An old file is refused as one, and stays as it is; brought along it has the same rows, and its keys their answers."""
+    """An old file is refused as one, and stays as it is; brought along it has its rows, and its keys their answers."""
     path = shutil.copy(old, folder / old.name)
-    tables = rows_of(path, OLD_TABLES)
+    tables = rows_of_old(path)
     before = pathlib.Path(path).read_bytes()
     told(program, str(path), "invdesk migrate --db FILE", f"the old file {old.name}")
     expect(pathlib.Path(path).read_bytes() == before, f"{old.name} is changed by a report")
     moved = run(program, "migrate", "--db", str(path))
-    expect((moved.returncode, moved.stdout) == (0, "migrated\n"), f"{old.name} is told as {moved.stdout!r}{moved.stderr}")
+    is_moved = (moved.returncode, moved.stdout) == (0, "migrated\n")
+    expect(is_moved, f"{old.name} is told as {moved.stdout!r}{moved.stderr}")
     expect(as_old(path, tables), f"{old.name} has other rows once it is brought along")
     exported(program, str(path), look(path))
     after = pathlib.Path(path).read_bytes()
@@ -527,22 +505,24 @@ def is_plain(text):
 def escaped(program, folder):
     """Control characters in what is told to a person."""
     wild = "\x1b[31m\x7f\x9b\r\n\t"
+    wild_import = ("import", "--db", f"{folder}/wild.db", "--document", "D", "--day", "2030-01-02", "--kind")
     cases = [
         ("report", "--db", f"{folder}/{wild}/w.db", "ledger", "1"),
         ("report", "--db", f"{folder}/w.db", wild, "1"),
         ("run", wild),
         (wild,),
         ("run", f"--{wild}"),
-        ("import", "--db", f"{folder}/wild.db", "--kind", "counts", "--document", "D", "--day", "2030-01-02", f"{folder}/{wild}"),
-        ("import", "--db", f"{folder}/wild.db", "--kind", wild, "--document", "D", "--day", "2030-01-02", "x"),
+        (*wild_import, "counts", f"{folder}/{wild}"),
+        (*wild_import, wild, "x"),
     ]
     for words in cases:
-        told_ = run(program, *words)
-        expect(told_.returncode in (2, 3) and is_plain(told_.stderr), f"{words} is told as {told_.stderr!r}")
+        ended = run(program, *words)
+        expect(ended.returncode in (2, 3) and is_plain(ended.stderr), f"{words} is told as {ended.stderr!r}")
     umlaut = run(program, "report", "--db", f"{folder}/no/Ärger.db", "ledger", "1")
     expect("no/Ärger.db: " in umlaut.stderr, f"a name is told as {umlaut.stderr!r}")
     first = run(program, *cases[0]).stderr.splitlines()[0]
-    wanted = f"invdesk: {folder}/\\u{{1b}}[31m\\u{{7f}}\\u{{9b}}\\u{{0d}}\\u{{0a}}\\u{{09}}/w.db: its folder isn't there"
+    shown = r"\u{1b}[31m\u{7f}\u{9b}\u{0d}\u{0a}\u{09}"
+    wanted = f"invdesk: {folder}/{shown}/w.db: its folder isn't there"
     expect(first == wanted, f"a path is told as {first!r}")
 
 
@@ -563,16 +543,9 @@ def words(program, folder):
         "import": (*given[1:-1], "2030-02-30", "x"),
     }
     for word, values in wrong.items():
-        told_ = run(program, word, *values, cwd=room)
-        expect(told_.returncode == 2 and f"Usage: invdesk {word} " in told_.stderr, f"{word} is told as {told_.stderr!r}")
-
-
-def few_bytes(size):
-    def limit():
-        resource.setrlimit(resource.RLIMIT_FSIZE, (size, size))
-        signal.signal(signal.SIGXFSZ, signal.SIG_IGN)
-
-    return limit
+        ended = run(program, word, *values, cwd=room)
+        expect(ended.returncode == 2, f"{word} with a wrong value ends with {ended.returncode}")
+        expect(f"Usage: invdesk {word} " in ended.stderr, f"{word} is told as {ended.stderr!r}")
 
 
 def faults(program, folder, path):
@@ -592,31 +565,27 @@ def faults(program, folder, path):
         expect(rest == ["invdesk: store or device failed"], f"{word} tells {rest!r} besides")
         print(f"{word} on a full disk: {first}")
     copy = shutil.copy(path, folder / "served.db")
-    with contextlib.closing(socket.socket()) as free:
-        free.bind(("127.0.0.1", 0))
-        port = free.getsockname()[1]
-    served = subprocess.Popen(
-        [program, "serve", "--db", str(copy), "--port", str(port), "--count", "60"],
-        stdout=subprocess.PIPE, stderr=subprocess.PIPE, text=True, preexec_fn=few_bytes(4 * size),
-    )
-    served.stdout.readline()
+    limit = few_bytes(4 * size)
+    served, port = serve(program, "--db", str(copy), "--count", "60", preexec_fn=limit)
     statuses = []
     for number in range(60):
         body = (line % ("L" * 40 + str(number))).strip().encode()
+        head = b"POST /run HTTP/1.1\r\nHost: 127.0.0.1:%d\r\nContent-Length: %d\r\n\r\n" % (port, len(body))
         with contextlib.closing(socket.create_connection(("127.0.0.1", port))) as client:
-            client.sendall(b"POST /run HTTP/1.1\r\nHost: 127.0.0.1:%d\r\nContent-Length: %d\r\n\r\n%s" % (port, len(body), body))
+            client.sendall(head + body)
             statuses.append(client.recv(64).split()[1])
         if statuses[-1] == b"500" and statuses.count(b"500") == 1:
-            told_ = served.stderr.readline()
-            expect(told_.startswith(f"invdesk: {copy}: the database answered: "), f"serve tells {told_!r}")
-            expect("started again" in told_, f"serve tells {told_!r}")
-            print(f"serve on a full disk: {told_.strip()}")
+            first = served.stderr.readline().decode()
+            expect(first.startswith(f"invdesk: {copy}: the database answered: "), f"serve tells {first!r}")
+            expect("started again" in first, f"serve tells {first!r}")
+            print(f"serve on a full disk: {first.strip()}")
     rest = served.communicate(timeout=60)[1]
     expect(b"200" in statuses and statuses[-1] == b"500", f"serve answers {statuses}")
-    expect("the database answered" not in rest, f"serve tells it again: {rest!r}")
+    expect(b"the database answered" not in rest, f"serve tells it again: {rest!r}")
 
 
-def main(program):
+def main():
+    program = reader_of_words(__doc__).parse_args().program
     with tempfile.TemporaryDirectory() as name:
         folder = pathlib.Path(name)
         path = str(folder / "workshop.db")
@@ -642,4 +611,5 @@ def main(program):
     print("check_file: all as it should be")
 
 
-main(*sys.argv[1:])
+if __name__ == "__main__":
+    main()

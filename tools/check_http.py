@@ -1,15 +1,15 @@
 #!/usr/bin/env python3
-"""Runs the program as a server on the loopback and asks it as clients do, with Python's http.client, with curl where it is
-there, and with bare sockets: each route and each error; a request that is sent in pieces, cut off at a byte, or sent again
-under its key after its connection was dropped; made-up bytes; many connections one after another, of which no descriptor
-and no memory may stay; and a server that is killed, whose file has to be the books before or after each request. What a
-web page sends is refused, and who doesn't show the token; clients that are silent or slow are left; descriptors are waited
-for; and a server that goes on is stopped by a signal, and its books are copied. It takes about a minute.
+"""Runs the program as a server on the loopback and asks it as clients do, with Python's http.client, with curl where it
+is there, and with bare sockets: each route and each error; a request that is sent in pieces, cut off at a byte, or sent
+again under its key after its connection was dropped; made-up bytes; many connections one after another, of which no
+descriptor and no memory may stay; and a server that is killed, whose file has to be the books before or after each
+request. What a web page sends is refused, and who doesn't show the token; clients that are silent or slow are left;
+descriptors are waited for; and a server that goes on is stopped by a signal, and its books are copied. It takes about
+a minute.
 
 usage: tools/check_http.py PROGRAM"""
 import concurrent.futures
 import contextlib
-import http.client
 import json
 import os
 import pathlib
@@ -20,52 +20,34 @@ import signal
 import socket
 import sqlite3
 import subprocess
-import sys
 import tempfile
 import threading
 import time
 
+from shared import ask, expect, free_port, posted, reader_of_words, run, serve
+
 DAY = "2030-01-02"
 LOCATION = {"day": DAY, "do": "add_location", "name": "A"}
 PART = {"day": DAY, "do": "add_part", "flags": ["component", "purchaseable"], "name": "Screw"}
+ORDERED = {"day": DAY, "do": "order_line", "order": 3, "part": 2, "quantity": 500}
+COUNT = "number,item,quantity\n1,5,1\n"
 RECEIPTS = "number,line,location,quantity,batch,serials\n1,4,1,100,L1,\n2,4,1,50,,\n"
 CONNECTIONS = 10_000
 MADE_UP = 1_000
 TOKEN = "0123456789abcdefghijklmnopqrstuvwxyz~!"
 
 
-def expect(holds, text):
-    """Ends with the text where something isn't as it has to be."""
-    if not holds:
-        sys.exit(f"check_http: {text}")
-
-
-def free_port():
-    with contextlib.closing(socket.socket()) as taken:
-        taken.bind(("127.0.0.1", 0))
-        return taken.getsockname()[1]
-
-
 class Server:
     """The program, serving so many connections, or going on where no count is given."""
 
     def __init__(self, program, count, *words, descriptors=None):
-        self.port = free_port()
         counted = [] if count is None else ["--count", str(count)]
-        limited = descriptors and (lambda: limit_descriptors(0, descriptors))
-        self.process = subprocess.Popen(
-            [program, "serve", *words, "--port", str(self.port), *counted],
-            stdout=subprocess.PIPE, stderr=subprocess.PIPE, preexec_fn=limited)
-        told = self.process.stdout.readline()
-        expect(told == f"listening on 127.0.0.1:{self.port}\n".encode(), f"it tells {told!r}")
+        limit = descriptors and (lambda: limit_descriptors(0, descriptors))
+        self.process, self.port = serve(program, *words, *counted, preexec_fn=limit)
 
     def asked(self, method, path, body=None, **fields):
         """The status, the answer's fields and its body."""
-        connection = http.client.HTTPConnection("127.0.0.1", self.port, timeout=20)
-        with contextlib.closing(connection):
-            connection.request(method, path, body, fields)
-            answer = connection.getresponse()
-            return answer.status, answer.headers, answer.read()
+        return ask(self.port, method, path, body, **fields)
 
     def run(self, request):
         return self.asked("POST", "/run", json.dumps(request))
@@ -116,10 +98,6 @@ class Server:
         self.ended()
 
 
-def posted(body, path="/run", fields=""):
-    return f"POST {path} HTTP/1.1\r\nContent-Length: {len(body)}\r\n{fields}\r\n{body}".encode()
-
-
 def limit_descriptors(process, count):
     """Lets the process have so many descriptors; 0 is this one."""
     _, most = resource.prlimit(process, resource.RLIMIT_NOFILE)
@@ -137,7 +115,7 @@ def routes(program):
         ("POST", "/run", '{"of":2,"report":"stock"}', 400, b'{"fault":"NoField","line":1}\n'),
         ("POST", "/run", "x" * 65_537, 400, b'{"fault":"TooLong","line":1}\n'),
         ("POST", "/run", json.dumps({"day": DAY, "do": "order", "partner": "Acme", "side": "purchase"}), 200, None),
-        ("POST", "/run", json.dumps({"day": DAY, "do": "order_line", "order": 3, "part": 2, "quantity": 500}), 200, None),
+        ("POST", "/run", json.dumps(ORDERED), 200, None),
         ("POST", "/run", json.dumps({"day": DAY, "do": "issue_order", "order": 3}), 200, None),
         ("POST", f"/import/receipts/D1/{DAY}", RECEIPTS, 200,
          b'1\t{"entries":1,"ids":[5]}\n2\t{"entries":1,"ids":[6]}\n'),
@@ -211,11 +189,11 @@ def by_curl(program):
     url = f"http://127.0.0.1:{server.port}"
     asked = (
         (["-d", json.dumps(LOCATION), f"{url}/run"], b'{"entries":0,"ids":[1]}\n'),
-        (["--data-binary", "number,item,quantity\n1,5,1\n", f"{url}/import/counts/C1/{DAY}"], b'1\t{"refused":"NoSuch"}\n'),
+        (["--data-binary", COUNT, f"{url}/import/counts/C1/{DAY}"], b'1\t{"refused":"NoSuch"}\n'),
         ([f"{url}/report/ledger/2"], b'{"refused":"NoSuch"}\n'),
     )
     for words, text in asked:
-        done = subprocess.run(["curl", "-s", *words], capture_output=True, check=False)
+        done = run("curl", "-s", *words, lines=b"")
         expect(done.stdout == text, f"curl prints {done.stdout!r} for {words[-1]}")
     expect(server.ended() == 0, "it doesn't end well")
 
@@ -330,7 +308,8 @@ def pages(program):
         expect(got == (409 if status == 200 else 200), f"with {fields} a line is done, or isn't")
     expect(server.ended() == 0, "it doesn't end well")
     server = Server(program, 3)
-    for fields, status in ((f"Host: {own}\r\nHost: {own}\r\n", 421), ("Origin: null\r\n", 403), ("ORIGIN:null\r\n", 403)):
+    twice = f"Host: {own}\r\nHost: {own}\r\n"
+    for fields, status in ((twice, 421), ("Origin: null\r\n", 403), ("ORIGIN:null\r\n", 403)):
         answer = server.sent(f"GET /report/stock/1 HTTP/1.1\r\n{fields}\r\n".encode())
         expect(answer.startswith(f"HTTP/1.1 {status} ".encode()), f"{fields!r} is answered {answer[:40]!r}")
     expect(server.ended() == 0, "it doesn't end well")
@@ -345,10 +324,9 @@ def tokens(program, folder):
         path.chmod(mode)
 
     def refused(what):
-        words = [program, "serve", "--port", str(free_port()), "--count", "1", "--token", str(path)]
-        done = subprocess.run(words, capture_output=True, check=False)
+        done = run(program, "serve", "--port", str(free_port()), "--count", "1", "--token", str(path))
         expect(done.returncode == 3 and not done.stdout, f"{what} ends with {done.returncode}")
-        expect(str(path).encode() in done.stderr, f"of {what} is told {done.stderr!r}")
+        expect(str(path) in done.stderr, f"of {what} is told {done.stderr!r}")
 
     refused("no file")
     for text, mode in ((TOKEN, 0o640), (TOKEN, 0o604), (TOKEN, 0o620), (TOKEN[:31], 0o600), (TOKEN * 4, 0o600),
@@ -404,7 +382,8 @@ def fair_body(program):
     """A body of 10 KiB a second goes on past half a minute."""
     server = Server(program, 1)
     answer, seconds = server.closed([HEAD] + [b"a" * 4_000] * 100, 0.36)
-    expect(answer.startswith(b"HTTP/1.1 400 ") and seconds > 34, f"a fair body is left after {seconds:.1f} s with {answer!r}")
+    is_answered = answer.startswith(b"HTTP/1.1 400 ") and seconds > 34
+    expect(is_answered, f"a fair body is left after {seconds:.1f} s with {answer!r}")
     expect(server.ended() == 0, "it doesn't end well")
 
 
@@ -417,7 +396,7 @@ def slow_body(program):
 
 
 def slow_taker(program):
-    """A client that doesn't take its answer is left after half a minute; the answer has more than the system holds for it."""
+    """A client that doesn't take its answer is left after half a minute; it is more than the system holds for it."""
     server = Server(program, 2)
     rows = "number,item,quantity\n" + 174_000 * "1,9,1\n"
     with contextlib.closing(socket.socket()) as stream:
@@ -425,17 +404,14 @@ def slow_taker(program):
         stream.connect(("127.0.0.1", server.port))
         stream.sendall(posted(rows, f"/import/counts/C1/{DAY}"))
         begun = time.monotonic()
-        connection = http.client.HTTPConnection("127.0.0.1", server.port, timeout=90)
-        with contextlib.closing(connection):
-            connection.request("GET", "/x")
-            expect(connection.getresponse().status == 404, "who comes behind isn't answered")
+        expect(ask(server.port, "GET", "/x", timeout=90)[0] == 404, "who comes behind isn't answered")
         seconds = time.monotonic() - begun
         expect(14 < seconds < 60, f"a client that takes nothing is left after {seconds:.1f} s")
     expect(server.ended() == 0, "it doesn't end well")
 
 
 def crowded(program):
-    """Where no descriptor is left one is waited for, and then the service ends; standard output that is full is named."""
+    """Where no descriptor is left one is waited for, and then the service ends; a full standard output is named."""
     server = Server(program, 1, descriptors=4)
     begun = time.monotonic()
     with contextlib.closing(socket.create_connection(("127.0.0.1", server.port))):
@@ -463,7 +439,7 @@ def goes_on(program, folder):
     expect(server.process.poll() is None, "it ends by itself")
     server.stopped()
     expect(os.path.getsize(f"{path}-wal") > 10_000, "what was done last isn't in the log")
-    done = subprocess.run([program, "run", "--db", path], stdin=subprocess.DEVNULL, capture_output=True, check=False)
+    done = run(program, "run", "--db", path)
     expect(done.returncode == 0, f"the books of a server that was stopped end with {done.returncode}")
     copy = os.path.join(folder, "copy.db")
     shutil.copy(path, copy)
@@ -477,17 +453,18 @@ def words(program):
     for given in (["--port", "0", "--count", "1"], ["--port", "65536", "--count", "1"], ["--count", "8"],
                   ["--port", "8080", "--token"],
                   ["--port", "8080", "--count", "0"], ["--port", "8080", "--count", "1000001"]):
-        done = subprocess.run([program, "serve", *given], capture_output=True, check=False)
+        done = run(program, "serve", *given)
         expect(done.returncode == 2, f"{given} end with {done.returncode}")
     with contextlib.closing(socket.socket()) as taken:
         taken.bind(("127.0.0.1", 0))
         taken.listen()
         port = str(taken.getsockname()[1])
-        done = subprocess.run([program, "serve", "--port", port, "--count", "1"], capture_output=True, check=False)
+        done = run(program, "serve", "--port", port, "--count", "1")
         expect(done.returncode == 3, f"a port that is taken ends with {done.returncode}")
 
 
-def main(program):
+def main():
+    program = reader_of_words(__doc__).parse_args().program
     with concurrent.futures.ThreadPoolExecutor() as beside, tempfile.TemporaryDirectory() as folder:
         waits = [beside.submit(slow, program) for slow in (slow_head, fair_body, slow_body, slow_taker)]
         words(program)
@@ -507,4 +484,5 @@ def main(program):
     print("check_http: all as it has to be")
 
 
-main(os.path.abspath(sys.argv[1]))
+if __name__ == "__main__":
+    main()

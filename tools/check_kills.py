@@ -1,7 +1,7 @@
 #!/usr/bin/env python3
-"""Kills the program (SIGKILL) amid a pipe of keyed lines, and goes on with the file that it leaves. The lines are sent from
-the first one on each time: those that are kept already are repeats, and are answered as they were. After each kill the
-file opens, alone and with its log, holds the first lines whole and no part of another, and no fewer lines than were
+"""Kills the program (SIGKILL) amid a pipe of keyed lines, and goes on with the file that it leaves. The lines are sent
+from the first one on each time: those that are kept already are repeats, and are answered as they were. After each kill
+the file opens, alone and with its log, holds the first lines whole and no part of another, and no fewer lines than were
 answered; the answers are a front of those of a run that nobody killed. At last the lines are sent to their end, and the
 answers and the tables are those of that run.
 
@@ -10,30 +10,24 @@ kept by half shows in the history and in the items.
 
 usage: tools/check_kills.py PROGRAM [--kills KILLS] [--lines LINES]
 By default it kills 10 times amid 10,000 lines, in some 10 seconds; the whole check is 100 times amid 100,000."""
-import argparse
 import contextlib
 import os
 import pathlib
 import random
 import signal
-import sqlite3
 import subprocess
-import sys
 import tempfile
 import threading
 import time
+
+from shared import copy_with_log, expect, reader_of_words, rows_of, run
 
 DAY = '"day":"2030-01-02"'
 START = f"""{{{DAY},"do":"add_location","key":"a","name":"A"}}
 {{{DAY},"do":"add_part","flags":["component"],"key":"b","name":"Screw"}}
 """
-TABLES = "meta locations parts items history kept"
+TABLES = "meta locations parts items history kept".split()
 FIRST_ITEM = 3
-
-
-def expect(holds, text):
-    if not holds:
-        sys.exit(f"check_kills: {text}")
 
 
 def keyed_lines(count):
@@ -85,14 +79,9 @@ def run_until(program, path, text, lines, wait):
 
 def tables_of(path):
     """The tables of a copy of the file and its log, as Python's sqlite3 finds them."""
-    with tempfile.TemporaryDirectory(dir=pathlib.Path(path).parent) as name:
-        copy = pathlib.Path(name) / "copy.db"
-        for end in ("", "-wal"):
-            with contextlib.suppress(FileNotFoundError):
-                (copy.parent / (copy.name + end)).write_bytes(pathlib.Path(path + end).read_bytes())
-        with contextlib.closing(sqlite3.connect(copy)) as conn:
-            expect(conn.execute("PRAGMA integrity_check").fetchone() == ("ok",), "the file isn't whole")
-            return {table: conn.execute(f"SELECT * FROM {table} ORDER BY 1").fetchall() for table in TABLES.split()}
+    with copy_with_log(path) as conn:
+        expect(conn.execute("PRAGMA integrity_check").fetchone() == ("ok",), "the file isn't whole")
+        return rows_of(conn, TABLES)
 
 
 def holds_first(tables, words, answered):
@@ -125,15 +114,14 @@ def goes_on(program, path, text, words, wanted, kills):
         answered = told.count(b"\n")
         done = holds_first(tables_of(path), words, answered)
         if number % 10 == 0:
-            opened = subprocess.run([program, "export", "--db", path, "kept"], capture_output=True, check=False)
+            opened = run(program, "export", "--db", path, "kept")
             expect(opened.returncode == 0, f"the file doesn't open: {opened.stderr!r}")
-            expect(opened.stdout.count(b"\n") == done + 1, "another number of lines is kept once it was opened")
+            expect(opened.stdout.count("\n") == done + 1, "another number of lines is kept once it was opened")
     return killed
 
 
 def main():
-    words = argparse.ArgumentParser(description=__doc__, formatter_class=argparse.RawDescriptionHelpFormatter)
-    words.add_argument("program")
+    words = reader_of_words(__doc__)
     words.add_argument("--kills", type=int, default=10)
     words.add_argument("--lines", type=int, default=10_000)
     given = words.parse_args()
@@ -148,7 +136,9 @@ def main():
         told, status = run_until(given.program, path, text, None, 0)
         expect(status == 0 and told == wanted, "the lines that are sent again are answered otherwise")
         expect(tables_of(path) == tables_of(unbroken), "the tables are others than those of an unbroken run")
-    print(f"check_kills: {killed} kills amid {len(keys)} lines, in {time.monotonic() - begin:.0f} s: all as it should be")
+    seconds = time.monotonic() - begin
+    print(f"check_kills: {killed} kills amid {len(keys)} lines, in {seconds:.0f} s: all as it should be")
 
 
-main()
+if __name__ == "__main__":
+    main()
