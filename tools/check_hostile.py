@@ -1,28 +1,25 @@
 #!/usr/bin/env python3
 """Runs the tests of hostile input, which aren't proved yet, by 'rt try' in a copy of the repository. They lie in
-tools/data/hostile_tests.patch as a crate of tests, 'hostile_tests', which isn't part of the gate until it is proved:
-hostile input in a table for each way in, changed tables, input that comes one byte at a time or not whole, each read and
+tools/data/hostile_tests.patch as a crate of tests, 'hostile_tests', which isn't part of the gate until it is proved: a
+table of hostile input for each way in, changed tables, input that comes one byte at a time or not whole, each read and
 write that fails, each command accepted and for each of its refusals, and 2,000 requests that are made up, on a desk and
 on a shop. It takes ten minutes.
 
 usage: tools/check_hostile.py"""
 import os
-import pathlib
-import shutil
 import subprocess
 import sys
 import tempfile
 
-TOP = pathlib.Path(__file__).resolve().parent.parent
+from shared import TOP, copy_crates
+
 # Two of the tests take some minutes where they are not optimised.
 SECONDS = "400"
 
 
 def main():
     with tempfile.TemporaryDirectory(prefix="hostile-") as folder:
-        shutil.copytree(TOP / "crates", f"{folder}/crates", ignore=shutil.ignore_patterns("out"))
-        for name in ("crates.txt", "HANDLES"):
-            shutil.copy(TOP / name, folder)
+        copy_crates(folder)
         patch = TOP / "tools/data/hostile_tests.patch"
         subprocess.run(["git", "init", "-q", folder], check=True)
         subprocess.run(["git", "apply", str(patch)], cwd=folder, check=True)
@@ -31,4 +28,5 @@ def main():
     sys.exit(done.returncode)
 
 
-main()
+if __name__ == "__main__":
+    main()

@@ -1,11 +1,12 @@
 #!/usr/bin/env python3
-"""Runs the program's word `import` on files that Python's csv module wrote: each with other line ends, with all fields in
-quotes or only those that need it, with a byte order mark and without; with batches that have quotes, commas and line
+"""Runs the program's word `import` on files that Python's csv module wrote: each with other line ends, with all fields
+in quotes or only those that need it, with a byte order mark and without; with batches that have quotes, commas and line
 ends in them. Then on files that LibreOffice saved of a spreadsheet, where its `soffice` is found. Looks at what the
-program tells, and with sqlite3 at what is kept: that a file sent again, on another day too, is told the same and changes
-nothing; that a row with another quantity is KeyTaken in its line alone; that of a faulty file nothing is run; which
-status a missing path, a folder and wrong words end with; what a terminal is told of the rows that are done; and that a
-file of a MiB takes little memory, whatever serials its rows list. It prints the seconds that this takes.
+program answers, and with sqlite3 at what is kept: that a file sent again, on another day too, is answered alike and
+changes nothing; that a row with another quantity is KeyTaken in its line alone; that of a faulty file nothing is run;
+which status a missing path, a folder and wrong words end with; what a terminal shows of the rows that are done; and
+that a file of a MiB takes little memory, whatever serials its rows list. It prints the seconds that this takes. Where
+something differs it goes on, and counts what does.
 
 usage: tools/check_import.py PROGRAM"""
 import codecs
@@ -23,6 +24,9 @@ import sys
 import tempfile
 from xml.sax.saxutils import escape
 
+import shared
+from machine.imports import HEADERS
+
 DAY = '"day":"2030-01-02"'
 ORDERED = f"""{{{DAY},"do":"add_location","name":"A"}}
 {{{DAY},"do":"add_part","flags":["component","purchaseable"],"name":"Screw"}}
@@ -32,20 +36,21 @@ ORDERED = f"""{{{DAY},"do":"add_location","name":"A"}}
 {{{DAY},"do":"order_line","order":4,"part":3,"quantity":2}}
 {{{DAY},"do":"issue_order","order":4}}
 """
-RECEIPTS = ["number", "line", "location", "quantity", "batch", "serials"]
-COUNTS = ["number", "item", "quantity"]
+TABLES = "meta items history orders order_lines kept".split()
+RECEIPTS, COUNTS = HEADERS["receipts"], HEADERS["counts"]
 BATCH = 'L "1", left'
 DELIVERY = [[1, 5, 1, 100, BATCH, ""], [2, 5, 1, 50, "", ""], [3, 6, 1, 2, "", "M1,M2"]]
 DELIVERED = (
     b'1\t{"entries":1,"ids":[7]}\n2\t{"entries":1,"ids":[8]}\n3\t{"entries":2,"ids":[9,10]}\n'
 )
-failures = 0
+# What was not as it has to be.
+differences = []
 
 
-def expect(what, told, wanted):
-    global failures
+def compare(what, told, wanted):
+    """Reports a difference, and goes on."""
     if told != wanted:
-        failures += 1
+        differences.append(what)
         print(f"check_import: {what}: {told!r}, and not {wanted!r}")
 
 
@@ -55,56 +60,61 @@ def written(header, rows, ends="\n", quoting=csv.QUOTE_MINIMAL, mark=False):
     return (codecs.BOM_UTF8 if mark else b"") + text.getvalue().encode()
 
 
-def run(*words, lines=""):
-    done = subprocess.run([sys.argv[1], *words], input=lines.encode(), capture_output=True, check=False)
-    return done.returncode, done.stdout
+class Workshop:
+    """The program, and a folder with its file of a workshop that has ordered screws and motors."""
 
+    def __init__(self, program, folder):
+        self.program, self.folder, self.path = program, folder, str(folder / "w.db")
+        compare("the order", self.run("run", lines=ORDERED.encode())[0], 0)
 
-def imported(folder, kind, bytes_, document="D7", day="2030-03-01"):
-    path = folder / "sent.csv"
-    path.write_bytes(bytes_)
-    return run(
-        "import", "--db", str(folder / "w.db"), "--kind", kind, "--document", document, "--day", day, str(path)
-    )
+    def run(self, word, *words, lines=b""):
+        """The status of a word on the file, and what it writes."""
+        done = shared.run(self.program, word, "--db", self.path, *words, lines=lines)
+        return done.returncode, done.stdout
+
+    def imported(self, kind, file, document="D7", day="2030-03-01"):
+        path = self.folder / "sent.csv"
+        path.write_bytes(file)
+        return self.run("import", "--kind", kind, "--document", document, "--day", day, str(path))
+
+    def words_of_import(self, kind, document):
+        """The words of an import, but for the path."""
+        words = ("--kind", kind, "--document", document, "--day", "2030-03-01")
+        return self.program, "import", "--db", self.path, *words
+
+    def selected(self, what):
+        with contextlib.closing(sqlite3.connect(self.path)) as conn:
+            return conn.execute(what).fetchall()
+
+    def rows(self):
+        with contextlib.closing(sqlite3.connect(self.path)) as conn:
+            return shared.rows_of(conn, TABLES)
 
 
 @contextlib.contextmanager
-def workshop():
-    """A folder with a workshop that has ordered screws and motors."""
+def workshop(program):
     with tempfile.TemporaryDirectory() as name:
-        folder = pathlib.Path(name)
-        expect("the order", run("run", "--db", str(folder / "w.db"), lines=ORDERED)[0], 0)
-        yield folder
+        yield Workshop(program, pathlib.Path(name))
 
 
-def rows_of(folder, what):
-    with contextlib.closing(sqlite3.connect(folder / "w.db")) as conn:
-        return conn.execute(what).fetchall()
-
-
-def all_rows(folder):
-    tables = "meta items history orders order_lines kept".split()
-    return [rows_of(folder, f"SELECT * FROM {table} ORDER BY 1") for table in tables]
-
-
-def delivered(what, file):
+def delivered(program, what, file):
     """The file is the delivery: it is told so and kept so, and sent again it is told the same and changes nothing."""
-    with workshop() as folder:
-        expect(what, imported(folder, "receipts", file), (0, DELIVERED))
-        batches = rows_of(folder, "SELECT batch, serial, quantity FROM items ORDER BY id")
-        expect(what, batches, [(BATCH, None, 100), (None, None, 50), (None, "M1", 1), (None, "M2", 1)])
-        before = all_rows(folder)
+    with workshop(program) as shop:
+        compare(what, shop.imported("receipts", file), (0, DELIVERED))
+        batches = shop.selected("SELECT batch, serial, quantity FROM items ORDER BY id")
+        compare(what, batches, [(BATCH, None, 100), (None, None, 50), (None, "M1", 1), (None, "M2", 1)])
+        before = shop.rows()
         for day in ("2030-03-01", "2031-12-31"):
-            expect(f"{what}, again", imported(folder, "receipts", file, day=day), (0, DELIVERED))
-            expect(f"{what}, again", all_rows(folder) == before, True)
+            compare(f"{what}, again", shop.imported("receipts", file, day=day), (0, DELIVERED))
+            compare(f"{what}, again", shop.rows() == before, True)
 
 
-def forms():
+def forms(program):
     for ends, quoting, mark in itertools.product(
         ("\n", "\r\n", "\r"), (csv.QUOTE_MINIMAL, csv.QUOTE_ALL, csv.QUOTE_NONNUMERIC), (False, True)
     ):
         file = written(RECEIPTS, DELIVERY, ends, quoting, mark)
-        delivered(f"a delivery with {ends!r}, quoting {quoting}, mark {mark}", file)
+        delivered(program, f"a delivery with {ends!r}, quoting {quoting}, mark {mark}", file)
 
 
 def cell(value):
@@ -112,12 +122,14 @@ def cell(value):
         return "<table:table-cell/>"
     kind = "float" if isinstance(value, int) else "string"
     number = f' office:value="{value}"' if isinstance(value, int) else ""
-    return f'<table:table-cell office:value-type="{kind}"{number}><text:p>{escape(str(value))}</text:p></table:table-cell>'
+    text = f"<text:p>{escape(str(value))}</text:p>"
+    return f'<table:table-cell office:value-type="{kind}"{number}>{text}</table:table-cell>'
 
 
 def spreadsheet(rows):
     """A spreadsheet of one sheet, as a text: numbers as numbers, the rest as texts."""
-    names = "".join(f' xmlns:{name}="urn:oasis:names:tc:opendocument:xmlns:{name}:1.0"' for name in ("office", "table", "text"))
+    space = "urn:oasis:names:tc:opendocument:xmlns"
+    names = "".join(f' xmlns:{name}="{space}:{name}:1.0"' for name in ("office", "table", "text"))
     lines = "".join(f"<table:table-row>{''.join(map(cell, row))}</table:table-row>" for row in rows)
     return (
         f'<?xml version="1.0" encoding="UTF-8"?><office:document{names} office:version="1.2"'
@@ -127,8 +139,8 @@ def spreadsheet(rows):
 
 
 def saved(folder, tokens):
-    """The delivery as LibreOffice saves it, by its filter's tokens: separator, quote, character set, first line, formats
-    of columns, language, and whether every text is quoted."""
+    """The delivery as LibreOffice saves it, by its filter's tokens: separator, quote, character set, first line,
+    formats of columns, language, and whether every text is quoted."""
     path = folder / "delivery.fods"
     path.write_text(spreadsheet([RECEIPTS, *DELIVERY]))
     profile = f"-env:UserInstallation={(folder / 'profile').as_uri()}"
@@ -138,33 +150,34 @@ def saved(folder, tokens):
     return path.with_suffix(".csv").read_bytes()
 
 
-def by_office():
+def by_office(program):
     if not shutil.which("soffice"):
         print("check_import: there is no LibreOffice here, so its files were not tried")
         return
     with tempfile.TemporaryDirectory() as name:
-        for what, tokens in (("with few quotes", "44,34,76,1,,0,false"), ("with every text in quotes", "44,34,76,1,,0,true")):
-            delivered(f"a delivery that LibreOffice saved {what}", saved(pathlib.Path(name), tokens))
+        for what, is_quoted in (("with few quotes", "false"), ("with every text in quotes", "true")):
+            file = saved(pathlib.Path(name), f"44,34,76,1,,0,{is_quoted}")
+            delivered(program, f"a delivery that LibreOffice saved {what}", file)
 
 
-def corrections():
-    with workshop() as folder:
-        imported(folder, "receipts", written(RECEIPTS, DELIVERY))
-        before = all_rows(folder)
+def corrections(program):
+    with workshop(program) as shop:
+        shop.imported("receipts", written(RECEIPTS, DELIVERY))
+        before = shop.rows()
         other = written(RECEIPTS, [[1, 5, 1, 101, BATCH, ""], *DELIVERY[1:]])
         lines = DELIVERED.split(b"\n")
         taken = b"\n".join([b'1\t{"refused":"KeyTaken"}', *lines[1:]])
-        expect("another quantity", imported(folder, "receipts", other), (1, taken))
-        expect("another quantity", all_rows(folder) == before, True)
-        expect("another document", imported(folder, "receipts", written(RECEIPTS, DELIVERY[:1]), "D8")[0], 0)
+        compare("another quantity", shop.imported("receipts", other), (1, taken))
+        compare("another quantity", shop.rows() == before, True)
+        compare("another document", shop.imported("receipts", written(RECEIPTS, DELIVERY[:1]), "D8")[0], 0)
         counted = written(COUNTS, [[1, 7, 97], [2, 99, 1], [3, 8, 0]])
         report = b'1\t{"entries":1,"ids":[]}\n2\t{"refused":"NoSuch"}\n3\t{"entries":1,"ids":[]}\n'
         for _ in range(2):
-            expect("a stocktake", imported(folder, "counts", counted, "C3"), (1, report))
-        expect("a stocktake", rows_of(folder, "SELECT quantity FROM items WHERE id = 7"), [(97,)])
+            compare("a stocktake", shop.imported("counts", counted, "C3"), (1, report))
+        compare("a stocktake", shop.selected("SELECT quantity FROM items WHERE id = 7"), [(97,)])
 
 
-def faults():
+def faults(program):
     line = [9, 5, 1, 1, "", ""]
     ends = "a\nb"
     cases = [
@@ -183,82 +196,83 @@ def faults():
         (written(RECEIPTS, [line]) + b"\n" * 16_777_216, "TooLong", 0),
     ]
     for file, name, number in cases:
-        with workshop() as folder:
-            before = all_rows(folder)
+        with workshop(program) as shop:
+            before = shop.rows()
             told = f'{{"fault":"{name}","line":{number}}}\n'.encode()
-            expect(f"a file that begins {file[:60]!r}", imported(folder, "receipts", file), (1, told))
-            expect(f"a file that begins {file[:60]!r}", all_rows(folder) == before, True)
+            compare(f"a file that begins {file[:60]!r}", shop.imported("receipts", file), (1, told))
+            compare(f"a file that begins {file[:60]!r}", shop.rows() == before, True)
 
 
-def statuses():
-    with workshop() as folder:
-        db, there = str(folder / "w.db"), folder / "sent.csv"
+def statuses(program):
+    with workshop(program) as shop:
+        there = shop.folder / "sent.csv"
         there.write_bytes(written(RECEIPTS, DELIVERY))
 
         def status(path, kind="receipts", document="D7", day="2030-03-01"):
-            words = ("--kind", kind, "--document", document, "--day", day, str(path))
-            return run("import", "--db", db, *words)[0]
+            return shop.run("import", "--kind", kind, "--document", document, "--day", day, str(path))[0]
 
-        before = all_rows(folder)
-        expect("no such path", status(folder / "none.csv"), 3)
-        expect("a folder", status(folder), 3)
+        before = shop.rows()
+        compare("no such path", status(shop.folder / "none.csv"), 3)
+        compare("a folder", status(shop.folder), 3)
         for words in (("sales",), ("receipts", "a/b"), ("receipts", "D7", "2030-02-30"), ("receipts", "D" * 33)):
-            expect(f"wrong words {words}", status(there, *words), 2)
-        expect("no document", run("import", "--db", db, "--kind", "counts", "--day", "2030-03-01", str(there))[0], 2)
-        expect("after wrong words", all_rows(folder) == before, True)
-        expect("a path beside the folder's", status(os.path.relpath(there)), 0)
+            compare(f"wrong words {words}", status(there, *words), 2)
+        compare("no document", shop.run("import", "--kind", "counts", "--day", "2030-03-01", str(there))[0], 2)
+        compare("after wrong words", shop.rows() == before, True)
+        compare("a path beside the folder's", status(os.path.relpath(there)), 0)
 
 
-def counted(folder, rows):
-    """What is told of the rows that are done, on a terminal and elsewhere."""
-    path = folder / "counts.csv"
+def counted(shop, rows):
+    """What is shown of the rows that are done, on a terminal and elsewhere."""
+    path = shop.folder / "counts.csv"
     path.write_bytes(written(COUNTS, [[number, 7, 100] for number in range(1, rows + 1)]))
-    words = (sys.argv[1], "import", "--db", str(folder / "w.db"), "--kind", "counts", "--day", "2030-03-01")
+    words = (*shop.words_of_import("counts", f"T{rows}"), str(path))
     ours, theirs = pty.openpty()
-    done = subprocess.run((*words, "--document", f"T{rows}", str(path)), stdout=subprocess.DEVNULL, stderr=theirs, check=False)
+    done = subprocess.run(words, stdout=subprocess.DEVNULL, stderr=theirs, check=False)
     os.close(theirs)
-    expect(f"{rows} rows on a terminal", done.returncode, 0)
-    told = b""
+    compare(f"{rows} rows on a terminal", done.returncode, 0)
+    shown = b""
     with contextlib.suppress(OSError):
         while piece := os.read(ours, 4096):
-            told += piece
+            shown += piece
     os.close(ours)
-    done = subprocess.run((*words, "--document", f"P{rows}", str(path)), capture_output=True, check=False)
-    return told.replace(b"\r\n", b"\n"), done.stderr
+    done = subprocess.run((*shop.words_of_import("counts", f"P{rows}"), str(path)), capture_output=True, check=False)
+    return shown.replace(b"\r\n", b"\n"), done.stderr
 
 
-def terminals():
-    with workshop() as folder:
-        imported(folder, "receipts", written(RECEIPTS, DELIVERY))
-        expect("1000 rows", counted(folder, 1_000), (b"", b""))
-        expect("1001 rows", counted(folder, 1_001), (b"1000 rows done\n", b""))
-        expect("2500 rows", counted(folder, 2_500), (b"1000 rows done\n2000 rows done\n", b""))
+def terminals(program):
+    with workshop(program) as shop:
+        shop.imported("receipts", written(RECEIPTS, DELIVERY))
+        compare("1000 rows", counted(shop, 1_000), (b"", b""))
+        compare("1001 rows", counted(shop, 1_001), (b"1000 rows done\n", b""))
+        compare("2500 rows", counted(shop, 2_500), (b"1000 rows done\n2000 rows done\n", b""))
 
 
-def small():
+def small(program):
     """A file of a MiB, whose rows would take gigabytes with their serials made out. No row has a line of an order."""
-    with workshop() as folder:
-        rows = itertools.takewhile(lambda row: row[0] * 18 < 1_048_576, ([n, 99, 1, 1, "", "1-1000"] for n in itertools.count(1)))
-        path = folder / "small.csv"
+    with workshop(program) as shop:
+        rows = ([number, 99, 1, 1, "", "1-1000"] for number in range(1, -(-1_048_576 // 18)))
+        path = shop.folder / "small.csv"
         path.write_bytes(written(RECEIPTS, rows))
-        words = ("import", "--db", str(folder / "w.db"), "--kind", "receipts", "--document", "S", "--day", "2030-03-01")
-        with subprocess.Popen([sys.argv[1], *words, str(path)], stdout=subprocess.PIPE) as sent:
+        words = (*shop.words_of_import("receipts", "S"), str(path))
+        with subprocess.Popen(words, stdout=subprocess.PIPE) as sent:
             told = sent.stdout.read()
             usage = os.wait4(sent.pid, 0)[2]
             sent.returncode = 1
         lines = told.splitlines()
         refused = [line for line in lines if line.endswith(b'\t{"refused":"NoSuch"}')]
-        expect("a small file", len(lines) > 50_000 and len(refused) == len(lines), True)
-        expect("less than 200 MB of a small file", usage.ru_maxrss < 200_000, True)
-        print(f"check_import: {len(lines)} rows of 1,000 serials took {usage.ru_utime:.1f} s and {usage.ru_maxrss // 1000} MB")
+        compare("a small file", len(lines) > 50_000 and len(refused) == len(lines), True)
+        compare("less than 200 MB of a small file", usage.ru_maxrss < 200_000, True)
+        took = f"{usage.ru_utime:.1f} s and {usage.ru_maxrss // 1000} MB"
+        print(f"check_import: {len(lines)} rows of 1,000 serials took {took}")
 
 
-forms()
-by_office()
-corrections()
-faults()
-statuses()
-terminals()
-small()
-print("check_import: all as it should be" if failures == 0 else f"check_import: {failures} differ")
-sys.exit(failures != 0)
+def main():
+    program = shared.reader_of_words(__doc__).parse_args().program
+    for check in (forms, by_office, corrections, faults, statuses, terminals, small):
+        check(program)
+    print(f"check_import: {len(differences)} differ" if differences else "check_import: all as it should be")
+    sys.exit(1 if differences else 0)
+
+
+if __name__ == "__main__":
+    main()

@@ -1,11 +1,10 @@
 #!/usr/bin/env python3
 """Compares the program with the rules written once more in Python: sends requests that are made up as a workshop would
-send them, with and without a file, and looks at every answer, every report, the exit status and every table. With a file
-the program ends and begins again between, a delivery or a stocktake is imported each time, and in the end the books have
-small limits. Each tenth run is of lines that fit nothing, most of them faulty.
+send them, with and without a file, and looks at every answer, every report, the exit status and every table. With a
+file the program ends and begins again between, a delivery or a stocktake is imported each time, and in the end the
+books have small limits. Each tenth run is of lines that fit nothing, most of them faulty.
 
 usage: tools/check_machine.py PROGRAM [--runs N] [--lines N] [--seed N]"""
-import argparse
 import contextlib
 import csv
 import dataclasses
@@ -14,7 +13,6 @@ import json
 import os
 import random
 import sqlite3
-import subprocess
 import sys
 import tempfile
 
@@ -24,6 +22,7 @@ from machine.lines import COMMANDS, FIELDS, REPORTS
 from machine.machine import Machine
 from machine.made_up import Maker
 from machine.reports import HEADERS, answer, answer_line, table
+from shared import reader_of_words, run
 
 WRONG = [None, True, 0, -1, 1.5, 1e3, "", "x", "7", [], [1], {}, 2**64, 2**64 - 1, "a\tb", "x" * 201, "é" * 101]
 
@@ -128,9 +127,10 @@ def wild(seed, count):
     return made
 
 
-def run_of(program, path, lines):
+def run_on(program, path, lines):
+    """Runs the program on the lines, with the file or without one."""
     words = ["run", "--db", path] if path else ["run"]
-    return subprocess.run([program, *words], input=b"".join(it + b"\n" for it in lines), capture_output=True, check=False)
+    return run(program, *words, lines=b"".join(it + b"\n" for it in lines))
 
 
 def import_fault(program, path, stop):
@@ -139,7 +139,7 @@ def import_fault(program, path, stop):
     with open(path + ".csv", "wb") as file:
         file.write(held)
     words = ["import", "--db", path, "--kind", kind, "--document", document, "--day", day, path + ".csv"]
-    done = subprocess.run([program, *words], capture_output=True, check=False)
+    done = run(program, *words, lines=b"")
     told = done.stdout.decode(), done.returncode
     return "" if told == stop.wanted else f"{held!r} is told as {told}, and not as {stop.wanted}"
 
@@ -149,7 +149,7 @@ def told_by(program, made, path):
     answers, begin = [], 0
     for stop in [*made.stops, None]:
         end = stop.at if stop else len(made.lines)
-        told = run_of(program, path if made.stops else None, made.lines[begin:end])
+        told = run_on(program, path if made.stops else None, made.lines[begin:end])
         answers += told.stdout.decode().split("\n")[:-1]
         status = int(any(it and it.keys() & {"refused", "fault"} for it in made.wanted[begin:end]))
         if told.stderr or told.returncode != status:
@@ -165,7 +165,7 @@ def told_by(program, made, path):
 
 
 def table_of(program, path, name):
-    told = subprocess.run([program, "export", "--db", path, name], capture_output=True, check=False).stdout.decode()
+    told = run(program, "export", "--db", path, name, lines=b"").stdout.decode()
     return list(csv.reader(io.StringIO(told, newline="")))
 
 
@@ -186,8 +186,7 @@ def difference(program, made):
 
 
 def main():
-    words = argparse.ArgumentParser(usage=__doc__)
-    words.add_argument("program")
+    words = reader_of_words(__doc__)
     words.add_argument("--runs", type=int, default=60)
     words.add_argument("--lines", type=int, default=1_000)
     words.add_argument("--seed", type=int, default=1)

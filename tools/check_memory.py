@@ -18,7 +18,6 @@ usage: tools/check_memory.py PROGRAM [--tries TRIES] [--every] [--only WORDS] [-
 By default 40 growths of a run on a shop, and 8 of one on a file, are refused, each by chance in its part of the run, in
 about a minute. The whole check refuses every one (--every), and takes hours; --only tries what has the words in its
 name."""
-import argparse
 import collections
 import concurrent.futures
 import contextlib
@@ -35,11 +34,11 @@ import socket
 import sqlite3
 import struct
 import subprocess
-import sys
 import tempfile
 import time
 
-TOP = pathlib.Path(__file__).resolve().parent.parent
+from shared import TOP, ask, built_by_cc, copy_with_log, expect, reader_of_words, rows_of, run, serve
+
 DATA = TOP / "crates" / "worked_examples" / "data"
 FIRST_RUN = TOP / "crates" / "invdesk" / "stdin"
 OLD = TOP / "tools" / "data" / "old" / "cell-shipped.db"
@@ -62,11 +61,6 @@ MIGRATE = "migrate --db FILE".split()
 EXPORTED = ("items", "history", "kept")
 SAID = {3: b"invdesk: store or device failed\n", 4: b"invdesk: no memory\n"}
 EVERY_LATER = 2**64 - 1
-
-
-def expect(holds, text):
-    if not holds:
-        sys.exit(f"check_memory: {text}")
 
 
 class Growths:
@@ -99,11 +93,8 @@ class Growths:
 
 def built_library(folder):
     """The library that refuses growths."""
-    compiler = next(filter(None, map(shutil.which, ("cc", "gcc", "clang"))), None)
-    expect(compiler, "there is no C compiler")
-    library = folder / "refuse_growth.so"
-    source = TOP / "tools" / "refuse_growth.c"
-    subprocess.run([compiler, "-O2", "-shared", "-fPIC", "-o", library, source], check=True)
+    library = built_by_cc(TOP / "tools" / "refuse_growth.c", folder / "refuse_growth.so", "-shared", "-fPIC")
+    expect(library, "there is no C compiler, or it doesn't build tools/refuse_growth.c")
     return library
 
 
@@ -127,16 +118,16 @@ def fed(stdin, lines):
 def ran(words, text, alone, growths=None):
     """Runs the words on the text."""
     environment = growths.environment if growths else os.environ
-    pipes = {"stdout": subprocess.PIPE, "stderr": subprocess.PIPE, "env": environment}
     if alone:
         ours, theirs = socket.socketpair(socket.AF_UNIX, socket.SOCK_SEQPACKET)
-        with subprocess.Popen(words, stdin=theirs, **pipes) as child:
+        pipe = subprocess.PIPE
+        with subprocess.Popen(words, stdin=theirs, stdout=pipe, stderr=pipe, env=environment) as child:
             theirs.close()
             fed(ours, text.splitlines(keepends=True))
             told, said = child.communicate()
             status = child.returncode
     else:
-        done = subprocess.run(words, input=text, check=False, **pipes)
+        done = run(*words, lines=text, env=environment)
         status, told, said = done.returncode, done.stdout, done.stderr
     counts = (growths.asked, growths.refused) if growths else (0, 0)
     return Ended(status, told, said, *counts)
@@ -145,8 +136,7 @@ def ran(words, text, alone, growths=None):
 def tables_of(path):
     """The tables of the file, as Python's sqlite3 finds them."""
     with contextlib.closing(sqlite3.connect(path)) as conn:
-        names = [name for name, in conn.execute("SELECT name FROM sqlite_schema WHERE type = 'table' ORDER BY name")]
-        return {name: conn.execute(f"SELECT * FROM {name} ORDER BY 1").fetchall() for name in names}
+        return rows_of(conn)
 
 
 @dataclasses.dataclass
@@ -180,7 +170,7 @@ class Check:
     """The program, the library that refuses it growths, and the unbroken runs."""
 
     def __init__(self, given, folder):
-        self.program, self.folder = str(pathlib.Path(given.program).resolve()), folder
+        self.program, self.folder = given.program, folder
         self.given = given
         self.library = built_library(folder)
         self.workers = concurrent.futures.ThreadPoolExecutor(given.at_once)
@@ -343,26 +333,17 @@ class Service:
         self.begin()
 
     def begin(self):
-        with contextlib.closing(socket.socket()) as taken:
-            taken.bind(("127.0.0.1", 0))
-            self.port = taken.getsockname()[1]
         file = ["--db", str(self.path)] if self.path else []
-        words = [self.check.program, "serve", *file, "--port", str(self.port)]
-        self.process = subprocess.Popen(
-            words, stdout=subprocess.PIPE, stderr=self.said, env=self.growths.environment)
-        told = self.process.stdout.readline()
-        expect(told == f"listening on 127.0.0.1:{self.port}\n".encode(), f"a service tells {told!r}")
+        environment = self.growths.environment
+        self.process, self.port = serve(self.check.program, *file, stderr=self.said, env=environment)
 
     def asked(self, body):
         """The status and the body of an answer: none where the connection ends without one."""
-        connection = http.client.HTTPConnection("127.0.0.1", self.port, timeout=20)
-        with contextlib.closing(connection):
-            try:
-                connection.request("POST", "/run", body)
-                answer = connection.getresponse()
-                return answer.status, answer.read().decode()
-            except (http.client.HTTPException, ConnectionError):
-                return None, ""
+        try:
+            status, _, answer = ask(self.port, "POST", "/run", body)
+            return status, answer.decode()
+        except (http.client.HTTPException, ConnectionError):
+            return None, ""
 
     def end(self):
         self.process.send_signal(signal.SIGTERM)
@@ -384,13 +365,8 @@ class Service:
 
     def has_kept(self, key):
         """Whether the file, with its log, has an answer under the key."""
-        with tempfile.TemporaryDirectory(dir=self.path.parent) as name:
-            copy = pathlib.Path(name) / "copy.db"
-            for end in ("", "-wal"):
-                with contextlib.suppress(FileNotFoundError):
-                    shutil.copyfile(f"{self.path}{end}", f"{copy}{end}")
-            with contextlib.closing(sqlite3.connect(copy)) as conn:
-                return conn.execute("SELECT count(*) FROM kept WHERE word = ?", (key,)).fetchone() == (1,)
+        with copy_with_log(self.path) as conn:
+            return conn.execute("SELECT count(*) FROM kept WHERE word = ?", (key,)).fetchone() == (1,)
 
 
 def served_once(service, body, answer, number, is_one):
@@ -483,8 +459,7 @@ def in_words(ends):
 
 
 def main():
-    words = argparse.ArgumentParser(description=__doc__, formatter_class=argparse.RawDescriptionHelpFormatter)
-    words.add_argument("program")
+    words = reader_of_words(__doc__)
     words.add_argument("--tries", type=int, default=40)
     words.add_argument("--every", action="store_true")
     words.add_argument("--only", default="")
@@ -500,4 +475,5 @@ def main():
     print(f"check_memory: {in_words(all_ends)}, in {time.monotonic() - begin:.0f} s: all as it should be")
 
 
-main()
+if __name__ == "__main__":
+    main()

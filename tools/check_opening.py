@@ -1,32 +1,27 @@
 #!/usr/bin/env python3
-"""Changes files that the program made, a value or a row at a time, and looks whether the program opens exactly those whose
-tables are still those of a sound state, by the rules written once more in Python. Some changes are aimed: at what was
-spent on lines of builds, and at chains of templates.
+"""Changes files that the program made, a value or a row at a time, and looks whether the program opens exactly those
+whose tables are still those of a sound state, by the rules written once more in Python. Some changes are aimed: at what
+was spent on lines of builds, and at chains of templates.
 
 usage: tools/check_opening.py PROGRAM [--runs N] [--lines N] [--changes N] [--seed N]"""
-import argparse
 import contextlib
 import os
 import random
 import shutil
 import sqlite3
-import subprocess
 import sys
 import tempfile
 
 from check_machine import told_by, workshop
 from machine.checks import BUILD_STATES
-from machine.reports import HEADERS
 from machine.sound import is_sound
+from shared import COLUMNS, reader_of_words, rows_of, run
 
 # Tables of which little is summed are changed more often: most changes of items and entries break a sum.
-TABLES = ["allocations"] * 6 + ["spent", "builds", "order_lines", "lines", "parts"] * 4 + ["items"] * 4 + list(HEADERS) * 2
-TEXTS = ["", "A", "x" * 200, "x" * 201, "a\tb", "é", "1", "2030-02-30", '{"entries":0,"ids":[]}', '{"entries":00,"ids":[]}']
-
-
-def tables_of(file):
-    return {name: file.execute(f"select {', '.join(columns.split())} from {name}").fetchall()
-            for name, columns in HEADERS.items()}
+TABLES = (["allocations"] * 6 + ["spent", "builds", "order_lines", "lines", "parts"] * 4 + ["items"] * 4
+          + list(COLUMNS) * 2)
+TEXTS = ["", "A", "x" * 200, "x" * 201, "a\tb", "é", "1", "2030-02-30", '{"entries":0,"ids":[]}',
+         '{"entries":00,"ids":[]}']
 
 
 def other_value(r, rows, at, value, most):
@@ -42,7 +37,7 @@ def other_value(r, rows, at, value, most):
 def change(r, file, most):
     """Makes one change to a file, and tells which. (The text of a command isn't read, so it is left as it is.)"""
     name = r.choice(TABLES)
-    key, *columns = HEADERS[name].split()
+    key, *columns = COLUMNS[name]
     rows = file.execute(f"select {', '.join([key, *columns])} from {name}").fetchall()
     if not rows:
         return None
@@ -85,7 +80,7 @@ def pair_of(r, m):
         "a tracked line": lines_of(m, still_open, m.is_tracked),
         "a consumable line": lines_of(m, still_open, lambda it: m.lines[it].consumable),
         "a line of a closed build": lines_of(m, closed, m.is_untracked),
-        "another part's line": [(build, it) for it in m.lines if it not in m.effective(m.builds[build].part)] if build else [],
+        "another part's line": [(build, it) for it in m.lines if build and it not in m.effective(m.builds[build].part)],
         "a line of no build": [(m.next, line)],
         "no line": [(build, m.next)],
     }
@@ -131,20 +126,19 @@ def changed(r, path, m):
             file.commit()
         except (sqlite3.IntegrityError, OverflowError):
             return None, None
-        return told if all(told) else None, tables_of(file)
+        return told if all(told) else None, rows_of(file)
 
 
 def status_of(program, path):
     """The status with which the program opens a file and ends at once."""
-    status = subprocess.run([program, "run", "--db", path], input=b"", capture_output=True, check=False).returncode
+    status = run(program, "run", "--db", path).returncode
     with contextlib.suppress(FileNotFoundError):
         os.unlink(path + "-wal")
     return status
 
 
 def main():
-    words = argparse.ArgumentParser(usage=__doc__)
-    words.add_argument("program")
+    words = reader_of_words(__doc__)
     words.add_argument("--runs", type=int, default=20)
     words.add_argument("--lines", type=int, default=700)
     words.add_argument("--changes", type=int, default=150)

@@ -6,14 +6,13 @@ null, of another type or out of its range, members too many or twice and in any 
 days, and bytes that are no JSON. A file of lines may be given too: each is sent whole to both programs.
 
 usage: tools/compare_lines.py OLD NEW [--lines N] [--seed N] [FILE..]"""
-import argparse
 import json
 import pathlib
 import random
-import subprocess
 import sys
 
 from machine.lines import FIELDS, FLAGS, REPORTS, SIDES, STATUSES
+from shared import reader_of_words, run
 
 
 def kind_of(name, kind, is_optional):
@@ -36,7 +35,8 @@ class Spelled(str):
 
 def text(r):
     letters = "abcXYZ 09-_.,;\"\\/é漢\u0001\u007f\n"
-    return r.choice(["A", "B", "Screw", f"Part {r.randint(1, 10**6)}", f"Part {r.randint(1, 10**6)}", f"Hall {r.randint(1, 10**6)}", "a" * 200, "a" * 201, "é" * 100, "é" * 101, "",
+    numbered = [f"{word} {r.randint(1, 10**6)}" for word in ("Part", "Part", "Hall")]
+    return r.choice(["A", "B", "Screw", *numbered, "a" * 200, "a" * 201, "é" * 100, "é" * 101, "",
                      "".join(r.choice(letters) for _ in range(r.randint(1, 12)))])
 
 
@@ -90,7 +90,8 @@ def damaged(r, members):
     elif way == 4:
         members[at] = (name, Spelled(r.choice(SPELLED)))
     elif way == 5:
-        members.append((r.choice(["of", "report", "item", "name", "Name", "side", "", "keys"]), r.choice([1, "x", None])))
+        more = r.choice(["of", "report", "item", "name", "Name", "side", "", "keys"])
+        members.append((more, r.choice([1, "x", None])))
     elif way == 6:
         members.append((name, r.choice([held] + STRANGE)))
     elif way == 7:
@@ -174,7 +175,7 @@ def lines(count, seed):
 
 
 def answers(program, sent):
-    done = subprocess.run([program], input=sent, stdout=subprocess.PIPE, stderr=subprocess.PIPE, check=False)
+    done = run(program, lines=sent)
     return done.stdout, done.stderr, done.returncode
 
 
@@ -193,9 +194,7 @@ def compare(old, new, sent, name):
 
 
 def main():
-    reader = argparse.ArgumentParser(usage=__doc__)
-    reader.add_argument("old")
-    reader.add_argument("new")
+    reader = reader_of_words(__doc__, "old", "new")
     reader.add_argument("--lines", type=int, default=20_000)
     reader.add_argument("--seed", type=int, default=25)
     reader.add_argument("files", nargs="*", type=pathlib.Path)
