@@ -1,7 +1,8 @@
 PROGRAM = crates/invdesk/out/invdesk
 PREFIX ?= /usr/local
 
-# A first look: the first example, run before any proof, in about three minutes. It is slow, and nothing is proved of it.
+# A first look: the first example, run before any proof, in about three minutes. It is slow, and nothing is proved of
+# it.
 try:
 	cd crates/invdesk && rt try < stdin
 
@@ -32,8 +33,9 @@ bench: build
 	python3 tools/bench_http.py $(PROGRAM)
 	python3 tools/bench_calls.py
 
-# Files as Python's sqlite3 finds them, and files that are refused; the program killed amid a pipe of lines (all of it by
-# '--kills 100 --lines 100000'); deliveries and stocktakes that Python's csv and, where it is there, LibreOffice wrote.
+# Files as Python's sqlite3 finds them, and files that are refused; the program killed amid a pipe of lines (all of it
+# by '--kills 100 --lines 100000'); deliveries and stocktakes that Python's csv and, where it is there, LibreOffice
+# wrote.
 file: build
 	python3 tools/check_file.py $(PROGRAM)
 	python3 tools/check_kills.py $(PROGRAM)
@@ -43,8 +45,8 @@ file: build
 http: build
 	python3 tools/check_http.py $(PROGRAM)
 
-# The program beside the rules written once more in Python: answers, reports and tables of requests that are made up, and
-# which changed files it opens.
+# The program beside the rules written once more in Python: answers, reports and tables of requests that are made up,
+# and which changed files it opens.
 machine: build
 	python3 tools/check_machine.py $(PROGRAM)
 	python3 tools/check_opening.py $(PROGRAM)
@@ -57,7 +59,8 @@ memory: build
 hostile:
 	python3 tools/check_hostile.py
 
-# The wrong bodies that the gate leaves out: each has to be refused. It takes hours; 'make refuse CRATES=forest' tries one crate's.
+# The wrong bodies that the gate leaves out: each has to be refused. It takes hours; 'make refuse CRATES=forest' tries
+# those of one crate.
 refuse:
 	python3 tools/refuse.py $(CRATES)
 

@@ -1,8 +1,9 @@
 """For which reasons a state refuses a command."""
 import copy
 
-REFUSALS = """KeyTaken NoSuch BadNumber NameTaken WrongFlag Retired WrongState Mismatch OpenOutputs InUse Cycle SelfInside
-    Unfit NotLoose Serialised NotSerialised HasContent Unavailable Short Allocated OverNeed SerialCount SerialTaken TooDeep
+REFUSALS = """
+    KeyTaken NoSuch BadNumber NameTaken WrongFlag Retired WrongState Mismatch OpenOutputs InUse Cycle SelfInside Unfit
+    NotLoose Serialised NotSerialised HasContent Unavailable Short Allocated OverNeed SerialCount SerialTaken TooDeep
     TooLarge Full""".split()
 ALLOCATABLE = {"OK", "Attention", "Damaged", "Returned"}
 # The first three are open.
@@ -23,8 +24,8 @@ class Refused(Exception):
 
 
 class Checks:
-    """Every reason for which a state refuses a command. The first in the order of the refusals is the answer, so that each
-    method may name them in any order."""
+    """Every reason for which a state refuses a command. The first in the order of the refusals is the answer, so that
+    each method may name them in any order."""
 
     def __init__(self, machine, do, fields):
         self.m, self.do, self.c, self.found = machine, do, fields, set()

@@ -15,7 +15,8 @@ OFTEN = {
     "ship": 5, "auto_allocate": 5, "receive": 6, "complete_build": 6, "allocate_sale": 8, "outputs": 8,
     "complete_output": 8, "install": 8, "issue_build": 8, "consume": 8, "found": 12, "allocate_build": 14}
 WORDS = ["Bolt", "Motor", "Größe", "漢", "🔩"]
-NAMES = [f"{word} {n}" for word in WORDS for n in range(40)] + ['"quoted"', "back\\slash", "a/b", "=1", "a,b", "x" * 200]
+NAMES = [f"{word} {n}" for word in WORDS for n in range(40)]
+NAMES += ['"quoted"', "back\\slash", "a/b", "=1", "a,b", "x" * 200]
 DAMAGE = [b",", b'"', b"\n", b"\r", b"0", b"7", b"-", b"x", b" ", b"\xff", b"\xc3\xa9", b"\x00", b"\n\n", b""]
 BATCHES = [None, "L1", "L2", "b,c", 'q"q', "é"]
 
@@ -30,7 +31,8 @@ def style_of(r):
         chain, often["install"], often["uninstall"], often["disassemble"] = r.randint(17, 22), 300, 2, 1
     is_builder = not chain and r.random() < 0.4
     if is_builder:
-        often.update(allocate_build=60, auto_allocate=20, consume=60, build=15, issue_build=20, cancel_build=1, found=30)
+        often.update(allocate_build=60, auto_allocate=20, consume=60, build=15, issue_build=20, cancel_build=1)
+        often.update(found=30)
     return {**style, "newest": r.choice([3, 8, 30]), "parts": r.choice([8, 20, 40]), "chain": chain, "often": often,
             "builder": is_builder}
 
@@ -108,14 +110,14 @@ class Maker:
         return self.one([n for n, it in self.m.parts.items() if it.name == name], self.m.parts)
 
     def builder(self):
-        """Requests for assemblies in a chain of templates that are made of what stands in another, and for builds of them
-        and stock."""
+        """Requests for assemblies in a chain of templates that are made of what stands in another, and for builds of
+        them and stock."""
         chains = {"Table": ["template", "assembly"], "Nail": ["template", "component"]}
         for name, flags in chains.items():
             for at, its in enumerate([flags, flags, flags, flags[1:]][:self.r.randint(2, 4)]):
                 yield "add_part", lambda name=name, at=at, its=its: {
-                    "name": f"{name} {at}", "category": None, "template": self.named(f"{name} {at - 1}") if at else None,
-                    "flags": its}
+                    "name": f"{name} {at}", "category": None, "flags": its,
+                    "template": self.named(f"{name} {at - 1}") if at else None}
         yield "add_part", lambda: {"name": "Glue", "category": None, "template": None, "flags": ["component"]}
         for at, component in (0, "Nail 0"), (1, "Nail 1"), (1, "Glue"):
             yield "add_line", lambda at=at, component=component: {
@@ -125,7 +127,8 @@ class Maker:
         yield "add_substitute", lambda: {"line": self.row("line"), "part": self.named("Glue")}
         for _ in range(12):
             yield "found", self.found_wanted
-            yield "build", lambda: {"part": self.named(f"Table {self.r.randint(0, 3)}"), "quantity": self.r.randint(1, 5)}
+            yield "build", lambda: {
+                "part": self.named(f"Table {self.r.randint(0, 3)}"), "quantity": self.r.randint(1, 5)}
             yield "issue_build", self.issue_build
 
     def chain(self, count):
@@ -140,8 +143,9 @@ class Maker:
             yield "add_line", lambda at=at: {"assembly": part(at), "component": part(at + 1), "quantity": 1,
                                              **{flag: False for flag in LINE_FLAGS}}
         for at in 2 * list(range(count)):
-            yield "found", lambda at=at: {"part": part(at), "location": self.row("location"), "quantity": 1, "batch": None,
-                                          "serials": self.serials(1)}
+            yield "found", lambda at=at: {
+                "part": part(at), "location": self.row("location"), "quantity": 1, "batch": None,
+                "serials": self.serials(1)}
 
     def fields(self, do):
         return getattr(self, do)() if hasattr(self, do) else {name: self.row(name) for name, _, _ in FIELDS[do]}
@@ -187,7 +191,8 @@ class Maker:
     def takes(self, line, item):
         """Whether a bill's line may be served with the item; now and then also what fits and can't be had."""
         it = self.m.items[item]
-        return self.m.fits(line, it.part) and (it.status in ALLOCATABLE and self.m.free(item) > 0 or self.r.random() < self.wild)
+        is_there = it.status in ALLOCATABLE and self.m.free(item) > 0
+        return self.m.fits(line, it.part) and (is_there or self.r.random() < self.wild)
 
     def amount(self, item):
         """An amount of an item: some or all of it, some or all of what is free, or too much."""
@@ -254,8 +259,9 @@ class Maker:
             flags = flags & {"component"} | {"virtual"}
         if r.random() < 0.05:
             flags.add(r.choice(FLAGS))
-        return {"name": r.choice(NAMES), "category": r.choice([None, self.one(self.m.categories)]), "template": template,
-                "flags": r.sample(sorted(flags), len(flags))}
+        return {
+            "name": r.choice(NAMES), "category": r.choice([None, self.one(self.m.categories)]), "template": template,
+            "flags": r.sample(sorted(flags), len(flags))}
 
     def add_line(self):
         made = {"assembly": self.one(self.parts("assembly")), "component": self.one(self.parts("component")),
@@ -275,7 +281,8 @@ class Maker:
         """The components that builds want which may still have something allocated."""
         m = self.m
         builds = [it for it in m.builds.values() if it.state in ("Pending", "Production")]
-        return [m.lines[line].component for it in builds for line in m.effective(it.part) if not m.lines[line].consumable]
+        lines = [m.lines[line] for it in builds for line in m.effective(it.part)]
+        return [line.component for line in lines if not line.consumable]
 
     def found(self):
         part = self.one(self.wanted() if self.r.random() < 0.4 else [], self.parts())

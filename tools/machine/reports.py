@@ -85,6 +85,10 @@ def bits(names, flags):
     return sum(1 << at for at, name in enumerate(names) if name in flags)
 
 
+def line_bits(line):
+    return bits(LINE_FLAGS, [name for name in LINE_FLAGS if line[name]])
+
+
 def place_of(it):
     return PLACES.index(it.place[0]), REASONS.index(it.place[1]) if it.place[0] == "off" else it.place[1]
 
@@ -102,7 +106,7 @@ def table(m, name):
             "categories": lambda it: (it.name, it.parent),
             "locations": lambda it: (it.name, it.parent),
             "parts": lambda it: (it.name, it.category, it.template, bits(FLAGS, it.flags), int(it.retired)),
-            "lines": lambda it: (it.assembly, it.component, it.quantity, bits(LINE_FLAGS, [f for f in LINE_FLAGS if it[f]])),
+            "lines": lambda it: (it.assembly, it.component, it.quantity, line_bits(it)),
             "substitutes": lambda it: (it.line, it.part),
             "items": lambda it: (it.part, it.batch, it.serial, STATUSES.index(it.status), it.quantity, *place_of(it)),
             "orders": lambda it: (SIDES.index(it.side), it.partner, ORDER_STATES.index(it.state)),
