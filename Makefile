@@ -26,12 +26,10 @@ install: build
 
 # Lines per second and peak memory over 20,000 and 40,000 lines of each kind, in memory and with a file; files beside
 # Python's sqlite3, a C program and the kit's sqlite alone; imports beside lines; requests over HTTP beside Python's
-# http.server; and how calls of the libraries grow.
+# http.server; and how calls of the libraries grow. 'make bench WHAT=file' times files alone; 'tools/bench.py --help'
+# tells the words.
 bench: build
-	python3 tools/bench.py $(PROGRAM)
-	python3 tools/bench_file.py $(PROGRAM)
-	python3 tools/bench_http.py $(PROGRAM)
-	python3 tools/bench_calls.py
+	python3 tools/bench.py $(PROGRAM) $(WHAT)
 
 # Files as Python's sqlite3 finds them, and files that are refused; the program killed amid a pipe of lines (all of it
 # by '--kills 100 --lines 100000'); deliveries and stocktakes that Python's csv and, where it is there, LibreOffice

@@ -1,19 +1,9 @@
-#!/usr/bin/env python3
-"""Times the program on a file: 20,000 and 40,000 finds and removals, on a disk and on a memory disk, once by a pipe and
-once line by line, each sent when the one before it was answered. Beside them, in the same run, the same writes in groups
-of the same size and alone: by Python's sqlite3; by a C program with prepared statements over the system's library, where
-there is a `cc` and that library; and alone by the kit's `sqlite`. All are in WAL with synchronous FULL. Then the opening
-of a file of 50,000 and of 100,000 rows, half of them items and half their entries, and transfers of single pieces among
-1,000 items and among 20,000. Then imports of 10,000, 20,000 and 100,000 counts, the first two beside the same requests as
-lines. Prints seconds, ratios and peak memory.
+"""Times the program on a file, beside Python's sqlite3, a C program and the kit's `sqlite` alone.
 
-The program over the kit's sqlite, tools/bench/three_writes.rt.txt, is no crate of the repository: a folder of its own
-gets it, and there `rt run` proves that it is safe and builds it, in some minutes.
-
-usage: tools/bench_file.py PROGRAM"""
+The program over the kit's sqlite, three_writes.rt.txt, is no crate of the repository: a folder of its own gets it, and
+there `rt run` proves that it is safe and builds it, in some minutes."""
 import os
 import pathlib
-import resource
 import shutil
 import sqlite3
 import subprocess
@@ -21,7 +11,9 @@ import sys
 import tempfile
 import time
 
-BENCH = pathlib.Path(__file__).resolve().parent / "bench"
+from shared import built_by_cc
+
+HERE = pathlib.Path(__file__).resolve().parent
 KIT_CRATES = "anyhow sqlite sqlite_value sqlite_sql sqlite_schema sqlite_trees sqlite_disk sqlite_catalog"
 DAY = '"day":"2030-01-02"'
 COUNTS = (20_000, 40_000)
@@ -44,30 +36,31 @@ def transfer(item):
     return f'{{{DAY},"do":"transfer","item":{item},"location":1,"quantity":1}}\n'
 
 
-def timed(words, lines):
+def timed(program, words, lines):
+    """The seconds of a run on the lines that ends well."""
     begin = time.monotonic()
-    done = subprocess.run([sys.argv[1], *words], input=lines.encode(), stdout=subprocess.PIPE, check=False)
+    done = subprocess.run([program, *words], input=lines.encode(), stdout=subprocess.PIPE, check=False)
     seconds = time.monotonic() - begin
     if done.returncode != 0:
-        sys.exit(f"bench_file: {words} ends with {done.returncode}: {done.stdout[-200:]!r}")
+        sys.exit(f"bench: {words} ends with {done.returncode}: {done.stdout[-200:]!r}")
     return seconds
 
 
-def line_by_line(path, lines):
+def line_by_line(program, path, lines):
     """The seconds of lines of which each is sent when the one before it was answered."""
-    words = [sys.argv[1], "run", "--db", path]
+    words = [program, "run", "--db", path]
     with subprocess.Popen(words, stdin=subprocess.PIPE, stdout=subprocess.PIPE, bufsize=0) as child:
         begin = time.monotonic()
         for line in lines:
             child.stdin.write(line.encode())
             answer = child.stdout.readline()
             if not answer.startswith(b'{"entries"'):
-                sys.exit(f"bench_file: {line!r} is answered {answer!r}")
+                sys.exit(f"bench: {line!r} is answered {answer!r}")
         return time.monotonic() - begin
 
 
 def by_python(path, count, group):
-    """The same writes: an item's row and an entry for each request, and the counter for each group, in one transaction."""
+    """The same writes: a row of an item and an entry for each request, and the counter for each group."""
     conn = sqlite3.connect(path, isolation_level=None)
     conn.execute("PRAGMA journal_mode = WAL")
     conn.execute("PRAGMA synchronous = FULL")
@@ -109,11 +102,7 @@ def by_python(path, count, group):
 
 def c_program(folder):
     """The program in C, or none where it can't be built."""
-    built = str(folder / "three_writes")
-    words = ["cc", "-O2", "-o", built, str(BENCH / "three_writes.c"), "-lsqlite3"]
-    if not shutil.which("cc") or subprocess.run(words, stderr=subprocess.DEVNULL, check=False).returncode:
-        return None
-    return built
+    return built_by_cc(HERE / "three_writes.c", folder / "three_writes", "-lsqlite3")
 
 
 def kit_program(folder):
@@ -121,15 +110,15 @@ def kit_program(folder):
     crate = folder / "kit" / "crates" / "three_writes"
     (crate / "src").mkdir(parents=True)
     (folder / "kit" / "crates.txt").write_text(f"three_writes: {KIT_CRATES}\n")
-    shutil.copy(BENCH / "three_writes.rt.txt", crate / "src" / "main.rt")
+    shutil.copy(HERE / "three_writes.rt.txt", crate / "src" / "main.rt")
     subprocess.run(["rt", "run", "--", str(folder / "once.db"), "1"], cwd=crate, capture_output=True, check=False)
     built = crate / "out" / "three_writes"
     return str(built) if os.access(built, os.X_OK) else None
 
 
 def by_program(program, path, count, group):
-    """The seconds that a program tells; it tells them as such or in nanoseconds. Where the requests are alone it is told of
-    no group."""
+    """The seconds that another program prints, as such or in nanoseconds. Where the requests are alone it gets no word
+    of a group."""
     words = [program, path, str(count), *([str(group)] if group > 1 else [])]
     told = subprocess.run(words, capture_output=True, text=True, check=True).stdout.strip()
     return float(told) if "." in told else int(told) / 1e9
@@ -141,25 +130,25 @@ def in_turn(count):
         yield remove(i + 3)
 
 
-def of_program(folder, count, lines, grouped):
+def of_program(program, folder, count, lines, grouped):
     """The program's seconds for the lines, by a pipe or line by line."""
     path = str(folder / f"turns-{count}-{grouped}.db")
-    timed(("run", "--db", path), START)
-    return timed(("run", "--db", path), "".join(lines)) if grouped else line_by_line(path, lines)
+    timed(program, ("run", "--db", path), START)
+    return timed(program, ("run", "--db", path), "".join(lines)) if grouped else line_by_line(program, path, lines)
 
 
-def beside_others(folder, name, programs):
+def beside_others(program, folder, name, programs):
     """The program beside the others on each count, in groups and alone, as lines a second."""
     others = {"Python's sqlite3": by_python}
-    for what, program in programs.items():
-        if program:
-            others[what] = lambda path, count, group, program=program: by_program(program, path, count, group)
+    for what, other in programs.items():
+        if other:
+            others[what] = lambda path, count, group, other=other: by_program(other, path, count, group)
     before = None
     for count in COUNTS:
         lines = list(in_turn(count))
         group = PIPE * count // sum(len(line) for line in lines)
         print(f"{count} finds and removals on {name}, a second: in groups of {group}, and alone", flush=True)
-        ours = {size: of_program(folder, count, lines, size > 1) for size in (group, 1)}
+        ours = {size: of_program(program, folder, count, lines, size > 1) for size in (group, 1)}
         print(f"    the program: {count / ours[group]:.0f}, {count / ours[1]:.0f}", flush=True)
         for at, (what, act) in enumerate(others.items()):
             path = str(folder / f"other-{at}-{count}")
@@ -173,46 +162,47 @@ def beside_others(folder, name, programs):
         before = ours[group]
 
 
-def opening(folder):
+def opening(program, folder):
     for items in (25_000, 50_000):
         path = str(folder / f"{items}.db")
-        timed(("run", "--db", path), START + "".join(found(1) for _ in range(items)))
-        seconds = min(timed(("export", "--db", path, "meta"), "") for _ in range(3))
-        peak = resource.getrusage(resource.RUSAGE_CHILDREN).ru_maxrss
+        timed(program, ("run", "--db", path), START + "".join(found(1) for _ in range(items)))
+        runs = [measured(program, folder, ("export", "--db", path, "meta")) for _ in range(3)]
+        seconds, peak = min(it[0] for it in runs), max(it[1] for it in runs)
         print(f"opening {2 * items} rows: {seconds:.2f} s, {peak} KiB at most", flush=True)
 
 
-def among(folder):
+def among(program, folder):
     for items in (1_000, 20_000):
         path = str(folder / f"among-{items}.db")
-        timed(("run", "--db", path), START + "".join(found(1_000) for _ in range(items)))
-        empty = min(timed(("run", "--db", path), "") for _ in range(3))
-        seconds = timed(("run", "--db", path), "".join(transfer(i % 1_000 + 3) for i in range(2_000))) - empty
+        words = ("run", "--db", path)
+        timed(program, words, START + "".join(found(1_000) for _ in range(items)))
+        empty = min(timed(program, words, "") for _ in range(3))
+        seconds = timed(program, words, "".join(transfer(i % 1_000 + 3) for i in range(2_000))) - empty
         print(f"2,000 transfers among {items} items: {seconds:.2f} s, {seconds / 2:.2f} ms each", flush=True)
 
 
-def measured(folder, words, lines=""):
+def measured(program, folder, words, lines=""):
     """The seconds and the peak memory in KiB of a run that ends well."""
     given = folder / "given"
     given.write_text(lines)
     begin = time.monotonic()
     with given.open("rb") as reader:
-        child = subprocess.Popen([sys.argv[1], *words], stdin=reader, stdout=subprocess.DEVNULL)
+        child = subprocess.Popen([program, *words], stdin=reader, stdout=subprocess.DEVNULL)
         _, status, used = os.wait4(child.pid, 0)
     child.returncode = os.waitstatus_to_exitcode(status)
     if child.returncode != 0:
-        sys.exit(f"bench_file: {words} ends with {child.returncode}")
+        sys.exit(f"bench: {words} ends with {child.returncode}")
     return time.monotonic() - begin, used.ru_maxrss
 
 
-def with_items(folder, name):
+def with_items(program, folder, name):
     """Books of 1,000 items."""
     db = str(folder / f"{name}.db")
-    timed(("run", "--db", db), START + "".join(found(10) for _ in range(1_000)))
+    timed(program, ("run", "--db", db), START + "".join(found(10) for _ in range(1_000)))
     return db
 
 
-def imports(folder):
+def imports(program, folder):
     """Each row counts one of 1,000 items, and finds another quantity than before."""
     before = None
     for count in (10_000, 20_000, 100_000):
@@ -221,7 +211,8 @@ def imports(folder):
         path = folder / "counted.csv"
         path.write_text(rows)
         words = ("--kind", "counts", "--document", "C1", "--day", "2030-01-02", str(path))
-        ours, peak = measured(folder, ("import", "--db", with_items(folder, f"rows-{count}"), *words))
+        db = with_items(program, folder, f"rows-{count}")
+        ours, peak = measured(program, folder, ("import", "--db", db, *words))
         print(
             f"{count} counts imported: {ours:.2f} s, {count / ours:.0f} a second; {peak} KiB at most, of a file of"
             f" {len(rows) // 1024}",
@@ -232,18 +223,20 @@ def imports(folder):
                 f'{{{DAY},"do":"count","item":{item},"key":"counts/C1/{n}","quantity":{quantity}}}\n'
                 for n, item, quantity in counted
             )
-            theirs, beside = measured(folder, ("run", "--db", with_items(folder, f"lines-{count}")), lines)
+            db = with_items(program, folder, f"lines-{count}")
+            theirs, beside = measured(program, folder, ("run", "--db", db), lines)
             print(f"    {theirs / ours:.2f} of the rate of lines, of which {beside} KiB at most", flush=True)
         if before:
             print(f"    {ours / before[1]:.2f} times the time of {before[0]}", flush=True)
         before = (count, ours)
 
 
-with tempfile.TemporaryDirectory(dir=".") as disk, tempfile.TemporaryDirectory(dir="/dev/shm") as memory:
-    disk, memory = pathlib.Path(disk).resolve(), pathlib.Path(memory)
-    programs = {"C": c_program(disk), "the kit's sqlite alone": kit_program(disk)}
-    beside_others(disk, "a disk", programs)
-    beside_others(memory, "a memory disk", programs)
-    opening(memory)
-    among(memory)
-    imports(memory)
+def time_files(program):
+    with tempfile.TemporaryDirectory(dir=".") as disk, tempfile.TemporaryDirectory(dir="/dev/shm") as memory:
+        disk, memory = pathlib.Path(disk).resolve(), pathlib.Path(memory)
+        programs = {"C": c_program(disk), "the kit's sqlite alone": kit_program(disk)}
+        beside_others(program, disk, "a disk", programs)
+        beside_others(program, memory, "a memory disk", programs)
+        opening(program, memory)
+        among(program, memory)
+        imports(program, memory)

@@ -1,17 +1,17 @@
-#!/usr/bin/env python3
-"""Times calls of the libraries, without the reading and writing of lines: the cycle test of bills, and transfers in part,
-each at 1,000 and at 2,000 rows. Prints milliseconds per call, and by what factor they grow.
+"""Times calls of the libraries, without the reading and writing of lines.
 
-The program that makes the calls, tools/bench/main.rt.txt, is no crate of the repository and isn't proved: a copy of the
-crates gets it as one more, and 'rt try' runs it there. So it isn't named .rt, of which the gate wants each file in a
-crate."""
+The program that makes the calls, main.rt.txt, is no crate of the repository and isn't proved: a copy of the crates gets
+it as one more, and 'rt try' runs it there. So it isn't named .rt, of which the gate wants each file in a crate."""
 import os
+import pathlib
 import shutil
 import subprocess
 import sys
 import tempfile
 
-TOP = os.path.dirname(os.path.dirname(os.path.abspath(__file__)))
+from shared import copy_crates
+
+CALLS = pathlib.Path(__file__).resolve().parent / "main.rt.txt"
 SIZES = (1_000, 2_000)
 USES = "part_core forest bom_core yard_core stock_core anyhow"
 # rt try's limit of the program: it takes about a minute on an idle machine.
@@ -24,14 +24,10 @@ MEASURES = {
 }
 
 
-def copy_crates(to):
-    """Copies the crates without what checks left in them, and adds the program as the crate 'bench'."""
-    without_out = shutil.ignore_patterns("out")
-    shutil.copytree(f"{TOP}/crates", f"{to}/crates", ignore=without_out)
-    for name in ("crates.txt", "HANDLES"):
-        shutil.copy(f"{TOP}/{name}", to)
+def add_bench(to):
+    """Adds the program to a copy of the crates, as the crate 'bench'."""
     os.makedirs(f"{to}/crates/bench/src")
-    shutil.copy(f"{TOP}/tools/bench/main.rt.txt", f"{to}/crates/bench/src/main.rt")
+    shutil.copy(CALLS, f"{to}/crates/bench/src/main.rt")
     with open(f"{to}/crates.txt", "a", encoding="utf-8") as lines:
         lines.write(f"\nbench: {USES}\n")
 
@@ -40,6 +36,7 @@ def run():
     """Gives the lines that the program prints."""
     with tempfile.TemporaryDirectory(prefix="bench-") as folder:
         copy_crates(folder)
+        add_bench(folder)
         words = ["rt", "try", "--seconds", str(SECONDS), "--", *map(str, SIZES)]
         how = {"stdin": subprocess.DEVNULL, "capture_output": True, "text": True}
         done = subprocess.run(words, cwd=f"{folder}/crates/bench", check=False, **how)
@@ -48,14 +45,16 @@ def run():
     return done.stdout.splitlines()
 
 
-def main():
+def time_calls(_program):
+    """Times the calls, for which no built program is needed."""
     version = ["rt", "version"]
     kit = subprocess.run(version, capture_output=True, text=True, check=True).stdout.strip()
     print(f"{kit}: rt try builds without optimisation and with checks of each access (clang -O0 -fsanitize=address),")
     print("and so a call takes hundreds of times as long as in a built program. What counts is how it grows.")
     before = os.getloadavg()[0]
     lines = run()
-    print(f"Other work spoils the times. Load: {before:.1f} before, {os.getloadavg()[0]:.1f} after, {os.cpu_count()} processors.")
+    after, processors = os.getloadavg()[0], os.cpu_count()
+    print(f"Other work spoils the times. Load: {before:.1f} before, {after:.1f} after, {processors} processors.")
     per_call = {}
     for line in lines:
         name, size, calls, nanos = line.split()
@@ -64,6 +63,3 @@ def main():
         small, large = (per_call[name][size] for size in SIZES)
         times = f"{small:.2f} and {large:.2f} ms per call at {SIZES[0]:,} and {SIZES[1]:,} {counted}"
         print(f"{name}, {what}: {times}, {large / small:.2f} times as much")
-
-
-main()

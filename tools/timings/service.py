@@ -1,18 +1,9 @@
-#!/usr/bin/env python3
-"""Times the program as a server: finds by POST /run from a client in one thread, a connection for each, in memory and with
-a file on a memory disk; and beside them, in the same run, as many requests to a server of Python's http.server that reads
-the body and does nothing. The client is a C program, tools/bench/http_client.c, where there is a `cc`, so that little of
-what is timed is the client's; else it is Python's. Prints requests a second, the median and the 99th percentile in
-milliseconds, for 2,000 and for 20,000 requests.
-
-usage: tools/bench_http.py PROGRAM"""
+"""Times the program as a server, beside a server of Python's http.server that reads the body and does nothing."""
 import contextlib
 import http.server
 import json
 import multiprocessing
-import os
 import pathlib
-import shutil
 import socket
 import statistics
 import subprocess
@@ -20,7 +11,9 @@ import sys
 import tempfile
 import time
 
-CLIENT = pathlib.Path(__file__).resolve().parent / "bench" / "http_client.c"
+from shared import built_by_cc, posted, serve
+
+CLIENT = pathlib.Path(__file__).resolve().parent / "http_client.c"
 COUNTS = (2_000, 20_000)
 DAY = "2030-01-02"
 START = (
@@ -28,11 +21,6 @@ START = (
     {"day": DAY, "do": "add_part", "flags": ["component"], "name": "Screw"},
 )
 FOUND = {"day": DAY, "do": "found", "location": 1, "part": 2, "quantity": 10}
-
-
-def posted(request):
-    body = json.dumps(request)
-    return f"POST /run HTTP/1.1\r\nHost: a\r\nContent-Length: {len(body)}\r\n\r\n{body}".encode()
 
 
 def answer(port, data):
@@ -43,14 +31,6 @@ def answer(port, data):
         while piece := stream.recv(65536):
             text += piece
         return text
-
-
-def built_client(folder):
-    """The C client, built into the folder: none where there is no compiler."""
-    words = ["cc", "-O2", "-o", f"{folder}/client", str(CLIENT)]
-    if not shutil.which("cc") or subprocess.run(words, check=False).returncode:
-        return None
-    return f"{folder}/client"
 
 
 def taken_by(client, port, count, data):
@@ -64,12 +44,12 @@ def taken_by(client, port, count, data):
         text = answer(port, data)
         taken.append(time.monotonic() - start)
         if not text.startswith(b"HTTP/1.") or b" 200 " not in text[:16]:
-            sys.exit(f"bench_http: answered {text[:80]!r}")
+            sys.exit(f"bench: answered {text[:80]!r}")
     return taken
 
 
 def times(name, client, port, count):
-    taken = sorted(taken_by(client, port, count, posted(FOUND)))
+    taken = sorted(taken_by(client, port, count, posted(json.dumps(FOUND))))
     rate = count / sum(taken)
     print(
         f"{name}({count}): {rate:.0f} requests a second, median {statistics.median(taken) * 1000:.3f} ms,"
@@ -79,19 +59,10 @@ def times(name, client, port, count):
     return rate
 
 
-def free_port():
-    with contextlib.closing(socket.socket()) as taken:
-        taken.bind(("127.0.0.1", 0))
-        return taken.getsockname()[1]
-
-
 def served(program, client, name, count, *words):
-    port = free_port()
-    server = subprocess.Popen(
-        [program, "serve", *words, "--port", str(port), "--count", str(count + len(START))], stdout=subprocess.PIPE)
-    server.stdout.readline()
+    server, port = serve(program, *words, "--count", str(count + len(START)), stderr=None)
     for request in START:
-        answer(port, posted(request))
+        answer(port, posted(json.dumps(request)))
     rate = times(name, client, port, count)
     server.wait(timeout=20)
     server.stdout.close()
@@ -127,14 +98,11 @@ def on_file(program, client, count):
         return served(program, client, "--db", count, "--db", f"{folder}/x.db")
 
 
-def main(program):
+def time_service(program):
     with tempfile.TemporaryDirectory() as folder:
-        client = built_client(folder)
+        client = built_by_cc(CLIENT, f"{folder}/client")
         for count in COUNTS:
             beside = of_python(client, count)
             rates = (("memory", served(program, client, "memory", count)), ("--db", on_file(program, client, count)))
             for name, rate in rates:
                 print(f"{name}({count}): {rate / beside:.2f} times the rate of http.server", flush=True)
-
-
-main(os.path.abspath(sys.argv[1]))
