@@ -1,4 +1,5 @@
-/* Sends one request of HTTP so many times to a port of the loopback, a connection each, and prints the seconds of each on a line.
+/* Sends one request of HTTP so many times to a port of the loopback, a connection each, and prints the seconds of each
+   on a line.
    usage: http_client PORT COUNT < REQUEST */
 #include <arpa/inet.h>
 #include <netinet/in.h>

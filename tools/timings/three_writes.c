@@ -1,6 +1,7 @@
-/* The writes of so many requests through the system's sqlite: three_writes FILE COUNT [GROUP]. Each request puts an item's
- * row and an entry of the history, by prepared statements. So many requests as GROUP says, or one, are one transaction,
- * which ends with the row of the counter. It prints the seconds that they took, without opening and closing. */
+/* The writes of so many requests through the system's sqlite: three_writes FILE COUNT [GROUP]. Each request puts an
+ * item's row and an entry of the history, by prepared statements. As many requests as GROUP says, or one, are one
+ * transaction, which ends with the row of the counter. It prints the seconds that they took, without opening and
+ * closing. */
 #include <sqlite3.h>
 #include <stdio.h>
 #include <stdlib.h>
