@@ -25,7 +25,7 @@ import subprocess
 import tempfile
 import time
 
-from shared import COLUMNS, TOP, expect, reader_of_words, rows_of, run, serve
+from shared import COLUMNS, TOP, expect, expect_whole, reader_of_words, rows_of, run, serve
 
 # Files that the program as it was before version 2 made: one with nothing, one of a workshop that keeps the answer of
 # each request, and one with rows in each table.
@@ -220,7 +220,7 @@ def look(path):
             for table, columns in COLUMNS.items():
                 found = [row[1] for row in conn.execute(f"PRAGMA table_info({table})")]
                 expect(found == columns, f"{table} has the columns {found}")
-            expect(conn.execute("PRAGMA integrity_check").fetchone() == ("ok",), "the file isn't whole")
+            expect_whole(conn)
             return rows_of(conn)
 
 

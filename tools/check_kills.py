@@ -20,7 +20,7 @@ import tempfile
 import threading
 import time
 
-from shared import copy_with_log, expect, reader_of_words, rows_of, run
+from shared import copy_with_log, expect, expect_whole, reader_of_words, rows_of, run
 
 DAY = '"day":"2030-01-02"'
 START = f"""{{{DAY},"do":"add_location","key":"a","name":"A"}}
@@ -80,7 +80,7 @@ def run_until(program, path, text, lines, wait):
 def tables_of(path):
     """The tables of a copy of the file and its log, as Python's sqlite3 finds them."""
     with copy_with_log(path) as conn:
-        expect(conn.execute("PRAGMA integrity_check").fetchone() == ("ok",), "the file isn't whole")
+        expect_whole(conn)
         return rows_of(conn, TABLES)
 
 

@@ -1,5 +1,5 @@
-"""What the scripts beside it share: the words that they are called with, how the built program is run, served and asked,
-how its files are looked at, and how a script ends where something isn't as it has to be."""
+"""What the scripts beside it share: the words that they are called with, how the built program is run, served and
+asked, how its files are looked at, and how a script ends where something isn't as it has to be."""
 import argparse
 import contextlib
 import http.client
@@ -38,7 +38,7 @@ def expect(holds, text):
 
 
 def run(program, *words, lines="", **more):
-    """Runs the program with these words on the lines, to its end. What it writes is text, or bytes where the lines are."""
+    """Runs the program with these words on the lines, to its end. It writes text, or bytes where the lines are bytes."""
     is_text = isinstance(lines, str)
     return subprocess.run([program, *words], input=lines, capture_output=True, text=is_text, check=False, **more)
 
@@ -77,6 +77,11 @@ def posted(body, path="/run", fields=""):
 def rows_of(conn, tables=COLUMNS):
     """The rows of each of these tables of a file, in the order of their first columns."""
     return {table: conn.execute(f"SELECT * FROM {table} ORDER BY 1").fetchall() for table in tables}
+
+
+def expect_whole(conn):
+    """Ends the script where sqlite finds a fault in the file."""
+    expect(conn.execute("PRAGMA integrity_check").fetchone() == ("ok",), "the file isn't whole")
 
 
 @contextlib.contextmanager
