@@ -38,7 +38,7 @@ def expect(holds, text):
 
 
 def run(program, *words, lines="", **more):
-    """Runs the program with these words on the lines, to its end. It writes text, or bytes where the lines are bytes."""
+    """Runs the program with these words on the lines, to its end. What it writes is text where the lines are text."""
     is_text = isinstance(lines, str)
     return subprocess.run([program, *words], input=lines, capture_output=True, text=is_text, check=False, **more)
 
