@@ -1,0 +1,68 @@
+#!/usr/bin/env python3
+"""The gate: passes every proof and every test, and says how many passed.
+
+First it looks whether each wrong body still applies, and whether each name that the documents cite stands where they say.
+Then 'rt ci' proves every crate from nothing, tries the must-fail edits, and runs the tests and the program. The program
+that this built is then tried as its owner would: with files, imports, clients of HTTP and kills, and beside the rules
+written once more. Where a step fails, those behind it are not run. The last line is 'N passed, M failed': what 'rt ci'
+counts, and one for each script. It takes some two hours, of which the scripts take five minutes.
+
+usage: tools/gate.py [--jobs N]     N proofs side by side; without it as many as there are processors"""
+import argparse
+import os
+import re
+import subprocess
+import sys
+
+from shared import TOP
+
+PROGRAM = "crates/invdesk/out/invdesk"
+BEFORE = ["check_edits.py", "check_names.py"]
+AFTER = [
+    f"check_file.py {PROGRAM}",
+    f"check_import.py {PROGRAM}",
+    f"check_http.py {PROGRAM}",
+    f"check_kills.py {PROGRAM}",
+    f"check_machine.py {PROGRAM} --runs 12",
+    f"check_opening.py {PROGRAM} --runs 4",
+]
+
+
+def count_scripts(scripts):
+    """Runs these scripts of this folder: how many passed, and how many failed."""
+    failed = 0
+    for script in scripts:
+        print(f"== {script}", flush=True)
+        name, *words = script.split()
+        failed += subprocess.run([sys.executable, TOP / "tools" / name, *words], cwd=TOP, check=False).returncode != 0
+    return len(scripts) - failed, failed
+
+
+def count_proofs(jobs):
+    """Runs 'rt ci', so many proofs side by side: how many passed, and how many failed, by its last line."""
+    last = ""
+    environment = {**os.environ, "RT_JOBS": str(jobs)}
+    with subprocess.Popen(["rt", "ci"], cwd=TOP, env=environment, stdout=subprocess.PIPE, text=True) as ran:
+        for last in ran.stdout:
+            print(last, end="", flush=True)
+    counts = re.fullmatch(r"(\d+) passed, (\d+) failed", last.strip())
+    passed, failed = map(int, counts.groups()) if counts else (0, 1)
+    return passed, failed or int(ran.returncode != 0)
+
+
+def main():
+    plain = argparse.RawDescriptionHelpFormatter
+    words = argparse.ArgumentParser(description=__doc__, formatter_class=plain)
+    words.add_argument("--jobs", type=int, default=os.cpu_count())
+    jobs = words.parse_args().jobs
+    passed = failed = 0
+    for step in (lambda: count_scripts(BEFORE), lambda: count_proofs(jobs), lambda: count_scripts(AFTER)):
+        if not failed:
+            more, failed = step()
+            passed += more
+    print(f"{passed} passed, {failed} failed")
+    sys.exit(failed > 0)
+
+
+if __name__ == "__main__":
+    main()
