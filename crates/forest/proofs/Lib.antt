@@ -11,3 +11,4 @@ pub mod Grafted
 pub mod Prunes
 pub mod RowColumns
 pub mod Pruned
+pub mod Marks

@@ -2,6 +2,7 @@ pub mod EntryColumns
 pub mod Forest
 pub mod ItemColumns
 pub mod ItemKeys
+pub mod Marks
 pub mod Moves
 pub mod PlaceColumns
 pub mod Rows

@@ -28,3 +28,4 @@ pub mod Opened
 pub mod Filed
 pub mod Quiet
 pub mod QuietMoves
+pub mod Marking

@@ -8,7 +8,7 @@ use Rattle.part_core.specs.Rows.{StandRight}
 use Rattle.part_core.specs.Sheet.{Table}
 use Rattle.part_core.specs.declared.status.Status.{Status}
 use Rattle.forest.specs.declared.entry.Kind.{Kind}
-use Rattle.forest.specs.declared.entry.Kind.TheVariants.{Installed, TakenOut}
+use Rattle.forest.specs.declared.entry.Kind.TheVariants.{Installed, Marked, TakenOut}
 use Rattle.forest.specs.declared.entry.Note.{Note}
 use Rattle.forest.specs.declared.item.Item.{Item}
 use Rattle.forest.specs.declared.place.Place.{Place}
@@ -16,12 +16,12 @@ use Rattle.forest.specs.declared.place.Place.TheVariants.{At, In, Output, Sent, 
 use Rattle.forest.specs.declared.place.Reason.{Reason}
 use Rattle.forest.specs.Forest.{is_at, row_of}
 use Rattle.forest.specs.Moves.{cut_change, cut_leaf, grow_change, lift_change, lifted_root, make_change}
-use Rattle.forest.specs.Moves.{mark_change, place_left, pour_change, shrink_change, with_quantity, with_status}
+use Rattle.forest.specs.Moves.{place_left, pour_change, shrink_change, with_quantity}
 use Rattle.forest.specs.Rows.{entry_to}
 use Rattle.forest.specs.Tables.{node_of}
 use Rattle.yard_core.specs.Outputs.{LeavesOutputs, is_output}
 use Rattle.yard_core.specs.Stock.{Stock, at_place, cut, graft, grow, item_at, lift, make}
-use Rattle.yard_core.specs.Stock.{mark, moved, pour, prune, put_rows, shrink, tree_of}
+use Rattle.yard_core.specs.Stock.{mark, moved, pour, prune, put_rows, shrink, tree_of, with_status}
 use Rattle.yard_core.proofs.OwnKeys.{own-keyed}
 use Rattle.yard_core.proofs.Quiet.{leaves-kept, leaves-more, leaves-new, leaves-none}
 use Rattle.yard_core.proofs.Rows.{by_number, get-other, get-own, own-changed, own-new}
@@ -144,8 +144,8 @@ module _ (s : Stock) (own : HasOwn s.items) (day : CivilDay) where
 
     pub leaves-mark : (status : Status) → LeavesOutputs s.items (mark n status day s).items
     leaves-mark status =
-        let y = row_of (with_status status (tree_of n s)) in
-        leaves-moved (y ∷ []) (mark_change status (tree_of n s)).notes day s own (quiet y refl out, tt)
+        leaves-moved (with_status status x ∷ []) (entry_to Marked x.place x ∷ []) day s own
+        (quiet (with_status status x) refl out, tt)
 
     pub leaves-graft : (m : ℕ) → LeavesOutputs s.items (graft n m day s).items
     leaves-graft m =
