@@ -122,6 +122,23 @@ found_early : (bs ys : List ℕ) (n : ℕ) → head_end (front bs) ≡ Some n �
 unfolding front
 found_early bs ys n h = ap head_end (front_more 8192 bs ys) ∙ end_stays (take 8192 bs) (take (8192 - length bs) ys) n h
 
+-- ---- what has come of a head is what the bytes begin with that were read
+
+unless_short : (x : ℕ) → 8192 ≤ x → cond (nat_lt x 8192) Incomplete TooLong ≡ TooLong
+unless_short x h = ap (λ b. cond b Incomplete TooLong) (le-ltb x 8192 h)
+
+if_short : (x : ℕ) → x < 8192 → cond (nat_lt x 8192) Incomplete TooLong ≡ Incomplete
+if_short x h = ap (λ b. cond b Incomplete TooLong) (lt-ltb x 8192 h)
+
+pub found_here : (bs : List ℕ) (n : ℕ) → head_end (front bs) ≡ Some n → Head n ≡ arrival bs
+found_here bs n h = sym (ap (arrival_at bs) h)
+
+pub too_long_here : (bs : List ℕ) → head_end (front bs) ≡ None → 8192 ≤ length bs → TooLong ≡ arrival bs
+too_long_here bs h l = sym (ap (arrival_at bs) h ∙ unless_short (length bs) l)
+
+pub incomplete_here : (bs : List ℕ) → head_end (front bs) ≡ None → length bs < 8192 → Incomplete ≡ arrival bs
+incomplete_here bs h l = sym (ap (arrival_at bs) h ∙ if_short (length bs) l)
+
 -- ---- what has come of a head is what the whole bytes begin with
 
 pub found : (r : Option (List ℕ)) (bs : List ℕ) (n : ℕ) → head_end (front bs) ≡ Some n
@@ -136,12 +153,6 @@ front_full bs ys h =
     ∙ (let e : 8192 - length bs ≡ 0 = omega arith in ap (λ k. take 8192 bs ++ take k ys) e)
     ∙ append-nil (take 8192 bs)
 
-unless_short : (x : ℕ) → 8192 ≤ x → cond (nat_lt x 8192) Incomplete TooLong ≡ TooLong
-unless_short x h = ap (λ b. cond b Incomplete TooLong) (le-ltb x 8192 h)
-
-if_short : (x : ℕ) → x < 8192 → cond (nat_lt x 8192) Incomplete TooLong ≡ Incomplete
-if_short x h = ap (λ b. cond b Incomplete TooLong) (lt-ltb x 8192 h)
-
 pub too_long : (r : Option (List ℕ)) (bs : List ℕ) → head_end (front bs) ≡ None → 8192 ≤ length bs
     → IfSome (all_of r bs) (λ xs. TooLong ≡ arrival xs)
 too_long None bs h l = tt
@@ -155,3 +166,20 @@ incomplete None bs e h l = tt
 incomplete (Some ys) bs e h l =
     let all : bs ++ ys ≡ bs = ap (λ v. bs ++ v) e ∙ append-nil bs in
     sym (ap arrival all ∙ ap (arrival_at bs) h ∙ if_short (length bs) l)
+
+-- ---- a head that has come stays, whatever comes behind it
+
+no_head : (x n : ℕ) → Head n ≡ cond (nat_lt x 8192) Incomplete TooLong → ⊥
+no_head x n h = by (nat_lt x 8192) h
+  where
+    by : (t : Bool) → Head n ≡ cond t Incomplete TooLong → ⊥
+    by true e = absurd (cc)
+    by false e = absurd (cc)
+
+ends_there : (bs : List ℕ) (n : ℕ) (end : Option ℕ) → Head n ≡ arrival_at bs end → end ≡ Some n
+ends_there bs n None h = absurd (no_head (length bs) n h)
+ends_there bs n (Some m) h = cc
+
+pub head_stays : (bs more : List ℕ) (n : ℕ) → Head n ≡ arrival bs → Head n ≡ arrival (bs ++ more)
+head_stays bs more n h =
+    sym (ap (arrival_at (bs ++ more)) (found_early bs more n (ends_there bs n (head_end (front bs)) h)))

@@ -1,16 +1,25 @@
 -- What connections do to a service.
-use Rattle.std.proofs.Common.{◌≡◌, ◌+◌, ℕ, suc, List, ◌⊎◌, inl, inr, arith, subst}
-use Rattle.std.specs.Prelude.{Option, Result, Ok, Err}
+use Rattle.std.proofs.Common.{◌≡◌, ◌+◌, ℕ, zero, suc, List, inl, inr, arith, subst}
+use Rattle.std.specs.Prelude.{Option, Some, None, Result, Ok, Err}
+use Rattle.desk_http.specs.AccessRules.{AccessRules}
 use Rattle.desk_http.specs.Responses.{Response}
 use Rattle.desk_http.specs.Services.{Operation, ReplyView}
-use Rattle.desk_http.specs.Serving.{AreSteps, IsOneStep, Answers, Received, Incomplete, Rejected, Complete, Responds, Serves}
+use Rattle.desk_http.specs.Serving.{AreSteps, IsOneStep, IsOneOperation, Answers, Received, Incomplete, Rejected, Complete}
+use Rattle.desk_http.specs.Serving.{Responds, Serves, IsReceived}
 use Rattle.desk_http.specs.declared.service.NoReply.{NoReply}
 use Rattle.desk_http.specs.declared.service.NoReply.TheVariants.{Failed}
 use Rattle.desk_http.specs.declared.served.Stop.{Stop}
 use Rattle.desk_http.specs.declared.served.Stop.TheVariants.{Ended, ReadFailed, WriteFailed, Memory}
 
+-- one connection more
+pub one_more : {D : Type 0} (is_step : D → D → Type 0) (n : ℕ) (d d' d'' : D) → AreSteps is_step n d d'
+    → is_step d' d'' → AreSteps is_step (n + 1) d d''
+one_more is_step n d d' d'' steps step =
+    let e : suc n ≡ n + 1 = omega arith in
+    subst (λ k. AreSteps is_step k d d'') e (d', steps, step)
+
 module _ {D : Type 0} (performs : D → Operation → Result ReplyView NoReply → D → Type 0) where
-  responds : (d d' : D) (r : Received) (p : Response) → Responds performs d r d' p → IsOneStep performs d d'
+  responds : (d d' : D) (r : Received) (p : Response) → Responds performs d r d' p → IsOneOperation performs d d'
   responds d d' Incomplete p h = absurd h
   responds d d' (Rejected rejection) p h = inl h.0
   responds d d' (Complete o) p h = elim h [
@@ -18,24 +27,27 @@ module _ {D : Type 0} (performs : D → Operation → Result ReplyView NoReply �
     | inr failed ↦ inr (o, Err (Failed failed.0), failed.1)
   ]
 
-  answers : (are : Received → Type 0) (d d' : D) (p : Response) → Answers performs are d d' p → IsOneStep performs d d'
+  answers : (are : Received → Type 0) (d d' : D) (p : Response) → Answers performs are d d' p → IsOneOperation performs d d'
   answers are d d' p h = responds d d' h.0 p h.2
 
   -- a connection does one operation at most
-  pub served_step : (are : Received → Type 0) (d d' : D) (w w' : Option (List ℕ)) (r : Result ℕ Stop)
-      → Serves performs are d d' w w' r → IsOneStep performs d d'
-  served_step are d d' w w' (Ok status) h = answers are d d' h.0 h.1
-  served_step are d d' w w' (Err Ended) h = inl h.1
-  served_step are d d' w w' (Err ReadFailed) h = inl h.0
-  served_step are d d' w w' (Err WriteFailed) h = answers are d d' h.0 h.1
-  served_step are d d' w w' (Err Memory) h = elim h.0 [
+  one_operation : (are : Received → Type 0) (d d' : D) (w w' : Option (List ℕ)) (r : Result ℕ Stop)
+      → Serves performs are d d' w w' r → IsOneOperation performs d d'
+  one_operation are d d' w w' (Ok status) h = answers are d d' h.0 h.1
+  one_operation are d d' w w' (Err Ended) h = inl h.1
+  one_operation are d d' w w' (Err ReadFailed) h = inl h.0
+  one_operation are d d' w w' (Err WriteFailed) h = answers are d d' h.0 h.1
+  one_operation are d d' w w' (Err Memory) h = elim h.0 [
     | inl same ↦ inl same
     | inr done ↦ inr (done.0, done.2, done.3)
   ]
 
-  -- one connection more
-  pub one_more : (n : ℕ) (d d' d'' : D) → AreSteps performs n d d' → IsOneStep performs d' d''
-      → AreSteps performs (n + 1) d d''
-  one_more n d d' d'' steps step =
-      let e : suc n ≡ n + 1 = omega arith in
-      subst (λ k. AreSteps performs k d d'') e (d', steps, step)
+  -- and so many connections so many
+  pub operations : (rules : AccessRules) (n : ℕ) (d d' : D) → AreSteps (IsOneStep performs rules) n d d'
+      → AreSteps (IsOneOperation performs) n d d'
+  operations rules zero d d' h = h
+  operations rules (suc n) d d' (middle, steps, (xs, r, serves)) = (
+    middle,
+    operations rules n d middle steps,
+    one_operation (IsReceived rules (Some xs)) middle d' None None r serves,
+  )

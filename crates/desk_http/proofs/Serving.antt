@@ -3,8 +3,9 @@ use Rattle.std.proofs.Common.{◌≡◌, ◌+◌, ◌≤◌, ◌<◌, ℕ, cond,
 use Rattle.std.proofs.Common.{sym, refl, ◌∙◌, subst, append-nil, length-append, length-drop, inl, inr}
 use Rattle.std.specs.Prelude.{Option, Some, None, Result, Ok, Err, IfSome, ◌⊎◌}
 use Rattle.std.specs.Io.KnownBytes.{IsAtEnd, Keeps}
-use Rattle.std.proofs.KnownBytes.{Keeps-refl}
-use Rattle.std.proofs.lemmas.List.{take-append-le, drop-append-le}
+use Rattle.std.specs.Io.{StartsWith}
+use Rattle.std.proofs.KnownBytes.{Keeps-refl, starts_with_rest}
+use Rattle.std.proofs.lemmas.List.{take-append-le, take_all, drop-append-le}
 use Rattle.std.proofs.lemmas.Bool.{le-ltb, lt-ltb}
 use Rattle.desk_http.specs.declared.receive.HeadArrival.{HeadArrival}
 use Rattle.desk_http.specs.declared.receive.HeadArrival.TheVariants as arrival
@@ -21,9 +22,10 @@ use Rattle.desk_http.specs.Targets.{Resource}
 use Rattle.desk_http.specs.Plans.{plan_of}
 use Rattle.desk_http.specs.HeadEnds.{arrival, all_of}
 use Rattle.desk_http.specs.Services.{Operation, operation, ReplyView}
-use Rattle.desk_http.specs.Responses.{Response, rejection_response, reply_response, failure_response}
+use Rattle.desk_http.specs.Responses.{rejection_response, reply_response, failure_response}
 use Rattle.desk_http.specs.Serving.{Received, Incomplete, Rejected, Complete, received_of, IsReceivedAt}
-use Rattle.desk_http.specs.Serving.{IsReceivedFrom, IsReceived, Serves, Answers, Sends, PerformsAndSends}
+use Rattle.desk_http.specs.Serving.{AreReceived, IsReceivedFrom, IsReceived, Serves, Sends, PerformsAndSends}
+use Rattle.desk_http.proofs.Arriving.{head_stays}
 
 -- how what was received comes out of a plan
 whole : (resource : Resource) (len : ℕ) (rest : List ℕ) → len ≤ length rest
@@ -41,7 +43,7 @@ head_kept : (bs ys h : List ℕ) (n : ℕ) (class : Class) → n ≤ length bs �
 head_kept bs ys h n class l e is = subst (λ v. IsHead v class) (e ∙ sym (take-append-le n bs ys l)) is
 
 -- a head that is rejected
-pub is_rejected : (rules : AccessRules) (r : Option (List ℕ)) (bs h : List ℕ) (n : ℕ) (class : Class) (rejection : Rejection) → n ≤ length bs
+is_rejected : (rules : AccessRules) (r : Option (List ℕ)) (bs h : List ℕ) (n : ℕ) (class : Class) (rejection : Rejection) → n ≤ length bs
     → h ≡ take n bs → IsHead h class
     → Err rejection ≡ plan_of rules class → IsReceivedFrom rules (arrival.Head n) (all_of r bs) (Rejected rejection)
 is_rejected rules None bs h n class rejection l e is p = tt
@@ -49,7 +51,7 @@ is_rejected rules (Some ys) bs h n class rejection l e is p =
     (class, head_kept bs ys h n class l e is, ap (λ q. received_of q (drop n (bs ++ ys))) p)
 
 -- a body that ended too early
-pub is_incomplete : (rules : AccessRules) (r r' : Option (List ℕ)) (bs bs' h : List ℕ) (n len : ℕ) (resource : Resource) (class : Class)
+is_incomplete : (rules : AccessRules) (r r' : Option (List ℕ)) (bs bs' h : List ℕ) (n len : ℕ) (resource : Resource) (class : Class)
     → n ≤ length bs → h ≡ take n bs → IsHead h class → Ok (resource, len) ≡ plan_of rules class
     → Keeps (all_of r bs) (all_of r' bs') → IsAtEnd r'
     → length bs' < n + len → IsReceivedFrom rules (arrival.Head n) (all_of r bs) Incomplete
@@ -65,7 +67,7 @@ is_incomplete rules (Some ys) (Some zs) bs bs' h n len resource class l e is p k
     )
 
 -- a body that has come
-pub is_complete : (rules : AccessRules) (r r' : Option (List ℕ)) (bs bs' h body : List ℕ) (n len : ℕ) (resource : Resource) (class : Class)
+is_complete : (rules : AccessRules) (r r' : Option (List ℕ)) (bs bs' h body : List ℕ) (n len : ℕ) (resource : Resource) (class : Class)
     → n ≤ length bs → h ≡ take n bs → IsHead h class → Ok (resource, len) ≡ plan_of rules class
     → Keeps (all_of r bs) (all_of r' bs') → n + len ≤ length bs'
     → body ≡ take len (drop n bs') → IsReceivedFrom rules (arrival.Head n) (all_of r bs) (Complete (operation resource body))
@@ -87,6 +89,61 @@ is_complete rules (Some ys) (Some zs) bs bs' h body n len resource class l e is 
           ∙ sym (whole resource len (drop n xs) fits)
           ∙ ap (λ q. received_of q (drop n xs)) p,
     )
+
+-- ---- the same of what was read, which the bytes begin with that are known
+
+-- what was read, where its head has come
+of_read : (rules : AccessRules) (bs bs' : List ℕ) (n : ℕ) (q : Received) → arrival.Head n ≡ arrival bs → StartsWith bs' bs
+    → IsReceivedFrom rules (arrival.Head n) (all_of (Some (drop (length bs) bs')) bs) q → IsReceived rules (Some bs') q
+of_read rules bs bs' n q e more is =
+    subst (λ v. IsReceivedAt rules (arrival v) v q) (sym (starts_with_rest bs' bs more))
+    (subst (λ a. IsReceivedAt rules a (bs ++ drop (length bs) bs') q) (head_stays bs (drop (length bs) bs') n e) is)
+
+-- a reader that had what was read, and nothing else
+given : (bs bs' : List ℕ) → StartsWith bs' bs → Keeps (all_of (Some (drop (length bs) bs')) bs) (all_of (Some []) bs')
+given bs bs' more = append-nil bs' ∙ starts_with_rest bs' bs more
+
+pub are_rejected : (rules : AccessRules) (r : Option (List ℕ)) (bs h : List ℕ) (n : ℕ) (class : Class) (rejection : Rejection) → n ≤ length bs
+    → arrival.Head n ≡ arrival bs → h ≡ take n bs → IsHead h class
+    → Err rejection ≡ plan_of rules class → AreReceived rules (arrival.Head n) (all_of r bs) bs (Rejected rejection)
+are_rejected rules r bs h n class rejection l a e is p =
+    let more : StartsWith bs bs = take_all (length bs) bs (omega arith) in (
+      is_rejected rules r bs h n class rejection l e is p,
+      of_read rules bs bs n (Rejected rejection) a more
+          (is_rejected rules (Some (drop (length bs) bs)) bs h n class rejection l e is p),
+    )
+
+pub are_incomplete : (rules : AccessRules) (r r' : Option (List ℕ)) (bs bs' h : List ℕ) (n len : ℕ) (resource : Resource) (class : Class)
+    → n ≤ length bs → arrival.Head n ≡ arrival bs → h ≡ take n bs → IsHead h class → Ok (resource, len) ≡ plan_of rules class
+    → Keeps (all_of r bs) (all_of r' bs') → IsAtEnd r' → StartsWith bs' bs
+    → length bs' < n + len → AreReceived rules (arrival.Head n) (all_of r bs) bs' Incomplete
+are_incomplete rules r r' bs bs' h n len resource class l a e is p k end more less = (
+  is_incomplete rules r r' bs bs' h n len resource class l e is p k end less,
+  of_read rules bs bs' n Incomplete a more
+      (is_incomplete rules (Some (drop (length bs) bs')) (Some []) bs bs' h n len resource class l e is p
+      (given bs bs' more) refl less),
+)
+
+pub are_complete : (rules : AccessRules) (r r' : Option (List ℕ)) (bs bs' h body : List ℕ) (n len : ℕ) (resource : Resource) (class : Class)
+    → n ≤ length bs → arrival.Head n ≡ arrival bs → h ≡ take n bs → IsHead h class → Ok (resource, len) ≡ plan_of rules class
+    → Keeps (all_of r bs) (all_of r' bs') → StartsWith bs' bs → n + len ≤ length bs'
+    → body ≡ take len (drop n bs')
+    → AreReceived rules (arrival.Head n) (all_of r bs) bs' (Complete (operation resource body))
+are_complete rules r r' bs bs' h body n len resource class l a e is p k more fit b = (
+  is_complete rules r r' bs bs' h body n len resource class l e is p k fit b,
+  of_read rules bs bs' n (Complete (operation resource body)) a more
+      (is_complete rules (Some (drop (length bs) bs')) (Some []) bs bs' h body n len resource class l e is p
+      (given bs bs' more) fit b),
+)
+
+-- what was read, where its head hasn't come
+pub read_too_long : (rules : AccessRules) (bs : List ℕ) → arrival.TooLong ≡ arrival bs
+    → IsReceived rules (Some bs) (Rejected HeadTooLarge)
+read_too_long rules bs a = subst (λ v. IsReceivedAt rules v bs (Rejected HeadTooLarge)) a refl
+
+pub read_incomplete : (rules : AccessRules) (bs : List ℕ) → arrival.Incomplete ≡ arrival bs
+    → IsReceived rules (Some bs) Incomplete
+read_incomplete rules bs a = subst (λ v. IsReceivedAt rules v bs Incomplete) a refl
 
 pub is_too_long : (rules : AccessRules) (known : Option (List ℕ))
     → IsReceivedFrom rules arrival.TooLong known (Rejected HeadTooLarge)

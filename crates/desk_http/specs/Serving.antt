@@ -50,6 +50,10 @@ abbrev pub IsReceivedFrom : AccessRules → HeadArrival → Option (List ℕ) �
 IsReceivedFrom rules a None r = Unit {0}
 IsReceivedFrom rules a (Some xs) r = IsReceivedAt rules a xs r
 
+-- all bytes are that, as far as they are known, and so are those that were read
+abbrev pub AreReceived : AccessRules → HeadArrival → Option (List ℕ) → List ℕ → Received → Type 0
+AreReceived rules a known read r = IsReceivedFrom rules a known r × IsReceived rules (Some read) r
+
 -- ---- what comes of it
 
 abbrev pub result_of : Served → Result ℕ Stop
@@ -109,11 +113,20 @@ module _ {D : Type 0} (performs : D → Operation → Result ReplyView NoReply �
       ((p : Response) × Replies d o d' p × Sends p w w' r)
       ⊎ ((r ≡ Err Memory) × ((outcome : Result ReplyView NoReply) × performs d o outcome d') × Keeps w w')
 
-  -- what a connection did to the service: nothing, or one operation, whatever came of it
-  abbrev pub IsOneStep : D → D → Type 0
-  IsOneStep d d' = (d' ≡ d) ⊎ ((o : Operation) × (outcome : Result ReplyView NoReply) × performs d o outcome d')
+  -- What a connection did to a service with these rules: what some bytes ask for, as a call does that reads them. Of what
+  -- it wrote nothing is known.
+  abbrev pub IsOneStep : AccessRules → D → D → Type 0
+  IsOneStep rules d d' =
+      (xs : List ℕ) × (r : Result ℕ Stop) × Serves (IsReceived rules (Some xs)) d d' None None r
 
-  -- what so many connections did to it, one after another
+  -- nothing was done to it, or one operation, whatever came of it
+  abbrev pub IsOneOperation : D → D → Type 0
+  IsOneOperation d d' =
+      (d' ≡ d) ⊎ ((o : Operation) × (outcome : Result ReplyView NoReply) × performs d o outcome d')
+
+-- Steps of one kind, one after another.
+module _ {D : Type 0} (is_step : D → D → Type 0) where
+  -- so many
   abbrev pub AreSteps : ℕ → D → D → Type 0
   AreSteps zero d d' = d' ≡ d
-  AreSteps (suc n) d d' = (middle : D) × AreSteps n d middle × IsOneStep middle d'
+  AreSteps (suc n) d d' = (middle : D) × AreSteps n d middle × is_step middle d'

@@ -1,7 +1,7 @@
 //! Clients on the loopback, a request a connection, one connection after another.
 ghost use Rattle.std.specs.Prelude.{◌≡◌, ◌+◌, ◌<◌, ◌≤◌, ◌^◌, ℕ, OnErr, OnOk};
 ghost use Rattle.desk_http.specs.Services.{Performs};
-ghost use Rattle.desk_http.specs.Serving.{AreSteps, IsOneStep};
+ghost use Rattle.desk_http.specs.Serving.{AreSteps, IsOneOperation, IsOneStep};
 
 use crate::access::Access;
 use crate::pace::{PacedReader, PacedWriter, read_off};
@@ -34,7 +34,8 @@ fn end<C: Clock>(clock: &C, stream: &TcpStream, served: Served) -> io::Result<()
     }
 }
 
-/// Answers the request of a connection, which does one operation at most. Whatever fails costs the connection alone.
+/// Answers the request of a connection: what becomes of the service is what some bytes ask for, namely those that came.
+/// Whatever fails costs the connection alone.
 fn answer<C: Clock, S: Service>(
     clock: &C,
     alloc: Global,
@@ -44,7 +45,7 @@ fn answer<C: Clock, S: Service>(
 ) -> io::Result<()>
     requires { S.is_kept service.old }
     ensures kept { S.is_kept service.new }
-    ensures step { IsOneStep (Performs S.state S.machine S.left S.relates)
+    ensures step { IsOneStep (Performs S.state S.machine S.left S.relates) access.now
         service.old service.new }
 {
     let mut reader = PacedReader::new(clock, stream);
@@ -130,7 +131,11 @@ pub fn serve_connections<C: Clock, L: OpenListener<Stream = TcpStream> + Drop, S
     requires room { clients.old.accepted + count < 2 ^ 64 }
     ensures kept { S.is_kept service.new }
     ensures steps { (n : ℕ) × (n ≤ count)
-        × AreSteps (Performs S.state S.machine S.left S.relates) n service.old service.new }
+        × AreSteps (IsOneStep (Performs S.state S.machine S.left S.relates) access.now) n
+        service.old service.new }
+    ensures operations { (n : ℕ) × (n ≤ count)
+        × AreSteps (IsOneOperation (Performs S.state S.machine S.left S.relates)) n
+        service.old service.new }
     ensures accepted { OnOk result (clients.new.accepted ≡ clients.old.accepted + count) }
 {
     for done in 0..count {

@@ -1,14 +1,14 @@
 //! One request, read and answered.
-ghost use Rattle.std.specs.Prelude.{◌≡◌, ◌≤◌, length, IfOk};
-ghost use Rattle.desk_http.specs.HeadEnds.{all_of};
+ghost use Rattle.std.specs.Prelude.{◌≡◌, ◌≤◌, ℕ, List, Some, [], length, IfOk};
+ghost use Rattle.desk_http.specs.HeadEnds.{all_of, arrival};
 ghost use Rattle.desk_http.specs.Routes.{all_routes};
 ghost use Rattle.desk_http.specs.Services.{Performs};
-ghost use Rattle.desk_http.specs.Serving.{IsReceived, IsReceivedFrom, Serves, result_of};
+ghost use Rattle.desk_http.specs.Serving.{AreReceived, IsReceived, Serves, result_of};
 
 use crate::access::Access;
 use crate::head::read_head;
 use crate::plan::make_plan;
-use crate::receive::{HeadArrival, receive_body, receive_head};
+use crate::receive::{HeadArrival, Input};
 use crate::rejection::Rejection;
 use crate::respond::{reject, respond};
 use crate::route::{Route, make_router};
@@ -33,59 +33,76 @@ fn serve_head<R: Read, W: Write, S: Service>(
     reader: &mut R,
     writer: &mut W,
     service: &mut S,
-    reads: &mut u64,
-    bytes: &mut Vec<u8>,
     access: &Access,
     router: &Router<Route>,
+    input: &mut Input,
     n: usize,
 ) -> Result<u16, Stop>
-    requires inside { n ≤ length bytes.old.items }
+    requires inside { n ≤ length input.old.bytes.items }
+    requires head { HeadArrival.Head n ≡ arrival input.old.bytes.items }
     requires router { router.now ≡ all_routes }
     requires kept { S.is_kept service.old }
     ensures kept { S.is_kept service.new }
     ensures serves { Serves (Performs S.state S.machine S.left S.relates)
-        (IsReceivedFrom access.now (HeadArrival.Head n) (all_of (R.remaining reader.old) bytes.old.items))
+        (AreReceived access.now (HeadArrival.Head n)
+        (all_of (R.remaining reader.old) input.old.bytes.items) input.new.bytes.items)
         service.old service.new (W.contents writer.old) (W.contents writer.new) result }
 {
-    let head = copy(alloc, &bytes[..n])?;
+    let head = copy(alloc, &input.bytes[..n])?;
     let mut spans = [EMPTY_HEADER_SPAN; 64];
     let class = read_head(&head, &mut spans);
     match make_plan(access, router, &head, class, &spans) {
         Err(rejection) => reject(alloc, writer, rejection),
         Ok((target, len)) => {
-            if !receive_body(reader, reads, bytes, n, len)? {
+            if !input.receive_body(reader, n, len)? {
                 return Err(Stop::Ended);
             }
-            let body = &bytes[n..n + len];
+            let body = &input.bytes[n..n + len];
             respond(alloc, writer, service, &target, body)
         }
     }
 }
 
+/// Answers one request, of which nothing was read before.
 fn answer_one<R: Read, W: Write, S: Service>(
     alloc: Global,
     reader: &mut R,
     writer: &mut W,
     service: &mut S,
     access: &Access,
+    input: &mut Input,
 ) -> Result<u16, Stop>
-    requires { S.is_kept service.old }
+    requires fresh { input.old.bytes.items ≡ [] }
+    requires kept { S.is_kept service.old }
     ensures kept { S.is_kept service.new }
     ensures serves { Serves (Performs S.state S.machine S.left S.relates)
         (IsReceived access.now (R.remaining reader.old))
+        service.old service.new (W.contents writer.old) (W.contents writer.new) result }
+    ensures read { Serves (Performs S.state S.machine S.left S.relates)
+        (IsReceived access.now (Some input.new.bytes.items))
         service.old service.new (W.contents writer.old) (W.contents writer.new) result }
 {
     let Ok(router) = make_router(alloc) else {
         return Err(Stop::Memory);
     };
-    let mut reads = 2_000_000;
-    let mut bytes = Vec::new(alloc);
-    match receive_head(reader, &mut reads, &mut bytes)? {
+    match input.receive_head(reader)? {
         HeadArrival::Incomplete => Err(Stop::Ended),
         HeadArrival::TooLong => reject(alloc, writer, Rejection::HeadTooLarge),
-        HeadArrival::Head(n) => serve_head(
-            alloc, reader, writer, service, &mut reads, &mut bytes, access, &router, n,
-        ),
+        HeadArrival::Head(n) => {
+            serve_head(alloc, reader, writer, service, access, &router, input, n)
+        }
+    }
+}
+
+fn served_of(end: Result<u16, Stop>) -> Served
+    ensures { result_of result ≡ end }
+{
+    match end {
+        Ok(status) => Served::Answered(status),
+        Err(Stop::Ended) => Served::Ended,
+        Err(Stop::ReadFailed) => Served::ReadFailed,
+        Err(Stop::WriteFailed) => Served::WriteFailed,
+        Err(Stop::Memory) => Served::Memory,
     }
 }
 
@@ -95,6 +112,8 @@ fn answer_one<R: Read, W: Write, S: Service>(
 ///
 /// A request is read as far as its body goes, and nothing behind it; of a GET no body is read. There is one answer, and
 /// the connection is the caller's to close. There are at most 2,000,000 reads.
+///
+/// Of a reader whose bytes aren't known it did what it would do for some bytes, namely those that it read.
 pub fn serve_one<R: Read, W: Write, S: Service>(
     alloc: Global,
     reader: &mut R,
@@ -108,12 +127,11 @@ pub fn serve_one<R: Read, W: Write, S: Service>(
         (IsReceived access.now (R.remaining reader.old))
         service.old service.new (W.contents writer.old) (W.contents writer.new)
         (result_of result) }
+    ensures read { (xs : List ℕ) × Serves (Performs S.state S.machine S.left S.relates)
+        (IsReceived access.now (Some xs))
+        service.old service.new (W.contents writer.old) (W.contents writer.new)
+        (result_of result) }
 {
-    match answer_one(alloc, reader, writer, service, access) {
-        Ok(status) => Served::Answered(status),
-        Err(Stop::Ended) => Served::Ended,
-        Err(Stop::ReadFailed) => Served::ReadFailed,
-        Err(Stop::WriteFailed) => Served::WriteFailed,
-        Err(Stop::Memory) => Served::Memory,
-    }
+    let mut input = Input::new(alloc);
+    served_of(answer_one(alloc, reader, writer, service, access, &mut input))
 }

@@ -1,6 +1,7 @@
 use Rattle.std.proofs.Common.{arith, refl}
 use Rattle.desk_http.specs.Services.{Performs}
-use Rattle.desk_http.proofs.Connections.{one_more}
+use Rattle.desk_http.specs.Serving.{IsOneStep}
+use Rattle.desk_http.proofs.Connections.{one_more, operations}
 use Rattle.desk_http.proofs.loopback.serve_connections.Goals as goal
 
 pub loop-done-init : goal.loop-done-init
@@ -10,7 +11,25 @@ pub loop-done-preserved : goal.loop-done-preserved
 loop-done-preserved g c = record {
   kept = c.answer.ensures.kept;
   steps =
-      one_more (Performs g.S.Service.state g.S.Service.machine g.S.Service.left g.S.Service.relates) c.loop-done.done
-      c.args.service.now c.loop-done.service c.answer.new.service c.loop-done.invariant.steps c.answer.ensures.step;
+      one_more
+      (IsOneStep (Performs g.S.Service.state g.S.Service.machine g.S.Service.left g.S.Service.relates)
+      c.args.access.now) c.loop-done.done c.args.service.now c.loop-done.service c.answer.new.service
+      c.loop-done.invariant.steps c.answer.ensures.step;
   accepted = grind arith;
 }
+
+pub returns-in_err-stream-clause-operations : goal.returns-in_err-stream-clause-operations
+returns-in_err-stream-clause-operations g c = (
+  c.loop-done.done,
+  omega arith,
+  operations (Performs g.S.Service.state g.S.Service.machine g.S.Service.left g.S.Service.relates) c.args.access.now
+      c.loop-done.done c.args.service.now c.loop-done.service c.loop-done.invariant.steps,
+)
+
+pub returns-clause-operations : goal.returns-clause-operations
+returns-clause-operations g c = (
+  c.loop-done.done,
+  omega arith,
+  operations (Performs g.S.Service.state g.S.Service.machine g.S.Service.left g.S.Service.relates) c.args.access.now
+      c.loop-done.done c.args.service.now c.loop-done.service c.loop-done.invariant.steps,
+)

@@ -1,13 +1,14 @@
 use Rattle.std.proofs.Common.{◌≡◌, ◌+◌}
 use Rattle.desk_http.specs.Services.{Performs}
-use Rattle.desk_http.specs.Serving.{AreSteps}
+use Rattle.desk_http.specs.Serving.{AreSteps, IsOneStep}
 use Rattle.desk_http.proofs.loopback.serve_connections.Given as goal
 
 abbrev pub invariant-loop-done : goal.invariant-loop-done
 invariant-loop-done g l = record {
   kept : g.S.Service.is_kept l.service;
   steps :
-      AreSteps (Performs g.S.Service.state g.S.Service.machine g.S.Service.left g.S.Service.relates) l.done
+      AreSteps
+      (IsOneStep (Performs g.S.Service.state g.S.Service.machine g.S.Service.left g.S.Service.relates) l.access) l.done
       l.initial.service l.service;
   accepted : l.clients.accepted ≡ l.initial.clients.accepted + l.done;
 }

@@ -1,0 +1,6 @@
+use Rattle.desk_http.proofs.serve.serve_one.Goals as goal
+
+pub returns-clause-read : goal.returns-clause-read
+returns-clause-read g c =
+    let read = c.answer_one.new.input.bytes.items in
+    (read, rw c.served_of.ensures c.answer_one.ensures.read)
