@@ -36,9 +36,9 @@ stand-kept rows keys k row e = record {
 pub sound_tables : (t : Tables) → IsNext t.limits t.next → t.entries ≡ length t.history.items → AreKeys t.answers.items
     → HasSoundBooks (state_from t) → AreSoundTables t
 sound_tables t next entries keys books = record {
-  next = next;
   entries = entries;
   state = record {
+    next = next;
     bills = books.bills;
     stock = books.stock;
     allocations = books.owners.allocations;

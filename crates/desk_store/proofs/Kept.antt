@@ -14,7 +14,6 @@ use Rattle.desk_core.specs.KeptColumns.{kept_columns, kept_from}
 use Rattle.desk_core.specs.Machine.{IsSoundState, State, StandsKept}
 use Rattle.desk_core.specs.declared.kept.Kept.{Kept as KeptRow}
 use Rattle.desk_store.specs.MetaColumns.{meta_columns, meta_from, meta_of, only}
-use Rattle.desk_store.specs.Saving.{HaveSmallNumbers}
 use Rattle.desk_store.specs.declared.meta.MetaRow.{MetaRow}
 use Rattle.table_store.specs.Written.{IsTableOf, StayAsTheyAre}
 use Rattle.table_store.specs.declared.name.TableName.TheVariants.{Meta, Kept}
@@ -42,18 +41,19 @@ pub small_answers : (t : Table KeptRow) → AreSmall kept_columns t
 small_answers t k row is = All-from_recursion IsSmall (kept_columns row) (tt, (tt, (tt, tt)))
 
 -- the numbers of the counter's row are small
-pub small_meta : (s : State) → IsSoundState s → HaveSmallNumbers s → All IsSmall (meta_columns (meta_of s))
-small_meta s sound small =
+pub small_meta : (s : State) → IsSoundState s → All IsSmall (meta_columns (meta_of s))
+small_meta s sound =
+    let numbers = s.counter.limits.numbers_within in
+    let entries = s.counter.limits.entries_within in
+    let next = sound.next.1 in
+    let within = sound.stock.items.within in
     All-from_recursion IsSmall (meta_columns (meta_of s)) (
       omega arith,
       (
         omega arith,
         (
-          small.next,
-          (
-            let within = sound.stock.items.within in let most = small.max_entries in omega (arith, within, most),
-            (small.max_numbers, (small.max_entries, tt)),
-          ),
+          omega (arith, next, numbers),
+          (omega (arith, within, entries), (omega (arith, numbers), (omega (arith, entries), tt))),
         ),
       ),
     )

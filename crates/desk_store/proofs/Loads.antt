@@ -9,7 +9,6 @@ use Rattle.sqlite.specs.Order.{Row}
 use Rattle.sqlite.specs.State as sqlite
 use Rattle.sqlite.proofs.StateLemmas.{survives_then}
 use Rattle.sqlite.specs.Tree.{Trees}
-use Rattle.part_core.specs.Counter.{IsNext, Numbering}
 use Rattle.part_core.specs.Filled.{filled}
 use Rattle.part_core.specs.Sheet.{Table}
 use Rattle.part_core.specs.declared.limits.Limits.{Limits}
@@ -195,9 +194,8 @@ module _ (trees : Trees) (t : Tables) (are : AreTables trees t) where
         }
 
     -- the tables of a sound state are sound
-    pub are-sound : IsNext s.counter.limits s.counter.next → AreSoundTables t
-    are-sound within = record {
-      next = subst (λ (c : Numbering). IsNext c.limits c.next) same-counter within;
+    pub are-sound : AreSoundTables t
+    are-sound = record {
       entries =
           sym (ap (λ (m : MetaRow). m.entries) same-meta) ∙ ap (λ (h : Table Entry). table.len h) same-history
           ∙ as-many (trees (tree_number History)) t.history.items are.sheets.stock.history_are;
@@ -206,7 +204,7 @@ module _ (trees : Trees) (t : Tables) (are : AreTables trees t) where
 
   -- tables that aren't sound are those of no books
   pub unsound-tables : ¬ AreSoundTables t → AreNoBooks trees
-  unsound-tables not s sound within has = not (are-sound s sound has within)
+  unsound-tables not s sound has = not (are-sound s sound has)
 
 -- the shop that is made of sound tables has their books
 pub books-of : (trees : Trees) (t : Tables) (shop : Shop) → AreTables trees t → state_of shop ≡ state_from t

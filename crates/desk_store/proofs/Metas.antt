@@ -149,7 +149,7 @@ module _ (trees : Trees) (rows : List MetaRow)
   meta-why Foreign other = record { rows = rows; loaded = are.loaded; row = other.0; there = other.1; other = other.2 }
   meta-why Old none = absurd none
   meta-why (Damaged None) none = (
-    λ s sound within t.
+    λ s sound t.
         none.0 (meta_of s) refl (loaded-only (trees (tree_number Meta)) rows (meta_of s) are.loaded (t Meta)),
     tt,
     this-version trees rows are.loaded none.1,
@@ -184,7 +184,7 @@ meta-unread a b (TheFault.BadRow f) failed named =
 -- a row whose limits are out of their range is that of no state
 pub no_limits : (trees : Trees) (row : MetaRow) → IsMetaRow trees row
     → ¬ (IsLimit row.max_numbers × IsLimit row.max_entries) → AreNoBooks trees
-no_limits trees row is out s sound within tables =
+no_limits trees row is out s sound tables =
     let limits = s.counter.limits in
     out (subst (λ (m : MetaRow). IsLimit m.max_numbers × IsLimit m.max_entries) (is.sole (meta_of s) (tables Meta))
     ((limits.numbers_in, limits.numbers_within), (limits.entries_in, limits.entries_within)))

@@ -13,7 +13,6 @@ use Rattle.sqlite.specs.State.{HasCleanDisk}
 use Rattle.sqlite.specs.Tree.{Trees}
 use Rattle.sqlite_catalog.specs.Listing.{IsSound}
 use Rattle.part_core.specs.Columns.{IsSmall}
-use Rattle.part_core.specs.Counter.{IsNext}
 use Rattle.part_core.specs.NamedRows.{named_columns, named_from}
 use Rattle.part_core.specs.PartColumns.{part_columns, part_from}
 use Rattle.part_core.specs.Sheet.{Table, key_cmp}
@@ -90,13 +89,13 @@ none-there tree t none is =
 -- ---- the row of the counter
 
 -- the numbers of a sound state are those that a file takes
-fits : (s : State) → IsSoundState s → IsNext s.counter.limits s.counter.next → FitFile (old_meta_of s)
-fits s sound next =
+fits : (s : State) → IsSoundState s → FitFile (old_meta_of s)
+fits s sound =
     let numbers = s.counter.limits.numbers_within in
     let entries = s.counter.limits.entries_within in
     let within = sound.stock.items.within in
     record {
-      next = let most = next.1 in omega (arith, most, numbers);
+      next = let most = sound.next.1 in omega (arith, most, numbers);
       entries = omega (arith, within, entries);
       max_numbers = omega (arith, numbers);
       max_entries = omega (arith, entries);
@@ -128,8 +127,8 @@ module _ (trees : Trees) (rows : List MetaRow) (are : AreOldRows trees rows) whe
   no-old-row Old none = absurd none
   no-old-row (Damaged None) none = (
     are.old,
-    λ s sound next t.
-        none (old_meta_of s) refl (fits s sound next)
+    λ s sound t.
+        none (old_meta_of s) refl (fits s sound)
         (loaded-only (trees (tree_number Meta)) rows (old_meta_of s) are.are.loaded t.meta),
     tt,
   )
@@ -239,7 +238,7 @@ module _ (before trees : Trees) (row : MetaRow) (old : IsOldRow before row) (sec
   why-not-read Old said = absurd said
   why-not-read (Damaged told) said = (
     old.old,
-    λ s sound next held. said.0 s sound next (now-held s held),
+    λ s sound held. said.0 s sound (now-held s held),
     was-damage told said.1,
   )
 

@@ -3,7 +3,6 @@ use Rattle.std.specs.Prelude.{◌≡◌, ◌≢◌, ◌⊎◌, ◌<◌, ◌^◌,
 use Rattle.std.specs.FinMap.{empty}
 use Rattle.sqlite.specs.State as sqlite
 use Rattle.sqlite.specs.Tree.{Trees}
-use Rattle.part_core.specs.Counter.{IsNext}
 use Rattle.desk_core.specs.Machine.{IsSoundState, State}
 use Rattle.desk_core.specs.ShopView.{state_of}
 use Rattle.desk_core.specs.declared.shop.Shop.{Shop}
@@ -39,9 +38,9 @@ pub record AreBooksOfEither (trees : Trees) (shop : Shop) : Type 0 where
   pub tables : EitherAre (state_of shop) trees
   pub one : (s : State) → IsSoundState s → EitherAre s trees → s ≡ state_of shop
 
--- with nothing spent they are the tables of no sound state whose next number is one that the limits allow
+-- with nothing spent they are the tables of no sound state
 abbrev pub AreNoOldBooks : Trees → Type 0
-AreNoOldBooks trees = (s : State) → IsSoundState s → IsNext s.counter.limits s.counter.next → ¬ OldTablesAre s trees
+AreNoOldBooks trees = (s : State) → IsSoundState s → ¬ OldTablesAre s trees
 
 -- ---- why there is no desk
 

@@ -3,7 +3,6 @@ use Rattle.std.specs.Prelude.{codes, ◌≡◌, ◌≢◌, ◌⊎◌, ℕ, List,
 use Rattle.sqlite.specs.Tree.{Trees}
 use Rattle.sqlite_catalog.specs.Listing.{IsSound}
 use Rattle.part_core.specs.NamedRows.{named_columns, named_from}
-use Rattle.part_core.specs.Counter.{IsNext}
 use Rattle.part_core.specs.PartColumns.{part_columns, part_from}
 use Rattle.part_core.specs.declared.limits.Limits.{Limits}
 use Rattle.bom_core.specs.BillColumns.{line_columns, line_from, substitute_columns, substitute_from}
@@ -64,9 +63,9 @@ abbrev pub AreForeign : Trees → Type 0
 AreForeign trees =
     IsForeign trees ⊎ ((IsSound old_schema trees × ¬ IsOld trees) ⊎ (IsSound desk_schema trees × IsOfOtherVersion trees))
 
--- the tables are those of no sound state whose next number is one that the limits allow
+-- the tables are those of no sound state
 abbrev pub AreNoBooks : Trees → Type 0
-AreNoBooks trees = (s : State) → IsSoundState s → IsNext s.counter.limits s.counter.next → ¬ TablesAre s trees
+AreNoBooks trees = (s : State) → IsSoundState s → ¬ TablesAre s trees
 
 -- the table is that of no rows of the machine, and `kept` of none that stand under their words
 abbrev pub IsBroken : TableName → Trees → Type 0

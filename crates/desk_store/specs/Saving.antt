@@ -1,5 +1,5 @@
 -- A state goes into the tables in the place of another, one table after the other.
-use Rattle.std.specs.Prelude.{◌⊎◌, ◌<◌, ◌≤◌, ◌^◌, ◌-◌, ℕ, All, List, Option, Result, IfErr, OnOk}
+use Rattle.std.specs.Prelude.{◌⊎◌, ◌<◌, ◌≤◌, ◌-◌, ℕ, All, List, Option, Result, IfErr, OnOk}
 use Rattle.sqlite.specs.Order.{Row}
 use Rattle.sqlite.specs.State as sqlite
 use Rattle.sqlite.specs.State.{HasCleanDisk, KeepsCommit, Survives}
@@ -59,12 +59,6 @@ module _ {R : Type 0} (row_from : List Column → Option R) (columns_of : R → 
     pub stays : AreDropped table ⊎ StayThere sheet.before (now_of sheet)
     pub was : (tree : List Row) → IsTableSoFar old table tree → IsTableOf row_from columns_of table tree sheet.before
     pub is : (tree : List Row) → IsTableOf row_from columns_of table tree (now_of sheet) → IsTableIn new table tree
-
--- no number that a row may have is too large for a file
-pub record HaveSmallNumbers (s : State) : Type 0 where
-  pub next : s.counter.next < 2 ^ 63
-  pub max_numbers : s.counter.limits.numbers < 2 ^ 63
-  pub max_entries : s.counter.limits.entries < 2 ^ 63
 
 -- tables may become those of the new state: both are sound, no row goes that the tables keep, and the numbers fit
 pub record MayFollow (old new : State) : Type 0 where

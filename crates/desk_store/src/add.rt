@@ -17,7 +17,7 @@ ghost use Rattle.desk_store.specs.Groups.{ShowsBooks};
 ghost use Rattle.table_store.specs.Transactions.{IsOfMemoryOrStore, IsOfStore};
 ghost use Rattle.table_store.specs.declared.fault.TableFault.TheVariants.{Memory};
 
-use crate::laws::{may_follow, numbers_are_small};
+use crate::laws::may_follow;
 use crate::save::{write_counter, write_further};
 use desk_core::Shop;
 use sqlite::{Alter, Connection};
@@ -154,7 +154,6 @@ fn write_last<S: Alter>(
     ensures crash { Survives (state S.Store conn.old) (state S.Store conn.new)
         (λ trees. TablesAre (state_of shop.now) trees) }
 {
-    numbers_are_small(shop);
     write_counter(alloc, conn, shop)?;
     commit(conn)
 }

@@ -1,21 +1,12 @@
 //! What the proofs have to be told of a shop before its state goes into a file.
 //!
-//! These functions do nothing when they are run, and are called for their contracts alone.
+//! The function does nothing when it is run, and is called for its contract alone.
 ghost use Rattle.desk_core.specs.Machine.{IsSoundState};
 ghost use Rattle.desk_core.specs.ShopView.{state_before, state_of};
 ghost use Rattle.desk_core.specs.Staying.{AllStay};
-ghost use Rattle.desk_store.specs.Saving.{HaveSmallNumbers, MayFollow};
+ghost use Rattle.desk_store.specs.Saving.{MayFollow};
 
 use desk_core::{Shop, rows_are_small};
-
-/// The numbers of a shop that rows may have are below 2 to the 63, now and before the request.
-pub fn numbers_are_small(shop: &Shop)
-    ensures now { HaveSmallNumbers (state_of shop.now) }
-    ensures before { HaveSmallNumbers (state_before shop.now) }
-{
-    let _limits = shop.counter().limits();
-    let _largest = shop.counter().largest();
-}
 
 /// The tables of the shop before the request may become those of the shop now.
 pub fn may_follow(shop: &Shop)
@@ -25,5 +16,4 @@ pub fn may_follow(shop: &Shop)
     ensures { MayFollow (state_before shop.now) (state_of shop.now) }
 {
     rows_are_small();
-    numbers_are_small(shop);
 }

@@ -10,8 +10,7 @@ use Rattle.desk_store.proofs.Midway.{all_of_them, both_ok, committed}
 use Rattle.desk_store.proofs.add.write_last.Goals as goal
 
 pub write_counter-requires-clause-small : goal.write_counter-requires-clause-small
-write_counter-requires-clause-small g c =
-    small_meta (state_of c.args.shop.now) c.requires.sound c.numbers_are_small.ensures.now
+write_counter-requires-clause-small g c = small_meta (state_of c.args.shop.now) c.requires.sound
 
 pub write_counter-requires-clause-under_way : goal.write_counter-requires-clause-under_way
 write_counter-requires-clause-under_way g c clean =

@@ -27,7 +27,7 @@ write_row-requires-clause-suits g c = meta-suits
 pub write_row-requires-clause-small : goal.write_row-requires-clause-small
 write_row-requires-clause-small g c =
     subst (λ (m : MetaRow). All IsSmall (meta_columns m)) (sym c.of.ensures)
-    (small_meta (state_of c.args.shop.now) c.requires.sound c.numbers_are_small.ensures.now)
+    (small_meta (state_of c.args.shop.now) c.requires.sound)
 
 pub returns-clause-made : goal.returns-clause-made
 returns-clause-made g c clean =

@@ -6,13 +6,11 @@ pub returns : goal.returns
 returns c =
     let old = state_before c.args.shop.now in
     let new = state_of c.args.shop.now in
-    let before = c.numbers_are_small.ensures.before in
-    let after = c.numbers_are_small.ensures.now in
     record {
       before = c.requires.before;
       after = c.requires.after;
       stays = c.requires.stays;
-      small_before = c.rows_are_small.ensures old c.requires.before before.next before.max_entries;
-      small_after = c.rows_are_small.ensures new c.requires.after after.next after.max_entries;
-      counted = small_meta new c.requires.after after;
+      small_before = c.rows_are_small.ensures old c.requires.before;
+      small_after = c.rows_are_small.ensures new c.requires.after;
+      counted = small_meta new c.requires.after;
     }
