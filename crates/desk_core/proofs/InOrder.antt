@@ -20,7 +20,7 @@ use Rattle.alloc_core.specs.Allocations.{allocated_for_line}
 use Rattle.build_core.specs.Builds.{BuildBooks, build_at}
 use Rattle.build_core.specs.Needs.{line_in, required}
 use Rattle.build_core.specs.Sound.{IsSoundFor}
-use Rattle.desk_core.specs.Books.{AreInOrder, HaveRightKeys, LiesInOne, RunsStaySound, StepsStaySound}
+use Rattle.desk_core.specs.Books.{AreInOrder, HaveDrawnNumbers, RunsStaySound, StepsStaySound}
 use Rattle.desk_core.specs.Machine.{State, IsSoundState, by_check, by_repeat, check, effect, repeated, run, step}
 use Rattle.desk_core.proofs.Steps.{step-sound}
 use Rattle.desk_core.specs.declared.command.Request.{Request}
@@ -81,6 +81,21 @@ needed-of : {parts : Parts} {bills : Bills} {b : BuildBooks} {item build line : 
     b.books.stock)
 needed-of h = (h.row, h.there, h.needed)
 
+have_drawn_numbers : (s : State) → IsSoundState s → HaveDrawnNumbers s
+have_drawn_numbers s sound = record {
+  categories = sound.bills.catalogue.categories;
+  parts = sound.bills.catalogue.parts;
+  lines = sound.bills.line_rows;
+  substitutes = sound.bills.substitute_rows;
+  locations = sound.stock.items.locations.rows;
+  items = sound.stock.items.rows;
+  allocations = sound.allocations.rows;
+  orders = sound.orders.orders;
+  order_lines = sound.orders.lines;
+  builds = sound.builds.rows;
+  spent = sound.builds.spending.rows;
+}
+
 pub in_order : (s : State) → IsSoundState s → AreInOrder s
 in_order s sound = record {
   counted = sound.stock.items.stock.items.flat;
@@ -96,6 +111,11 @@ in_order s sound = record {
   made = λ k b is. (sound.builds.each_build k b is).within;
   serials = sound.stock.once;
   acyclic = sound.bills.acyclic;
+  substitutes = sound.bills.once;
+  substituted = sound.bills.needed;
+  next = sound.next;
+  numbers = have_drawn_numbers s sound;
+  entries = sound.stock.items.within;
 }
 
 -- ---- steps and runs

@@ -1,8 +1,11 @@
 -- What the books can be relied on for, whatever was asked of them.
-use Rattle.std.specs.Prelude.{◌≡◌, ◌≤◌, ◌+◌, ℕ, true, List, [], ◌∷◌, Option, Some, Err, IsSome, IfSome}
+use Rattle.std.specs.Prelude.{◌≡◌, ◌≤◌, ◌+◌, ℕ, true, false, List, [], ◌∷◌, Option, Some, Err, IsSome, IfSome}
 use Rattle.std.specs.FinMap as table
-use Rattle.part_core.specs.Rows.{EachRow}
+use Rattle.part_core.specs.Counter.{IsNext}
+use Rattle.part_core.specs.Rows.{EachRow, StandRight}
 use Rattle.part_core.specs.declared.refusal.Refusal.{Refusal}
+use Rattle.bom_core.specs.Bills.{covers}
+use Rattle.bom_core.specs.Sound.{IsOnceEach}
 use Rattle.bom_core.specs.Walks.{IsAcyclic}
 use Rattle.bom_core.specs.declared.line.Line.{Line}
 use Rattle.forest.specs.Forest.{Balanced, is_at}
@@ -19,7 +22,7 @@ use Rattle.build_core.specs.Builds.{build_at}
 use Rattle.build_core.specs.Needs.{line_in, required, wanted_whole}
 use Rattle.build_core.specs.declared.spent.Spent.{Spent}
 use Rattle.desk_core.specs.Key.{is_key}
-use Rattle.desk_core.specs.Machine.{State, IsSoundState, build_books_in, run, step}
+use Rattle.desk_core.specs.Machine.{State, IsSoundState, build_books_in, entries_in, run, step}
 use Rattle.desk_core.specs.declared.command.Request.{Request}
 
 -- an allocation for a line of a build: of that line no more is allocated than it needs
@@ -43,6 +46,25 @@ LiesInOne s x =
     → (holder : Item) × (table.get s.stock.items (m ∷ []) ≡ Some holder) × IsSome holder.lot.serial
     × (holder.quantity ≡ 1)
 
+-- each substitute of the line is of a part that the line doesn't take without it
+abbrev pub NeedsSubstitutes : State → Line → Type 0
+NeedsSubstitutes s l =
+    EachRow (λ x. x.line ≡ l.number → covers s.parts l.component l.flags.variants x.part ≡ false) s.bills.substitutes
+
+-- each row stands under its own number, which is at least 1 and below the number that is drawn next
+pub record HaveDrawnNumbers (s : State) : Type 0 where
+  pub categories : StandRight (λ c. c.number) s.counter.next s.parts.categories
+  pub parts : StandRight (λ p. p.number) s.counter.next s.parts.parts
+  pub lines : StandRight (λ l. l.number) s.counter.next s.bills.lines
+  pub substitutes : StandRight (λ x. x.number) s.counter.next s.bills.substitutes
+  pub locations : StandRight (λ l. l.number) s.counter.next s.stock.locations
+  pub items : StandRight (λ i. i.number) s.counter.next s.stock.items
+  pub allocations : StandRight (λ a. a.number) s.counter.next s.allocations
+  pub orders : StandRight (λ o. o.number) s.counter.next s.orders
+  pub order_lines : StandRight (λ l. l.number) s.counter.next s.order_lines
+  pub builds : StandRight (λ b. b.number) s.counter.next s.builds
+  pub spent : StandRight (λ x. x.number) s.counter.next s.spent
+
 -- Nothing is lost, nothing stands twice, and nothing is promised that isn't there.
 pub record AreInOrder (s : State) : Type 0 where
   -- each item stands in one tree of the forest, once, so that the equations leave none out; no tree is deeper than 16, so
@@ -65,6 +87,16 @@ pub record AreInOrder (s : State) : Type 0 where
   pub serials : SerialsStandOnce s.parts s.stock
   -- no part contains itself
   pub acyclic : IsAcyclic s.parts s.bills
+  -- no line of a bill has two substitutes of one part
+  pub substitutes : IsOnceEach s.bills.substitutes
+  -- each substitute of a line is of a part that the line doesn't take without it
+  pub substituted : EachRow (NeedsSubstitutes s) s.bills.lines
+  -- the number that is drawn next is at least 1, and at most the greatest allowed number plus 1
+  pub next : IsNext s.counter.limits s.counter.next
+  -- each row of a table stands under its own number, which was drawn
+  pub numbers : HaveDrawnNumbers s
+  -- the history is no longer than its limit
+  pub entries : entries_in s ≤ s.counter.limits.entries
 
 -- so it is in every sound state
 abbrev pub SoundBooksAreInOrder : Type 0

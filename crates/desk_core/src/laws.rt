@@ -10,7 +10,8 @@ ghost use Rattle.desk_core.specs.Staying.{RowsStay};
 use crate::kept::Kept;
 
 /// The law that in a sound state the books are in order: the three equations hold for each part, no item is allocated
-/// beyond its quantity, no serial stands twice in a family, and no part contains itself.
+/// beyond its quantity, no serial stands twice in a family, no part contains itself, and no number is drawn beyond the
+/// limit.
 pub fn sound_books_are_in_order()
     ensures { SoundBooksAreInOrder }
 {}
