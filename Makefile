@@ -1,6 +1,5 @@
 PROGRAM = crates/invdesk/out/invdesk
 PREFIX ?= /usr/local
-JOBS ?= $(shell nproc)
 
 # A first look: the first example, run before any proof, in about three minutes. It is slow, and nothing is proved of
 # it.
@@ -12,10 +11,9 @@ run:
 	cd crates/invdesk && rt run < stdin
 
 # The gate: every proof from nothing, the must-fail edits, the tests, and the program that this built, beside Python's
-# libraries, curl, and the rules written once more. 'make test JOBS=2' runs two proofs side by side, and so takes less
-# memory: one takes 2 to 5 GB.
+# libraries, curl, and the rules written once more. 'make test JOBS=2' runs two proofs side by side.
 test:
-	python3 tools/gate.py --jobs $(JOBS)
+	python3 tools/gate.py $(if $(JOBS),--jobs $(JOBS))
 
 # The program, built once it is proved.
 build:

@@ -7,7 +7,7 @@ that this built is then tried as its owner would: with files, imports, clients o
 written once more. Where a step fails, those behind it are not run. The last line is 'N passed, M failed': what 'rt ci'
 counts, and one for each script. It takes some two hours, of which the scripts take five minutes.
 
-usage: tools/gate.py [--jobs N]     N proofs side by side; without it as many as there are processors"""
+usage: tools/gate.py [--jobs N]     N proofs side by side; without it one for each processor, where each has 5.5 GB"""
 import argparse
 import os
 import re
@@ -17,6 +17,8 @@ import sys
 from shared import TOP
 
 PROGRAM = "crates/invdesk/out/invdesk"
+# What a proof takes of memory, in KiB: most take 2 to 4 GB, the largest 5.
+MEMORY = 5_500_000
 BEFORE = ["check_edits.py", "check_names.py"]
 AFTER = [
     f"check_file.py {PROGRAM}",
@@ -26,6 +28,13 @@ AFTER = [
     f"check_machine.py {PROGRAM} --runs 12",
     f"check_opening.py {PROGRAM} --runs 4",
 ]
+
+
+def jobs_here():
+    """How many proofs this machine can run side by side. By itself 'rt ci' reckons with more memory than they take."""
+    with open("/proc/meminfo", encoding="ascii") as told:
+        available = int(re.search(r"MemAvailable: +(\d+)", told.read())[1])
+    return max(1, min(os.cpu_count(), available // MEMORY))
 
 
 def count_scripts(scripts):
@@ -53,7 +62,7 @@ def count_proofs(jobs):
 def main():
     plain = argparse.RawDescriptionHelpFormatter
     words = argparse.ArgumentParser(description=__doc__, formatter_class=plain)
-    words.add_argument("--jobs", type=int, default=os.cpu_count())
+    words.add_argument("--jobs", type=int, default=jobs_here())
     jobs = words.parse_args().jobs
     passed = failed = 0
     for step in (lambda: count_scripts(BEFORE), lambda: count_proofs(jobs), lambda: count_scripts(AFTER)):
