@@ -2,6 +2,7 @@ pub mod Cutting
 pub mod Partway
 pub mod Stepping
 pub mod Running
+pub mod Answered
 pub mod Rows
 pub mod Replies
 pub mod SentAgain

@@ -1,6 +1,7 @@
 pub mod Cuts
 pub mod Ends
 pub mod Runs
+pub mod Answered
 pub mod ImportRuns
 pub mod SentAgain
 pub mod LineRequests

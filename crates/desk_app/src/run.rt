@@ -7,13 +7,14 @@
 ghost use Rattle.std.specs.Prelude.{◌≡◌, ◌≢◌, ◌⊎◌, ◌<◌, ◌≤◌, ◌++◌, ℕ, List, [], Bool, None, false};
 ghost use Rattle.std.specs.Prelude.{length, true, IfOk, OnOk, IfErr, OnErr, Err, IsSome};
 ghost use Rattle.std.specs.String.{string_bytes};
-ghost use Rattle.std.specs.Io.KnownBytes.{Appends};
+ghost use Rattle.std.specs.Io.KnownBytes.{Appends, Keeps};
 ghost use Rattle.sqlite.specs.Tree.{Trees};
 ghost use Rattle.desk_core.specs.Books.{AreInOrder};
 ghost use Rattle.desk_core.specs.Machine.{IsSoundState, step};
 ghost use Rattle.desk_core.specs.ShopView.{state_of};
 ghost use Rattle.desk_store.specs.StateTables.{TablesAre};
 ghost use Rattle.desk_app.specs.declared.end.Stop.{Stop};
+ghost use Rattle.desk_app.specs.Answered.{AnsweredIsKept};
 ghost use Rattle.desk_app.specs.Cuts.{has_end, unread};
 ghost use Rattle.desk_app.specs.Ends.{end_of};
 ghost use Rattle.desk_app.specs.LineRequests.{LinesAreRequests};
@@ -184,7 +185,7 @@ fn add_line<B: Books>(
 }
 
 /// Ends a group: what it changed is kept, and then its answers are written, all of them or, where the writer fails, a
-/// front.
+/// front. Whatever tables a crash leaves, nothing was written, or they have what the group changed.
 fn settle<B: Books, W: Write>(writer: &mut W, books: &mut B, text: &mut Vec<u8>) -> Result<(), Stop>
     requires { B.are_grouping books.old }
     ensures written { OnOk result (Appends (W.contents writer.old) (W.contents writer.new)
@@ -198,6 +199,9 @@ fn settle<B: Books, W: Write>(writer: &mut W, books: &mut B, text: &mut Vec<u8>)
     ensures ends_open { EndsOpen (B.failure_of books.old) (B.failure_of books.new) result }
     ensures left { (trees : Trees) → B.may_leave books.new trees
         → B.may_leave books.old trees ⊎ TablesAre (B.state_in books.new) trees }
+    ensures answered { (trees : Trees) → B.may_leave books.new trees
+        → Keeps (W.contents writer.old) (W.contents writer.new)
+        ⊎ TablesAre (B.state_in books.new) trees }
 {
     match books.commit() {
         Ok(()) => {}
@@ -319,7 +323,9 @@ fn answer_all<B: Books, R: Read, W: Write>(
     }
 }
 
-/// Answers each line of the reader, one line each but for blank lines.
+/// Answers each line of the reader, one line each but for blank lines. However the run ends, what was answered is kept
+/// (`answered`): so it is where a run is stopped between two of its calls, since a writer may fail at any of them, and so
+/// may a disk, and then the run ends there.
 pub fn run_lines<B: Books, R: Read, W: Write>(
     alloc: Global,
     reader: &mut R,
@@ -341,6 +347,9 @@ pub fn run_lines<B: Books, R: Read, W: Write>(
     ensures closed { result ≡ RunEnd.Store → IsSome (B.failure_of books.new) }
     ensures left { result ≢ RunEnd.Store → (trees : Trees) → B.may_leave books.new trees
         → TablesAre (B.state_in books.new) trees }
+    ensures answered { AnsweredIsKept (R.remaining reader.old) (W.contents writer.old)
+        (W.contents writer.new) (B.state_in books.old)
+        (λ trees. (B.failure_of books.old ≡ None) × B.may_leave books.new trees) }
 {
     match answer_all(alloc, reader, writer, books) {
         Ok(all) => RunEnd::Done(all),

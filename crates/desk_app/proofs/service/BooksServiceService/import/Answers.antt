@@ -3,8 +3,8 @@ use Rattle.desk_app.specs.Services.{import_kind}
 use Rattle.desk_app.proofs.Rows.{left_alone}
 use Rattle.desk_app.proofs.service.BooksServiceService.import.Goals as goal
 
-pub returns-in-None-clause-relates : goal.returns-in-None-clause-relates
-returns-in-None-clause-relates g c = (
+pub returns-in-Err-clause-relates : goal.returns-in-Err-clause-relates
+returns-in-Err-clause-relates g c = (
   (λ x. x),
   tt,
   λ before trees there. left_alone (import (import_kind c.args.kind) c.args.document.now c.args.day c.args.rows.now)
