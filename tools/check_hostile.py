@@ -1,9 +1,8 @@
 #!/usr/bin/env python3
 """Runs the tests of hostile input, which aren't proved yet, by 'rt try' in a copy of the repository. They lie in
-tools/data/hostile_tests.patch as a crate of tests, 'hostile_tests', which isn't part of the gate until it is proved: a
-table of hostile input for each way in, changed tables, input that comes one byte at a time or not whole, each read and
-write that fails, each command accepted and for each of its refusals, and 2,000 requests that are made up, on a desk and
-on a shop. It takes ten minutes.
+tools/data/hostile_tests.patch as a crate of tests, 'hostile_tests', which isn't part of the gate until it is proved:
+hostile input in a table for each way in, changed tables, input that comes one byte at a time or not whole, and each read
+and write that fails. It takes ten minutes.
 
 usage: tools/check_hostile.py"""
 import os
@@ -13,7 +12,7 @@ import tempfile
 
 from shared import TOP, copy_crates
 
-# Two of the tests take some minutes where they are not optimised.
+# One of the tests takes some minutes where it is not optimised.
 SECONDS = "400"
 
 
