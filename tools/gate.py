@@ -51,7 +51,8 @@ def count_proofs(jobs):
     """Runs 'rt ci', so many proofs side by side: how many passed, and how many failed, by its last line."""
     last = ""
     environment = {**os.environ, "RT_JOBS": str(jobs)}
-    with subprocess.Popen(["rt", "ci"], cwd=TOP, env=environment, stdout=subprocess.PIPE, text=True) as ran:
+    how = {"stdout": subprocess.PIPE, "text": True, "errors": "replace"}
+    with subprocess.Popen(["rt", "ci"], cwd=TOP, env=environment, **how) as ran:
         for last in ran.stdout:
             print(last, end="", flush=True)
     counts = re.fullmatch(r"(\d+) passed, (\d+) failed", last.strip())
