@@ -1,8 +1,8 @@
 #!/usr/bin/env python3
 """Runs the tests of hostile input, which aren't proved yet, by 'rt try' in a copy of the repository. They lie in
 tools/data/hostile_tests.patch as a crate of tests, 'hostile_tests', which isn't part of the gate until it is proved:
-hostile input in a table for each way in, changed tables, input that comes one byte at a time or not whole, and each read
-and write that fails. It takes ten minutes.
+hostile input in a table for each way in, changed tables, input that comes one byte at a time or not whole, and each
+read and write that fails. It takes ten minutes.
 
 usage: tools/check_hostile.py"""
 import os

@@ -1,11 +1,11 @@
 #!/usr/bin/env python3
 """The gate: passes every proof and every test, and says how many passed.
 
-First it looks whether each wrong body still applies, and whether each name that the documents cite stands where they say.
-Then 'rt ci' proves every crate from nothing, tries the must-fail edits, and runs the tests and the program. The program
-that this built is then tried as its owner would: with files, imports, clients of HTTP and kills, and beside the rules
-written once more. Where a step fails, those behind it are not run. The last line is 'N passed, M failed': what 'rt ci'
-counts, and one for each script. It takes some two hours, of which the scripts take five minutes.
+First it looks whether each wrong body still applies, and whether each name that the documents cite stands where they
+say. Then 'rt ci' proves every crate from nothing, tries the must-fail edits, and runs the tests and the program. The
+program that this built is then tried as its owner would: with files, imports, clients of HTTP and kills, and beside the
+rules written once more. Where a step fails, those behind it are not run. The last line is 'N passed, M failed': what
+'rt ci' counts, and one for each script. It takes some two hours, of which the scripts take five minutes.
 
 usage: tools/gate.py [--jobs N]     N proofs side by side; without it one for each processor, where each has 5.5 GB"""
 import argparse
