@@ -6,13 +6,23 @@
 mod serve;
 mod token;
 
-ghost use Rattle.std.specs.Prelude.{IfOk};
+ghost use Rattle.std.specs.Prelude.{◌≡◌, ◌⊎◌, IfOk, IfErr, IfSome, None, is_some};
 ghost use Rattle.sqlite.specs.Files.{over_files};
+ghost use Rattle.desk_core.specs.ShopView.{state_of};
 ghost use Rattle.desk_store.specs.Desks.{IsDesk};
+ghost use Rattle.desk_app.specs.Statuses.{early_status};
+ghost use Rattle.desk_app.specs.Words.{file_of};
+ghost use Rattle.invdesk.specs.Files.{ActsOnFile, Comes, IsClosedAfter, IsMoved, IsTaken};
+ghost use Rattle.invdesk.specs.Memory.{DoesInMemory};
+ghost use Rattle.invdesk.specs.Prints.{Prints};
+ghost use Rattle.invdesk.specs.Rows.{ImportsFile, IsOfFile};
+ghost use Rattle.invdesk.specs.Statuses.{EndsWith, IsStatusAfter, IsStatusOf, IsStatusOnFile};
+ghost use Rattle.invdesk.specs.Statuses.{IsToldAtOnce};
+ghost use Rattle.invdesk.specs.Works.{Does, RunsOnDesk, ServesDesk, may_leave};
 
 use crate::serve::serve;
 use desk_app::{
-    Books, BooksService, CountedBooks, DEVICE, FaultyFile, FileFault, MEMORY, RunEnd, Task,
+    Books, BooksService, CountedBooks, DEVICE, FaultyFile, FileFault, MEMORY, RunEnd, Stop, Task,
     WatchedDesk, connect, connect_to_old, early_status, end_of_work, escaped, import_file, let_go,
     migrate_desk, print_export, print_migrated, print_report, read_file, read_words, run_in_memory,
     run_lines, status_of, status_of_fault, take_desk, told_line,
@@ -21,24 +31,26 @@ use desk_core::Shop;
 use desk_store::Desk;
 use desk_wire::{Document, ImportKind};
 use part_core::{Day, Limits};
-use sqlite::{File, FileStore};
-use std::alloc::AllocError;
+use sqlite::{Error, File, FileStore, Files};
+use sqlite_disk::Disk;
+use std::alloc::{AllocError, Global};
 use std::env::{self, Env};
 use std::fmt::Display;
 use std::fs;
-use std::io::{self, Input, IsTerminal, Stderr};
+use std::io::{self, Input, IsTerminal, Stderr, Write};
 use std::process::ExitCode;
 
-/// The words that the program is called with, the first its name.
-fn given<R: Env + AllocGlobal>(rt: &R) -> Result<Vec<String>, Task<'static>> {
+/// The words that the program is called with, the first its name. Which these are is known to no clause.
+fn given<R: Env + AllocGlobal>(rt: &R) -> Result<Vec<String>, Task<'static>>
+    ensures { IfErr result (λ task. (task ≡ Task.Memory) ⊎ (task ≡ Task.Unreadable)) }
+{
     let words = match env::args(rt) {
         Ok(words) => words,
         Err(e) => {
-            return Err(if e.kind() == io::ErrorKind::OutOfMemory {
-                Task::Memory
-            } else {
-                Task::Unreadable
-            });
+            if e.kind() == io::ErrorKind::OutOfMemory {
+                return Err(Task::Memory);
+            }
+            return Err(Task::Unreadable);
         }
     };
     match words.collect(rt.alloc()) {
@@ -67,7 +79,13 @@ fn tell_words<R: Eprint + AllocGlobal>(rt: &R, fault: &clap::Error) -> io::Resul
 }
 
 /// Prints what the words ask for, and gives the status to end with at once, unless a desk is asked for.
-fn at_once<R: Print + Eprint + AllocGlobal>(rt: &R, task: &Task<'_>) -> Option<u8> {
+fn at_once<R: Print + Eprint + AllocGlobal>(rt: &R, task: &Task<'_>) -> Option<u8>
+    ensures none { result ≡ None → early_status task.now ≡ None }
+    ensures told { IfSome result (IsToldAtOnce task.now) }
+{
+    let Some(status) = early_status(task) else {
+        return None;
+    };
     let printed = match task {
         Task::Help(text) => text.print(rt),
         Task::Wrong(fault) => tell_words(rt, fault),
@@ -75,7 +93,7 @@ fn at_once<R: Print + Eprint + AllocGlobal>(rt: &R, task: &Task<'_>) -> Option<u
         _ => Ok(()),
     };
     match printed {
-        Ok(()) => early_status(task),
+        Ok(()) => Some(status),
         Err(_) => Some(DEVICE),
     }
 }
@@ -88,23 +106,29 @@ fn tell_line<T: Display + Drop>(rt: &HostRuntime, what: T) {
     }
 }
 
-/// The bytes of the file at the path that is imported. Where it can't be opened, it is told why.
-fn bytes_at(rt: &HostRuntime, path: &str) -> Result<Vec<u8>, RunEnd> {
+/// The bytes of the file at the path that is imported. Where it can't be opened, it is told why. Which bytes a real file
+/// has is known to no clause.
+fn bytes_at(rt: &HostRuntime, path: &str) -> Result<Vec<u8>, RunEnd>
+    ensures { IfErr result IsOfFile }
+{
     let mut file = match fs::open(rt, path) {
         Ok(file) => file,
         Err(error) => {
             tell_line(rt, format_args!("{path}: {error}"));
-            return Err(if error.kind() == io::ErrorKind::OutOfMemory {
-                RunEnd::Memory
-            } else {
-                RunEnd::ReadFailed
-            });
+            if error.kind() == io::ErrorKind::OutOfMemory {
+                return Err(RunEnd::Memory);
+            }
+            return Err(RunEnd::ReadFailed);
         }
     };
-    read_file(rt.alloc(), &mut file).map_err(|stop| stop.end())
+    match read_file(rt.alloc(), &mut file) {
+        Ok(bytes) => Ok(bytes),
+        Err(Stop::Memory) => Err(RunEnd::Memory),
+        Err(_) => Err(RunEnd::ReadFailed),
+    }
 }
 
-/// Runs the rows of the file at the path on the books.
+/// Runs the rows of the file at the path on the books. Where it can't be read nothing is done.
 fn import<B: Books>(
     rt: &HostRuntime,
     path: &str,
@@ -114,7 +138,10 @@ fn import<B: Books>(
     books: &mut B,
 ) -> RunEnd
     requires { B.are_kept books.old }
-    ensures { B.are_kept books.new }
+    ensures kept { B.are_kept books.new }
+    ensures imports { ImportsFile kind document.now day (B.failure_of books.old)
+        (B.failure_of books.new) (B.may_leave books.new) (B.state_in books.old)
+        (B.state_in books.new) result }
 {
     match bytes_at(rt, path) {
         Ok(bytes) => {
@@ -142,24 +169,32 @@ fn terminal(rt: &HostRuntime) -> Option<Stderr> {
 const SERVED: &str = "; all requests fail until the service is started again";
 
 /// Prints what the words ask for, of the desk.
-fn print(rt: &HostRuntime, task: &Task<'_>, desk: &Desk<FileStore<File>>) -> RunEnd
+fn print<W: Write>(
+    alloc: Global,
+    task: &Task<'_>,
+    desk: &Desk<FileStore<File>>,
+    writer: &mut W,
+) -> RunEnd
     requires { IsDesk over_files desk.now }
+    ensures { Prints task.now (state_of desk.now.shop) (W.contents writer.old)
+        (W.contents writer.new) result }
 {
-    let mut writer = io::writer(rt);
     match task {
-        Task::Report(_, name, number) => {
-            print_report(rt.alloc(), desk, *name, *number, &mut writer)
-        }
-        Task::Export(_, table) => print_export(desk, *table, &mut writer),
-        Task::Migrate(_) => print_migrated(&mut writer),
+        Task::Report(_, name, number) => print_report(alloc, desk, *name, *number, writer),
+        Task::Export(_, table) => print_export(desk, *table, writer),
+        Task::Migrate(_) => print_migrated(writer),
         _ => RunEnd::Done(true),
     }
 }
 
-/// Closes the desk of the file at the path after work that ended so, and lets go of the file. Where it can't be closed,
-/// it is told why, unless a fault has closed the desk before, which was told then.
-fn closed(rt: &HostRuntime, path: &str, desk: Desk<FileStore<File>>, end: RunEnd) -> RunEnd
+/// How work on a file ended, and what closing the file handed back.
+type Ended = (RunEnd, Result<Files<File>, (Error, FileStore<File>)>);
+
+/// Closes the desk of the file at the path after work that ended so. Where it can't be closed, it is told why, unless a
+/// fault has closed the desk before, which was told then.
+fn closed(rt: &HostRuntime, path: &str, desk: Desk<FileStore<File>>, end: RunEnd) -> Ended
     requires { IsDesk over_files desk }
+    ensures { IsClosedAfter desk end result.0 result.1 }
 {
     let was_open = desk.failed().is_none();
     let (end, left) = end_of_work(desk, end);
@@ -168,8 +203,7 @@ fn closed(rt: &HostRuntime, path: &str, desk: Desk<FileStore<File>>, end: RunEnd
             tell_line(rt, format_args!("{path}: {error}"));
         }
     }
-    let_go(left);
-    end
+    (end, left)
 }
 
 /// A desk after work on it, and how the work ended.
@@ -178,7 +212,8 @@ type Worked = (Desk<FileStore<File>>, RunEnd);
 /// Answers the lines of the standard input with the desk, whose file is told by that name.
 fn run_on(rt: &HostRuntime, desk: Desk<FileStore<File>>, name: String) -> Worked
     requires { IsDesk over_files desk }
-    ensures { IsDesk over_files result.0 }
+    ensures desk { IsDesk over_files result.0 }
+    ensures runs { RunsOnDesk over_files desk result.0 result.1 }
 {
     let mut watched = WatchedDesk::new(desk, name, "", rt.stderr());
     let (mut reader, mut writer) = (rt.reader(), io::writer(rt));
@@ -196,7 +231,9 @@ fn serve_on(
     name: String,
 ) -> Worked
     requires { IsDesk over_files desk }
-    ensures { IsDesk over_files result.0 }
+    ensures desk { IsDesk over_files result.0 }
+    ensures serves { ServesDesk over_files port (is_some token.entry) count desk
+        result.0 result.1 }
 {
     let watched = WatchedDesk::new(desk, name, SERVED, rt.stderr());
     let mut service = BooksService { books: watched };
@@ -215,7 +252,9 @@ fn import_on(
     name: String,
 ) -> Worked
     requires { IsDesk over_files desk }
-    ensures { IsDesk over_files result.0 }
+    ensures desk { IsDesk over_files result.0 }
+    ensures imports { ImportsFile kind document.now day desk.failed result.0.failed
+        (may_leave over_files result.0) (state_of desk.shop) (state_of result.0.shop) result.1 }
 {
     let watched = WatchedDesk::new(desk, name, "", rt.stderr());
     let mut counted = CountedBooks::new(watched, terminal(rt));
@@ -226,7 +265,8 @@ fn import_on(
 /// Does what the words ask for with the desk, whose file is told by that name.
 fn done(rt: &HostRuntime, task: &Task<'_>, desk: Desk<FileStore<File>>, name: String) -> Worked
     requires { IsDesk over_files desk }
-    ensures { IsDesk over_files result.0 }
+    ensures desk { IsDesk over_files result.0 }
+    ensures does { Does over_files task.now desk result.0 result.1 }
 {
     match task {
         Task::Run(_) => run_on(rt, desk, name),
@@ -244,15 +284,18 @@ fn done(rt: &HostRuntime, task: &Task<'_>, desk: Desk<FileStore<File>>, name: St
             ..
         } => import_on(rt, path, *kind, document, *day, desk, name),
         _ => {
-            let end = print(rt, task, &desk);
+            let end = print(rt.alloc(), task, &desk, &mut io::writer(rt));
             (desk, end)
         }
     }
 }
 
-/// The desk of the file, which is made where there is none.
+/// The desk of the file, which is made where there is none. What a real file holds is known to no clause: it is the desk
+/// of some database.
 fn taken(rt: &HostRuntime, path: &str) -> Result<Desk<FileStore<File>>, FileFault>
-    ensures { IfOk result (IsDesk over_files) }
+    ensures desk { IfOk result (IsDesk over_files) }
+    ensures open { IfOk result (λ desk. desk.failed ≡ None) }
+    ensures found { IfOk result (IsTaken over_files) }
 {
     let conn = connect(rt, path)?;
     match take_desk(rt.alloc(), conn) {
@@ -263,7 +306,9 @@ fn taken(rt: &HostRuntime, path: &str) -> Result<Desk<FileStore<File>>, FileFaul
 
 /// The desk of the file, which has to be there, once an old file is brought along.
 fn migrated(rt: &HostRuntime, path: &str) -> Result<Desk<FileStore<File>>, FileFault>
-    ensures { IfOk result (IsDesk over_files) }
+    ensures desk { IfOk result (IsDesk over_files) }
+    ensures open { IfOk result (λ desk. desk.failed ≡ None) }
+    ensures found { IfOk result (IsMoved over_files) }
 {
     let conn = connect_to_old(rt, path)?;
     match migrate_desk(rt.alloc(), conn) {
@@ -272,21 +317,41 @@ fn migrated(rt: &HostRuntime, path: &str) -> Result<Desk<FileStore<File>>, FileF
     }
 }
 
-/// Does what the words ask for, with the desk of the file.
-fn act_on_file(rt: &HostRuntime, path: &str, task: &Task<'_>) -> Result<RunEnd, FileFault> {
+/// The desk of the file, by what the words ask for.
+fn desk_of(
+    rt: &HostRuntime,
+    path: &str,
+    task: &Task<'_>,
+) -> Result<Desk<FileStore<File>>, FileFault>
+    ensures desk { IfOk result (IsDesk over_files) }
+    ensures open { IfOk result (λ desk. desk.failed ≡ None) }
+    ensures comes { IfOk result (Comes over_files task.now) }
+{
+    match task {
+        Task::Migrate(_) => migrated(rt, path),
+        _ => taken(rt, path),
+    }
+}
+
+/// Does what the words ask for, with the desk of the file, and closes the file.
+fn act_on_file(rt: &HostRuntime, path: &str, task: &Task<'_>) -> Result<Ended, FileFault>
+    ensures { IfOk result (λ ended. ActsOnFile task.now ended.0 ended.1) }
+{
     let name = escaped(rt.alloc(), path)?;
-    let desk = match task {
-        Task::Migrate(_) => migrated(rt, path)?,
-        _ => taken(rt, path)?,
-    };
+    let desk = desk_of(rt, path, task)?;
     let (desk, end) = done(rt, task, desk, name);
     Ok(closed(rt, path, desk, end))
 }
 
 /// Does what the words ask for with a file, and says why not, where the file is the reason.
-fn status_on_file(rt: &HostRuntime, path: &str, task: &Task<'_>) -> u8 {
+fn status_on_file(rt: &HostRuntime, path: &str, task: &Task<'_>) -> u8
+    ensures { IsStatusOnFile ⟦<File as Disk>⟧ task.now result }
+{
     match act_on_file(rt, path, task) {
-        Ok(end) => status_of(end),
+        Ok((end, left)) => {
+            let_go(left);
+            status_of(end)
+        }
         Err(fault) => {
             let status = status_of_fault(&fault);
             tell_line(rt, FaultyFile { path, fault });
@@ -296,7 +361,11 @@ fn status_on_file(rt: &HostRuntime, path: &str, task: &Task<'_>) -> u8 {
 }
 
 /// Does what the words ask for, with new books in memory.
-fn act_in_memory(rt: &HostRuntime, task: &Task<'_>) -> RunEnd {
+fn act_in_memory(rt: &HostRuntime, task: &Task<'_>) -> RunEnd
+    requires desk { early_status task.now ≡ None }
+    requires no_file { file_of task.now ≡ None }
+    ensures { DoesInMemory task.now result }
+{
     let alloc = rt.alloc();
     if let Task::Serve {
         port,
@@ -305,14 +374,19 @@ fn act_in_memory(rt: &HostRuntime, task: &Task<'_>) -> RunEnd {
         ..
     } = task
     {
-        let books = Shop::new(alloc, Limits::LARGEST);
-        return serve(rt, *port, *count, *token, &mut BooksService { books });
+        let mut service = BooksService {
+            books: Shop::new(alloc, Limits::LARGEST),
+        };
+        return serve(rt, *port, *count, *token, &mut service);
     }
     run_in_memory(alloc, &mut rt.reader(), &mut io::writer(rt))
 }
 
 /// Does what the words ask for, with the desk of the file, or with new books in memory.
-fn status_after(rt: &HostRuntime, task: &Task<'_>) -> u8 {
+fn status_after(rt: &HostRuntime, task: &Task<'_>) -> u8
+    requires { early_status task.now ≡ None }
+    ensures { IsStatusAfter ⟦<File as Disk>⟧ task.now result }
+{
     match task.file() {
         Some(path) => status_on_file(rt, path, task),
         None => status_of(act_in_memory(rt, task)),
@@ -329,19 +403,30 @@ fn tell<R: Eprint>(rt: &R, status: u8) {
     let _ = told;
 }
 
-/// The status of what the words ask for.
-fn run(rt: &HostRuntime) -> u8 {
-    let words = match given(rt) {
-        Ok(words) => words,
-        Err(task) => return at_once(rt, &task).unwrap_or(DEVICE),
-    };
-    let task = read_words(rt.alloc(), words.as_slice());
-    match at_once(rt, &task) {
+/// The status of what the words ask for, be it told at once or a desk worked on.
+fn status_for(rt: &HostRuntime, task: &Task<'_>) -> u8
+    ensures { IsStatusOf ⟦<File as Disk>⟧ task.now result }
+{
+    match at_once(rt, task) {
         Some(status) => status,
-        None => status_after(rt, &task),
+        None => status_after(rt, task),
     }
 }
 
+/// The status of what the words ask for that the program is called with.
+fn run(rt: &HostRuntime) -> u8
+    ensures { EndsWith ⟦<File as Disk>⟧ result }
+{
+    let words = match given(rt) {
+        Ok(words) => words,
+        Err(task) => return status_for(rt, &task),
+    };
+    let task = read_words(rt.alloc(), words.as_slice());
+    let status = status_for(rt, &task);
+    status
+}
+
+/// The program. It ends with the status that `run` gives; a clause can't stand here.
 fn main(rt: HostRuntime) -> ExitCode {
     let status = run(&rt);
     tell(&rt, status);

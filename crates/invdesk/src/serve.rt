@@ -1,4 +1,7 @@
 //! Serves clients on the loopback.
+ghost use Rattle.std.specs.Prelude.{◌≡◌, ◌⊎◌, IfErr, IfOk, is_some};
+ghost use Rattle.invdesk.specs.Clients.{Asks, IsOfServing, ServesClients};
+
 use crate::tell_line;
 use crate::token::{TokenFault, token_at};
 use desk_app::{Books, BooksService, RunEnd};
@@ -7,7 +10,9 @@ use std::io::{self, ErrorKind};
 use std::net::{Ipv4Addr, TcpListener};
 
 /// Says what failed, and tells how the run ends by it.
-fn failed(rt: &HostRuntime, what: &str, error: &io::Error, end: RunEnd) -> RunEnd {
+fn failed(rt: &HostRuntime, what: &str, error: &io::Error, end: RunEnd) -> RunEnd
+    ensures { (result ≡ end) ⊎ (result ≡ RunEnd.Memory) }
+{
     tell_line(rt, format_args!("{what}: {error}"));
     if error.kind() == ErrorKind::OutOfMemory {
         RunEnd::Memory
@@ -17,7 +22,9 @@ fn failed(rt: &HostRuntime, what: &str, error: &io::Error, end: RunEnd) -> RunEn
 }
 
 /// The same of a port.
-fn port_failed(rt: &HostRuntime, port: u16, error: &io::Error) -> RunEnd {
+fn port_failed(rt: &HostRuntime, port: u16, error: &io::Error) -> RunEnd
+    ensures { (result ≡ RunEnd.ReadFailed) ⊎ (result ≡ RunEnd.Memory) }
+{
     match format!(in rt.alloc(); "127.0.0.1:{port}") {
         Ok(what) => failed(rt, what.as_str(), error, RunEnd::ReadFailed),
         Err(_) => RunEnd::Memory,
@@ -25,7 +32,11 @@ fn port_failed(rt: &HostRuntime, port: u16, error: &io::Error) -> RunEnd {
 }
 
 /// What is asked of whoever asks at that port: to show the token in the file at the path, if one is named.
-fn access(rt: &HostRuntime, port: u16, token: Option<&str>) -> Result<Access, RunEnd> {
+fn access(rt: &HostRuntime, port: u16, token: Option<&str>) -> Result<Access, RunEnd>
+    ensures asks { IfOk result (Asks port (is_some token.entry)) }
+    ensures why { IfErr result (λ end.
+        (end ≡ RunEnd.ReadFailed) ⊎ (end ≡ RunEnd.Memory)) }
+{
     let token = match token {
         None => None,
         Some(path) => match token_at(rt, path) {
@@ -43,7 +54,8 @@ fn access(rt: &HostRuntime, port: u16, token: Option<&str>) -> Result<Access, Ru
 }
 
 /// Serves so many connections, whatever each gives, or one after another until the program is stopped. It ends otherwise
-/// only where there is no token to ask for, or it can't listen, accept or tell that it listens.
+/// only where there is no token to ask for, or it can't listen, accept or tell that it listens. What clients send, and
+/// what they get, is known to no clause.
 pub fn serve<B: Books>(
     rt: &HostRuntime,
     port: u16,
@@ -52,7 +64,9 @@ pub fn serve<B: Books>(
     service: &mut BooksService<B>,
 ) -> RunEnd
     requires { B.are_kept service.old.books }
-    ensures { B.are_kept service.new.books }
+    ensures kept { B.are_kept service.new.books }
+    ensures serves { ServesClients B.state_in B.failure_of B.may_leave port
+        (is_some token.entry) count service.old service.new result }
 {
     let access = match access(rt, port, token) {
         Ok(access) => access,

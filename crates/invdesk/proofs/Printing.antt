@@ -1,0 +1,56 @@
+-- What is printed, by what the calls that print it say.
+use Rattle.std.proofs.Common.{◌≡◌, ◌⊎◌, inl, inr, ℕ, List, Bool, true, refl, sym, subst}
+use Rattle.std.specs.Borrow.{Bor}
+use Rattle.std.specs.Prelude.{◌≢◌, Option, Some, None}
+use Rattle.std.specs.Io.KnownBytes.{Appends, Keeps}
+use Rattle.table_store.specs.declared.name.TableName.{TableName}
+use Rattle.desk_core.specs.Machine.{State}
+use Rattle.desk_store.specs.Exports.{AppendsFront}
+use Rattle.report_core.specs.declared.name.ReportName.{ReportName}
+use Rattle.desk_app.specs.Printed.{migrated_text}
+use Rattle.desk_app.specs.declared.end.RunEnd.{RunEnd}
+use Rattle.desk_app.specs.declared.end.RunEnd.TheVariants.{Done, ReadFailed, WriteFailed, Memory, Store}
+use Rattle.desk_app.specs.declared.words.Task.{Task}
+use Rattle.desk_app.specs.declared.words.Task.TheVariants as task
+use Rattle.invdesk.specs.Prints.{Prints, PrintsText}
+
+pub prints_text : (told : List ℕ × Bool) (w w' : Option (List ℕ)) (end : RunEnd)
+    → ((fine : Bool) → end ≡ Done fine → (fine ≡ told.1) × Appends w w' told.0)
+    → (end ≡ WriteFailed → AppendsFront w w' told.0)
+    → ((end ≡ Memory) ⊎ (end ≡ Store) → Keeps w w')
+    → end ≢ ReadFailed
+    → PrintsText told w w' end
+prints_text told w w' (Done fine) whole front nothing never = whole fine refl
+prints_text told w w' WriteFailed whole front nothing never = front refl
+prints_text told w w' Memory whole front nothing never = nothing (inl refl)
+prints_text told w w' Store whole front nothing never = nothing (inr refl)
+prints_text told w w' ReadFailed whole front nothing never = absurd (never refl)
+
+pub prints_migrated : (w w' : Option (List ℕ)) (end : RunEnd)
+    → ((all : Bool) → end ≡ Done all → (all ≡ true) × Appends w w' migrated_text)
+    → (end ≡ WriteFailed → AppendsFront w w' migrated_text)
+    → (end ≡ Done true) ⊎ (end ≡ WriteFailed)
+    → PrintsText (migrated_text, true) w w' end
+prints_migrated w w' end whole front (inl e) = subst (PrintsText (migrated_text, true) w w') (sym e) (whole true e)
+prints_migrated w w' end whole front (inr e) = subst (PrintsText (migrated_text, true) w w') (sym e) (front e)
+
+pub Keeps-refl : (w : Option (List ℕ)) → Keeps w w
+Keeps-refl None = tt
+Keeps-refl (Some x) = refl
+
+-- of a task that isn't one of the three nothing is printed
+pub prints_nothing : (it : Task) (s : State) (w : Option (List ℕ))
+    → ((file : Bor (List ℕ)) (name : ReportName) (number : ℕ) → it ≡ task.Report file name number → ⊥)
+    → ((file : Bor (List ℕ)) (table : TableName) → it ≡ task.Export file table → ⊥)
+    → ((file : Bor (List ℕ)) → it ≡ task.Migrate file → ⊥)
+    → Prints it s w w (Done true)
+prints_nothing (task.Report file name number) s w report export migrate = absurd (report file name number refl)
+prints_nothing (task.Export file table) s w report export migrate = absurd (export file table refl)
+prints_nothing (task.Migrate file) s w report export migrate = absurd (migrate file refl)
+prints_nothing (task.Run file) s w report export migrate = (refl, Keeps-refl w)
+prints_nothing (task.Import file kind document day path) s w report export migrate = (refl, Keeps-refl w)
+prints_nothing (task.Serve file port count token) s w report export migrate = (refl, Keeps-refl w)
+prints_nothing (task.Help e) s w report export migrate = (refl, Keeps-refl w)
+prints_nothing (task.Wrong e) s w report export migrate = (refl, Keeps-refl w)
+prints_nothing task.Unreadable s w report export migrate = (refl, Keeps-refl w)
+prints_nothing task.Memory s w report export migrate = (refl, Keeps-refl w)

@@ -1,0 +1,40 @@
+-- Work on a desk that is wrapped for it.
+use Rattle.std.proofs.Common.{◌≡◌, ℕ, List, refl, sym, subst}
+use Rattle.std.specs.Borrow.{Bor}
+use Rattle.std.specs.Prelude.{Option, None}
+use Rattle.part_core.specs.Day.{CivilDay}
+use Rattle.sqlite_trees.specs.declared.store.Store.{Ghosts}
+use Rattle.desk_core.specs.ShopView.{state_of}
+use Rattle.desk_store.specs.declared.desk.Desk.{Desk}
+use Rattle.desk_wire.specs.declared.kind.ImportKind.{ImportKind}
+use Rattle.desk_app.specs.declared.end.RunEnd.{RunEnd}
+use Rattle.desk_app.specs.declared.words.Task.{Task}
+use Rattle.desk_app.specs.declared.words.Task.TheVariants as task
+use Rattle.invdesk.specs.Prints.{Prints}
+use Rattle.invdesk.specs.Works.{Does}
+
+-- what holds of the desk inside, before and after, holds of the desk that was wrapped and of the one that was unwrapped
+pub along : {A : Type 0} (old new inside after : A) (P : A → A → Type 0) → inside ≡ old → new ≡ after → P inside after
+    → P old new
+along old new inside after P was is h = subst (λ v. P v new) was (subst (P inside) (sym is) h)
+
+-- a task that isn't one of the three is done by printing
+pub does_printing : {S : Type 0} (g : Ghosts S) (it : Task) (desk : Desk S) (end : RunEnd)
+    → ((file : Option (Bor (List ℕ))) → it ≡ task.Run file → ⊥)
+    → ((file : Option (Bor (List ℕ))) (port : ℕ) (count : Option ℕ) (token : Option (Bor (List ℕ)))
+    → it ≡ task.Serve file port count token → ⊥)
+    → ((file : Bor (List ℕ)) (kind : ImportKind) (document : List ℕ) (day : CivilDay) (path : Bor (List ℕ))
+    → it ≡ task.Import file kind document day path → ⊥)
+    → Prints it (state_of desk.shop) None None end → Does g it desk desk end
+does_printing g (task.Run file) desk end run serve import prints = absurd (run file refl)
+does_printing g (task.Serve file port count token) desk end run serve import prints =
+    absurd (serve file port count token refl)
+does_printing g (task.Import file kind document day path) desk end run serve import prints =
+    absurd (import file kind document day path refl)
+does_printing g (task.Report file name number) desk end run serve import prints = (refl, prints)
+does_printing g (task.Export file table) desk end run serve import prints = (refl, prints)
+does_printing g (task.Migrate file) desk end run serve import prints = (refl, prints)
+does_printing g (task.Help e) desk end run serve import prints = (refl, prints)
+does_printing g (task.Wrong e) desk end run serve import prints = (refl, prints)
+does_printing g task.Unreadable desk end run serve import prints = (refl, prints)
+does_printing g task.Memory desk end run serve import prints = (refl, prints)

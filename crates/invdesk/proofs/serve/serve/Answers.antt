@@ -1,0 +1,45 @@
+use Rattle.std.proofs.Common.{refl}
+use Rattle.std.specs.Prelude.{is_some}
+use Rattle.invdesk.proofs.Ending.{most_is, of_serving, of_telling, unserved}
+use Rattle.invdesk.proofs.serve.serve.Goals as goal
+
+pub returns-in-Err-clause-serves : goal.returns-in-Err-clause-serves
+returns-in-Err-clause-serves g c =
+    unserved g.B.Books.state_in g.B.Books.failure_of g.B.Books.may_leave c.args.port (is_some c.args.token) c.args.count
+    c.args.service.now c.in-Err.end (of_serving c.in-Err.end c.in-Err.ensures.why)
+
+pub returns-in-Err-bind-clause-serves : goal.returns-in-Err-bind-clause-serves
+returns-in-Err-bind-clause-serves g c =
+    unserved g.B.Books.state_in g.B.Books.failure_of g.B.Books.may_leave c.args.port (is_some c.args.token) c.args.count
+    c.args.service.now c.port_failed.result (of_serving c.port_failed.result c.port_failed.ensures)
+
+pub returns-in-Err-println-clause-serves : goal.returns-in-Err-println-clause-serves
+returns-in-Err-println-clause-serves g c =
+    unserved g.B.Books.state_in g.B.Books.failure_of g.B.Books.may_leave c.args.port (is_some c.args.token) c.args.count
+    c.args.service.now c.failed.result (of_telling c.failed.result c.failed.ensures)
+
+pub returns-in-Ok-serve_connections-clause-serves : goal.returns-in-Ok-serve_connections-clause-serves
+returns-in-Ok-serve_connections-clause-serves g c = record {
+  rules = c.in-Ok.access;
+  asks = c.in-Ok.ensures.asks;
+  steps =
+      let s = c.serve_connections.ensures.steps in
+      (s.0, most_is c.args.count s.0 (rw c.unwrap_or-count.ensures at s.1), s.2);
+  operations =
+      let s = c.serve_connections.ensures.operations in
+      (s.0, most_is c.args.count s.0 (rw c.unwrap_or-count.ensures at s.1), s.2);
+  ends = refl;
+}
+
+pub returns-clause-serves : goal.returns-clause-serves
+returns-clause-serves g c = record {
+  rules = c.in-Ok.access;
+  asks = c.in-Ok.ensures.asks;
+  steps =
+      let s = c.serve_connections.ensures.steps in
+      (s.0, most_is c.args.count s.0 (rw c.unwrap_or-count.ensures at s.1), s.2);
+  operations =
+      let s = c.serve_connections.ensures.operations in
+      (s.0, most_is c.args.count s.0 (rw c.unwrap_or-count.ensures at s.1), s.2);
+  ends = of_serving c.port_failed-in-Err-serve_connections.result c.port_failed-in-Err-serve_connections.ensures;
+}

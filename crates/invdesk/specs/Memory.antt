@@ -1,0 +1,35 @@
+-- What is done with new books in memory.
+use Rattle.std.specs.Prelude.{ℕ, Bool, Option, None, is_some}
+use Rattle.table_store.specs.declared.fault.Failed.{Failed}
+use Rattle.desk_core.specs.Books.{AreInOrder}
+use Rattle.desk_core.specs.Machine.{State}
+use Rattle.desk_core.specs.ShopView.{state_of}
+use Rattle.desk_core.specs.declared.shop.Shop.{Shop}
+use Rattle.desk_app.specs.Empty.{IsEmpty}
+use Rattle.desk_app.specs.declared.service.BooksService.{BooksService}
+use Rattle.desk_app.specs.declared.end.RunEnd.{RunEnd}
+use Rattle.desk_app.specs.declared.words.Task.{Task}
+use Rattle.desk_app.specs.declared.words.Task.TheVariants as task
+use Rattle.invdesk.specs.Clients.{ServesClients}
+use Rattle.invdesk.specs.Lines.{RunsLines}
+
+-- the lines of the standard input were run on them
+pub record RunsInMemory (end : RunEnd) : Type 0 where
+  pub before : State
+  pub after : State
+  pub empty : IsEmpty before
+  pub runs : RunsLines {F = Failed} None None (λ _. ⊥) before after end
+  pub in_order : AreInOrder after
+
+-- clients were served with them
+pub record ServesInMemory (port : ℕ) (has_token : Bool) (count : Option ℕ) (end : RunEnd) : Type 0 where
+  pub before : BooksService Shop
+  pub after : BooksService Shop
+  pub empty : IsEmpty (state_of before.books)
+  pub serves : ServesClients {F = Failed} state_of (λ _. None) (λ _ _. ⊥) port has_token count before after end
+
+-- nothing else is asked of them
+abbrev pub DoesInMemory : Task → RunEnd → Type 0
+DoesInMemory (task.Run file) end = RunsInMemory end
+DoesInMemory (task.Serve file port count token) end = ServesInMemory port (is_some token) count end
+DoesInMemory _ end = ⊥

@@ -1,0 +1,27 @@
+-- What is printed of a desk.
+use Rattle.std.specs.Prelude.{◌≡◌, ℕ, List, Bool, true, Option}
+use Rattle.std.specs.Io.KnownBytes.{Appends, Keeps}
+use Rattle.desk_core.specs.Machine.{State}
+use Rattle.desk_store.specs.Exports.{AppendsFront, table_text}
+use Rattle.report_core.specs.Reports.{report_lines}
+use Rattle.desk_app.specs.Printed.{migrated_text, printed}
+use Rattle.desk_app.specs.declared.end.RunEnd.{RunEnd}
+use Rattle.desk_app.specs.declared.end.RunEnd.TheVariants.{Done, ReadFailed, WriteFailed, Memory, Store}
+use Rattle.desk_app.specs.declared.words.Task.{Task}
+use Rattle.desk_app.specs.declared.words.Task.TheVariants as task
+
+-- this text was printed whole, and the end tells whether it is what was asked for; or a front of it, where the writer
+-- failed; or nothing
+abbrev pub PrintsText : List ℕ × Bool → Option (List ℕ) → Option (List ℕ) → RunEnd → Type 0
+PrintsText told w w' (Done fine) = (fine ≡ told.1) × Appends w w' told.0
+PrintsText told w w' WriteFailed = AppendsFront w w' told.0
+PrintsText told w w' Memory = Keeps w w'
+PrintsText told w w' Store = Keeps w w'
+PrintsText told w w' ReadFailed = ⊥
+
+-- what the words ask for was printed of a desk in this state; of other tasks nothing is printed
+abbrev pub Prints : Task → State → Option (List ℕ) → Option (List ℕ) → RunEnd → Type 0
+Prints (task.Report file name number) s w w' end = PrintsText (printed (report_lines name number s)) w w' end
+Prints (task.Export file table) s w w' end = PrintsText (table_text table s, true) w w' end
+Prints (task.Migrate file) s w w' end = PrintsText (migrated_text, true) w w' end
+Prints _ s w w' end = (end ≡ Done true) × Keeps w w'

@@ -1,0 +1,44 @@
+-- The import of a file.
+use Rattle.std.specs.Prelude.{◌≡◌, ◌≢◌, ◌⊎◌, ℕ, List, Bool, Option, None, IsSome}
+use Rattle.sqlite.specs.Tree.{Trees}
+use Rattle.part_core.specs.Day.{CivilDay}
+use Rattle.desk_core.specs.Machine.{State}
+use Rattle.desk_store.specs.StateTables.{TablesAre}
+use Rattle.desk_wire.specs.Imports.{import}
+use Rattle.desk_wire.specs.declared.kind.ImportKind.{ImportKind}
+use Rattle.desk_app.specs.declared.end.RunEnd.{RunEnd}
+use Rattle.desk_app.specs.declared.end.RunEnd.TheVariants.{Done, ReadFailed, Memory, Store}
+use Rattle.desk_app.specs.declared.end.Stop.{Stop}
+use Rattle.desk_app.specs.Ends.{end_of}
+use Rattle.desk_app.specs.ImportRuns.{ImportedWhole, ImportStopped, IsLeftByImport, Reading}
+
+-- a file can't be read, or there is no memory for it
+abbrev pub IsOfFile : RunEnd → Type 0
+IsOfFile ReadFailed = Unit {0}
+IsOfFile Memory = Unit {0}
+IsOfFile _ = ⊥
+
+-- The file couldn't be read: nothing was done to the books.
+pub record Unread {F : Type 0} (old new : Option F) (leaves : Trees → Type 0) (s s' : State) (end : RunEnd) : Type 0 where
+  pub why : IsOfFile end
+  pub same : s' ≡ s
+  pub still : new ≡ old
+  pub left : old ≡ None → (trees : Trees) → leaves trees → TablesAre s trees
+
+-- The file was read, and has these rows, or this fault. They were run on books that were in the state s and are in s'.
+-- What was written is known to no clause. The books had been closed by the one fault, if by any, and are by the other;
+-- these tables a crash may leave of them now.
+pub record RunsRows {F : Type 0} (reading : Reading) (old new : Option F) (leaves : Trees → Type 0) (s s' : State)
+    (end : RunEnd) : Type 0 where
+  pub done : (all : Bool) → end ≡ Done all → ImportedWhole reading None None s s' all
+  pub stopped : (stop : Stop) → end ≡ end_of stop → ImportStopped stop reading None None s s'
+  pub stays_open : old ≡ None → end ≢ Store → new ≡ None
+  pub closed : end ≡ Store → IsSome new
+  pub left : old ≡ None → (trees : Trees) → leaves trees → IsLeftByImport reading s trees
+
+-- A file was imported: which bytes it has is known to no clause, so some bytes.
+abbrev pub ImportsFile : {F : Type 0} → ImportKind → List ℕ → CivilDay → Option F → Option F → (Trees → Type 0) → State
+    → State → RunEnd → Type 0
+ImportsFile kind document day old new leaves s s' end =
+    Unread old new leaves s s' end
+    ⊎ ((bytes : List ℕ) × RunsRows (import kind document day bytes) old new leaves s s' end)

@@ -1,0 +1,40 @@
+-- The status that the program ends with.
+use Rattle.std.specs.Prelude.{◌≡◌, ◌≢◌, ◌⊎◌, ℕ, List, Some, None, IsSome}
+use Rattle.sqlite_disk.specs.declared.Disk as disk
+use Rattle.desk_app.specs.Statuses.{early_status, status_of, status_of_fault}
+use Rattle.desk_app.specs.Words.{Answers, file_of}
+use Rattle.desk_app.specs.declared.database.FileFault.{FileFault}
+use Rattle.desk_app.specs.declared.end.RunEnd.{RunEnd}
+use Rattle.desk_app.specs.declared.words.Task.{Task}
+use Rattle.desk_app.specs.declared.words.Task.TheVariants as task
+use Rattle.invdesk.specs.Files.{ActsOnFile, Left}
+use Rattle.invdesk.specs.Memory.{DoesInMemory}
+
+-- Words that ask for no desk are told so at once: with their status, or, where it can't be printed what they ask for, with
+-- that of a device that failed.
+abbrev pub IsToldAtOnce : Task → ℕ → Type 0
+IsToldAtOnce it status = (early_status it ≡ Some status) ⊎ ((early_status it ≢ None) × (status ≡ 3))
+
+-- of work on a file it is the status of how the work ended, or of why there is no desk
+abbrev pub IsStatusOnFile : {D : Type 0} → disk.Ghosts D → Task → ℕ → Type 0
+IsStatusOnFile g it status =
+    ((end : RunEnd) × (left : Left g) × ActsOnFile it end left × (status ≡ status_of end))
+    ⊎ ((fault : FileFault) × (status ≡ status_of_fault fault))
+
+-- of work on a desk, that of the file or one in memory
+abbrev pub IsStatusAfter : {D : Type 0} → disk.Ghosts D → Task → ℕ → Type 0
+IsStatusAfter g it status =
+    (IsSome (file_of it) × IsStatusOnFile g it status)
+    ⊎ ((end : RunEnd) × DoesInMemory it end × (status ≡ status_of end))
+
+-- of what the words ask for
+abbrev pub IsStatusOf : {D : Type 0} → disk.Ghosts D → Task → ℕ → Type 0
+IsStatusOf g it status = IsToldAtOnce it status ⊎ ((early_status it ≡ None) × IsStatusAfter g it status)
+
+-- some words ask for it, or they couldn't be read
+abbrev pub IsAsked : Task → Type 0
+IsAsked it = ((words : List (List ℕ)) × Answers words it) ⊎ ((it ≡ task.Memory) ⊎ (it ≡ task.Unreadable))
+
+-- the program ends with the status of what its words ask for
+abbrev pub EndsWith : {D : Type 0} → disk.Ghosts D → ℕ → Type 0
+EndsWith g status = (it : Task) × IsAsked it × IsStatusOf g it status
