@@ -1,5 +1,5 @@
--- What each gives by the closed form is what counting down gives, and none gives more than it has.
-use Rattle.std.proofs.Common.{◌≡◌, ℕ, suc, zero, ◌+◌, ◌-◌, ◌≤◌, List, [], ◌∷◌}
+-- What each gives by the closed form is what counting down gives.
+use Rattle.std.proofs.Common.{◌≡◌, ℕ, suc, zero, ◌+◌, ◌-◌, List, [], ◌∷◌}
 use Rattle.std.proofs.Common.{get_or, length, map, min, take, refl, ap, ◌∙◌, arith}
 use Rattle.std.specs.Prelude.{sum}
 use Rattle.std.specs.List.{range_with_len}
@@ -54,13 +54,3 @@ shares-counted missing free =
     (λ k. ap (λ m. min (get_or free k 0) m)
     (let e : missing - sum (take k free) ≡ missing - (0 + sum (take k free)) = omega arith in e))
     ∙ shares-after missing 0 free ∙ ap (λ m. counted_down m free) (let e : missing - 0 ≡ missing = omega arith in e)
-
--- none gives more than is free of it, each at its place
-abbrev pub Within : List ℕ → List ℕ → Type 0
-Within [] free = Unit {0}
-Within (q ∷ qs) [] = ⊥
-Within (q ∷ qs) (f ∷ fs) = (q ≤ f) × Within qs fs
-
-pub counted-within : (missing : ℕ) (free : List ℕ) → Within (counted_down missing free) free
-counted-within missing [] = tt
-counted-within missing (f ∷ fs) = (omega arith, counted-within (missing - min f missing) fs)

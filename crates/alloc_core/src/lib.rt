@@ -16,7 +16,6 @@ mod opening;
 mod purpose;
 mod share;
 mod share_sums;
-mod sharing_out;
 
 pub use alloc_command::AllocCommand;
 pub use allocation::Allocation;
@@ -24,4 +23,3 @@ pub use allocations::Allocations;
 pub use allotting::AllotFault;
 pub use candidates::candidate_numbers;
 pub use purpose::{OutputNumber, Owner, Purpose};
-pub use sharing_out::share_out;

@@ -1,4 +1,5 @@
 pub mod AddLocation
+pub mod BooksView
 pub mod Climbs
 pub mod Contents
 pub mod Equations

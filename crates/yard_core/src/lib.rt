@@ -6,6 +6,7 @@ mod opening;
 mod sums;
 mod walks;
 mod yard;
+mod yard_books;
 pub mod yard_command;
 mod yard_forms;
 
@@ -14,6 +15,7 @@ pub use opening::rows_in_order;
 pub use sums::Sums;
 pub use walks::{Inside, Tree};
 pub use yard::Yard;
+pub use yard_books::YardBooks;
 pub use yard_command::YardCommand;
 
 /// A place where stock lies. Locations are a tree, fixed when they are made.

@@ -1,11 +1,11 @@
 //! The commands of the yard, as a machine: one call that does any of them, and its laws.
 ghost use Rattle.std.specs.Prelude.{◌≡◌};
-ghost use Rattle.yard_core.specs.StockBooks.{Does, stock_books_of, stock_books_before};
+ghost use Rattle.yard_core.specs.BooksView.{books_before, books_now};
+ghost use Rattle.yard_core.specs.StockBooks.{Does};
 ghost use Rattle.yard_core.specs.YardMachine.{ChecksAreInOrder, EffectsAreSound, RowsStay, checks, effect};
 
-use crate::yard::Yard;
-use part_core::{Answer, CoreFault, Counter, Id, Ids, Name};
-use std::alloc::Global;
+use crate::yard_books::YardBooks;
+use part_core::{Answer, CoreFault, Id, Ids, Name};
 
 /// What a clerk may ask of the yard itself. Row numbers are any numbers: whether they name rows is part of
 /// the command's checks.
@@ -17,24 +17,16 @@ pub enum YardCommand {
 
 /// Does the command, or is refused by the first check that applies. The docstrings of the calls that stand
 /// for the commands say when each refusal comes.
-pub fn act(
-    alloc: Global,
-    yard: &mut Yard,
-    counter: &mut Counter,
-    command: &YardCommand,
-) -> Result<Answer, CoreFault>
-    requires nothing_pending { stock_books_before yard.old counter.old
-        ≡ stock_books_of yard.old counter.old }
-    ensures does { let b = stock_books_of yard.old counter.old in
-        Does (checks command.now b)
-        (effect command.now b) b result (stock_books_of yard.new counter.new) }
-    ensures before { stock_books_before yard.new counter.new
-        ≡ stock_books_before yard.old counter.old }
+pub fn act(books: &mut YardBooks, command: &YardCommand) -> Result<Answer, CoreFault>
+    requires nothing_pending { books_before books.old ≡ books_now books.old }
+    ensures does { let b = books_now books.old in
+        Does (checks command.now b) (effect command.now b) b result (books_now books.new) }
+    ensures before { books_before books.new ≡ books_before books.old }
 {
     match command {
         YardCommand::AddLocation { name, parent } => {
-            let ids = Ids::one(alloc, counter.next())?;
-            yard.add_location(counter, name, *parent)?;
+            let ids = Ids::one(books.alloc, books.counter.next())?;
+            books.yard.add_location(&mut books.counter, name, *parent)?;
             Ok(Answer { ids, entries: 0 })
         }
     }
