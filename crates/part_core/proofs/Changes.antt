@@ -7,13 +7,13 @@ use Rattle.std.proofs.lemmas.List.{take_more}
 use Rattle.std.proofs.lemmas.List.Sums.{sum_by-take-le}
 use Rattle.part_core.specs.declared.slots.Held.{Held}
 use Rattle.part_core.specs.Sheet.{is_listed, IsDifference, IsDistinct, HasKeyAt}
-use Rattle.part_core.specs.Slots.{noted, times, row_before, now_row, table_by, ArePlaces}
+use Rattle.part_core.specs.Slots.{is_changed, times, row_before, now_row, table_by, ArePlaces}
 use Rattle.part_core.proofs.Keys.{key_eq, key_eq-self, key_eq-true}
 use Rattle.part_core.proofs.Entries.{find_in, apart}
 use Rattle.part_core.proofs.Listing.{is_listed-push, is_listed-pushed}
 use Rattle.part_core.proofs.SlotLemmas.{get-slot, get-no_slot}
 use Rattle.part_core.proofs.Noted.{same_or_other, times-push_same, times-push_other, noted_at-most}
-use Rattle.part_core.proofs.Noted.{noted_at-slot, noted_at-past, before-unnoted, below_or_not}
+use Rattle.part_core.proofs.Noted.{noted_at-slot, noted_at-past, before-settled, below_or_not, noted-changed}
 
 same_key : (a b : List ℕ) → Some a ≡ Some b → a ≡ b
 same_key a b e = cc
@@ -174,16 +174,15 @@ module _ {X : Type 0} where
       unlisted e false q = q
       unlisted e true q = absurd ((l.source k q).3 e)
 
-      at_place : is_listed k ks ≡ false → (j : ℕ) (h : Held X) → slice_get es j ≡ Some (k, h) → (b : Option (Option X))
-          → h.before ≡ b → table.get (table_by now_row es) k ≡ table.get (table_by row_before es) k
-      at_place none j h at None is_none =
-          get-slot now_row es j k h d at
-          ∙ sym (get-slot row_before es j k h d at ∙ before-unnoted h.before h.row (ap noted is_none))
-      at_place none j h at (Some o) is_some =
-          let one : times j is ≡ 1 = p j ∙ noted_at-slot es j (k, h) at ∙ ap noted is_some in
+      at_place : is_listed k ks ≡ false → (j : ℕ) (h : Held X) → slice_get es j ≡ Some (k, h) → (b : Bool)
+          → is_changed h ≡ b → table.get (table_by now_row es) k ≡ table.get (table_by row_before es) k
+      at_place none j h at false settled =
+          get-slot now_row es j k h d at ∙ sym (get-slot row_before es j k h d at ∙ before-settled h settled)
+      at_place none j h at true changed =
+          let one : times j is ≡ 1 = p j ∙ noted_at-slot es j (k, h) at ∙ noted-changed h changed in
           l.done j k (omega arith) (ap (option_map (λ (e : List ℕ × Held X). e.0)) at) none
 
       found : is_listed k ks ≡ false → (o : Option (Held X)) → find_in k es ≡ o
           → table.get (table_by now_row es) k ≡ table.get (table_by row_before es) k
       found none None q = get-no_slot now_row es k d q ∙ sym (get-no_slot row_before es k d q)
-      found none (Some h) q = let s = find-place es k h q in at_place none s.0 h s.1 h.before refl
+      found none (Some h) q = let s = find-place es k h q in at_place none s.0 h s.1 (is_changed h) refl

@@ -1,7 +1,8 @@
 -- Look-ups by a key, and reads and writes by a place, as the digits of the keys see them.
 use Rattle.std.proofs.Common.{◌≡◌, ◌↔◌, ℕ, suc, zero, ◌<◌, Bool, false, cond, List, [], ◌∷◌, map, Option}
 use Rattle.std.proofs.Common.{Some, None, set, get_or, position, length, refl, sym, ap, ◌∙◌, arith}
-use Rattle.std.specs.Prelude.{slice_get, option_map, is_some, IsTrue, IfSome, IfNone}
+use Rattle.std.specs.Prelude.{slice_get, option_copied, option_map, is_some, IsTrue, IfSome, IfNone}
+use Rattle.std.specs.Borrow.{Bor}
 use Rattle.std.specs.List.{AllByRecursion, IsDistinct as IsDistinctBy}
 use Rattle.std.specs.Map.{keys_of, values_of, lookup}
 use Rattle.std.proofs.lemmas.List.Quantifiers.{position-Some}
@@ -19,12 +20,22 @@ pub none_is : {A : Type 0} (o : Option A) → is_some o ≡ false → o ≡ None
 none_is None e = refl
 none_is (Some x) e = cc
 
+pub is_some-copied : {T : Type 0} (o : Option (Bor T)) → is_some o ≡ is_some (option_copied o)
+is_some-copied None = refl
+is_some-copied (Some x) = refl
+
 same_test : {K : Type 0} (digits : K → List ℕ) (eq : K → K → Bool)
     (exact : (a b : K) → IsTrue (eq a b) ↔ (digits a ≡ digits b)) (a b : K) → eq a b ≡ key_eq (digits a) (digits b)
 same_test digits eq exact a b = key_eq_is (eq a b) (digits a) (digits b) (exact a b).0 (exact a b).1
 
 pub same_held : {X : Type 0} (a b : Held X) → Some a ≡ Some b → a ≡ b
 same_held a b e = cc
+
+-- a key stands within the slots
+pub within-key : {X : Type 0} (es : List (List ℕ × X)) (i : ℕ) (k : List ℕ) → HasKeyAt es i k → i < length es
+within-key [] i k at = cc
+within-key (e ∷ es) zero k at = omega arith
+within-key (e ∷ es) (suc i) k at = let rest = within-key es i k at in omega arith
 
 module _ {K X : Type 0} (digits : K → List ℕ) where
   keys-slots : (es : List (K × Held X))

@@ -1,8 +1,8 @@
 -- The places of the slots with a noted change.
-use Rattle.std.proofs.Common.{◌≡◌, ◌≢◌, ◌⊎◌, inl, inr, ℕ, suc, zero, Bool, true, false, cond}
-use Rattle.std.proofs.Common.{◌||◌, ◌+◌, ◌-◌, ◌<◌, ◌≤◌, List, [], ◌∷◌, ◌++◌, take, length}
-use Rattle.std.proofs.Common.{Option, Some, None, set, get_or, refl, sym, ap, ◌∙◌, subst, arith}
-use Rattle.std.specs.Prelude.{slice_get, nat_eq, is_some, not}
+use Rattle.std.proofs.Common.{◌≡◌, ◌≢◌, ◌⊎◌, inl, inr, ℕ, suc, zero, true, false, cond}
+use Rattle.std.proofs.Common.{◌+◌, ◌-◌, ◌<◌, ◌≤◌, List, [], ◌∷◌, ◌++◌, take, length}
+use Rattle.std.proofs.Common.{Some, set, get_or, refl, sym, ap, ◌∙◌, subst, arith}
+use Rattle.std.specs.Prelude.{slice_get, nat_eq}
 use Rattle.std.proofs.lemmas.Bool.{eqb-true, eq-eqb}
 use Rattle.std.proofs.lemmas.List.{get_or_append_left}
 use Rattle.std.proofs.Math.Seq.{get_or-append_seam}
@@ -10,7 +10,8 @@ use Rattle.std.proofs.lemmas.List.Sums.{sum_by_push, sum_by-cons}
 use Rattle.std.specs.List.Sorted.{IsNonDecreasing, IsPermutation}
 use Rattle.std.proofs.lemmas.List.Sorted.{sum_by-IsPermutation}
 use Rattle.part_core.specs.declared.slots.Held.{Held}
-use Rattle.part_core.specs.Slots.{first_of, noted, times, row_before, now_row, rows_by}
+use Rattle.part_core.specs.declared.slots.Held.TheVariants.{Settled, Added, Rewritten, Removed, Gone}
+use Rattle.part_core.specs.Slots.{is_changed, noted, times, row_before, now_row, rows_by}
 use Rattle.part_core.specs.Slots.{with_row, noted_at, ArePlaces, NoneFrom, IsUnnoted}
 
 -- two numbers are the same or not
@@ -66,13 +67,29 @@ below_or_not (suc a) (suc b) = next (below_or_not a b)
     next (inr h) = inr (omega arith)
 
 module _ {X : Type 0} where
-  noted-most : (b : Option (Option X)) → noted b ≤ 1
-  noted-most None = omega arith
-  noted-most (Some o) = omega arith
+  pub noted-changed : (h : Held X) → is_changed h ≡ true → noted h ≡ 1
+  noted-changed h changed = ap (λ b. cond b 1 0) changed
+
+  pub noted-settled : (h : Held X) → is_changed h ≡ false → noted h ≡ 0
+  noted-settled h settled = ap (λ b. cond b 1 0) settled
+
+  pub noted-unsettled : (h : Held X) → ((x : X) → h ≡ Settled x → ⊥) → noted h ≡ 1
+  noted-unsettled (Settled x) unsettled = absurd (unsettled x refl)
+  noted-unsettled (Added x) unsettled = refl
+  noted-unsettled (Rewritten row before) unsettled = refl
+  noted-unsettled (Removed x) unsettled = refl
+  noted-unsettled Gone unsettled = refl
+
+  noted-most : (h : Held X) → noted h ≤ 1
+  noted-most (Settled x) = omega arith
+  noted-most (Added x) = omega arith
+  noted-most (Rewritten row before) = omega arith
+  noted-most (Removed x) = omega arith
+  noted-most Gone = omega arith
 
   pub noted_at-most : (es : List (List ℕ × Held X)) (j : ℕ) → noted_at es j ≤ 1
   noted_at-most [] j = omega arith
-  noted_at-most (e ∷ es) zero = noted-most e.1.before
+  noted_at-most (e ∷ es) zero = noted-most e.1
   noted_at-most (e ∷ es) (suc j) = noted_at-most es j
 
   pub noted_at-past : (es : List (List ℕ × Held X)) (j : ℕ) → length es ≤ j → noted_at es j ≡ 0
@@ -81,16 +98,16 @@ module _ {X : Type 0} where
   noted_at-past (e ∷ es) (suc j) past = noted_at-past es j (omega arith)
 
   pub noted_at-slot : (es : List (List ℕ × Held X)) (j : ℕ) (e : List ℕ × Held X) → slice_get es j ≡ Some e
-      → noted_at es j ≡ noted e.1.before
+      → noted_at es j ≡ noted e.1
   noted_at-slot [] j e at = cc
-  noted_at-slot (f ∷ es) zero e at = ap (λ (g : List ℕ × Held X). noted g.1.before) (same_slot f e at)
+  noted_at-slot (f ∷ es) zero e at = ap (λ (g : List ℕ × Held X). noted g.1) (same_slot f e at)
     where
       same_slot : (a b : List ℕ × Held X) → Some a ≡ Some b → a ≡ b
       same_slot a b e = cc
   noted_at-slot (f ∷ es) (suc j) e at = noted_at-slot es j e at
 
   pub noted_at-set_same : (es : List (List ℕ × Held X)) (i : ℕ) (e : List ℕ × Held X) → i < length es
-      → noted_at (set es i e) i ≡ noted e.1.before
+      → noted_at (set es i e) i ≡ noted e.1
   noted_at-set_same [] i e within = absurd (omega arith)
   noted_at-set_same (f ∷ es) zero e within = refl
   noted_at-set_same (f ∷ es) (suc i) e within = noted_at-set_same es i e (omega arith)
@@ -104,7 +121,7 @@ module _ {X : Type 0} where
   noted_at-set_other (f ∷ es) (suc i) (suc j) e other = noted_at-set_other es i j e (λ s. other (ap suc s))
 
   pub noted_at-push_same : (es : List (List ℕ × Held X)) (e : List ℕ × Held X)
-      → noted_at (es ++ e ∷ []) (length es) ≡ noted e.1.before
+      → noted_at (es ++ e ∷ []) (length es) ≡ noted e.1
   noted_at-push_same [] e = refl
   noted_at-push_same (f ∷ es) e = noted_at-push_same es e
 
@@ -213,45 +230,24 @@ module _ {X : Type 0} where
           length_more [] = refl
           length_more (x ∷ xs) = let r = length_more xs in omega arith
 
-  pub before-unnoted : (b : Option (Option X)) (now : Option X) → noted b ≡ 0 → first_of b now ≡ now
-  before-unnoted None now none = refl
-  before-unnoted (Some o) now none = absurd (omega arith)
+  pub before-settled : (h : Held X) → is_changed h ≡ false → row_before h ≡ now_row h
+  before-settled (Settled x) settled = refl
+  before-settled (Added x) settled = cc
+  before-settled (Rewritten row before) settled = cc
+  before-settled (Removed x) settled = cc
+  before-settled Gone settled = cc
+
+  settled-unnoted : (h : Held X) → noted h ≡ 0 → is_changed h ≡ false
+  settled-unnoted (Settled x) none = refl
+  settled-unnoted (Added x) none = absurd (omega arith)
+  settled-unnoted (Rewritten row before) none = absurd (omega arith)
+  settled-unnoted (Removed x) none = absurd (omega arith)
+  settled-unnoted Gone none = absurd (omega arith)
 
   -- where no change is noted, the rows are as before
   pub rows-unnoted : (es : List (List ℕ × Held X)) → ((j : ℕ) → noted_at es j ≡ 0)
       → rows_by row_before es ≡ rows_by now_row es
   rows-unnoted [] none = refl
   rows-unnoted (e ∷ es) none =
-      ap (λ o. with_row e.0 o (rows_by row_before es)) (before-unnoted e.1.before e.1.row (none 0))
-      ∙ ap (with_row e.0 e.1.row) (rows-unnoted es (λ j. none (suc j)))
-
-  -- a change that is noted tells what was there before, whatever the row is now
-  pub before-noted : (b : Option (Option X)) (o p : Option X) → noted b ≡ 1 → first_of b o ≡ first_of b p
-  before-noted None o p one = absurd (omega arith)
-  before-noted (Some x) o p one = refl
-
-  -- a slot is in use that has a row, or a noted change
-  pub used-row : (o : Option X) (b : Option (Option X)) → is_some o ≡ true → (is_some o || is_some b) ≡ true
-  used-row None b e = cc
-  used-row (Some x) b e = refl
-
-  pub used-noted : (o : Option X) (b : Option (Option X)) → is_some b ≡ true → (is_some o || is_some b) ≡ true
-  used-noted None b e = e
-  used-noted (Some x) b e = refl
-
-  pub newly_noted : (b : Option (Option X)) (r : Bool) → is_some b ≡ not r → r ≡ true → noted b ≡ 0
-  newly_noted None r e t = refl
-  newly_noted (Some o) true e t = cc
-  newly_noted (Some o) false e t = cc
-
-  pub still_noted : (b : Option (Option X)) (r : Bool) → is_some b ≡ not r → r ≡ false → noted b ≡ 1
-  still_noted None true e f = cc
-  still_noted None false e f = cc
-  still_noted (Some o) r e f = refl
-
-  pub before-newly : (b : Option (Option X)) (o : Option X) (r : Bool) → is_some b ≡ not r → r ≡ true → first_of b o ≡ o
-  before-newly b o r e t = before-unnoted b o (newly_noted b r e t)
-
-  pub before-still : (b : Option (Option X)) (o p : Option X) (r : Bool) → is_some b ≡ not r → r ≡ false
-      → first_of b o ≡ first_of b p
-  before-still b o p r e f = before-noted b o p (still_noted b r e f)
+      ap (λ o. with_row e.0 o (rows_by row_before es)) (before-settled e.1 (settled-unnoted e.1 (none 0)))
+      ∙ ap (with_row e.0 (now_row e.1)) (rows-unnoted es (λ j. none (suc j)))

@@ -1,7 +1,7 @@
 -- Slots, as the finite maps of their rows see them.
 use Rattle.std.proofs.Common.{◌≡◌, ℕ, suc, zero, Bool, true, false, cond, ◌+◌, ◌-◌, ◌≤◌, List, []}
 use Rattle.std.proofs.Common.{◌∷◌, ◌++◌, length, Option, Some, None, set, refl, sym, ap, ◌∙◌, arith}
-use Rattle.std.specs.Prelude.{Result, Ok, Err, IfOk, slice_get, option_map, is_some}
+use Rattle.std.specs.Prelude.{Result, Ok, Err, IfOk, OnErr, slice_get, option_map, is_some}
 use Rattle.std.specs.FinMap as table
 use Rattle.std.specs.FinMap.Entries.{find-append}
 use Rattle.std.specs.List.Sorted.{IsPermutation}
@@ -15,6 +15,10 @@ use Rattle.part_core.proofs.Ordered.{IsDistinct-permutation, find-permutation, l
 pub IfOk-map : {A E : Type 0} {P Q : A → Type 0} (r : Result A E) → IfOk r P → ((v : A) → P v → Q v) → IfOk r Q
 IfOk-map (Ok x) p f = f x p
 IfOk-map (Err e) p f = p
+
+pub OnErr-always : {A E P : Type 0} (r : Result A E) → P → OnErr r P
+OnErr-always (Ok x) p = tt
+OnErr-always (Err e) p = p
 
 module _ {X : Type 0} where
   -- what f tells of what was found
@@ -77,6 +81,15 @@ module _ {X : Type 0} where
       → table.get (given k o m) q ≡ cond (key_eq q k) o (table.get m q)
   get-given k None m q = table.get-remove keys_total m k q
   get-given k (Some x) m q = table.get-insert keys_total m k x q
+
+  -- a key is given what it has
+  pub given-same : (k : List ℕ) (o : Option X) (m : Table X) → table.get m k ≡ o → given k o m ≡ m
+  given-same k o m has = table.same_map keys_total keys_exact _ _ (λ q.
+      get-given k o m q ∙ elim (key_eq q k)
+      as (λ b. key_eq q k ≡ b → cond b o (table.get m q) ≡ table.get m q) [
+        | true ↦ λ p. sym (ap (table.get m) (key_eq-true q k p) ∙ has)
+        | false ↦ λ p. refl
+      ] refl)
 
   slot_key : (es : List (List ℕ × Held X)) (i : ℕ) (k : List ℕ) (h : Held X) → slice_get es i ≡ Some (k, h)
       → HasKeyAt es i k

@@ -1,19 +1,19 @@
 -- A slot that is written, put last or taken out, as the tables and the places of the changes see it.
 use Rattle.std.proofs.Common.{◌≡◌, ◌≢◌, ◌⊎◌, inl, inr, ℕ, suc, zero, true, ◌+◌, ◌-◌, ◌<◌, List, [], ◌∷◌, ◌++◌, map}
 use Rattle.std.proofs.Common.{take, length, Option, Some, None, set, get_or, refl, sym, ap, ◌∙◌, subst, arith}
-use Rattle.std.specs.Prelude.{slice_get, option_map, swap_remove}
+use Rattle.std.specs.Prelude.{slice_get, is_some, option_map, swap_remove}
+use Rattle.std.specs.FinMap as table
 use Rattle.std.specs.List.Sorted.{IsPermutation}
 use Rattle.std.proofs.lemmas.List.{map-append, map-set}
-use Rattle.std.proofs.lemmas.List.Sorted.{All-permutation, IsPermutation-map, IsPermutation-swap_remove}
-use Rattle.std.proofs.lemmas.List.Elements.{All-append, All-cons, All-nil, All-set, All-tail}
+use Rattle.std.proofs.lemmas.List.Sorted.{IsPermutation-map, IsPermutation-swap_remove}
 use Rattle.std.proofs.lemmas.Option.{slice_get-map, slice_get-get_or, get_or_from_slice_get, slice_get_within}
 use Rattle.indexmap.specs.IndexMap.{set_value_at}
 use Rattle.part_core.specs.declared.slots.Held.{Held}
 use Rattle.part_core.specs.Sheet.{IsDistinct, given}
-use Rattle.part_core.specs.Slots.{entry_of, slots_of, noted, table_by, noted_at}
-use Rattle.part_core.specs.Slots.{is_used, ArePlaces, AreUsed, NoneFrom, IsUnnoted}
+use Rattle.part_core.specs.Slots.{entry_of, slots_of, noted, now_row, row_before, table_by, noted_at}
+use Rattle.part_core.specs.Slots.{ArePlaces, IsSound, NoneFrom, IsUnnoted}
 use Rattle.part_core.proofs.Entries.{find_in, IsDistinct-set, IsDistinct-push}
-use Rattle.part_core.proofs.SlotLemmas.{table-written, table-same, table-added, table-added_none}
+use Rattle.part_core.proofs.SlotLemmas.{get-slot, len-put_same, table-written, table-same, table-added, table-added_none}
 use Rattle.part_core.proofs.Noted.{noted_at-set_same, noted_at-set_other, noted_at-push_same}
 use Rattle.part_core.proofs.Noted.{noted_at-push_other, noted_at-past, noted_at-slot}
 use Rattle.part_core.proofs.Noted.{unnoted-taken, same_or_other, ArePlaces-push, ArePlaces-same}
@@ -38,7 +38,7 @@ module _ {K X : Type 0} (digits : K → List ℕ) (es : List (K × Held X)) wher
     within = slice_get_within (slots_of digits es) i (k, h) at
 
     -- what is noted there is what the new slot has noted
-    pub noted-here : noted_at (slots_of digits (set_value_at es i w)) i ≡ noted w.before
+    pub noted-here : noted_at (slots_of digits (set_value_at es i w)) i ≡ noted w
     noted-here = ap (λ l. noted_at l i) written ∙ noted_at-set_same (slots_of digits es) i (k, w) within
 
     pub noted-others : (j : ℕ) → j ≢ i
@@ -46,21 +46,16 @@ module _ {K X : Type 0} (digits : K → List ℕ) (es : List (K × Held X)) wher
     noted-others j other = ap (λ l. noted_at l j) written ∙ noted_at-set_other (slots_of digits es) i j (k, w) other
 
     -- a change that was noted there no longer is
-    pub unnoted-written : noted w.before ≡ 0 → IsUnnoted (slots_of digits es) (slots_of digits (set_value_at es i w)) i
+    pub unnoted-written : noted w ≡ 0 → IsUnnoted (slots_of digits es) (slots_of digits (set_value_at es i w)) i
     unnoted-written none = record { here = noted-here ∙ none; others = noted-others }
 
-    pub used-written : is_used w ≡ true → AreUsed (slots_of digits es) → AreUsed (slots_of digits (set_value_at es i w))
-    used-written here used =
-        subst AreUsed (sym written)
-        (All-set (λ (e : List ℕ × Held X). is_used e.1 ≡ true) (slots_of digits es) i (k, w) here used)
-
-    pub places-pushed : (is : List ℕ) → ArePlaces is (slots_of digits es) → noted h.before ≡ 0 → noted w.before ≡ 1
+    pub places-pushed : (is : List ℕ) → ArePlaces is (slots_of digits es) → noted h ≡ 0 → noted w ≡ 1
         → ArePlaces (is ++ i ∷ []) (slots_of digits (set_value_at es i w))
     places-pushed is p old new =
         ArePlaces-push is (slots_of digits es) p i (slots_of digits (set_value_at es i w))
         (noted_at-slot (slots_of digits es) i (k, h) at ∙ old) (noted-here ∙ new) noted-others
 
-    pub places-same : (is : List ℕ) → ArePlaces is (slots_of digits es) → noted w.before ≡ noted h.before
+    pub places-same : (is : List ℕ) → ArePlaces is (slots_of digits es) → noted w ≡ noted h
         → ArePlaces is (slots_of digits (set_value_at es i w))
     places-same is p same =
         ArePlaces-same is (slots_of digits es) p (slots_of digits (set_value_at es i w)) (λ j. by j (same_or_other j i))
@@ -84,9 +79,30 @@ module _ {K X : Type 0} (digits : K → List ℕ) (es : List (K × Held X)) wher
           → table_by f (slots_of digits (set_value_at es i w)) ≡ given k (f w) (table_by f (slots_of digits es))
       rows-written f = ap (table_by f) written ∙ table-written f (slots_of digits es) i k h w d at
 
+      -- a row is put there
+      pub rows-put : (x : X) → now_row w ≡ Some x
+          → table_by now_row (slots_of digits (set_value_at es i w))
+          ≡ table.insert (table_by now_row (slots_of digits es)) k x
+      rows-put x now = rows-written now_row ∙ ap (λ o. given k o (table_by now_row (slots_of digits es))) now
+
       pub rows-same : (f : Held X → Option X) → f w ≡ f h
           → table_by f (slots_of digits (set_value_at es i w)) ≡ table_by f (slots_of digits es)
       rows-same f same = ap (table_by f) written ∙ table-same f (slots_of digits es) i k h w d at same
+
+    -- a row is put over another, and what was before stays
+    pub sound-put : (is : List ℕ) (len length_before : ℕ) (x : X)
+        → IsSound (slots_of digits es) is len length_before → is_some (now_row h) ≡ true → now_row w ≡ Some x
+        → row_before w ≡ row_before h → noted w ≡ noted h
+        → IsSound (slots_of digits (set_value_at es i w)) is len length_before
+    sound-put is len length_before x sound some now before same =
+        let m = table_by now_row (slots_of digits es) in
+        let has = sym (ap is_some (get-slot now_row (slots_of digits es) i k h sound.distinct at) ∙ some) in
+        record {
+          distinct = distinct-written sound.distinct;
+          places = places-same is sound.places same;
+          len = sound.len ∙ sym (ap table.len (rows-put sound.distinct x now) ∙ len-put_same m k x true has refl);
+          length_before = sound.length_before ∙ sym (ap table.len (rows-same sound.distinct row_before before));
+        }
 
   -- a slot is put last
   module _ (k : K) (h : Held X) (d : IsDistinct (slots_of digits es))
@@ -106,7 +122,7 @@ module _ {K X : Type 0} (digits : K → List ℕ) (es : List (K × Held X)) wher
     pub distinct-added : IsDistinct (slots_of digits (es ++ (k, h) ∷ []))
     distinct-added = subst IsDistinct (sym pushed) (IsDistinct-push (slots_of digits es) (digits k) h d none)
 
-    pub places-added : (is : List ℕ) → ArePlaces is (slots_of digits es) → noted h.before ≡ 1
+    pub places-added : (is : List ℕ) → ArePlaces is (slots_of digits es) → noted h ≡ 1
         → ArePlaces (is ++ length es ∷ []) (slots_of digits (es ++ (k, h) ∷ []))
     places-added is p one =
         let n : length (slots_of digits es) ≡ length es = length-slots digits es in
@@ -118,12 +134,6 @@ module _ {K X : Type 0} (digits : K → List ℕ) (es : List (K × Held X)) wher
         (λ j other. noted_at-push_other (slots_of digits es) j (digits k, h) other) in
         subst (λ l. ArePlaces (is ++ length es ∷ []) l) (sym pushed)
         (subst (λ m. ArePlaces (is ++ m ∷ []) (slots_of digits es ++ (digits k, h) ∷ [])) n push)
-
-    pub used-added : is_used h ≡ true → AreUsed (slots_of digits es) → AreUsed (slots_of digits (es ++ (k, h) ∷ []))
-    used-added here used =
-        let P = λ (e : List ℕ × Held X). is_used e.1 ≡ true in
-        subst AreUsed (sym pushed)
-        (All-append P (slots_of digits es) ((digits k, h) ∷ []) used (All-cons P (digits k, h) [] here (All-nil P)))
 
   -- a slot is taken out
   module _ (i : ℕ) (e : K × Held X) (at : slice_get es i ≡ Some e) where
@@ -170,10 +180,3 @@ module _ {K X : Type 0} (digits : K → List ℕ) (es : List (K × Held X)) wher
         taken_is ∙ ap (λ m. take (m - 1) (set (slots_of digits es) i (entry_of digits l))) (sym n) in
         subst (λ s. IsUnnoted (slots_of digits es) s i) (sym is)
         (unnoted-taken (slots_of digits es) i (entry_of digits l) (omega arith) last none)
-
-module _ {X : Type 0} (es fs : List (List ℕ × Held X)) (k : List ℕ) (h : Held X)
-    (moved : IsPermutation es ((k, h) ∷ fs)) where
-  pub used-taken : AreUsed es → AreUsed fs
-  used-taken used =
-      let P = λ (e : List ℕ × Held X). is_used e.1 ≡ true in
-      All-tail P (k, h) fs (All-permutation P es ((k, h) ∷ fs) moved used)

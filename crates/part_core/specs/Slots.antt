@@ -1,11 +1,10 @@
--- The slots of a sheet: each key with the row that it has now, and with the one that it had before, where it has
--- changed.
-use Rattle.std.specs.Prelude.{◌≡◌, ◌≢◌, ◌≤◌, ◌||◌, ℕ, zero, suc, Bool, true, List, [], ◌∷◌}
-use Rattle.std.specs.Prelude.{Option, Some, None, is_some, map, sum_by, nat_eq, if◌then◌else◌}
-use Rattle.std.specs.List.{All}
+-- The slots of a sheet: each key with the row that it has now, and with the one that it had before.
+use Rattle.std.specs.Prelude.{◌≡◌, ◌≢◌, ◌≤◌, ℕ, zero, suc, Bool, true, false, List, [], ◌∷◌}
+use Rattle.std.specs.Prelude.{Option, Some, None, map, sum_by, nat_eq, if◌then◌else◌}
 use Rattle.std.specs.FinMap as table
 use Rattle.part_core.specs.Sheet.{IsDistinct, Table, table_of}
 use Rattle.part_core.specs.declared.slots.Held.{Held}
+use Rattle.part_core.specs.declared.slots.Held.TheVariants.{Settled, Added, Rewritten, Removed, Gone}
 use Rattle.part_core.specs.declared.slots.Found.{Found}
 
 module _ {K X : Type 0} (digits : K → List ℕ) where
@@ -25,16 +24,6 @@ abbrev pub with_row : {X : Type 0} → List ℕ → Option X → List (List ℕ 
 with_row k None es = es
 with_row k (Some x) es = (k, x) ∷ es
 
--- what stood there before a change, or else what stands there
-abbrev pub first_of : {X : Type 0} → Option (Option X) → Option X → Option X
-first_of None row = row
-first_of (Some before) row = before
-
--- 1 where a change is noted
-abbrev pub noted : {X : Type 0} → Option (Option X) → ℕ
-noted None = 0
-noted (Some before) = 1
-
 -- how often the number is listed
 abbrev pub times : ℕ → List ℕ → ℕ
 times j is = sum_by (λ i. if nat_eq j i then 1 else 0) is
@@ -42,11 +31,31 @@ times j is = sum_by (λ i. if nat_eq j i then 1 else 0) is
 module _ {X : Type 0} where
   -- the row now
   abbrev pub now_row : Held X → Option X
-  now_row h = h.row
+  now_row (Settled x) = Some x
+  now_row (Added x) = Some x
+  now_row (Rewritten row before) = Some row.value
+  now_row (Removed x) = None
+  now_row Gone = None
 
   -- the row before the request
   abbrev pub row_before : Held X → Option X
-  row_before h = first_of h.before h.row
+  row_before (Settled x) = Some x
+  row_before (Added x) = None
+  row_before (Rewritten row before) = Some before
+  row_before (Removed x) = Some x
+  row_before Gone = None
+
+  -- whether a change is noted
+  abbrev pub is_changed : Held X → Bool
+  is_changed (Settled x) = false
+  is_changed (Added x) = true
+  is_changed (Rewritten row before) = true
+  is_changed (Removed x) = true
+  is_changed Gone = true
+
+  -- 1 where a change is noted
+  abbrev pub noted : Held X → ℕ
+  noted h = if is_changed h then 1 else 0
 
   -- the rows that f tells of the slots
   abbrev pub rows_by : (Held X → Option X) → List (List ℕ × Held X) → List (List ℕ × X)
@@ -60,7 +69,7 @@ module _ {X : Type 0} where
   -- 1 where a change of the slot at this place is noted
   abbrev pub noted_at : List (List ℕ × Held X) → ℕ → ℕ
   noted_at [] j = 0
-  noted_at (e ∷ es) zero = noted e.1.before
+  noted_at (e ∷ es) zero = noted e.1
   noted_at (e ∷ es) (suc j) = noted_at es j
 
   -- these are the places of the slots with a noted change, each once
@@ -76,18 +85,9 @@ module _ {X : Type 0} where
     pub here : noted_at new i ≡ 0
     pub others : (j : ℕ) → j ≢ i → noted_at new j ≡ noted_at old j
 
-  -- there is a row, or a change is noted
-  abbrev pub is_used : Held X → Bool
-  is_used h = is_some h.row || is_some h.before
-
-  -- no slot is left over: one without a row has a noted change
-  abbrev pub AreUsed : List (List ℕ × Held X) → Type 0
-  AreUsed es = All (λ e. is_used e.1 ≡ true) es
-
-  -- no key stands twice, no slot is left over, the places of the changes are known, and so are the numbers of rows
+  -- no key stands twice, the places of the changes are known, and so are the numbers of rows
   pub record IsSound (es : List (List ℕ × Held X)) (changed : List ℕ) (rows rows_before : ℕ) : Type 0 where
     pub distinct : IsDistinct es
-    pub used : AreUsed es
     pub places : ArePlaces changed es
     pub len : rows ≡ table.len (table_by now_row es)
     pub length_before : rows_before ≡ table.len (table_by row_before es)

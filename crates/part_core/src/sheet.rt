@@ -1,15 +1,15 @@
 //! A table in memory, whose changes can be taken back.
 //!
-//! A sheet is a map from each key to a slot, which has the row now, or none, and, where the key was changed since the
-//! request began, what it had before: a row, or none. So the map holds both tables, and no key stands twice in it.
-//! `changed` lists the places of the slots with such a note, each once. A change writes a slot, and the first one of
-//! its key notes what was there and lists the place. A removal leaves its slot, so that no slot moves and each listed
-//! place stays good until `keep` or `back`.
+//! A sheet is a map from each key to a slot, which tells the row now, or none, and the row before the request, or none.
+//! So the map holds both tables, and no key stands twice in it. A slot has room for one row: where one was put over
+//! another, the new one lies apart until `keep` or `back`. `changed` lists the places of the slots that were changed,
+//! each once. A change writes a slot, and the first one of its key lists the place. A removal leaves its slot, so that
+//! no slot moves and each listed place stays good until `keep` or `back`.
 //!
-//! These two go over `changed` from the largest place down: `keep` drops the note, `back` writes it over the row, and a
-//! slot that has no row then is taken out, and the last slot of the map moves into its place. Nothing is noted behind
-//! the place where they are, so the slot that moves is none that is still to come. They write, sort in place and take
-//! out, which needs no memory, and they touch only the slots that are listed. Each slot has a row or a note, so that
+//! These two go over `changed` from the largest place down: `keep` leaves the row now, `back` the one before, and a
+//! slot without that row is taken out, and the last slot of the map moves into its place. No change is noted behind the
+//! place where they are, so the slot that moves is none that is still to come. They write, sort in place and take out,
+//! which needs no memory, and they touch only the slots that are listed. A slot that was not changed has a row, so that
 //! outside of changes there are as many slots as rows.
 ghost use Rattle.std.specs.Prelude.{◌≡◌, ◌↔◌, ◌<◌, ℕ, Bool, length, filter, map, option_copied};
 ghost use Rattle.std.specs.Prelude.{IsTrue, OnOk, OnErr, IfOk, IsSome, Some, [], sum_by};
@@ -35,7 +35,7 @@ use std::marker::Model;
 /// A look-up is by a hash of the key, and takes the same time however many rows there are. So do `put`, `remove` and
 /// `get_mut`; `pending`, `keep` and `back` take time for what was changed. `keep` and `back` never fail.
 pub struct Sheet<R: Row> {
-    // Each key with what it has now, and, once it was changed, what it had.
+    // Each key with what it has now and what it had.
     slots: IndexMap<R::Key, Held<R>>,
     // The places of the slots that were changed, each once.
     changed: Vec<usize>,
@@ -185,10 +185,10 @@ impl<R: Row> Sheet<R> {
             table.get (now_of self.old) (R.Key.digits key) ≡ Some row.now) }
     {
         let i = note::<R>(self.alloc, &mut self.slots, &mut self.changed, &key)?;
-        let held = &mut self.slots[i];
-        match &mut held.row {
-            Some(row) => Ok(row),
-            None => unreachable!(),
+        match &mut self.slots[i] {
+            Held::Added(row) => Ok(row),
+            Held::Rewritten { row, .. } => Ok(row),
+            Held::Settled(_) | Held::Removed(_) | Held::Gone => unreachable!(),
         }
     }
 
@@ -200,10 +200,11 @@ impl<R: Row> Sheet<R> {
         ensures before { self.new.before ≡ self.old.before }
     {
         let key = row.key(self.alloc)?;
-        self.changed.reserve(1)?;
         match place::<R>(&self.slots, &key) {
             Some(i) => {
-                if !rewrite::<R>(&mut self.slots, &mut self.changed, i, Some(row)) {
+                let alloc = self.alloc;
+                let had = rewrite::<R>(alloc, &mut self.slots, &mut self.changed, i, Some(row))?;
+                if !had {
                     self.len += 1;
                 }
             }
@@ -222,9 +223,9 @@ impl<R: Row> Sheet<R> {
         ensures err { OnErr result (self.new ≡ self.old) }
         ensures before { self.new.before ≡ self.old.before }
     {
-        self.changed.reserve(1)?;
         if let Some(i) = place::<R>(&self.slots, key) {
-            if rewrite::<R>(&mut self.slots, &mut self.changed, i, None) {
+            let had = rewrite::<R>(self.alloc, &mut self.slots, &mut self.changed, i, None)?;
+            if had {
                 self.len -= 1;
             }
         }

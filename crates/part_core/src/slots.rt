@@ -1,13 +1,13 @@
 //! The slots of a sheet: what each key has now, and what it had before it was changed.
 ghost use Rattle.std.specs.Prelude.{◌≡◌, ◌↔◌, ◌+◌, ◌^◌, ◌<◌, ◌≤◌, ℕ, List, Bool, IsTrue, length, OnOk};
-ghost use Rattle.std.specs.Prelude.{OnErr, IfOk, IfSome, IfNone, IsSome, is_some, Some, None, [], map};
+ghost use Rattle.std.specs.Prelude.{OnErr, IfOk, IfSome, IfNone, IsSome, is_some, Some, None, [], map, true, false};
 ghost use Rattle.std.specs.Prelude.{filter, sum_by, slice_get, option_copied, vec_capacity, ◌++◌, ◌∷◌};
 ghost use Rattle.std.specs.List.{All, list_any};
 ghost use Rattle.std.specs.List.Sorted.{IsPermutation, IsSortedByKey};
 ghost use Rattle.std.specs.FinMap as table;
 ghost use Rattle.part_core.specs.Sheet.{key_cmp, HasKeyAt, IsDifference, IsDistinct, IsEachOnce, given};
 ghost use Rattle.part_core.specs.Select.{IsMeasure, IsTest};
-ghost use Rattle.part_core.specs.Slots.{ArePlaces, AreUsed, IsUnnoted, NoneFrom, noted_at, now_row};
+ghost use Rattle.part_core.specs.Slots.{ArePlaces, IsUnnoted, NoneFrom, is_changed, noted_at, now_row};
 ghost use Rattle.part_core.specs.Slots.{row_before, row_found, rows_by, slots_of, table_by};
 
 use crate::row::{Row, RowKey};
@@ -16,13 +16,20 @@ use indexmap::IndexMap;
 use std::alloc::{AllocError, Global};
 use std::mem;
 
-// What stands under a key.
+// What stands under a key: the row that it has now, or none, and the one that it had before the request, or none.
+// Only a row that was put over another lies apart, so that a slot takes little more than one row.
 #[derive(Drop)]
-pub(crate) struct Held<R> {
-    // The row, or none: then only what it had before stands here.
-    pub(crate) row: Option<R>,
-    // Where it has changed since the request began: the row that it had before, or none.
-    pub(crate) before: Option<Option<R>>,
+pub(crate) enum Held<R> {
+    // The row has not changed.
+    Settled(R),
+    // The row was added.
+    Added(R),
+    // The row was put over another.
+    Rewritten { row: Box<R>, before: R },
+    // The row was removed.
+    Removed(R),
+    // A row was added and removed again.
+    Gone,
 }
 
 // A row that was found, and the key that it stands under.
@@ -30,6 +37,112 @@ pub(crate) struct Held<R> {
 pub(crate) struct Found<'a, K, R> {
     pub(crate) key: &'a K,
     pub(crate) row: &'a R,
+}
+
+impl<R: Drop> Held<R> {
+    // The row now.
+    pub(crate) fn row(&self) -> Option<&R>
+        ensures { option_copied result ≡ now_row self.now }
+    {
+        match self {
+            Held::Settled(row) | Held::Added(row) => Some(row),
+            Held::Rewritten { row, .. } => Some(row),
+            Held::Removed(_) | Held::Gone => None,
+        }
+    }
+
+    // Whether there was a row before the request.
+    fn had_row(&self) -> bool
+        ensures { result ≡ is_some (row_before self.now) }
+    {
+        match self {
+            Held::Settled(_) | Held::Rewritten { .. } | Held::Removed(_) => true,
+            Held::Added(_) | Held::Gone => false,
+        }
+    }
+
+    // Whether it was changed since the request began.
+    fn is_changed(&self) -> bool
+        ensures { result ≡ is_changed self.now }
+    {
+        !matches!(self, Held::Settled(_))
+    }
+
+    // Puts a row there. An error is one of memory.
+    fn put(&mut self, alloc: Global, row: R) -> Result<(), AllocError>
+        ensures ok { OnOk result (now_row self.new ≡ Some row) }
+        ensures before { row_before self.new ≡ row_before self.old }
+        ensures changed { OnOk result (is_changed self.new ≡ true) }
+        ensures err { OnErr result (self.new ≡ self.old) }
+    {
+        let row = Box::new(alloc, row)?;
+        *self = match mem::replace(self, Held::Gone) {
+            Held::Settled(before) | Held::Removed(before) => Held::Rewritten { row, before },
+            Held::Rewritten { row: _old, before } => Held::Rewritten { row, before },
+            Held::Added(_old) => Held::Added(Box::into_inner(row)),
+            Held::Gone => Held::Added(Box::into_inner(row)),
+        };
+        Ok(())
+    }
+
+    // Leaves no row there.
+    fn remove(&mut self)
+        ensures now { now_row self.new ≡ None }
+        ensures before { row_before self.new ≡ row_before self.old }
+        ensures changed { is_changed self.new ≡ true }
+    {
+        *self = match mem::replace(self, Held::Gone) {
+            Held::Settled(before) | Held::Removed(before) => Held::Removed(before),
+            Held::Rewritten { row: _old, before } => Held::Removed(before),
+            Held::Added(_old) => Held::Gone,
+            Held::Gone => Held::Gone,
+        };
+    }
+
+    // Puts a row there, or leaves none. An error is one of memory.
+    fn write(&mut self, alloc: Global, row: Option<R>) -> Result<(), AllocError>
+        ensures ok { OnOk result (now_row self.new ≡ row) }
+        ensures before { row_before self.new ≡ row_before self.old }
+        ensures changed { OnOk result (is_changed self.new ≡ true) }
+        ensures err { OnErr result (self.new ≡ self.old) }
+    {
+        match row {
+            Some(row) => self.put(alloc, row),
+            None => {
+                self.remove();
+                Ok(())
+            }
+        }
+    }
+
+    // Makes the change final, where there is a row now.
+    fn keep(&mut self)
+        requires { IsSome (now_row self.old) }
+        ensures now { now_row self.new ≡ now_row self.old }
+        ensures settled { is_changed self.new ≡ false }
+    {
+        *self = match mem::replace(self, Held::Gone) {
+            Held::Added(row) => Held::Settled(row),
+            Held::Rewritten {
+                row,
+                before: _before,
+            } => Held::Settled(Box::into_inner(row)),
+            held => held,
+        };
+    }
+
+    // Takes the change back, where there was a row before.
+    fn back(&mut self)
+        requires { IsSome (row_before self.old) }
+        ensures now { now_row self.new ≡ row_before self.old }
+        ensures settled { is_changed self.new ≡ false }
+    {
+        *self = match mem::replace(self, Held::Gone) {
+            Held::Rewritten { row: _row, before } => Held::Settled(before),
+            Held::Removed(before) => Held::Settled(before),
+            held => held,
+        };
+    }
 }
 
 // Where the key stands.
@@ -55,7 +168,7 @@ pub(crate) fn row_of<'a, R: Row>(
         (R.Key.digits key.now) }
 {
     let held = slots.get(key)?;
-    held.row.as_ref()
+    held.row()
 }
 
 // Puts the value at the end, where there is room.
@@ -66,41 +179,49 @@ pub(crate) fn push_within<T: Drop>(items: &mut Vec<T>, value: T)
     let _ = items.push(value);
 }
 
-// Gives the slot that stands there a row, or none, and notes what it had. Answers whether it had a row.
+// Puts a row at the place, or leaves none there, and notes the change. Answers whether there was a row. An error is one
+// of memory.
 pub(crate) fn rewrite<R: Row>(
+    alloc: Global,
     slots: &mut IndexMap<R::Key, Held<R>>,
     changed: &mut Vec<usize>,
     i: usize,
     row: Option<R>,
-) -> bool
+) -> Result<bool, AllocError>
     requires in_range { i < length slots.old.entries }
-    requires room { length changed.old.items < vec_capacity changed.old }
     requires distinct { IsDistinct (slots_of R.Key.digits slots.old.entries) }
-    requires used { AreUsed (slots_of R.Key.digits slots.old.entries) }
     requires places { ArePlaces changed.old.items (slots_of R.Key.digits slots.old.entries) }
     ensures distinct { IsDistinct (slots_of R.Key.digits slots.new.entries) }
-    ensures used { AreUsed (slots_of R.Key.digits slots.new.entries) }
     ensures places { ArePlaces changed.new.items (slots_of R.Key.digits slots.new.entries) }
-    ensures rows { (k : List ℕ) → HasKeyAt (slots_of R.Key.digits slots.old.entries) i k
+    ensures rows { OnOk result ((k : List ℕ)
+        → HasKeyAt (slots_of R.Key.digits slots.old.entries) i k
         → table_by now_row (slots_of R.Key.digits slots.new.entries)
-        ≡ given k row (table_by now_row (slots_of R.Key.digits slots.old.entries)) }
+        ≡ given k row (table_by now_row (slots_of R.Key.digits slots.old.entries))) }
     ensures before { table_by row_before (slots_of R.Key.digits slots.new.entries)
         ≡ table_by row_before (slots_of R.Key.digits slots.old.entries) }
+    ensures found { OnOk result ((k : List ℕ)
+        → HasKeyAt (slots_of R.Key.digits slots.old.entries) i k
+        → HasKeyAt (slots_of R.Key.digits slots.new.entries) i k) }
+    ensures noted { OnOk result (noted_at (slots_of R.Key.digits slots.new.entries) i ≡ 1) }
     ensures few { length slots.old.entries < 2 ^ 63 }
-    ensures had { (k : List ℕ) → HasKeyAt (slots_of R.Key.digits slots.old.entries) i k
-        → result ≡ table.contains_key
-        (table_by now_row (slots_of R.Key.digits slots.old.entries)) k }
+    ensures had { IfOk result (λ had. (k : List ℕ)
+        → HasKeyAt (slots_of R.Key.digits slots.old.entries) i k
+        → had ≡ table.contains_key
+        (table_by now_row (slots_of R.Key.digits slots.old.entries)) k) }
+    ensures err { OnErr result (table_by now_row (slots_of R.Key.digits slots.new.entries)
+        ≡ table_by now_row (slots_of R.Key.digits slots.old.entries)) }
 {
     // `len` is called for its clause that there are fewer than 2^63 slots.
     let _len = slots.len();
+    changed.reserve(1)?;
     let held = &mut slots[i];
-    let had = held.row.is_some();
-    let before = mem::replace(&mut held.row, row);
-    if held.before.is_none() {
-        held.before = Some(before);
+    let had = held.row().is_some();
+    let is_first = !held.is_changed();
+    held.write(alloc, row)?;
+    if is_first {
         push_within(changed, i);
     }
-    had
+    Ok(had)
 }
 
 // Puts a row under a new key, and notes that there was none. An error is one of memory.
@@ -113,12 +234,9 @@ pub(crate) fn add<R: Row>(
     requires absent { table.find key_cmp (R.Key.digits key)
         (slots_of R.Key.digits slots.old.entries)
         ≡ None }
-    requires room { length changed.old.items < vec_capacity changed.old }
     requires distinct { IsDistinct (slots_of R.Key.digits slots.old.entries) }
-    requires used { AreUsed (slots_of R.Key.digits slots.old.entries) }
     requires places { ArePlaces changed.old.items (slots_of R.Key.digits slots.old.entries) }
     ensures distinct { IsDistinct (slots_of R.Key.digits slots.new.entries) }
-    ensures used { AreUsed (slots_of R.Key.digits slots.new.entries) }
     ensures places { ArePlaces changed.new.items (slots_of R.Key.digits slots.new.entries) }
     ensures rows { OnOk result (table_by now_row (slots_of R.Key.digits slots.new.entries)
         ≡ table.insert
@@ -129,13 +247,8 @@ pub(crate) fn add<R: Row>(
     ensures err { OnErr result (slots.new.entries ≡ slots.old.entries) }
 {
     let i = slots.len();
-    slots.insert(
-        key,
-        Held {
-            row: Some(row),
-            before: Some(None),
-        },
-    )?;
+    changed.reserve(1)?;
+    slots.insert(key, Held::Added(row))?;
     push_within(changed, i);
     Ok(())
 }
@@ -158,40 +271,17 @@ fn take_out<R: Row>(slots: &mut IndexMap<R::Key, Held<R>>, i: usize)
 fn keep_at<R: Row>(slots: &mut IndexMap<R::Key, Held<R>>, i: usize)
     requires in_range { i < length slots.old.entries }
     requires distinct { IsDistinct (slots_of R.Key.digits slots.old.entries) }
-    requires used { AreUsed (slots_of R.Key.digits slots.old.entries) }
     requires last { NoneFrom (i + 1) (slots_of R.Key.digits slots.old.entries) }
     ensures distinct { IsDistinct (slots_of R.Key.digits slots.new.entries) }
-    ensures used { AreUsed (slots_of R.Key.digits slots.new.entries) }
     ensures noted { IsUnnoted
         (slots_of R.Key.digits slots.old.entries) (slots_of R.Key.digits slots.new.entries) i }
     ensures rows { table_by now_row (slots_of R.Key.digits slots.new.entries)
         ≡ table_by now_row (slots_of R.Key.digits slots.old.entries) }
 {
-    if slots[i].row.is_some() {
-        let held = &mut slots[i];
-        held.before = None;
+    if slots[i].row().is_some() {
+        slots[i].keep();
     } else {
         take_out::<R>(slots, i);
-    }
-}
-
-// Whether there was a row before the request.
-fn had_row<R: Drop>(held: &Held<R>) -> bool
-    ensures { result ≡ is_some (row_before held.now) }
-{
-    match &held.before {
-        None => held.row.is_some(),
-        Some(before) => before.is_some(),
-    }
-}
-
-// Gives the slot what it had before the request.
-fn restore<R: Drop>(held: &mut Held<R>)
-    ensures now { now_row held.new ≡ row_before held.old }
-    ensures before { held.new.before ≡ None }
-{
-    if let Some(before) = held.before.take() {
-        held.row = before;
     }
 }
 
@@ -199,17 +289,15 @@ fn restore<R: Drop>(held: &mut Held<R>)
 fn back_at<R: Row>(slots: &mut IndexMap<R::Key, Held<R>>, i: usize)
     requires in_range { i < length slots.old.entries }
     requires distinct { IsDistinct (slots_of R.Key.digits slots.old.entries) }
-    requires used { AreUsed (slots_of R.Key.digits slots.old.entries) }
     requires last { NoneFrom (i + 1) (slots_of R.Key.digits slots.old.entries) }
     ensures distinct { IsDistinct (slots_of R.Key.digits slots.new.entries) }
-    ensures used { AreUsed (slots_of R.Key.digits slots.new.entries) }
     ensures noted { IsUnnoted
         (slots_of R.Key.digits slots.old.entries) (slots_of R.Key.digits slots.new.entries) i }
     ensures before { table_by row_before (slots_of R.Key.digits slots.new.entries)
         ≡ table_by row_before (slots_of R.Key.digits slots.old.entries) }
 {
-    if had_row(&slots[i]) {
-        restore(&mut slots[i]);
+    if slots[i].had_row() {
+        slots[i].back();
     } else {
         take_out::<R>(slots, i);
     }
@@ -218,10 +306,8 @@ fn back_at<R: Row>(slots: &mut IndexMap<R::Key, Held<R>>, i: usize)
 // Makes the changes final, from the last place on. It takes no memory.
 pub(crate) fn keep_all<R: Row>(slots: &mut IndexMap<R::Key, Held<R>>, changed: &mut Vec<usize>)
     requires distinct { IsDistinct (slots_of R.Key.digits slots.old.entries) }
-    requires used { AreUsed (slots_of R.Key.digits slots.old.entries) }
     requires places { ArePlaces changed.old.items (slots_of R.Key.digits slots.old.entries) }
     ensures distinct { IsDistinct (slots_of R.Key.digits slots.new.entries) }
-    ensures used { AreUsed (slots_of R.Key.digits slots.new.entries) }
     ensures places { ArePlaces changed.new.items (slots_of R.Key.digits slots.new.entries) }
     ensures rows { table_by now_row (slots_of R.Key.digits slots.new.entries)
         ≡ table_by now_row (slots_of R.Key.digits slots.old.entries) }
@@ -237,10 +323,8 @@ pub(crate) fn keep_all<R: Row>(slots: &mut IndexMap<R::Key, Held<R>>, changed: &
 // Takes the changes back, from the last place on. It takes no memory.
 pub(crate) fn back_all<R: Row>(slots: &mut IndexMap<R::Key, Held<R>>, changed: &mut Vec<usize>)
     requires distinct { IsDistinct (slots_of R.Key.digits slots.old.entries) }
-    requires used { AreUsed (slots_of R.Key.digits slots.old.entries) }
     requires places { ArePlaces changed.old.items (slots_of R.Key.digits slots.old.entries) }
     ensures distinct { IsDistinct (slots_of R.Key.digits slots.new.entries) }
-    ensures used { AreUsed (slots_of R.Key.digits slots.new.entries) }
     ensures places { ArePlaces changed.new.items (slots_of R.Key.digits slots.new.entries) }
     ensures rows { table_by now_row (slots_of R.Key.digits slots.new.entries)
         ≡ table_by row_before (slots_of R.Key.digits slots.old.entries) }
@@ -253,24 +337,14 @@ pub(crate) fn back_all<R: Row>(slots: &mut IndexMap<R::Key, Held<R>>, changed: &
     }
 }
 
-// Whether the rows are the same, or there is none in either place.
-fn is_same_row<R: Row>(row: &Option<R>, other: &Option<R>) -> bool
-    ensures { IsTrue result ↔ (row.now ≡ other.now) }
-{
-    match (row, other) {
-        (Some(row), Some(other)) => row.equals(other),
-        (None, None) => true,
-        _ => false,
-    }
-}
-
 // Whether the slot has what it had before the request.
 pub(crate) fn is_as_before<R: Row>(held: &Held<R>) -> bool
     ensures { IsTrue result ↔ (now_row held.now ≡ row_before held.now) }
 {
-    match &held.before {
-        None => true,
-        Some(before) => is_same_row(&held.row, before),
+    match held {
+        Held::Settled(_) | Held::Gone => true,
+        Held::Rewritten { row, before } => row.equals(before),
+        Held::Added(_) | Held::Removed(_) => false,
     }
 }
 
@@ -281,7 +355,7 @@ pub(crate) fn any_row<R: Row, F: Fn(&R) -> bool>(slots: &IndexMap<R::Key, Held<R
         ≡ list_any p (map (λ e. e.1) (rows_by now_row (slots_of R.Key.digits slots.now.entries))) }
 {
     for i in 0..slots.len() {
-        if let Some(row) = &slots[i].row {
+        if let Some(row) = slots[i].row() {
             if test(row) {
                 return true;
             }
@@ -301,7 +375,7 @@ pub(crate) fn sum_rows<R: Row, F: Fn(&R) -> u64>(
 {
     let mut total = 0;
     for i in 0..slots.len() {
-        if let Some(row) = &slots[i].row {
+        if let Some(row) = slots[i].row() {
             total += u128::from(measure(row));
         }
     }
@@ -324,7 +398,7 @@ pub(crate) fn find_rows<'a, R: Row, F: Fn(&R) -> bool>(
         let Some((key, held)) = slots.get_index(i) else {
             unreachable!()
         };
-        if let Some(row) = &held.row {
+        if let Some(row) = held.row() {
             if test(row) {
                 found.push(Found { key, row })?;
             }
@@ -355,16 +429,6 @@ pub(crate) fn rows_of<'a, R: Row>(
     Ok(rows)
 }
 
-// A copy of the row, or none where there is none. An error is one of memory.
-fn copy_row<R: Row>(alloc: Global, row: &Option<R>) -> Result<Option<R>, AllocError>
-    ensures { IfOk result (λ copied. copied ≡ row.now) }
-{
-    match row {
-        Some(row) => Ok(Some(row.copy(alloc)?)),
-        None => Ok(None),
-    }
-}
-
 // The keys at which the rows differ from those before, with their rows. An error is one of memory.
 pub(crate) fn list_pending<'a, R: Row>(
     alloc: Global,
@@ -392,7 +456,7 @@ pub(crate) fn list_pending<'a, R: Row>(
         if !is_as_before::<R>(held) {
             pending.push(Pending {
                 key,
-                row: held.row.as_ref(),
+                row: held.row(),
             })?;
         }
     }
@@ -407,13 +471,11 @@ pub(crate) fn note<R: Row>(
     key: &R::Key,
 ) -> Result<usize, AllocError>
     requires distinct { IsDistinct (slots_of R.Key.digits slots.old.entries) }
-    requires used { AreUsed (slots_of R.Key.digits slots.old.entries) }
     requires places { ArePlaces changed.old.items (slots_of R.Key.digits slots.old.entries) }
     requires present { IsSome
         (table.get (table_by now_row (slots_of R.Key.digits slots.old.entries))
         (R.Key.digits key.now)) }
     ensures distinct { IsDistinct (slots_of R.Key.digits slots.new.entries) }
-    ensures used { AreUsed (slots_of R.Key.digits slots.new.entries) }
     ensures places { ArePlaces changed.new.items (slots_of R.Key.digits slots.new.entries) }
     ensures rows { table_by now_row (slots_of R.Key.digits slots.new.entries)
         ≡ table_by now_row (slots_of R.Key.digits slots.old.entries) }
@@ -427,13 +489,9 @@ pub(crate) fn note<R: Row>(
     let Some(i) = place::<R>(slots, key) else {
         unreachable!()
     };
-    let held = &slots[i];
-    if held.before.is_none() {
-        let before = copy_row::<R>(alloc, &held.row)?;
-        changed.reserve(1)?;
-        let held = &mut slots[i];
-        held.before = Some(before);
-        push_within(changed, i);
+    if let Held::Settled(row) = &slots[i] {
+        let row = row.copy(alloc)?;
+        rewrite::<R>(alloc, slots, changed, i, Some(row))?;
     }
     Ok(i)
 }

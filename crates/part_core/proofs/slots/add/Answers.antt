@@ -1,16 +1,17 @@
-use Rattle.std.proofs.Common.{Some, None, sym, ◌∙◌, refl}
+use Rattle.std.proofs.Common.{sym, ◌∙◌, refl}
 use Rattle.indexmap.proofs.CallerLemmas.{insert_entry-new}
 use Rattle.part_core.specs.declared.slots.Held.{Held}
+use Rattle.part_core.specs.declared.slots.Held.TheVariants.{Added}
 use Rattle.part_core.specs.Slots.{now_row, row_before}
 use Rattle.part_core.proofs.Lookups.{find-lookup}
-use Rattle.part_core.proofs.Writes.{rows-added, rows-added_none, distinct-added, places-added, used-added}
+use Rattle.part_core.proofs.Writes.{rows-added, rows-added_none, distinct-added, places-added}
 use Rattle.part_core.proofs.slots.add.Goals as goal
 
 pub returns-clause-distinct : goal.returns-clause-distinct
 returns-clause-distinct g c =
     let digits = g.R.Key.RowKey.digits in
     let es = c.args.slots.now.entries in
-    let h : Held g.row.R.Denot = record { row = Some c.args.row; before = Some None } in
+    let h : Held g.row.R.Denot = Added c.args.row in
     let none = sym (find-lookup digits _ g.met.R.Key.RowKey.exact es c.args.key) ∙ c.requires.absent in
     let is = c.in_ok-insert.ensures.entries ∙ insert_entry-new _ c.args.slots.now c.args.key h none in
     rw is (distinct-added digits es c.args.key h c.requires.distinct c.requires.absent)
@@ -19,10 +20,10 @@ pub returns-clause-places : goal.returns-clause-places
 returns-clause-places g c =
     let digits = g.R.Key.RowKey.digits in
     let es = c.args.slots.now.entries in
-    let h : Held g.row.R.Denot = record { row = Some c.args.row; before = Some None } in
+    let h : Held g.row.R.Denot = Added c.args.row in
     let none = sym (find-lookup digits _ g.met.R.Key.RowKey.exact es c.args.key) ∙ c.requires.absent in
     let is = c.in_ok-insert.ensures.entries ∙ insert_entry-new _ c.args.slots.now c.args.key h none in
-    rw (is, c.push_within.ensures.items, c.len-i.ensures.len)
+    rw (is, c.push_within.ensures.items, c.in_ok-reserve.ensures.items, c.len-i.ensures.len)
     (places-added digits es c.args.key h c.requires.distinct c.requires.absent c.args.changed.now.items
     c.requires.places refl)
 
@@ -30,7 +31,7 @@ pub returns-clause-rows : goal.returns-clause-rows
 returns-clause-rows g c =
     let digits = g.R.Key.RowKey.digits in
     let es = c.args.slots.now.entries in
-    let h : Held g.row.R.Denot = record { row = Some c.args.row; before = Some None } in
+    let h : Held g.row.R.Denot = Added c.args.row in
     let none = sym (find-lookup digits _ g.met.R.Key.RowKey.exact es c.args.key) ∙ c.requires.absent in
     let is = c.in_ok-insert.ensures.entries ∙ insert_entry-new _ c.args.slots.now c.args.key h none in
     rw is (rows-added digits es c.args.key h c.requires.distinct c.requires.absent now_row)
@@ -39,16 +40,7 @@ pub returns-clause-before : goal.returns-clause-before
 returns-clause-before g c =
     let digits = g.R.Key.RowKey.digits in
     let es = c.args.slots.now.entries in
-    let h : Held g.row.R.Denot = record { row = Some c.args.row; before = Some None } in
+    let h : Held g.row.R.Denot = Added c.args.row in
     let none = sym (find-lookup digits _ g.met.R.Key.RowKey.exact es c.args.key) ∙ c.requires.absent in
     let is = c.in_ok-insert.ensures.entries ∙ insert_entry-new _ c.args.slots.now c.args.key h none in
     rw is (rows-added_none digits es c.args.key h c.requires.distinct c.requires.absent row_before refl)
-
-pub returns-clause-used : goal.returns-clause-used
-returns-clause-used g c =
-    let digits = g.R.Key.RowKey.digits in
-    let es = c.args.slots.now.entries in
-    let h : Held g.row.R.Denot = record { row = Some c.args.row; before = Some None } in
-    let none = sym (find-lookup digits _ g.met.R.Key.RowKey.exact es c.args.key) ∙ c.requires.absent in
-    let is = c.in_ok-insert.ensures.entries ∙ insert_entry-new _ c.args.slots.now c.args.key h none in
-    rw is (used-added digits es c.args.key h c.requires.distinct c.requires.absent refl c.requires.used)

@@ -11,7 +11,6 @@ use Rattle.part_core.proofs.slots.keep_all.Goals as goal
 pub loop-i-init : goal.loop-i-init
 loop-i-init g c = record {
   distinct = c.requires.distinct;
-  used = c.requires.used;
   places =
       ArePlaces-sorted c.args.changed.now.items c.sort_unstable.new.self.items
       (slots_of g.R.Key.RowKey.digits c.args.slots.now.entries) c.requires.places c.sort_unstable.ensures.permutation;
@@ -40,7 +39,6 @@ loop-i-preserved g c =
     let p = subst (λ l. ArePlaces l es) c.in-Some.ensures.items c.loop-i.invariant.places in
     record {
       distinct = c.keep_at.ensures.distinct;
-      used = c.keep_at.ensures.used;
       places =
           ArePlaces-pop left c.in-Some.i es p (slots_of g.R.Key.RowKey.digits c.keep_at.new.slots.entries)
           c.keep_at.ensures.noted;

@@ -1,7 +1,7 @@
 use Rattle.std.proofs.Common.{◌≡◌, length}
 use Rattle.std.specs.List.Sorted.{IsNonDecreasing}
 use Rattle.part_core.specs.Sheet.{IsDistinct}
-use Rattle.part_core.specs.Slots.{ArePlaces, AreUsed, now_row, slots_of, table_by}
+use Rattle.part_core.specs.Slots.{ArePlaces, now_row, slots_of, table_by}
 use Rattle.part_core.proofs.slots.keep_all.Given as goal
 
 -- the places that are left rise
@@ -9,7 +9,6 @@ abbrev pub invariant-loop-i : goal.invariant-loop-i
 invariant-loop-i g l =
     record {
       distinct : IsDistinct (slots_of g.R.Key.RowKey.digits l.slots.entries);
-      used : AreUsed (slots_of g.R.Key.RowKey.digits l.slots.entries);
       places : ArePlaces l.changed.items (slots_of g.R.Key.RowKey.digits l.slots.entries);
       up : IsNonDecreasing l.changed.items;
       rows :

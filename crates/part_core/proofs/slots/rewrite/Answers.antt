@@ -1,107 +1,107 @@
-use Rattle.std.proofs.Common.{sym, ap, ◌∙◌, refl, is_some, Some}
-use Rattle.std.specs.Prelude.{not}
+use Rattle.std.proofs.Common.{arith, sym, ap, ◌∙◌, is_some}
 use Rattle.part_core.specs.Sheet.{given}
-use Rattle.part_core.specs.Slots.{slots_of, now_row, row_before, table_by}
-use Rattle.part_core.proofs.SlotLemmas.{get-slot}
-use Rattle.part_core.proofs.Lookups.{slot_of_value, slot_of_key}
-use Rattle.part_core.proofs.Writes.{distinct-written, places-pushed, places-same, rows-written, rows-same, used-written}
-use Rattle.part_core.proofs.Noted.{newly_noted, before-newly, before-still, used-noted}
+use Rattle.part_core.specs.Slots.{slots_of, noted, now_row, row_before, table_by}
+use Rattle.part_core.proofs.SlotLemmas.{OnErr-always, get-slot}
+use Rattle.part_core.proofs.Lookups.{is_some-copied, key-stays, slot_of_value, slot_of_key}
+use Rattle.part_core.proofs.Writes.{distinct-written, noted-here, places-pushed, places-same, rows-written, rows-same}
+use Rattle.part_core.proofs.Noted.{noted-changed, noted-settled}
 use Rattle.part_core.proofs.slots.rewrite.Goals as goal
 
-pub returns-then-is_none-clause-distinct : goal.returns-then-is_none-clause-distinct
-returns-then-is_none-clause-distinct g c =
+pub returns-in_err-write-clause-distinct : goal.returns-in_err-write-clause-distinct
+returns-in_err-write-clause-distinct g c =
     let digits = g.R.Key.RowKey.digits in
     let es = c.args.slots.now.entries in
-    let s = slot_of_value digits es c.args.i c.index_mut-held.result.now c.index_mut-held.ensures.value in
-    distinct-written digits es c.args.i s.0 c.index_mut-held.result.now _ s.1 c.requires.distinct
+    let h = c.index_mut-held.result.now in
+    let s = slot_of_value digits es c.args.i h c.index_mut-held.ensures.value in
+    distinct-written digits es c.args.i s.0 h c.write.new.self s.1 c.requires.distinct
 
-pub returns-then-is_none-clause-places : goal.returns-then-is_none-clause-places
-returns-then-is_none-clause-places g c =
+pub returns-in_err-write-clause-places : goal.returns-in_err-write-clause-places
+returns-in_err-write-clause-places g c =
     let digits = g.R.Key.RowKey.digits in
     let es = c.args.slots.now.entries in
-    let s = slot_of_value digits es c.args.i c.index_mut-held.result.now c.index_mut-held.ensures.value in
-    rw c.push_within.ensures.items
-    (places-pushed digits es c.args.i s.0 c.index_mut-held.result.now _ s.1 c.args.changed.now.items c.requires.places
-    (newly_noted c.index_mut-held.result.now.before c.is_none.result c.is_none.ensures c.if-is_none.true) refl)
+    let h = c.index_mut-held.result.now in
+    let s = slot_of_value digits es c.args.i h c.index_mut-held.ensures.value in
+    rw c.in_ok-reserve.ensures.items
+    (places-same digits es c.args.i s.0 h c.write.new.self s.1 c.args.changed.now.items c.requires.places
+    (ap noted c.in_err-write.ensures.err))
 
-pub returns-then-is_none-clause-rows : goal.returns-then-is_none-clause-rows
-returns-then-is_none-clause-rows g c k key =
+pub returns-in_err-write-clause-before : goal.returns-in_err-write-clause-before
+returns-in_err-write-clause-before g c =
     let digits = g.R.Key.RowKey.digits in
     let es = c.args.slots.now.entries in
-    let at = slot_of_key digits es c.args.i k c.index_mut-held.result.now c.index_mut-held.ensures.value key in
-    rows-written digits es c.args.i k c.index_mut-held.result.now _ at c.requires.distinct now_row
-    ∙ ap (λ o. given k o (table_by now_row (slots_of digits es))) c.replace-before.ensures.after
+    let h = c.index_mut-held.result.now in
+    let s = slot_of_value digits es c.args.i h c.index_mut-held.ensures.value in
+    rows-same digits es c.args.i s.0 h c.write.new.self s.1 c.requires.distinct row_before c.write.ensures.before
 
-pub returns-then-is_none-clause-before : goal.returns-then-is_none-clause-before
-returns-then-is_none-clause-before g c =
+pub returns-in_err-write-clause-err : goal.returns-in_err-write-clause-err
+returns-in_err-write-clause-err g c =
     let digits = g.R.Key.RowKey.digits in
     let es = c.args.slots.now.entries in
-    let s = slot_of_value digits es c.args.i c.index_mut-held.result.now c.index_mut-held.ensures.value in
-    rows-same digits es c.args.i s.0 c.index_mut-held.result.now _ s.1 c.requires.distinct row_before
-    (c.replace-before.ensures.value ∙ sym
-    (before-newly c.index_mut-held.result.now.before c.index_mut-held.result.now.row c.is_none.result c.is_none.ensures
-    c.if-is_none.true))
+    let h = c.index_mut-held.result.now in
+    let s = slot_of_value digits es c.args.i h c.index_mut-held.ensures.value in
+    OnErr-always _
+    (rows-same digits es c.args.i s.0 h c.write.new.self s.1 c.requires.distinct now_row
+    (ap now_row c.in_err-write.ensures.err))
 
-pub returns-then-is_none-clause-had : goal.returns-then-is_none-clause-had
-returns-then-is_none-clause-had g c k key =
+pub returns-then-is_first : goal.returns-then-is_first
+returns-then-is_first g c =
     let digits = g.R.Key.RowKey.digits in
     let es = c.args.slots.now.entries in
-    let at = slot_of_key digits es c.args.i k c.index_mut-held.result.now c.index_mut-held.ensures.value key in
-    c.is_some-had.ensures ∙ sym
-    (ap is_some (get-slot now_row (slots_of digits es) c.args.i k c.index_mut-held.result.now c.requires.distinct at))
+    let i = c.args.i in
+    let h = c.index_mut-held.result.now in
+    let w = c.write.new.self in
+    let s = slot_of_value digits es i h c.index_mut-held.ensures.value in
+    let d = c.requires.distinct in
+    let one = noted-changed w c.in_ok-write.ensures.changed in
+    let settled = sym (c.is_changed-is_first.ensures) ∙ c.if-is_first.true in
+    record {
+      distinct = distinct-written digits es i s.0 h w s.1 d;
+      places =
+          rw (c.push_within.ensures.items, c.in_ok-reserve.ensures.items)
+          (places-pushed digits es i s.0 h w s.1 c.args.changed.now.items c.requires.places (noted-settled h settled) one);
+      rows = λ k key. let at = slot_of_key digits es i k h c.index_mut-held.ensures.value key in
+          rows-written digits es i k h w at d now_row
+          ∙ ap (λ o. given k o (table_by now_row (slots_of digits es))) c.in_ok-write.ensures.ok;
+      before = rows-same digits es i s.0 h w s.1 d row_before c.write.ensures.before;
+      found = λ k key. key-stays digits es i i w k key;
+      noted = noted-here digits es i s.0 h w s.1 ∙ one;
+      few = omega (arith, c.len-len.ensures.len, c.len-len.ensures.small);
+      had = λ k key. let at = slot_of_key digits es i k h c.index_mut-held.ensures.value key in
+          c.is_some-had.ensures
+          ∙ is_some-copied c.row.result
+          ∙ ap is_some c.row.ensures
+          ∙ sym (ap is_some (get-slot now_row (slots_of digits es) i k h d at));
+      err = tt;
+    }
 
-pub returns-else-is_none-clause-distinct : goal.returns-else-is_none-clause-distinct
-returns-else-is_none-clause-distinct g c =
+pub returns-else-is_first : goal.returns-else-is_first
+returns-else-is_first g c =
     let digits = g.R.Key.RowKey.digits in
     let es = c.args.slots.now.entries in
-    let s = slot_of_value digits es c.args.i c.index_mut-held.result.now c.index_mut-held.ensures.value in
-    distinct-written digits es c.args.i s.0 c.index_mut-held.result.now _ s.1 c.requires.distinct
-
-pub returns-else-is_none-clause-places : goal.returns-else-is_none-clause-places
-returns-else-is_none-clause-places g c =
-    let digits = g.R.Key.RowKey.digits in
-    let es = c.args.slots.now.entries in
-    let s = slot_of_value digits es c.args.i c.index_mut-held.result.now c.index_mut-held.ensures.value in
-    places-same digits es c.args.i s.0 c.index_mut-held.result.now _ s.1 c.args.changed.now.items c.requires.places refl
-
-pub returns-else-is_none-clause-rows : goal.returns-else-is_none-clause-rows
-returns-else-is_none-clause-rows g c k key =
-    let digits = g.R.Key.RowKey.digits in
-    let es = c.args.slots.now.entries in
-    let at = slot_of_key digits es c.args.i k c.index_mut-held.result.now c.index_mut-held.ensures.value key in
-    rows-written digits es c.args.i k c.index_mut-held.result.now _ at c.requires.distinct now_row
-    ∙ ap (λ o. given k o (table_by now_row (slots_of digits es))) c.replace-before.ensures.after
-
-pub returns-else-is_none-clause-before : goal.returns-else-is_none-clause-before
-returns-else-is_none-clause-before g c =
-    let digits = g.R.Key.RowKey.digits in
-    let es = c.args.slots.now.entries in
-    let s = slot_of_value digits es c.args.i c.index_mut-held.result.now c.index_mut-held.ensures.value in
-    rows-same digits es c.args.i s.0 c.index_mut-held.result.now _ s.1 c.requires.distinct row_before
-    (before-still c.index_mut-held.result.now.before _ _ c.is_none.result c.is_none.ensures c.if-is_none.false)
-
-pub returns-else-is_none-clause-had : goal.returns-else-is_none-clause-had
-returns-else-is_none-clause-had g c k key =
-    let digits = g.R.Key.RowKey.digits in
-    let es = c.args.slots.now.entries in
-    let at = slot_of_key digits es c.args.i k c.index_mut-held.result.now c.index_mut-held.ensures.value key in
-    c.is_some-had.ensures ∙ sym
-    (ap is_some (get-slot now_row (slots_of digits es) c.args.i k c.index_mut-held.result.now c.requires.distinct at))
-
-pub returns-then-is_none-clause-used : goal.returns-then-is_none-clause-used
-returns-then-is_none-clause-used g c =
-    let digits = g.R.Key.RowKey.digits in
-    let es = c.args.slots.now.entries in
-    let s = slot_of_value digits es c.args.i c.index_mut-held.result.now c.index_mut-held.ensures.value in
-    used-written digits es c.args.i s.0 c.index_mut-held.result.now _ s.1
-    (used-noted c.replace-before.new.dest (Some c.replace-before.result) refl) c.requires.used
-
-pub returns-else-is_none-clause-used : goal.returns-else-is_none-clause-used
-returns-else-is_none-clause-used g c =
-    let digits = g.R.Key.RowKey.digits in
-    let es = c.args.slots.now.entries in
-    let s = slot_of_value digits es c.args.i c.index_mut-held.result.now c.index_mut-held.ensures.value in
-    used-written digits es c.args.i s.0 c.index_mut-held.result.now _ s.1
-    (used-noted c.replace-before.new.dest c.index_mut-held.result.now.before
-    (c.is_none.ensures ∙ ap not c.if-is_none.false))
-    c.requires.used
+    let i = c.args.i in
+    let h = c.index_mut-held.result.now in
+    let w = c.write.new.self in
+    let s = slot_of_value digits es i h c.index_mut-held.ensures.value in
+    let d = c.requires.distinct in
+    let one = noted-changed w c.in_ok-write.ensures.changed in
+    let changed = sym (c.is_changed-is_first.ensures) ∙ c.if-is_first.false in
+    record {
+      distinct = distinct-written digits es i s.0 h w s.1 d;
+      places =
+          rw c.in_ok-reserve.ensures.items
+          (places-same digits es i s.0 h w s.1 c.args.changed.now.items c.requires.places
+          (one ∙ sym (noted-changed h changed)));
+      rows = λ k key. let at = slot_of_key digits es i k h c.index_mut-held.ensures.value key in
+          rows-written digits es i k h w at d now_row
+          ∙ ap (λ o. given k o (table_by now_row (slots_of digits es))) c.in_ok-write.ensures.ok;
+      before = rows-same digits es i s.0 h w s.1 d row_before c.write.ensures.before;
+      found = λ k key. key-stays digits es i i w k key;
+      noted = noted-here digits es i s.0 h w s.1 ∙ one;
+      few = omega (arith, c.len-len.ensures.len, c.len-len.ensures.small);
+      had = λ k key. let at = slot_of_key digits es i k h c.index_mut-held.ensures.value key in
+          c.is_some-had.ensures
+          ∙ is_some-copied c.row.result
+          ∙ ap is_some c.row.ensures
+          ∙ sym (ap is_some (get-slot now_row (slots_of digits es) i k h d at));
+      err = tt;
+    }

@@ -1,26 +1,32 @@
-use Rattle.std.proofs.Common.{◌≡◌, Some, is_some, sym, ap, ◌∙◌, refl}
+use Rattle.std.proofs.Common.{inl, inr, Some, is_some, sym, ap, ◌∙◌, refl, arith}
 use Rattle.std.specs.FinMap as table
-use Rattle.part_core.specs.declared.slots.Held.{Held}
 use Rattle.part_core.specs.Sheet.{now_of}
-use Rattle.part_core.specs.Slots.{noted, now_row, row_before, slots_of, table_by}
+use Rattle.part_core.specs.Slots.{noted, now_row, row_before, slots_of}
 use Rattle.part_core.proofs.Lookups.{slot_of_key}
-use Rattle.part_core.proofs.Noted.{before-noted, noted_at-slot}
-use Rattle.part_core.proofs.SlotLemmas.{get-slot, len-put_same}
-use Rattle.part_core.proofs.Writes.{distinct-written, places-same, rows-same, rows-written, used-written}
+use Rattle.part_core.proofs.Noted.{noted_at-slot}
+use Rattle.part_core.proofs.SlotLemmas.{get-slot}
+use Rattle.part_core.proofs.Writes.{rows-put, rows-same, sound-put}
 use Rattle.part_core.proofs.sheet.Sheet.get_mut.Goals as goal
 
 pub unreachable-requires : goal.unreachable-requires
 unreachable-requires g c =
     let digits = g.R.Key.RowKey.digits in
     let es = c.note.new.slots.entries in
+    let i = c.in_ok-i.i in
     let k = digits c.args.key in
-    let h = c.index_mut-held.result.now in
-    let at = slot_of_key digits es c.in_ok-i.i k h c.index_mut-held.ensures.value c.in_ok-i.ensures.found in
-    let none =
-    ap (λ m. table.get m k) (sym (c.note.ensures.rows ∙ ap now_of c.self.view_is))
-    ∙ get-slot now_row (slots_of digits es) c.in_ok-i.i k h c.note.ensures.distinct at
-    ∙ c.in-None.is in
-    let some = rw none at c.requires in cc
+    let h = c.index_mut.result.now in
+    let at = slot_of_key digits es i k h c.index_mut.ensures.value c.in_ok-i.ensures.found in
+    let one = sym (noted_at-slot (slots_of digits es) i (k, h) at) ∙ c.in_ok-i.ensures.noted in
+    let old = c.note.ensures.rows ∙ ap now_of c.self.view_is in
+    let row = ap (λ m. table.get m k) (sym old) ∙ get-slot now_row (slots_of digits es) i k h c.note.ensures.distinct at in
+    let some = sym (ap is_some row) ∙ c.requires in
+    elim c.in-Settled.is [
+      | inl settled ↦ let none = ap noted settled.1 in absurd (omega arith)
+      | inr gone ↦ elim gone [
+        | inl removed ↦ let none = ap (λ s. is_some (now_row s)) removed.1 in cc
+        | inr nothing ↦ let none = ap (λ s. is_some (now_row s)) nothing in cc
+      ]
+    ]
 
 pub invariant_of-self-lent : goal.invariant_of-self-lent
 invariant_of-self-lent g c x =
@@ -28,57 +34,95 @@ invariant_of-self-lent g c x =
     let es = c.note.new.slots.entries in
     let i = c.in_ok-i.i in
     let k = digits c.args.key in
-    let h = c.index_mut-held.result.now in
-    let w : Held g.row.R.Denot = record { row = Some x; before = h.before } in
-    let at = slot_of_key digits es i k h c.index_mut-held.ensures.value c.in_ok-i.ensures.found in
-    let d = c.note.ensures.distinct in
-    let one : noted h.before ≡ 1 = sym (noted_at-slot (slots_of digits es) i (k, h) at) ∙ c.in_ok-i.ensures.noted in
-    let m = table_by now_row (slots_of digits es) in
-    let some = sym (ap is_some (get-slot now_row (slots_of digits es) i k h d at ∙ c.in-Some.is)) in
-    rw c.in-Some.is
+    let h = c.index_mut.result.now in
+    let at = slot_of_key digits es i k h c.index_mut.ensures.value c.in_ok-i.ensures.found in
+    rw c.in-Added.is
+    (sound-put digits es i k h _ at c.note.new.changed.items c.self.inside.len c.self.inside.length_before x
     (record {
-      distinct = distinct-written digits es i k h w at d;
-      used = used-written digits es i k h w at refl c.note.ensures.used;
-      places = places-same digits es i k h w at c.note.new.changed.items c.note.ensures.places refl;
-      len =
-          c.self.invariant.len
-          ∙ ap table.len (sym c.note.ensures.rows)
-          ∙ sym (ap table.len (rows-written digits es i k h w at d now_row) ∙ len-put_same m k x _ some refl);
-      length_before =
-          c.self.invariant.length_before
-          ∙ ap table.len (sym c.note.ensures.before)
-          ∙ sym (ap table.len (rows-same digits es i k h w at d row_before (before-noted h.before (Some x) h.row one)));
+      distinct = c.note.ensures.distinct;
+      places = c.note.ensures.places;
+      len = c.self.invariant.len ∙ ap table.len (sym c.note.ensures.rows);
+      length_before = c.self.invariant.length_before ∙ ap table.len (sym c.note.ensures.before);
     })
+    (ap (λ s. is_some (now_row s)) c.in-Added.is) refl (sym (ap row_before c.in-Added.is)) (sym (ap noted c.in-Added.is)))
 
-pub returns : goal.returns
-returns g c =
+pub invariant_of-self-lent-in-Rewritten : goal.invariant_of-self-lent-in-Rewritten
+invariant_of-self-lent-in-Rewritten g c x =
     let digits = g.R.Key.RowKey.digits in
     let es = c.note.new.slots.entries in
     let i = c.in_ok-i.i in
     let k = digits c.args.key in
-    let h = c.index_mut-held.result.now in
-    let at = slot_of_key digits es i k h c.index_mut-held.ensures.value c.in_ok-i.ensures.found in
+    let h = c.index_mut.result.now in
+    let at = slot_of_key digits es i k h c.index_mut.ensures.value c.in_ok-i.ensures.found in
+    rw c.in-Rewritten.is
+    (sound-put digits es i k h _ at c.note.new.changed.items c.self.inside.len c.self.inside.length_before x
+    (record {
+      distinct = c.note.ensures.distinct;
+      places = c.note.ensures.places;
+      len = c.self.invariant.len ∙ ap table.len (sym c.note.ensures.rows);
+      length_before = c.self.invariant.length_before ∙ ap table.len (sym c.note.ensures.before);
+    })
+    (ap (λ s. is_some (now_row s)) c.in-Rewritten.is) refl (sym (ap row_before c.in-Rewritten.is)) (sym (ap noted c.in-Rewritten.is)))
+
+pub returns-in-Added : goal.returns-in-Added
+returns-in-Added g c =
+    let digits = g.R.Key.RowKey.digits in
+    let es = c.note.new.slots.entries in
+    let i = c.in_ok-i.i in
+    let k = digits c.args.key in
+    let h = c.index_mut.result.now in
+    let at = slot_of_key digits es i k h c.index_mut.ensures.value c.in_ok-i.ensures.found in
     let d = c.note.ensures.distinct in
-    let one : noted h.before ≡ 1 = sym (noted_at-slot (slots_of digits es) i (k, h) at) ∙ c.in_ok-i.ensures.noted in
-    let before = c.note.ensures.rows ∙ ap now_of c.self.view_is in
-    let put = λ (x : g.row.R.Denot). let w : Held g.row.R.Denot = record { row = Some x; before = h.before } in w in (
+    let old = c.note.ensures.rows ∙ ap now_of c.self.view_is in
+    rw c.in-Added.is (
       (
         refl,
         λ x _. record {
-          now =
-              rw c.in-Some.is (rows-written digits es i k h (put x) at d now_row ∙ ap (λ m. table.insert m k x) before);
+          now = rows-put digits es i k h _ at d x refl ∙ ap (λ m. table.insert m k x) old;
           before =
-              rw c.in-Some.is
-              (rows-same digits es i k h (put x) at d row_before (before-noted h.before (Some x) h.row one)
+              rows-same digits es i k h _ at d row_before (sym (ap row_before c.in-Added.is))
               ∙ c.note.ensures.before
-              ∙ ap (λ s. s.before) c.self.view_is);
+              ∙ ap (λ s. s.before) c.self.view_is;
         },
         tt,
       ),
       record {
         writes_back = tt;
         value =
-            rw c.in-Some.is
-            (ap (λ m. table.get m k) (sym before) ∙ get-slot now_row (slots_of digits es) i k h d at ∙ c.in-Some.is);
+            ap (λ m. table.get m k) (sym old)
+            ∙ get-slot now_row (slots_of digits es) i k h d at
+            ∙ ap now_row c.in-Added.is;
+      },
+    )
+
+pub returns-in-Rewritten : goal.returns-in-Rewritten
+returns-in-Rewritten g c =
+    let digits = g.R.Key.RowKey.digits in
+    let es = c.note.new.slots.entries in
+    let i = c.in_ok-i.i in
+    let k = digits c.args.key in
+    let h = c.index_mut.result.now in
+    let at = slot_of_key digits es i k h c.index_mut.ensures.value c.in_ok-i.ensures.found in
+    let d = c.note.ensures.distinct in
+    let old = c.note.ensures.rows ∙ ap now_of c.self.view_is in
+    rw c.in-Rewritten.is (
+      (
+        refl,
+        λ x _. record {
+          now = rows-put digits es i k h _ at d x refl ∙ ap (λ m. table.insert m k x) old;
+          before =
+              rows-same digits es i k h _ at d row_before (sym (ap row_before c.in-Rewritten.is))
+              ∙ c.note.ensures.before
+              ∙ ap (λ s. s.before) c.self.view_is;
+        },
+        tt,
+      ),
+      record {
+        writes_back = tt;
+        value =
+            ap (λ m. table.get m k) (sym old)
+            ∙ get-slot now_row (slots_of digits es) i k h d at
+            ∙ ap now_row c.in-Rewritten.is
+            ∙ ap Some (sym (c.deref_mut.ensures.value ∙ ap (λ b. b.value) c.in-Rewritten.row-is));
       },
     )

@@ -16,31 +16,29 @@ overflow_add-self g c =
       c.rewrite.ensures.few,
     )
 
-pub invariant_of-self-then-not-rewrite : goal.invariant_of-self-then-not-rewrite
-invariant_of-self-then-not-rewrite g c =
+pub invariant_of-self-then-not-had : goal.invariant_of-self-then-not-had
+invariant_of-self-then-not-had g c =
     let k = g.R.Key.RowKey.digits c.in_ok-key.key in
     let m = table_by now_row (slots_of g.R.Key.RowKey.digits c.self.inside.slots.entries) in
     record {
       distinct = c.rewrite.ensures.distinct;
-      used = c.rewrite.ensures.used;
       places = c.rewrite.ensures.places;
       len = ap (λ n. n + 1) c.self.invariant.len
-          ∙ sym (ap table.len (c.rewrite.ensures.rows k c.in-Some.ensures.found) ∙ len-put_new m k c.args.row
-          c.rewrite.result (c.rewrite.ensures.had k c.in-Some.ensures.found) c.if-not-rewrite.true);
+          ∙ sym (ap table.len (c.in_ok-had-in-Some.ensures.rows k c.in-Some.ensures.found) ∙ len-put_new m k c.args.row
+          c.in_ok-had-in-Some.had (c.in_ok-had-in-Some.ensures.had k c.in-Some.ensures.found) c.if-not-had.true);
       length_before = c.self.invariant.length_before ∙ ap table.len (sym c.rewrite.ensures.before);
     }
 
-pub invariant_of-self-else-not-rewrite : goal.invariant_of-self-else-not-rewrite
-invariant_of-self-else-not-rewrite g c =
+pub invariant_of-self-else-not-had : goal.invariant_of-self-else-not-had
+invariant_of-self-else-not-had g c =
     let k = g.R.Key.RowKey.digits c.in_ok-key.key in
     let m = table_by now_row (slots_of g.R.Key.RowKey.digits c.self.inside.slots.entries) in
     record {
       distinct = c.rewrite.ensures.distinct;
-      used = c.rewrite.ensures.used;
       places = c.rewrite.ensures.places;
       len = c.self.invariant.len
-          ∙ sym (ap table.len (c.rewrite.ensures.rows k c.in-Some.ensures.found) ∙ len-put_same m k c.args.row
-          c.rewrite.result (c.rewrite.ensures.had k c.in-Some.ensures.found) c.if-not-rewrite.false);
+          ∙ sym (ap table.len (c.in_ok-had-in-Some.ensures.rows k c.in-Some.ensures.found) ∙ len-put_same m k c.args.row
+          c.in_ok-had-in-Some.had (c.in_ok-had-in-Some.ensures.had k c.in-Some.ensures.found) c.if-not-had.false);
       length_before = c.self.invariant.length_before ∙ ap table.len (sym c.rewrite.ensures.before);
     }
 
@@ -63,7 +61,6 @@ invariant_of-self-in-None g c =
     let none = sym (ap is_some (get-no_slot now_row es k c.self.invariant.distinct c.in-None.ensures.absent)) in
     record {
       distinct = c.add.ensures.distinct;
-      used = c.add.ensures.used;
       places = c.add.ensures.places;
       len =
           ap (λ n. n + 1) c.self.invariant.len

@@ -9,34 +9,32 @@ pub overflow_sub-self : goal.overflow_sub-self
 overflow_sub-self g c =
     let k = g.R.Key.RowKey.digits c.args.key.now in
     let m = table_by now_row (slots_of g.R.Key.RowKey.digits c.self.inside.slots.entries) in
-    let some = len-some m k c.rewrite.result (c.rewrite.ensures.had k c.in-Some.ensures.found) c.if-rewrite.true in
+    let some = len-some m k c.in_ok-had.had (c.in_ok-had.ensures.had k c.in-Some.ensures.found) c.if-had.true in
     omega (arith, c.self.invariant.len, some)
 
-pub invariant_of-self-then-rewrite : goal.invariant_of-self-then-rewrite
-invariant_of-self-then-rewrite g c =
+pub invariant_of-self-then-had : goal.invariant_of-self-then-had
+invariant_of-self-then-had g c =
     let k = g.R.Key.RowKey.digits c.args.key.now in
     let m = table_by now_row (slots_of g.R.Key.RowKey.digits c.self.inside.slots.entries) in
     record {
       distinct = c.rewrite.ensures.distinct;
-      used = c.rewrite.ensures.used;
       places = c.rewrite.ensures.places;
       len = ap (λ n. n - 1) c.self.invariant.len
-          ∙ sym (ap table.len (c.rewrite.ensures.rows k c.in-Some.ensures.found)
-          ∙ len-removed m k c.rewrite.result (c.rewrite.ensures.had k c.in-Some.ensures.found) c.if-rewrite.true);
+          ∙ sym (ap table.len (c.in_ok-had.ensures.rows k c.in-Some.ensures.found) ∙ len-removed m k c.in_ok-had.had
+          (c.in_ok-had.ensures.had k c.in-Some.ensures.found) c.if-had.true);
       length_before = c.self.invariant.length_before ∙ ap table.len (sym c.rewrite.ensures.before);
     }
 
-pub invariant_of-self-else-rewrite : goal.invariant_of-self-else-rewrite
-invariant_of-self-else-rewrite g c =
+pub invariant_of-self-else-had : goal.invariant_of-self-else-had
+invariant_of-self-else-had g c =
     let k = g.R.Key.RowKey.digits c.args.key.now in
     let m = table_by now_row (slots_of g.R.Key.RowKey.digits c.self.inside.slots.entries) in
     record {
       distinct = c.rewrite.ensures.distinct;
-      used = c.rewrite.ensures.used;
       places = c.rewrite.ensures.places;
       len = c.self.invariant.len
-          ∙ sym (ap table.len (c.rewrite.ensures.rows k c.in-Some.ensures.found)
-          ∙ len-not_removed m k c.rewrite.result (c.rewrite.ensures.had k c.in-Some.ensures.found) c.if-rewrite.false);
+          ∙ sym (ap table.len (c.in_ok-had.ensures.rows k c.in-Some.ensures.found) ∙ len-not_removed m k c.in_ok-had.had
+          (c.in_ok-had.ensures.had k c.in-Some.ensures.found) c.if-had.false);
       length_before = c.self.invariant.length_before ∙ ap table.len (sym c.rewrite.ensures.before);
     }
 
