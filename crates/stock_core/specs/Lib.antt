@@ -2,6 +2,8 @@ pub mod Add
 pub mod Arrives
 pub mod Count
 pub mod Disassemble
+pub mod Endings
+pub mod FloorView
 pub mod Found
 pub mod Install
 pub mod ItemTests

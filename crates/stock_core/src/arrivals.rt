@@ -3,7 +3,7 @@ ghost use Rattle.std.specs.Prelude.{◌≡◌, ◌≤◌, IfOk, IfSome, OnOk, le
 ghost use Rattle.part_core.specs.Catalogue.{is_trackable, part_in};
 ghost use Rattle.part_core.specs.CatalogueView.{parts_of};
 ghost use Rattle.forest.specs.Moves.{largest};
-ghost use Rattle.yard_core.specs.StockBooks.{stock_books_of, stock_books_before};
+ghost use Rattle.yard_core.specs.BooksView.{books_before, books_now};
 ghost use Rattle.yard_core.specs.Stock.{IsSound};
 ghost use Rattle.yard_core.specs.YardView.{stock_of};
 ghost use Rattle.stock_core.specs.Arrives.{HasRoom, IsArrival, count_of};
@@ -11,9 +11,9 @@ ghost use Rattle.stock_core.specs.Serials.{are_many, are_taken, given, is_other_
 ghost use Rattle.stock_core.specs.Steps.{make_each, make_new, make_one, new_item};
 
 use crate::serials::{are_many, are_taken, is_other_count};
-use part_core::{Batch, Catalogue, Counter, Day, Id, Quantity, Serial, Serials, Status};
+use part_core::{Batch, Catalogue, Day, Id, Quantity, Serial, Serials, Status};
 use std::alloc::{AllocError, Global};
-use yard_core::{Item, Kind, Lot, Place, Yard, copy_batch};
+use yard_core::{Item, Kind, Lot, Place, Yard, YardBooks, copy_batch};
 
 /// Where stock comes to, of which part it is, and the kind of its entries.
 #[derive(Clone, Copy, Debug)]
@@ -121,90 +121,71 @@ fn new_item(
 
 /// Makes a new item under the next number.
 fn make_one(
-    alloc: Global,
-    yard: &mut Yard,
-    counter: &mut Counter,
+    books: &mut YardBooks,
     arrival: Arrival,
     quantity: Quantity,
     batch: &Option<Batch>,
     serial: Option<Serial>,
     day: Day,
 ) -> Result<(), AllocError>
-    requires room { HasRoom 1 (stock_books_of yard.old counter.old) }
+    requires room { HasRoom 1 (books_now books.old) }
     requires arrival { IsArrival arrival }
     requires quantity { (1 ≤ quantity) × (quantity ≤ largest) × IfSome serial (λ _. quantity ≡ 1) }
-    ensures ok { OnOk result (stock_books_of yard.new counter.new
-        ≡ make_one arrival quantity batch.now serial day (stock_books_of yard.old counter.old)) }
-    ensures sound { OnOk result (IsSound (stock_of yard.new)) }
-    ensures before { stock_books_before yard.new counter.new
-        ≡ stock_books_before yard.old counter.old }
+    ensures ok { OnOk result (books_now books.new
+        ≡ make_one arrival quantity batch.now serial day (books_now books.old)) }
+    ensures sound { OnOk result (IsSound (stock_of books.new.yard)) }
+    ensures before { books_before books.new ≡ books_before books.old }
 {
-    let item = new_item(alloc, counter.next(), arrival, quantity, batch, serial)?;
-    yard.make(arrival.kind, item, day)?;
-    let _ = counter.draw();
+    let item = new_item(
+        books.alloc,
+        books.counter.next(),
+        arrival,
+        quantity,
+        batch,
+        serial,
+    )?;
+    books.yard.make(arrival.kind, item, day)?;
+    let _ = books.counter.draw();
     Ok(())
 }
 
 /// Makes a new item of a single piece for each serial, in their order.
 fn make_each(
-    alloc: Global,
-    yard: &mut Yard,
-    counter: &mut Counter,
+    books: &mut YardBooks,
     arrival: Arrival,
     batch: &Option<Batch>,
     serials: &[Serial],
     day: Day,
 ) -> Result<(), AllocError>
-    requires room { HasRoom (length serials.now) (stock_books_of yard.old counter.old) }
+    requires room { HasRoom (length serials.now) (books_now books.old) }
     requires arrival { IsArrival arrival }
-    ensures ok { OnOk result (stock_books_of yard.new counter.new
-        ≡ make_each arrival batch.now serials.now day (stock_books_of yard.old counter.old)) }
-    ensures before { stock_books_before yard.new counter.new
-        ≡ stock_books_before yard.old counter.old }
+    ensures ok { OnOk result (books_now books.new
+        ≡ make_each arrival batch.now serials.now day (books_now books.old)) }
+    ensures before { books_before books.new ≡ books_before books.old }
 {
     for serial in serials {
-        let own = serial.copy(alloc)?;
-        make_one(alloc, yard, counter, arrival, 1, batch, Some(own), day)?;
+        let own = serial.copy(books.alloc)?;
+        make_one(books, arrival, 1, batch, Some(own), day)?;
     }
     Ok(())
 }
 
 /// Makes the new items, under the next numbers.
 pub fn make_new(
-    alloc: Global,
-    yard: &mut Yard,
-    counter: &mut Counter,
+    books: &mut YardBooks,
     arrival: Arrival,
     new: &NewStock,
     day: Day,
 ) -> Result<(), AllocError>
-    requires room { HasRoom (count_of new.now.serials) (stock_books_of yard.old counter.old) }
+    requires room { HasRoom (count_of new.now.serials) (books_now books.old) }
     requires arrival { IsArrival arrival }
     requires quantity { (1 ≤ new.now.quantity) × (new.now.quantity ≤ largest) }
-    ensures ok { OnOk result (stock_books_of yard.new counter.new
-        ≡ make_new arrival new.now day (stock_books_of yard.old counter.old)) }
-    ensures before { stock_books_before yard.new counter.new
-        ≡ stock_books_before yard.old counter.old }
+    ensures ok { OnOk result (books_now books.new
+        ≡ make_new arrival new.now day (books_now books.old)) }
+    ensures before { books_before books.new ≡ books_before books.old }
 {
     match &new.serials {
-        None => make_one(
-            alloc,
-            yard,
-            counter,
-            arrival,
-            new.quantity,
-            &new.batch,
-            None,
-            day,
-        ),
-        Some(serials) => make_each(
-            alloc,
-            yard,
-            counter,
-            arrival,
-            &new.batch,
-            serials.as_slice(),
-            day,
-        ),
+        None => make_one(books, arrival, new.quantity, &new.batch, None, day),
+        Some(serials) => make_each(books, arrival, &new.batch, serials.as_slice(), day),
     }
 }

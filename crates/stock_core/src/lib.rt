@@ -7,7 +7,10 @@
 #![tactic(auto)]
 
 mod arrivals;
+mod away;
 mod commands;
+mod floor;
+mod halt;
 mod item_tests;
 mod opening;
 mod owners;
@@ -21,6 +24,7 @@ pub use arrivals::{
     Arrival, NewStock, copy_serials, count_of, make_new, names_many, names_needless,
     names_other_count, names_taken,
 };
+pub use away::take_away;
 pub use commands::add::add;
 pub use commands::count::count;
 pub use commands::disassemble::disassemble;
@@ -34,6 +38,8 @@ pub use commands::set_status::set_status;
 pub use commands::split::split;
 pub use commands::transfer::transfer;
 pub use commands::uninstall::uninstall;
+pub use floor::Floor;
+pub use halt::Halt;
 pub use item_tests::{
     has_more, is_available, is_loose, is_no_item, is_no_location, part_at, quantity_at,
 };

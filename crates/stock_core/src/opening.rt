@@ -8,17 +8,17 @@ ghost use Rattle.part_core.specs.Filled.{StandUnderKeys};
 ghost use Rattle.part_core.specs.Rows.{StandRight};
 ghost use Rattle.stock_core.specs.Opening.{AreSoundRows};
 ghost use Rattle.stock_core.specs.Sound.{AreSoundItems, IsSoundStock};
-ghost use Rattle.yard_core.specs.StockBooks.{stock_books_of};
+ghost use Rattle.yard_core.specs.BooksView.{books_now};
 ghost use Rattle.yard_core.specs.Climbs.{IsByNumber};
 ghost use Rattle.yard_core.specs.Stock.{IsSound};
 ghost use Rattle.yard_core.specs.YardView.{stock_of};
 
 use crate::owners::KnowsOwners;
-use part_core::{Catalogue, Counter, Id};
+use part_core::{Catalogue, Id};
 use rows::{are_drawn, are_sound_entries, are_sound_items};
 use serials::serials_stand_once;
 use std::alloc::{AllocError, Global};
-use yard_core::{Entry, Item, Yard, rows_in_order};
+use yard_core::{Entry, Item, Yard, YardBooks, rows_in_order};
 
 mod rows;
 mod serials;
@@ -35,15 +35,16 @@ fn are_items_drawn(yard: &Yard, next: Id) -> Result<bool, AllocError>
 
 /// Whether the stock is sound, but for what the catalogue says of it: also the history is within its limit, and numbers
 /// were drawn. An error is one of memory.
-fn is_sound_alone(yard: &Yard, counter: &Counter) -> Result<bool, AllocError>
-    requires { StandUnderKeys (λ e. e.number ∷ []) (stock_of yard.now).history }
-    ensures { IfOk result (λ sound. IsTrue sound
-        ↔ AreSoundItems (stock_books_of yard.now counter.now)) }
+fn is_sound_alone(books: &YardBooks) -> Result<bool, AllocError>
+    requires { StandUnderKeys (λ e. e.number ∷ []) (books_now books.now).stock.history }
+    ensures { IfOk result (λ sound. IsTrue sound ↔ AreSoundItems (books_now books.now)) }
 {
-    if yard.entries() > counter.limits().entries {
+    let yard = &books.yard;
+    let next = books.counter.next();
+    if yard.entries() > books.counter.limits().entries {
         return Ok(false);
     }
-    let located = yard.are_locations_sound(counter.next())?;
+    let located = yard.are_locations_sound(next)?;
     if !located {
         return Ok(false);
     }
@@ -51,7 +52,7 @@ fn is_sound_alone(yard: &Yard, counter: &Counter) -> Result<bool, AllocError>
     if !sound {
         return Ok(false);
     }
-    let drawn = are_items_drawn(yard, counter.next())?;
+    let drawn = are_items_drawn(yard, next)?;
     Ok(drawn)
 }
 
@@ -81,21 +82,19 @@ fn are_sound_rows<W: KnowsOwners>(
 
 /// Whether sound items and their history are right beside the catalogue. An error is one of memory.
 fn is_sound_beside<W: KnowsOwners>(
-    alloc: Global,
     owners: &W,
     catalogue: &Catalogue,
-    yard: &Yard,
-    counter: &Counter,
+    books: &YardBooks,
 ) -> Result<bool, AllocError>
-    requires { AreSoundItems (stock_books_of yard.now counter.now) }
+    requires { AreSoundItems (books_now books.now) }
     ensures { IfOk result (λ sound. IsTrue sound ↔ IsSoundStock (W.owners_of owners.now)
-        (parts_of catalogue.now) (stock_books_of yard.now counter.now)) }
+        (parts_of catalogue.now) (books_now books.now)) }
 {
-    let _ = counter;
+    let yard = &books.yard;
     let items = rows_in_order(yard.items())?;
     let entries = rows_in_order(yard.whole_history())?;
     let sound = are_sound_rows::<W>(
-        alloc,
+        books.alloc,
         owners,
         catalogue,
         yard,
@@ -109,20 +108,18 @@ fn is_sound_beside<W: KnowsOwners>(
 /// numbers that were drawn and the limits. It keeps what it sums of each part, and the serials, while it looks. An error
 /// is one of memory.
 pub fn is_sound_stock<W: KnowsOwners>(
-    alloc: Global,
     owners: &W,
     catalogue: &Catalogue,
-    yard: &Yard,
-    counter: &Counter,
+    books: &YardBooks,
 ) -> Result<bool, AllocError>
-    requires { StandUnderKeys (λ e. e.number ∷ []) (stock_of yard.now).history }
+    requires { StandUnderKeys (λ e. e.number ∷ []) (books_now books.now).stock.history }
     ensures { IfOk result (λ sound. IsTrue sound ↔ IsSoundStock (W.owners_of owners.now)
-        (parts_of catalogue.now) (stock_books_of yard.now counter.now)) }
+        (parts_of catalogue.now) (books_now books.now)) }
 {
-    let alone = is_sound_alone(yard, counter)?;
+    let alone = is_sound_alone(books)?;
     if !alone {
         return Ok(false);
     }
-    let sound = is_sound_beside::<W>(alloc, owners, catalogue, yard, counter)?;
+    let sound = is_sound_beside::<W>(owners, catalogue, books)?;
     Ok(sound)
 }

@@ -5,7 +5,8 @@ ghost use Rattle.part_core.specs.CatalogueView.{parts_of};
 ghost use Rattle.part_core.specs.Counter.{start};
 ghost use Rattle.part_core.specs.declared.limits.Limits.{Limits};
 ghost use Rattle.bom_core.specs.BomsView.{bills_of};
-ghost use Rattle.yard_core.specs.StockBooks.{Does, stock_books_of, stock_books_before};
+ghost use Rattle.yard_core.specs.StockBooks.{Does};
+ghost use Rattle.yard_core.specs.BooksView.{books_before, books_now};
 ghost use Rattle.yard_core.specs.Stock.{empty_stock};
 ghost use Rattle.alloc_core.specs.AllocationsView.{allocations_now};
 ghost use Rattle.stock_core.specs.Sound.{IsSoundStock, IsSoundStockSomehow, Owners};
@@ -18,9 +19,8 @@ use crate::{
 };
 use alloc_core::Allocations;
 use bom_core::Boms;
-use part_core::{Answer, Catalogue, CoreFault, Counter, Day, Id, Ids, Quantity, Serials, Status};
-use std::alloc::Global;
-use yard_core::Yard;
+use part_core::{Answer, Catalogue, CoreFault, Day, Id, Ids, Quantity, Serials, Status};
+use yard_core::YardBooks;
 
 /// What a clerk may ask of stock. Row numbers and quantities are any numbers: whether they name rows and
 /// are in their ranges is part of the command's checks.
@@ -100,111 +100,82 @@ pub enum StockCommand {
 /// Does the command, or is refused by the first check that applies. The docstrings of the calls that stand
 /// for the commands say when each refusal comes.
 pub fn act(
-    alloc: Global,
     catalogue: &Catalogue,
     boms: &Boms,
     allocations: &Allocations,
-    yard: &mut Yard,
-    counter: &mut Counter,
+    books: &mut YardBooks,
     day: Day,
     command: &StockCommand,
 ) -> Result<Answer, CoreFault>
-    requires nothing_pending { stock_books_before yard.old counter.old
-        ≡ stock_books_of yard.old counter.old }
+    requires nothing_pending { books_before books.old ≡ books_now books.old }
     requires sound { IsSoundStockSomehow (parts_of catalogue.now)
-        (stock_books_of yard.old counter.old) }
-    ensures does { let b = stock_books_of yard.old counter.old in
+        (books_now books.old) }
+    ensures does { let b = books_now books.old in
         Does (checks command.now day (parts_of catalogue.now) (bills_of boms.now)
         (allocations_now allocations.now) b)
         (effect command.now day b) b result
-        (stock_books_of yard.new counter.new) }
-    ensures before { stock_books_before yard.new counter.new
-        ≡ stock_books_before yard.old counter.old }
+        (books_now books.new) }
+    ensures before { books_before books.new ≡ books_before books.old }
 {
     match command {
         StockCommand::Found {
             part,
             location,
             new,
-        } => found(alloc, catalogue, yard, counter, day, *part, *location, new),
-        StockCommand::Add { item, quantity } => add(alloc, yard, counter, day, *item, *quantity),
+        } => found(catalogue, books, day, *part, *location, new),
+        StockCommand::Add { item, quantity } => add(books, day, *item, *quantity),
         StockCommand::Remove { item, quantity } => {
-            remove(alloc, allocations, yard, counter, day, *item, *quantity)
+            remove(allocations, books, day, *item, *quantity)
         }
         StockCommand::Count { item, quantity } => {
-            count(alloc, allocations, yard, counter, day, *item, *quantity)
+            count(allocations, books, day, *item, *quantity)
         }
         StockCommand::Transfer {
             item,
             location,
             quantity,
-        } => transfer(
-            alloc,
-            allocations,
-            yard,
-            counter,
-            day,
-            *item,
-            *location,
-            *quantity,
-        ),
+        } => transfer(allocations, books, day, *item, *location, *quantity),
         StockCommand::Split { item, quantity } => {
-            split(alloc, allocations, yard, counter, day, *item, *quantity)
+            split(allocations, books, day, *item, *quantity)
         }
         StockCommand::Merge { into, items } => {
-            merge(
-                alloc,
-                allocations,
-                yard,
-                counter,
-                day,
-                *into,
-                items.as_slice(),
-            )
+            merge(allocations, books, day, *into, items.as_slice())
         }
         StockCommand::Serialise {
             item,
             quantity,
             serials,
         } => serialise(
-            alloc,
             catalogue,
             allocations,
-            yard,
-            counter,
+            books,
             day,
             *item,
             *quantity,
             serials.as_slice(),
         ),
         StockCommand::SetStatus { item, status } => {
-            set_status(alloc, allocations, yard, counter, day, *item, *status)
+            set_status(allocations, books, day, *item, *status)
         }
         StockCommand::Install {
             item,
             parent,
             quantity,
         } => install(
-            alloc,
             catalogue,
             boms,
             allocations,
-            yard,
-            counter,
+            books,
             day,
             *item,
             *parent,
             *quantity,
         ),
-        StockCommand::Uninstall { item, location } => {
-            uninstall(alloc, yard, counter, day, *item, *location)
-        }
+        StockCommand::Uninstall { item, location } => { uninstall(books, day, *item, *location) }
         StockCommand::Disassemble { item, location } => {
-            disassemble(alloc, allocations, yard, counter, day, *item, *location)
+            disassemble(allocations, books, day, *item, *location)
         }
-        StockCommand::Reinstate { item, location } => {
-            reinstate(alloc, yard, counter, day, *item, *location)
-        }
+        StockCommand::Reinstate { item, location } => { reinstate(books, day, *item, *location) }
     }
 }
 

@@ -5,7 +5,7 @@ use part_core::{Catalogue, Counter, Day, Flags, Id, Limits, Name, Part, Serial, 
 use std::alloc::{AllocError, Global};
 use std::test::Fail;
 use stock_core::{KnowsOwners, is_sound_stock};
-use yard_core::{Entry, Item, Kind, Location, Lot, Note, Place, Yard};
+use yard_core::{Entry, Item, Kind, Location, Lot, Note, Place, Yard, YardBooks};
 
 // Order 4 and build 9, and no others.
 #[derive(Clone, Copy)]
@@ -110,7 +110,12 @@ fn is_found_sound(
     let yard = Yard::assemble(alloc, locations, items, history)?;
     let catalogue = catalogue(alloc)?;
     let counter = drawn(limits);
-    Ok(is_sound_stock(alloc, &OneOfEach, &catalogue, &yard, &counter)?)
+    let books = YardBooks {
+        yard,
+        counter,
+        alloc,
+    };
+    Ok(is_sound_stock(&OneOfEach, &catalogue, &books)?)
 }
 
 // Whether item 11, of part 6 and with serial A-1, is found sound beside another one, with an entry of each.

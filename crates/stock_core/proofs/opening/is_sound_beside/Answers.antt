@@ -5,7 +5,7 @@ use Rattle.part_core.specs.CatalogueView.{parts_of}
 use Rattle.part_core.specs.Sheet.{now_of}
 use Rattle.forest.specs.declared.entry.Entry.{Entry}
 use Rattle.forest.specs.declared.item.Item.{Item}
-use Rattle.yard_core.specs.StockBooks.{stock_books_of}
+use Rattle.yard_core.specs.BooksView.{books_now}
 use Rattle.yard_core.specs.Climbs.{IsByNumber}
 use Rattle.yard_core.specs.YardView.{stock_of}
 use Rattle.yard_core.proofs.Opened.{rows_by_number}
@@ -14,7 +14,7 @@ use Rattle.stock_core.proofs.opening.is_sound_beside.Goals as goal
 
 pub are_sound_rows-requires : goal.are_sound_rows-requires
 are_sound_rows-requires g c =
-    let s = stock_of c.args.yard.now in
+    let s = stock_of c.args.books.now.yard in
     let rows : map (λ (x : Bor Item). x.now) c.as_slice.result.now ≡ table.values s.items =
     ap (map (λ (x : Bor Item). x.now)) c.as_slice.ensures.value
     ∙ c.in_ok-items.ensures
@@ -23,7 +23,7 @@ are_sound_rows-requires g c =
 
 pub returns : goal.returns
 returns g c =
-    let s = stock_of c.args.yard.now in
+    let s = stock_of c.args.books.now.yard in
     let rows : map (λ (x : Bor Item). x.now) c.as_slice.result.now ≡ table.values s.items =
     ap (map (λ (x : Bor Item). x.now)) c.as_slice.ensures.value
     ∙ c.in_ok-items.ensures
@@ -33,4 +33,4 @@ returns g c =
     ∙ c.in_ok-entries.ensures
     ∙ ap (λ t. table.values (now_of t)) c.whole_history.ensures in
     stock_from (g.W.KnowsOwners.owners_of c.args.owners.now) (parts_of c.args.catalogue.now)
-    (stock_books_of c.args.yard.now c.args.counter.now) c.requires _ _ _ rows entries c.in_ok-sound.ensures
+    (books_now c.args.books.now) c.requires _ _ _ rows entries c.in_ok-sound.ensures

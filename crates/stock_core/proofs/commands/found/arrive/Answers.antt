@@ -1,5 +1,4 @@
 use Rattle.std.proofs.Common.{arith, refl}
-use Rattle.part_core.specs.CatalogueView.{parts_of}
 use Rattle.part_core.proofs.Conditions.{none-holds}
 use Rattle.forest.specs.declared.entry.Kind.TheVariants as kind
 use Rattle.forest.specs.declared.place.Place.TheVariants.{At}
@@ -12,13 +11,13 @@ use Rattle.stock_core.proofs.commands.found.arrive.Goals as goal
 
 pub make_new-requires-clause-room : goal.make_new-requires-clause-room
 make_new-requires-clause-room c =
-    let b = stock_books_of c.args.yard.now c.args.counter.now in
+    let b = stock_books_of c.args.books.now.yard c.args.books.now.counter in
     let new = c.args.new.now in
     let holds =
-    none-holds (found_checks c.args.part c.args.location new c.args.day (parts_of c.args.catalogue.now) b)
-    c.requires.checked in
+    none-holds (found_checks c.args.part c.args.location new c.args.day c.requires.checked.0 b)
+    c.requires.checked.1 in
     room-checked (count_of new.serials) b (found c.args.part c.args.location new c.args.day b) c.requires.sound
-    (omega (arith, c.args.counter.now.limits.entries_within))
+    (omega (arith, c.args.books.now.counter.limits.entries_within))
     (uses-make_new (record { kind = kind.Found; place = At c.args.location; part = c.args.part }) new c.args.day b refl
     c.requires.sound.stock.history)
     holds.1.1.1.1.1.1.0

@@ -12,11 +12,11 @@ use Rattle.stock_core.proofs.Uses.{full-used, uses-make_new}
 use Rattle.stock_core.proofs.commands.found.is_full.Goals as goal
 
 pub returns : goal.returns
-returns c day =
-    let b = stock_books_of c.args.yard.now c.args.counter.now in
+returns c part location day =
+    let b = stock_books_of c.args.books.now.yard c.args.books.now.counter in
     let count = count_of c.args.new.now.serials in
     c.lacks_room.ensures
     ∙ ap (λ n. lacks n b.counter || nat_lt b.counter.limits.entries (entries_in b + n)) c.count_of-count.ensures
-    ∙ full-used count count b (found c.args.part c.args.location c.args.new.now day b)
-    (uses-make_new (record { kind = kind.Found; place = At c.args.location; part = c.args.part }) c.args.new.now day b
+    ∙ full-used count count b (found part location c.args.new.now day b)
+    (uses-make_new (record { kind = kind.Found; place = At location; part = part }) c.args.new.now day b
     refl c.requires.stock.history)

@@ -5,8 +5,8 @@ use Rattle.stock_core.proofs.Uses.{full-used, uses-cut_each}
 use Rattle.stock_core.proofs.commands.serialise.is_full.Goals as goal
 
 pub returns : goal.returns
-returns c day =
-    let b = stock_books_of c.args.yard.now c.args.counter.now in
+returns c item day =
+    let b = stock_books_of c.args.books.now.yard c.args.books.now.counter in
     c.lacks_room.ensures ∙ full-used (length c.args.serials.now) (length c.args.serials.now) b
-    (serialise c.args.item c.args.serials.now day b)
-    (uses-cut_each c.args.item c.args.serials.now day b c.requires.stock.history)
+    (serialise item c.args.serials.now day b)
+    (uses-cut_each item c.args.serials.now day b c.requires.stock.history)

@@ -6,7 +6,7 @@ use Rattle.stock_core.proofs.Uses.{full-used, uses-cut_off}
 use Rattle.stock_core.proofs.commands.split.is_full.Goals as goal
 
 pub returns : goal.returns
-returns c day =
-    let b = stock_books_of c.args.yard.now c.args.counter.now in
-    c.lacks_room.ensures ∙ full-used 1 1 b (split c.args.item c.args.quantity day b)
-    (uses-cut_off c.args.item c.args.quantity None day b c.requires.stock.history)
+returns c item quantity day =
+    let b = stock_books_of c.args.books.now.yard c.args.books.now.counter in
+    c.lacks_room.ensures ∙ full-used 1 1 b (split item quantity day b)
+    (uses-cut_off item quantity None day b c.requires.stock.history)

@@ -1,0 +1,7 @@
+use Rattle.std.proofs.Common.{sym, ◌∙◌}
+use Rattle.alloc_core.specs.AllocationsView.{allocations_now}
+use Rattle.stock_core.proofs.commands.count.count.Goals as goal
+
+pub set_counted-moved-requires-clause-checked : goal.set_counted-moved-requires-clause-checked
+set_counted-moved-requires-clause-checked c =
+    (allocations_now c.args.allocations.now, sym (c.in_ok-refusal.ensures c.args.day) ∙ c.in_default.is)
