@@ -15,7 +15,7 @@ use Rattle.forest.specs.declared.item.Item.{Item}
 use Rattle.yard_core.specs.Climbs as climbs
 use Rattle.yard_core.specs.Opening.{AreSoundRows}
 use Rattle.yard_core.specs.SoundLocations.{AreSoundLocations, IsSoundLocation}
-use Rattle.yard_core.specs.Stock.{Stock, IsSound}
+use Rattle.yard_core.specs.Stock.{Stock, IsHistory, IsSound}
 use Rattle.part_core.specs.declared.named_row.NamedRow.{NamedRow as Location}
 use Rattle.yard_core.proofs.ByIndex.{all-each}
 use Rattle.yard_core.proofs.OwnKeys.{own-keyed}
@@ -62,20 +62,18 @@ Decides b P = IsTrue b ↔ P
 decides_also : {P Q : Type 0} (b : Bool) → Decides b P → P ↔ Q → Decides b Q
 decides_also b d e = (λ t. e.0 (d.0 t), λ q. d.1 (e.1 q))
 
-pub sound_iff : (s : Stock) → StandUnderKeys (λ i. i.number ∷ []) s.items
-    → StandUnderKeys (λ e. e.number ∷ []) s.history
+pub sound_iff : (s : Stock) → StandUnderKeys (λ i. i.number ∷ []) s.items → IsHistory s.history
     → AreSoundRows s.items (table.values s.items) (table.values s.history) ↔ IsSound s
 sound_iff s items history = (
   λ a. record {
     items = record { flat = a.flat; own = own-keyed (λ i. i.number) s.items items; items = a.items; held = a.held };
-    history = record { run = a.run; own = own-keyed (λ e. e.number) s.history history };
+    history = history;
     balanced = a.balanced;
   },
   λ b. record {
     items = b.items.items;
     held = b.items.held;
     flat = b.items.flat;
-    run = b.history.run;
     balanced = b.balanced;
   },
 )
@@ -94,8 +92,7 @@ locations_iff next s some own = (
 )
 
 -- what was found of rows that are those of the tables
-pub sound_from : (s : Stock) → StandUnderKeys (λ i. i.number ∷ []) s.items
-    → StandUnderKeys (λ e. e.number ∷ []) s.history
+pub sound_from : (s : Stock) → StandUnderKeys (λ i. i.number ∷ []) s.items → IsHistory s.history
     → (t : Table Item) (rows : List Item) (entries : List Entry) (sound : Bool) → t ≡ s.items
     → rows ≡ table.values s.items → entries ≡ table.values s.history
     → IsTrue sound ↔ AreSoundRows t rows entries → IsTrue sound ↔ IsSound s

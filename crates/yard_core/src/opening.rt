@@ -13,14 +13,12 @@ use forest::{Entry, Item};
 use holders::are_held;
 use part_core::{Row, Sheet};
 use quantities::are_items;
-use runs::is_run;
 use std::alloc::{AllocError, Global};
 use trees::is_table;
 
 mod equations;
 mod holders;
 mod quantities;
-mod runs;
 mod shares;
 mod trees;
 
@@ -32,17 +30,17 @@ pub fn rows_in_order<R: Row>(sheet: &Sheet<R>) -> Result<Vec<&R>, AllocError>
     sheet.select(|_row| true)
 }
 
-/// Whether items and entries, in order of number, are those of a sound yard. `items` has the same items, to look
-/// them up. An error is one of memory.
+/// Whether items in order of number, and entries that are numbered, are those of a sound yard. `items` has the same
+/// items, to look them up. An error is one of memory.
 pub fn are_sound_rows(
     alloc: Global,
     items: &Sheet<Item>,
     rows: &[&Item],
-    entries: &[&Entry],
+    entries: &[Entry],
 ) -> Result<bool, AllocError>
     requires { IsByNumber (map (λ x. x.now) rows.now) }
     ensures { IfOk result (λ sound. IsTrue sound ↔ AreSoundRows (now_of items.now)
-        (map (λ x. x.now) rows.now) (map (λ x. x.now) entries.now)) }
+        (map (λ x. x.now) rows.now) entries.now) }
 {
     if !are_items(rows) {
         return Ok(false);
@@ -51,9 +49,6 @@ pub fn are_sound_rows(
         return Ok(false);
     }
     if !is_table(rows) {
-        return Ok(false);
-    }
-    if !is_run(entries) {
         return Ok(false);
     }
     let balanced = is_balanced(alloc, rows, entries)?;

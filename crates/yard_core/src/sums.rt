@@ -1,5 +1,5 @@
 //! What the history records of a part, and what lies in stock.
-ghost use Rattle.std.specs.Prelude.{◌≡◌};
+ghost use Rattle.std.specs.Prelude.{◌≡◌, sum_by};
 ghost use Rattle.forest.specs.Forest.{amount, counted};
 ghost use Rattle.forest.specs.Tables.{node_of};
 
@@ -30,7 +30,7 @@ pub fn amount_of(part: Id, item: &Item) -> u64
 }
 
 /// The entry's quantity, where it is of the kind and the part.
-pub fn counted_of(kind: Kind, part: Id, entry: &Entry) -> u64
+fn counted_of(kind: Kind, part: Id, entry: &Entry) -> u64
     ensures { result ≡ counted kind part entry.now.note }
 {
     if entry.note.kind.code() == kind.code() && entry.note.part == part {
@@ -38,4 +38,15 @@ pub fn counted_of(kind: Kind, part: Id, entry: &Entry) -> u64
     } else {
         0
     }
+}
+
+/// The quantities of the entries of the kind and the part, added up. They fit 128 bits however many there are.
+pub fn recorded(kind: Kind, part: Id, entries: &[Entry]) -> u128
+    ensures { result ≡ sum_by (λ e. counted kind part e.note) entries.now }
+{
+    let mut total = 0;
+    for entry in entries {
+        total += u128::from(counted_of(kind, part, entry));
+    }
+    total
 }

@@ -126,11 +126,11 @@ fn shares_of(
     alloc: Global,
     equation: Equation,
     rows: &[&Item],
-    entries: &[&Entry],
+    entries: &[Entry],
 ) -> Result<Vec<Share>, AllocError>
     requires { IsByNumber (map (λ x. x.now) rows.now) }
     ensures { IfOk result (λ shares. shares.items ≡ shares_of equation
-        (map (λ x. x.now) rows.now) (map (λ x. x.now) entries.now)) }
+        (map (λ x. x.now) rows.now) entries.now) }
 {
     let mut shares = Vec::new(alloc);
     for entry in entries {
@@ -147,11 +147,11 @@ fn holds(
     alloc: Global,
     equation: Equation,
     rows: &[&Item],
-    entries: &[&Entry],
+    entries: &[Entry],
 ) -> Result<bool, AllocError>
     requires { IsByNumber (map (λ x. x.now) rows.now) }
     ensures { IfOk result (λ same. IsTrue same ↔ Agree (shares_of equation
-        (map (λ x. x.now) rows.now) (map (λ x. x.now) entries.now))) }
+        (map (λ x. x.now) rows.now) entries.now)) }
 {
     let shares = shares_of(alloc, equation, rows, entries)?;
     let same = agree(alloc, shares.as_slice())?;
@@ -159,10 +159,10 @@ fn holds(
 }
 
 /// Whether the three equations hold for each part. An error is one of memory.
-pub fn is_balanced(alloc: Global, rows: &[&Item], entries: &[&Entry]) -> Result<bool, AllocError>
+pub fn is_balanced(alloc: Global, rows: &[&Item], entries: &[Entry]) -> Result<bool, AllocError>
     requires { IsByNumber (map (λ x. x.now) rows.now) }
     ensures { IfOk result (λ balanced. IsTrue balanced
-        ↔ AreBalanced (map (λ x. x.now) rows.now) (map (λ x. x.now) entries.now)) }
+        ↔ AreBalanced (map (λ x. x.now) rows.now) entries.now) }
 {
     let accounted = holds(alloc, Equation::Accounted, rows, entries)?;
     if !accounted {

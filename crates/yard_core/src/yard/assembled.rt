@@ -1,40 +1,43 @@
 //! A yard of rows that were read from a file, and whether it is sound.
-ghost use Rattle.std.specs.Prelude.{◌≡◌, ◌↔◌, ◌∷◌, [], IsTrue, IfOk, map};
+ghost use Rattle.std.specs.Prelude.{◌≡◌, ◌↔◌, IsTrue, IsSome, IfOk, IfSome, map};
 ghost use Rattle.std.specs.List.{All};
-ghost use Rattle.part_core.specs.Filled.{StandUnderKeys};
 ghost use Rattle.yard_core.specs.SoundLocations.{AreSoundLocations, IsSoundLocation};
-ghost use Rattle.yard_core.specs.Stock.{IsSound};
+ghost use Rattle.yard_core.specs.Stock.{IsRun, IsSound};
 ghost use Rattle.yard_core.specs.YardView.{stock_before, stock_from, stock_of};
 
 use crate::Location;
 use crate::opening::{are_sound_rows, rows_in_order};
 use crate::yard::Yard;
 use forest::{Entry, Item};
-use part_core::{Id, IndexedSheet, Sheet, has_parent};
+use part_core::{Id, IndexedSheet, Log, has_parent};
 use std::alloc::{AllocError, Global};
 
 impl Yard {
-    /// The yard of these rows, now and before. An error is one of memory.
+    /// The yard of these rows, now and before: none where the entries aren't numbered 1, 2 and so on, in their order. An
+    /// error is one of memory.
     pub fn assemble(
         alloc: Global,
         locations: Vec<Location>,
         items: Vec<Item>,
         history: Vec<Entry>,
-    ) -> Result<Self, AllocError>
-        ensures now { IfOk result (λ yard.
-            stock_of yard ≡ stock_from locations.items items.items history.items) }
-        ensures before { IfOk result (λ yard.
-            stock_before yard ≡ stock_from locations.items items.items history.items) }
+    ) -> Result<Option<Self>, AllocError>
+        ensures numbered { IfOk result (λ yard. IsSome yard ↔ IsRun 1 history.items) }
+        ensures now { IfOk result (λ yard. IfSome yard (λ y.
+            stock_of y ≡ stock_from locations.items items.items history.items)) }
+        ensures before { IfOk result (λ yard. IfSome yard (λ y.
+            stock_before y ≡ stock_from locations.items items.items history.items)) }
     {
+        let Some(history) = Log::filled(alloc, history)? else {
+            return Ok(None);
+        };
         let locations = IndexedSheet::filled(alloc, locations)?;
         let items = IndexedSheet::filled(alloc, items)?;
-        let history = Sheet::filled(alloc, history)?;
-        Ok(Yard {
+        Ok(Some(Yard {
             locations,
             items,
             history,
             alloc,
-        })
+        }))
     }
 
     /// Whether the location is sound, where the numbers below `next` were drawn.
@@ -74,13 +77,12 @@ impl Yard {
     /// Whether the items are the flat table of a sound forest, and the history agrees with it. It climbs from each item
     /// at most 16 steps, four times, and keeps what it sums of each part. An error is one of memory.
     pub fn is_sound(&self) -> Result<bool, AllocError>
-        requires { StandUnderKeys (λ e. e.number ∷ []) (stock_of self.now).history }
         ensures { IfOk result (λ sound. IsTrue sound ↔ IsSound (stock_of self.now)) }
     {
         let items = self.items.rows();
         let rows = rows_in_order(items)?;
-        let entries = rows_in_order(&self.history)?;
-        let sound = are_sound_rows(self.alloc, items, rows.as_slice(), entries.as_slice())?;
+        let entries = self.history.as_slice();
+        let sound = are_sound_rows(self.alloc, items, rows.as_slice(), entries)?;
         Ok(sound)
     }
 }

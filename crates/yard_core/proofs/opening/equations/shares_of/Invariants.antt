@@ -4,9 +4,9 @@ use Rattle.yard_core.specs.Equations.{entry_share, item_share}
 use Rattle.yard_core.proofs.opening.equations.shares_of.Given as goal
 
 abbrev pub invariant-loop-entry : goal.invariant-loop-entry
-invariant-loop-entry l = l.shares.items ≡ map (entry_share l.equation) (map (λ x. x.now) (take l.entry-index l.entries))
+invariant-loop-entry l = l.shares.items ≡ map (entry_share l.equation) (take l.entry-index l.entries)
 
 abbrev pub invariant-loop-item : goal.invariant-loop-item
 invariant-loop-item l =
-    l.shares.items ≡ map (entry_share l.equation) (map (λ x. x.now) l.entries)
+    l.shares.items ≡ map (entry_share l.equation) l.entries
     ++ map (item_share l.equation (in_rows (map (λ x. x.now) l.rows))) (map (λ x. x.now) (take l.item-index l.rows))

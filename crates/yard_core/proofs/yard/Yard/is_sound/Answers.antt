@@ -3,9 +3,9 @@ use Rattle.std.specs.FinMap as table
 use Rattle.std.specs.Borrow.{Bor}
 use Rattle.part_core.specs.Sheet.{now_of}
 use Rattle.forest.specs.declared.item.Item.{Item}
-use Rattle.forest.specs.declared.entry.Entry.{Entry}
 use Rattle.yard_core.specs.Climbs.{IsByNumber}
 use Rattle.yard_core.specs.YardView.{stock_of}
+use Rattle.yard_core.proofs.Numbering.{is_history}
 use Rattle.yard_core.proofs.Opened.{own_by_number, sound_from}
 use Rattle.yard_core.proofs.yard.Yard.is_sound.Goals as goal
 
@@ -25,7 +25,6 @@ returns c =
     ap (map (λ (x : Bor Item). x.now)) c.as_slice.ensures.value
     ∙ c.in_ok-rows.ensures
     ∙ ap (λ t. table.values (now_of t)) c.rows-items.ensures.value in
-    let entries : map (λ (x : Bor Entry). x.now) c.as_slice-2.result.now ≡ table.values s.history =
-    ap (map (λ (x : Bor Entry). x.now)) c.as_slice-2.ensures.value ∙ c.in_ok-entries.ensures in
-    sound_from s c.rows-items.ensures.own c.requires _ _ _ _ (ap now_of c.rows-items.ensures.value) rows entries
-    c.in_ok-sound.ensures
+    let history = is_history s.history _ c.as_slice-entries.ensures.table c.as_slice-entries.ensures.numbered in
+    sound_from s c.rows-items.ensures.own history _ _ _ _ (ap now_of c.rows-items.ensures.value) rows
+    c.as_slice-entries.ensures.rows c.in_ok-sound.ensures
