@@ -2,9 +2,8 @@
 //!
 //! Each check answers exactly, and none compares each row with each: what a row names is looked up, and a serial is
 //! looked for in a set of those before it.
-ghost use Rattle.std.specs.Prelude.{◌≡◌, ◌↔◌, ◌∷◌, [], IsTrue, IfOk, map};
+ghost use Rattle.std.specs.Prelude.{◌≡◌, ◌↔◌, IsTrue, IfOk, map};
 ghost use Rattle.part_core.specs.CatalogueView.{parts_of};
-ghost use Rattle.part_core.specs.Filled.{StandUnderKeys};
 ghost use Rattle.part_core.specs.Rows.{StandRight};
 ghost use Rattle.stock_core.specs.Opening.{AreSoundRows};
 ghost use Rattle.stock_core.specs.Sound.{AreSoundItems, IsSoundStock};
@@ -36,7 +35,6 @@ fn are_items_drawn(yard: &Yard, next: Id) -> Result<bool, AllocError>
 /// Whether the stock is sound, but for what the catalogue says of it: also the history is within its limit, and numbers
 /// were drawn. An error is one of memory.
 fn is_sound_alone(books: &YardBooks) -> Result<bool, AllocError>
-    requires { StandUnderKeys (λ e. e.number ∷ []) (books_now books.now).stock.history }
     ensures { IfOk result (λ sound. IsTrue sound ↔ AreSoundItems (books_now books.now)) }
 {
     let yard = &books.yard;
@@ -63,12 +61,12 @@ fn are_sound_rows<W: KnowsOwners>(
     catalogue: &Catalogue,
     yard: &Yard,
     items: &[&Item],
-    entries: &[&Entry],
+    entries: &[Entry],
 ) -> Result<bool, AllocError>
     requires { IsByNumber (map (λ x. x.now) items.now) }
     ensures { IfOk result (λ sound. IsTrue sound
         ↔ AreSoundRows (W.owners_of owners.now) (parts_of catalogue.now) (stock_of yard.now)
-        (map (λ x. x.now) items.now) (map (λ x. x.now) entries.now)) }
+        (map (λ x. x.now) items.now) entries.now) }
 {
     if !are_sound_items::<W>(owners, catalogue, yard, items) {
         return Ok(false);
@@ -92,14 +90,14 @@ fn is_sound_beside<W: KnowsOwners>(
 {
     let yard = &books.yard;
     let items = rows_in_order(yard.items())?;
-    let entries = rows_in_order(yard.whole_history())?;
+    let entries = yard.whole_history().as_slice();
     let sound = are_sound_rows::<W>(
         books.alloc,
         owners,
         catalogue,
         yard,
         items.as_slice(),
-        entries.as_slice(),
+        entries,
     )?;
     Ok(sound)
 }
@@ -112,7 +110,6 @@ pub fn is_sound_stock<W: KnowsOwners>(
     catalogue: &Catalogue,
     books: &YardBooks,
 ) -> Result<bool, AllocError>
-    requires { StandUnderKeys (λ e. e.number ∷ []) (books_now books.now).stock.history }
     ensures { IfOk result (λ sound. IsTrue sound ↔ IsSoundStock (W.owners_of owners.now)
         (parts_of catalogue.now) (books_now books.now)) }
 {

@@ -15,6 +15,7 @@ pub mod Holding
 pub mod Tables
 pub mod Fillings
 pub mod Changes
+pub mod Puts
 pub mod KeptRows
 pub mod KeptChanges
 pub mod Loads

@@ -20,4 +20,4 @@ pub use open::{has_old_tables, has_tables, is_bare, open_tables};
 pub use read::{has_no_row, load_kept, load_sheet};
 pub use rows::{drop_row, load_rows, put_row};
 pub use transaction::{begin, commit, rollback};
-pub use write::{write_pending, write_row};
+pub use write::{write_log, write_pending, write_row};

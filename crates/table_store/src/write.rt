@@ -1,4 +1,4 @@
-//! The changes of a sheet go into its table.
+//! The changes of a sheet go into its table, and what a log was given.
 ghost use Rattle.std.specs.Prelude.{◌≡◌, ◌⊎◌, ◌∷◌, ◌<◌, ◌^◌, [], ℕ, Some, map};
 ghost use Rattle.std.specs.Prelude.{IfErr, IfOk, OnOk, OnErr, All, option_copied};
 ghost use Rattle.std.specs.FinMap.{insert, remove};
@@ -7,7 +7,7 @@ ghost use Rattle.sqlite.specs.State.{HasCleanDisk, KeepsCommit, Survives};
 ghost use Rattle.sqlite.specs.Values.{bound, bound_value};
 ghost use Rattle.sqlite_value.specs.Value.{owned};
 ghost use Rattle.part_core.specs.Columns.{IsSmall, AreSmall};
-ghost use Rattle.part_core.specs.Filled.{StandUnderKeys};
+ghost use Rattle.part_core.specs.Filled.{StandUnderKeys, filled_onto};
 ghost use Rattle.part_core.specs.RowKeys.{number_digits};
 ghost use Rattle.part_core.specs.Rows.{StayThere};
 ghost use Rattle.part_core.specs.Sheet.{Table, given, now_of};
@@ -20,7 +20,7 @@ ghost use Rattle.table_store.specs.Written.{Writes, Suits, Takes, changes_of, gi
 use crate::fault::TableFault;
 use crate::name::TableName;
 use crate::rows::{drop_row, put_row};
-use part_core::{Column, Pending, Row, Sheet, Stored};
+use part_core::{Column, Log, Pending, Row, Sheet, Stored};
 use sqlite::{Alter, Connection};
 use sqlite_value::value::ValueRef;
 use std::alloc::{AllocError, Global};
@@ -202,4 +202,62 @@ pub fn write_pending<S: Alter, R: Stored + Row<Key = u64>>(
 {
     let changes = sheet.pending()?;
     write_changes::<S, R>(alloc, conn, table, changes.as_slice())
+}
+
+/// Puts the rows in the table, in their order.
+fn write_rows<S: Alter, R: Stored + Row<Key = u64>>(
+    alloc: Global,
+    conn: &mut Connection<S>,
+    table: TableName,
+    rows: &[R],
+) -> Result<(), TableFault>
+    requires ready { HasCleanDisk (state S.Store conn.old) → IsReady (state S.Store conn.old) }
+    requires suits { Suits R.columns_of R.key_of number_digits table }
+    requires small { All (λ row. All IsSmall (R.columns_of row)) rows.now }
+    ensures set { HasCleanDisk (state S.Store conn.new)
+        → OnOk result (Writes table (state S.Store conn.old) (state S.Store conn.new)) }
+    ensures put { HasCleanDisk (state S.Store conn.new) → (old : Table R)
+        → StandUnderKeys R.key_of old
+        → IsTableOf R.row_from R.columns_of table (tree_of table (state S.Store conn.old)) old
+        → OnOk result (IsTableOf R.row_from R.columns_of table
+        (tree_of table (state S.Store conn.new)) (filled_onto R.key_of old rows.now)) }
+    ensures failed { HasCleanDisk (state S.Store conn.new)
+        → IfErr result (MayStop table (state S.Store conn.old) (state S.Store conn.new)) }
+    ensures fault { IfErr result IsOfMemoryOrStore }
+    ensures crash { Survives (state S.Store conn.old) (state S.Store conn.new) (λ _. ⊥) }
+{
+    for row in rows {
+        write_row::<S, R>(alloc, conn, table, row)?;
+    }
+    Ok(())
+}
+
+/// The rows that a log was given since the request began go into its table, within the transaction that the caller
+/// began. The faults are those of `write_pending`.
+pub fn write_log<S: Alter, R: Stored + Row<Key = u64>>(
+    alloc: Global,
+    conn: &mut Connection<S>,
+    table: TableName,
+    log: &Log<R>,
+) -> Result<(), TableFault>
+    requires ready { HasCleanDisk (state S.Store conn.old) → IsReady (state S.Store conn.old) }
+    requires suits { Suits R.columns_of R.key_of number_digits table }
+    requires own { StandUnderKeys R.key_of log.now.before }
+    requires small { AreSmall R.columns_of (now_of log.now) }
+    requires before { HasCleanDisk (state S.Store conn.old)
+        → IsTableOf R.row_from R.columns_of table (tree_of table (state S.Store conn.old))
+        log.now.before }
+    ensures written { HasCleanDisk (state S.Store conn.new)
+        → OnOk result (IsTableOf R.row_from R.columns_of table
+        (tree_of table (state S.Store conn.new)) (now_of log.now)) }
+    ensures set { HasCleanDisk (state S.Store conn.new)
+        → OnOk result (Writes table (state S.Store conn.old) (state S.Store conn.new)) }
+    ensures failed { HasCleanDisk (state S.Store conn.new)
+        → IfErr result (MayStop table (state S.Store conn.old) (state S.Store conn.new)) }
+    ensures commit { HasCleanDisk (state S.Store conn.new)
+        → KeepsCommit (state S.Store conn.old) (state S.Store conn.new) }
+    ensures fault { IfErr result IsOfMemoryOrStore }
+    ensures crash { Survives (state S.Store conn.old) (state S.Store conn.new) (λ _. ⊥) }
+{
+    write_rows::<S, R>(alloc, conn, table, log.pending())
 }

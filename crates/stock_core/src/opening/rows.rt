@@ -78,10 +78,10 @@ pub fn are_sound_entries<W: KnowsOwners>(
     owners: &W,
     catalogue: &Catalogue,
     yard: &Yard,
-    entries: &[&Entry],
+    entries: &[Entry],
 ) -> bool
     ensures { IsTrue result ↔ All (IsSoundEntry (W.owners_of owners.now)
-        (parts_of catalogue.now) (stock_of yard.now)) (map (λ x. x.now) entries.now) }
+        (parts_of catalogue.now) (stock_of yard.now)) entries.now }
 {
     for entry in entries {
         if !is_sound_entry::<W>(owners, catalogue, yard, entry) {

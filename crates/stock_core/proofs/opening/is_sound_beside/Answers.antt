@@ -3,7 +3,6 @@ use Rattle.std.specs.Borrow.{Bor}
 use Rattle.std.specs.FinMap as table
 use Rattle.part_core.specs.CatalogueView.{parts_of}
 use Rattle.part_core.specs.Sheet.{now_of}
-use Rattle.forest.specs.declared.entry.Entry.{Entry}
 use Rattle.forest.specs.declared.item.Item.{Item}
 use Rattle.yard_core.specs.BooksView.{books_now}
 use Rattle.yard_core.specs.Climbs.{IsByNumber}
@@ -28,9 +27,7 @@ returns g c =
     ap (map (λ (x : Bor Item). x.now)) c.as_slice.ensures.value
     ∙ c.in_ok-items.ensures
     ∙ ap (λ t. table.values (now_of t)) c.items.ensures in
-    let entries : map (λ (x : Bor Entry). x.now) c.as_slice-2.result.now ≡ table.values s.history =
-    ap (map (λ (x : Bor Entry). x.now)) c.as_slice-2.ensures.value
-    ∙ c.in_ok-entries.ensures
-    ∙ ap (λ t. table.values (now_of t)) c.whole_history.ensures in
+    let entries : c.as_slice-entries.result.now ≡ table.values s.history =
+    c.as_slice-entries.ensures.rows ∙ ap (λ t. table.values (now_of t)) c.whole_history.ensures in
     stock_from (g.W.KnowsOwners.owners_of c.args.owners.now) (parts_of c.args.catalogue.now)
     (books_now c.args.books.now) c.requires _ _ _ rows entries c.in_ok-sound.ensures

@@ -1,5 +1,4 @@
 use Rattle.std.proofs.Common.{ℕ, ◌<◌, get_or}
-use Rattle.std.specs.Borrow.{Bor}
 use Rattle.part_core.specs.CatalogueView.{parts_of}
 use Rattle.stock_core.specs.Sound.{IsSoundEntry}
 use Rattle.yard_core.specs.YardView.{stock_of}
@@ -8,5 +7,5 @@ use Rattle.stock_core.proofs.opening.rows.are_sound_entries.Given as goal
 
 abbrev pub invariant-loop-entry : goal.invariant-loop-entry
 invariant-loop-entry g l =
-    (k : ℕ) (r : Bor Entry) → k < l.entry-index → IsSoundEntry (g.W.KnowsOwners.owners_of l.owners)
-    (parts_of l.catalogue) (stock_of l.yard) (get_or l.entries k r).now
+    (k : ℕ) (e : Entry) → k < l.entry-index
+    → IsSoundEntry (g.W.KnowsOwners.owners_of l.owners) (parts_of l.catalogue) (stock_of l.yard) (get_or l.entries k e)
