@@ -22,3 +22,4 @@ pub mod Opening
 pub mod Shapes
 pub mod Rising
 pub mod KeptLoads
+pub mod Walks
