@@ -1,6 +1,5 @@
 -- The rows of `kept` that a load shows are those of the table where no word stands twice.
-use Rattle.std.proofs.Common.{◌≡◌, Vec, Global, ℕ, List, [], ◌∷◌, map, Option, Some, Result}
-use Rattle.std.proofs.Common.{Ok, Err, IfOk, IfErr, Ordering, refl, sym, ap, subst, ◌∙◌}
+use Rattle.std.proofs.Common.{◌≡◌, ℕ, List, [], ◌∷◌, map, Option, Ordering, refl, sym, ap, subst, ◌∙◌}
 use Rattle.std.specs.Prelude.{IsPermutation}
 use Rattle.std.specs.Cmp.{IsTotalOrder}
 use Rattle.std.specs.List.{AllByRecursion}
@@ -18,16 +17,18 @@ use Rattle.sqlite_value.specs.Keys.{ascending}
 use Rattle.sqlite_value.proofs.OrderLemmas.{value_cmp-Text, then-Equal}
 use Rattle.part_core.specs.Sheet.{key_cmp}
 use Rattle.part_core.specs.declared.column.Column.{Column}
-use Rattle.table_store.specs.Stored.{row_of, value_of, values_of, FailsToRead}
-use Rattle.table_store.specs.Transactions.{IsBadRow}
-use Rattle.table_store.specs.Values.{IsByWord, RiseByWord, shown_row}
-use Rattle.table_store.specs.Written.{AreItsRows, IsTableOfNone, IsTableOfNoneOwn, SuitKept}
-use Rattle.table_store.specs.declared.fault.TableFault.{TableFault}
+use Rattle.table_store.specs.Stored.{value_of, values_of, AreLoaded}
+use Rattle.table_store.specs.Values.{IsByWord, shown_row}
+use Rattle.table_store.specs.Written.{AreItsRows, IsTableOfNoneOwn, RowsRise, SuitKept}
 use Rattle.table_store.specs.declared.name.TableName.TheVariants.{Kept}
-use Rattle.table_store.proofs.Fillings.{RowsRise, values-filled}
-use Rattle.table_store.proofs.Loads.{its-rows, loaded-permutes, unread-none, values-rise}
+use Rattle.table_store.proofs.Fillings.{values-filled}
+use Rattle.table_store.proofs.Loads.{its-rows, loaded-again, loaded-permutes, values-rise}
 
 -- ---- two loads of one tree
+
+-- the words of rows that are shown, or whatever stands first in them, rise
+abbrev RiseByWord : List Row → Type 0
+RiseByWord = IsAscending (λ a b. value_cmp (column a 0) (column b 0) ≡ Less)
 
 -- a row that is shown, with its word
 abbrev paired : Row → Row × Row
@@ -108,38 +109,22 @@ module _ {X : Type 0} (row_from : List Column → Option X) (columns : X → Lis
       each [] h = tt
       each (y ∷ ys) h = (sym (words-compare x y) ∙ h.0, each ys h.1)
 
-  kept-loaded : (tree : List Row) (rows : List X) → IsByWord tree (map (values_of columns) rows)
-      → map (row_of row_from) (map (values_of columns) rows) ≡ map (λ x. Some x) rows
-      → RiseByWord (map (values_of columns) rows) → AreItsRows row_from columns key_of Kept tree rows
-  kept-loaded tree rows loaded read rise =
-      its-rows row_from columns key_of Kept tree rows loaded read (values-filled key_of rows (rows-rise rows rise))
-      (λ t own holds.
-      once-by-word tree (map (values_of columns) rows) (map (values_of columns) (values t)) loaded holds rise)
+  module _ (tree : List Row) (rows : List X) (it : AreLoaded row_from columns Kept tree rows) where
+    loaded : IsByWord tree (map (values_of columns) rows)
+    loaded = subst (IsByWord tree) it.same it.loaded
 
-  module _ (tree shown : List Row) (loaded : IsByWord tree shown) where
+    pub kept-are : RowsRise key_of rows → AreItsRows row_from columns key_of Kept tree rows
+    kept-are rise =
+        its-rows row_from columns key_of Kept tree rows loaded (loaded-again row_from columns Kept tree rows it)
+        (values-filled key_of rows rise)
+        (λ t own holds.
+        once-by-word tree (map (values_of columns) rows) (map (values_of columns) (values t)) loaded holds
+        (told-rise rows rise))
+
     -- a tree with a word that stands twice is the table of no rows that stand under their words
-    pub repeated-none : ¬ RiseByWord shown → IsTableOfNoneOwn row_from columns key_of Kept tree
+    pub repeated-none : ¬ RowsRise key_of rows → IsTableOfNoneOwn row_from columns key_of Kept tree
     repeated-none falls t own is =
         let rise = told-rise (values t) (values-rise key_of t own) in
-        falls (subst RiseByWord
-        (sym (once-by-word tree (map (values_of columns) (values t)) shown is.holds loaded rise)) rise)
-
-    module _ {E : Type 0} where
-      pub kept-are : (r : Result (Vec X Global) E) → RiseByWord shown
-          → IfOk r (λ rows. map (row_of row_from) shown ≡ map (λ x. Some x) rows.items)
-          → IfOk r (λ rows. shown ≡ map (values_of columns) rows.items)
-          → IfOk r (λ rows. AreItsRows row_from columns key_of Kept tree rows.items)
-      kept-are (Ok rows) rise read told =
-          kept-loaded tree rows.items (subst (IsByWord tree) told loaded)
-          (subst (λ (vs : List Row). map (row_of row_from) vs ≡ map (λ x. Some x) rows.items) told read)
-          (subst RiseByWord told rise)
-      kept-are (Err e) rise read told = tt
-
-      pub unread-none-own : (r : Result E TableFault) → IfErr r (FailsToRead row_from shown)
-          → IfErr r (λ fault. IsBadRow fault → IsTableOfNoneOwn row_from columns key_of Kept tree)
-      unread-none-own r failed = go r (unread-none row_from columns Kept tree shown r loaded failed)
-        where
-          go : (r : Result E TableFault) → IfErr r (λ fault. IsBadRow fault → IsTableOfNone row_from columns Kept tree)
-              → IfErr r (λ fault. IsBadRow fault → IsTableOfNoneOwn row_from columns key_of Kept tree)
-          go (Ok x) none = tt
-          go (Err fault) none = λ bad t own. none bad t
+        falls (rows-rise rows (subst RiseByWord
+        (sym (once-by-word tree (map (values_of columns) (values t)) (map (values_of columns) rows) is.holds loaded rise))
+        rise))

@@ -23,3 +23,4 @@ pub mod Opening
 pub mod Shapes
 pub mod Rising
 pub mod KeptLoads
+pub mod Walks

@@ -12,13 +12,15 @@ use Rattle.sqlite.specs.Query.{Query, inner, end, IsAnswer, Output, output}
 use Rattle.sqlite.specs.Collation.TheVariants.{Binary}
 use Rattle.sqlite_value.specs.Keys.{ascending}
 use Rattle.sqlite.specs.Command.TheVariants.{Select}
-use Rattle.sqlite.specs.Listing.{understood, reads_listing}
-use Rattle.sqlite.specs.State.{State, Shown, ShowsRows, FailsToQuery, FailsToShow, IsNotRun}
+use Rattle.sqlite.specs.Effect.{Database}
+use Rattle.sqlite.specs.Listing.{understood, reads_listing, IsSourceOf}
+use Rattle.sqlite.specs.State.{State, Shown, ShowsRows, FailsToQuery, FailsToShow, IsNotRun, IsStatement}
 use Rattle.sqlite.specs.State.{IsUnchanged, IsRolledBack, CommitsShowing, Survives, HasCleanDisk}
 use Rattle.sqlite.specs.declared.error.Error.{Error}
 use Rattle.sqlite.specs.Clock.{timed}
-use Rattle.sqlite.proofs.Callers.{IsPlain, reads_as, never_commits}
+use Rattle.sqlite.proofs.Callers.{IsPlain, EndsIn, reads_as, never_commits}
 use Rattle.sqlite.proofs.StateLemmas.{survives_weaker}
+use Rattle.sqlite_resolve.specs.declared.compiled.Compiled.{Compiled}
 use Rattle.sqlite_tied.specs.Compute.{everything}
 use Rattle.table_store.specs.declared.name.TableName.{TableName}
 use Rattle.table_store.specs.declared.name.TableName.TheVariants.{Meta, Categories, Locations, Parts, Lines}
@@ -250,8 +252,17 @@ loads_table Spent old new rows has h =
     loads (tree_number Spent) (map (col 1) (places Spent)) [] (overlay old.now.trees []) rows
     has.shaped.0 (answer Spent old new rows has h)
 
-plain : (table : TableName) (s : State) → HasTable table s → IsPlain (understood s.now.schema (load_text table))
+pub plain : (table : TableName) (s : State) → HasTable table s → IsPlain (understood s.now.schema (load_text table))
 plain table s has = (of_command _ _ (means table s has).command).1
+
+-- the query has no recursion: rows that begin its answer are the first of a whole one
+pub begun_loads : (table : TableName) (s : State) → HasTable table s → (c : Compiled) (db : Database)
+    (it : IsStatement s (load_text table) [] c) → IsSourceOf (reads_listing s.now.schema (load_text table)) s.now db
+    → EndsIn c.command db (timed [] c.formats it.now)
+begun_loads table s has c db it source =
+    let command = subst (IsCommand (Select (record { lets = []; body = load_query table }) (headings table))) it.is
+    (means table s has).command in
+    subst (λ k. EndsIn k db (timed [] c.formats it.now)) (sym command.0) tt
 
 pub loading_changes_nothing : (table : TableName) (old new : State) (rows : List Row) → HasTable table old
     → Shown (load_text table) [] old new rows → IsUnchanged old new

@@ -8,3 +8,4 @@ pub mod Values
 pub mod Stored
 pub mod Written
 pub mod Opened
+pub mod Walked

@@ -3,14 +3,13 @@ use Rattle.std.specs.Prelude.{◌≡◌, ◌≢◌, ◌<◌, ◌⊎◌, ℕ, Boo
 use Rattle.sqlite.specs.declared.types.Value.{Value}
 use Rattle.sqlite.specs.declared.types.Value.TheVariants.{Null, Int, Text as Words}
 use Rattle.std.specs.List.Sorted.{IsPermutation}
-use Rattle.std.specs.declared.cmp.Ordering.TheVariants.{Less}
-use Rattle.sqlite.specs.Order.{Row, column, value_cmp}
+use Rattle.sqlite.specs.Order.{Row, column}
 use Rattle.sqlite.specs.Collation.TheVariants.{Binary}
 use Rattle.sqlite_value.specs.Keys.{ascending}
 use Rattle.sqlite_sql.specs.Query.{key_cmp}
 use Rattle.sqlite.specs.Kind.{Kind}
 use Rattle.sqlite.specs.Kind.TheVariants.{Integer, Text}
-use Rattle.sqlite.specs.Tree.{IsAscending, put_row, without_rowid}
+use Rattle.sqlite.specs.Tree.{put_row, without_rowid}
 use Rattle.sqlite.specs.Edit.{next_rowid}
 use Rattle.sqlite.specs.State.{State, Shows}
 use Rattle.sqlite_schema.specs.declared.schema.Column.{Column}
@@ -102,10 +101,6 @@ pub record IsByWord (rows shown : List Row) : Type 0 where
   pub same : IsPermutation (map (λ r. (column r 1 ∷ [], shown_row Kept r)) rows) pairs
   pub sorted : IsSorted (λ a b. key_cmp 0 (ascending Binary ∷ []) a.0 b.0) pairs
   pub shown_are : shown ≡ map (λ (p : Row × Row). p.1) pairs
-
--- the words of rows that are shown, or whatever stands first in them, rise
-abbrev pub RiseByWord : List Row → Type 0
-RiseByWord = IsAscending (λ a b. value_cmp (column a 0) (column b 0) ≡ Less)
 
 -- these are the rows of a table, in the order of its key
 abbrev pub IsLoaded : TableName → List Row → List Row → Type 0

@@ -3,25 +3,24 @@ ghost use Rattle.std.specs.Prelude.{◌≡◌, ◌↔◌, ◌⊎◌, ◌∷◌, 
 ghost use Rattle.std.specs.Prelude.{OnErr, IsTrue, MatchResult, ℕ, List, Some, map};
 ghost use Rattle.sqlite.specs.Held.{state};
 ghost use Rattle.sqlite.specs.State.{HasCleanDisk, IsUnchanged, IsRolledBack, Survives};
-ghost use Rattle.std.specs.declared.cmp.Ordering.TheVariants.{Less};
-ghost use Rattle.sqlite.specs.Order.{column, value_cmp};
 ghost use Rattle.sqlite_value.specs.Value.{owned};
 ghost use Rattle.sqlite_value.specs.declared.value.Value.TheVariants.{Int, Text};
 ghost use Rattle.part_core.specs.Columns.{Finds, Misses};
 ghost use Rattle.table_store.specs.Faults.{NamesTable};
 ghost use Rattle.table_store.specs.Stored.{column_of, columns_in, row_of, values_of};
-ghost use Rattle.table_store.specs.Stored.{AreLoaded, FailsToLoad, FailsToRead};
+ghost use Rattle.table_store.specs.Stored.{AreLoaded, FailsToLoad};
 ghost use Rattle.table_store.specs.Transactions.{IsBadRow, IsOfReading, IsOfStore, MayUndo};
-ghost use Rattle.table_store.specs.Values.{HasTable, HasTables, RiseByWord};
-ghost use Rattle.table_store.specs.Written.{tree_of, AreItsRows, IsTableOfNone, IsTableOfNoneOwn, Suits, SuitKept};
+ghost use Rattle.table_store.specs.Values.{HasTable, HasTables};
+ghost use Rattle.table_store.specs.Written.{tree_of, AreItsRows, IsTableOfNone, IsTableOfNoneOwn, RowsRise};
+ghost use Rattle.table_store.specs.Written.{Suits, SuitKept};
 ghost use Rattle.table_store.specs.declared.name.TableName.TheVariants.{Kept};
 
 use crate::fault::{Failed, TableFault};
 use crate::name::TableName;
 use crate::rows::load_rows;
-use part_core::{Column, ColumnFault, Stored};
+use crate::walk::each_row;
+use part_core::{Column, ColumnFault, Row as KeyedRow, RowKey, Stored};
 use sqlite::{Alter, Connection, Row};
-use sqlite_value::order::compare;
 use sqlite_value::value::ValueRef;
 use std::alloc::{AllocError, Global};
 
@@ -80,30 +79,12 @@ fn columns_of(alloc: Global, row: &Row) -> Result<Vec<Column>, ColumnFault>
 }
 
 /// The row of the machine that the row of the table is.
-fn row_of<R: Stored>(alloc: Global, row: &Row) -> Result<R, ColumnFault>
+pub(crate) fn row_of<R: Stored>(alloc: Global, row: &Row) -> Result<R, ColumnFault>
     ensures found { Finds result (row_of R.row_from row.now) }
     ensures told { IfOk result (λ read. values_of R.columns_of read ≡ row.now) }
 {
     let columns = columns_of(alloc, row)?;
     R::from_columns(alloc, columns.as_slice())
-}
-
-/// The rows of the machine that the rows of the table are.
-fn rows_of<R: Stored>(alloc: Global, table: TableName, rows: &[Row]) -> Result<Vec<R>, TableFault>
-    ensures read { IfOk result (λ read. map (row_of R.row_from) rows.now ≡ map Some read.items) }
-    ensures told { IfOk result (λ read. rows.now ≡ map (values_of R.columns_of) read.items) }
-    ensures failed { IfErr result (FailsToRead R.row_from rows.now) }
-    ensures named { IfErr result (NamesTable table) }
-{
-    let mut read = Vec::new(alloc);
-    for row in rows {
-        match row_of::<R>(alloc, row) {
-            Ok(row) => push(&mut read, row)?,
-            Err(ColumnFault::Memory) => return Err(TableFault::Memory),
-            Err(ColumnFault::NoRow) => return Err(TableFault::BadRow(Failed::bad_row(table))),
-        }
-    }
-    Ok(read)
 }
 
 /// All rows of a table under numbers, as rows of the machine, in the order of their numbers. The table may be one of
@@ -135,37 +116,27 @@ pub fn load_sheet<S: Alter, R: Stored>(
     ensures named { IfErr result (NamesTable table) }
     ensures crash { Survives (state S.Store conn.old) (state S.Store conn.new) (λ _. ⊥) }
 {
-    let rows = load_rows(conn, table)?;
-    rows_of(alloc, table, rows.as_slice())
+    let mut rows = Vec::new(alloc);
+    each_row::<S, R, Vec<R>>(alloc, conn, table, &mut rows)?;
+    Ok(rows)
 }
 
-/// The first value of a row.
-fn first_of(row: &Row) -> ValueRef<'_>
-    ensures { owned result ≡ column row.now 0 }
+/// Whether the key of each row is below that of the next: rows in the order of their words have no word twice.
+fn are_keys_rising<R: KeyedRow>(alloc: Global, rows: &[R]) -> Result<bool, AllocError>
+    ensures { IfOk result (λ rise. IsTrue rise ↔ RowsRise R.key_of rows.now) }
 {
-    match row.get_ref(0) {
-        Ok(value) => value,
-        Err(_) => ValueRef::Null,
-    }
-}
-
-/// Whether the first value of the one row is below that of the other.
-fn is_below(first: &Row, second: &Row) -> bool
-    ensures { IsTrue result ↔ (value_cmp (column first.now 0) (column second.now 0) ≡ Less) }
-{
-    compare(first_of(first), first_of(second)).is_lt()
-}
-
-/// Whether the first value of each row is below that of the next: rows that are shown by their words have no word twice.
-fn are_words_rising(rows: &[Row]) -> bool
-    ensures { IsTrue result ↔ RiseByWord rows.now }
-{
+    let Some(first) = rows.first() else {
+        return Ok(true);
+    };
+    let mut last = first.key(alloc)?;
     for at in 1..rows.len() {
-        if !is_below(&rows[at - 1], &rows[at]) {
-            return false;
+        let key = rows[at].key(alloc)?;
+        if !last.compare(&key).is_lt() {
+            return Ok(false);
         }
+        last = key;
     }
-    true
+    Ok(true)
 }
 
 /// All rows of `kept`, as rows of the machine, in the order of their words.
@@ -192,11 +163,13 @@ pub fn load_kept<S: Alter, R: Stored>(
     ensures named { IfErr result (NamesTable Kept) }
     ensures crash { Survives (state S.Store conn.old) (state S.Store conn.new) (λ _. ⊥) }
 {
-    let kept = load_rows(conn, TableName::Kept)?;
-    if !are_words_rising(kept.as_slice()) {
-        return Err(TableFault::BadRow(Failed::bad_row(TableName::Kept)));
+    let mut rows = Vec::new(alloc);
+    each_row::<S, R, Vec<R>>(alloc, conn, TableName::Kept, &mut rows)?;
+    if are_keys_rising(alloc, rows.as_slice())? {
+        Ok(rows)
+    } else {
+        Err(TableFault::BadRow(Failed::bad_row(TableName::Kept)))
     }
-    rows_of(alloc, TableName::Kept, kept.as_slice())
 }
 
 /// Whether a table has no row.

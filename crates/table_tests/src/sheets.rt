@@ -1,5 +1,5 @@
 //! Sheets go into their tables and come back.
-ghost use Rattle.std.specs.Prelude.{◌≡◌, ◌∷◌, ◌<◌, ◌^◌, [], false, IfOk, All};
+ghost use Rattle.std.specs.Prelude.{◌≡◌, ◌∷◌, ◌++◌, ◌<◌, ◌^◌, [], false, IfOk, All};
 ghost use Rattle.std.specs.FinMap.{empty};
 ghost use Rattle.sqlite.specs.Held.{state};
 ghost use Rattle.sqlite.specs.State.{HasCleanDisk};
@@ -14,14 +14,15 @@ ghost use Rattle.table_store.specs.Values.{HasTables};
 ghost use Rattle.table_store.specs.Written.{tree_of, IsReady, IsTableOf};
 ghost use Rattle.table_store.specs.declared.name.TableName.TheVariants.{Categories};
 
-use crate::tables::{committed, holds, made};
+use crate::tables::{committed, holds, location, made};
 use part_core::{Category, Name, Sheet};
 use sqlite::{Alter, Connection};
 use sqlite_value::value::ValueRef;
-use std::alloc::Global;
+use std::alloc::{AllocError, Global};
 use std::test::Fail;
 use table_store::{
-    TableFault, TableName, begin, commit, create_tables, load_sheet, put_row, write_pending,
+    TableFault, TableName, Visitor, begin, commit, create_tables, each_row, load_sheet, put_row,
+    write_pending,
 };
 
 /// Makes the tables, and begins the next transaction.
@@ -127,6 +128,41 @@ fn writes<S: Alter>(alloc: Global, conn: &mut Connection<S>) -> Result<(), Fail>
     )
 }
 
+/// Notes the numbers of the rows that come.
+#[derive(Drop)]
+struct Numbers {
+    seen: Vec<u64>,
+}
+
+impl Visitor<Category> for Numbers {
+    ghost takes = { λ old row new. new.seen.items ≡ old.seen.items ++ row.number ∷ [] };
+
+    ghost keeps = { λ old new. new.seen.items ≡ old.seen.items };
+
+    fn take(&mut self, row: Category) -> Result<(), AllocError> {
+        Ok(self.seen.push(row.number)?)
+    }
+}
+
+/// The numbers of three locations, as they are handed on.
+fn walked<S: Alter>(alloc: Global, conn: &mut Connection<S>) -> Result<Vec<u64>, Fail>
+    requires bare { HasCleanDisk (state S.Store conn.old)
+        → (state S.Store conn.old).now.schema ≡ schema_up_to 0 }
+    requires free { HasCleanDisk (state S.Store conn.old)
+        → (state S.Store conn.old).in_transaction ≡ false }
+{
+    made(conn)?;
+    location(conn, 20, 1)?;
+    location(conn, 30, 1)?;
+    location(conn, 10, 1)?;
+    committed(conn)?;
+    let mut numbers = Numbers {
+        seen: Vec::new(alloc),
+    };
+    each_row::<S, Category, Numbers>(alloc, conn, TableName::Locations, &mut numbers)?;
+    Ok(numbers.seen)
+}
+
 /// A location whose parent is this number is loaded as this fault, or as none.
 fn loads<S: Alter>(
     alloc: Global,
@@ -159,6 +195,14 @@ fn a_sheet_is_written_again_and_loaded(rt: HostRuntime) -> Result<(), Fail> {
     let alloc = rt.alloc();
     let mut conn = Connection::open_in_memory(alloc)?;
     writes(alloc, &mut conn)
+}
+
+#[test]
+fn each_row_is_handed_on_in_order(rt: HostRuntime) -> Result<(), Fail> {
+    let alloc = rt.alloc();
+    let mut conn = Connection::open_in_memory(alloc)?;
+    let numbers = walked(alloc, &mut conn)?;
+    holds(numbers.as_slice() == [10, 20, 30].as_slice(), "each row")
 }
 
 #[test]
