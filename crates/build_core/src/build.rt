@@ -2,7 +2,7 @@
 ghost use Rattle.std.specs.Prelude.{◌≡◌, ◌∷◌, []};
 ghost use Rattle.part_core.specs.Columns.{Finds};
 ghost use Rattle.build_core.specs.BuildColumns.{build_columns, build_from, state_at};
-ghost use Rattle.build_core.specs.BuildKeys.{build_keys, open_key, open_of_key};
+ghost use Rattle.build_core.specs.BuildKeys.{build_keys, open_key};
 
 use crate::state::BuildState;
 use part_core::column::{has, number_at};
@@ -22,27 +22,15 @@ pub struct Build {
     pub done: Quantity,
 }
 
-/// What an open build is looked up by, besides its number. One that isn't open is found by its number alone.
+/// What the open builds are looked up by, besides their numbers. One that isn't open is found by its number alone.
 #[derive(Clone, Copy, Debug, PartialEq, Eq, Hash)]
-pub enum BuildLookup {
-    /// That it is open.
-    Open,
-    /// Its part.
-    OpenOf(Id),
-}
+pub struct OpenBuilds;
 
 /// The index key of the open builds.
 pub fn open_key() -> u64
     ensures { result ≡ open_key }
 {
-    index_key_of(BuildLookup::Open)
-}
-
-/// The index key of the open builds of the part.
-pub fn open_of_key(part: Id) -> u64
-    ensures { result ≡ open_of_key part }
-{
-    index_key_of(BuildLookup::OpenOf(part))
+    index_key_of(OpenBuilds)
 }
 
 /// The state in the column.
@@ -98,7 +86,6 @@ impl Indexed for Build {
         }
         match place {
             0 => Some(open_key()),
-            1 => Some(open_of_key(self.part)),
             _ => None,
         }
     }

@@ -9,13 +9,13 @@ ghost use Rattle.part_core.specs.Filled.{StandUnderKeys};
 ghost use Rattle.part_core.specs.Rows.{IsThere};
 ghost use Rattle.build_core.specs.Builds.{build_in, in_state, is_open, open_parts, put_build, with_done};
 
-use crate::build::{Build, open_key, open_of_key};
+use crate::build::{Build, open_key};
 use crate::spent::{Spent, amount_on, is_spent_on, spent_build_key, spent_key};
 use crate::state::BuildState;
 use part_core::{Id, IndexedSheet, Quantity, Row, Sheet};
 use std::alloc::{AllocError, Global};
 
-/// The rows of builds, the open ones found by their part too, and what was spent on their lines, found by build and by
+/// The rows of builds, the open ones found as such, and what was spent on their lines, found by build and by
 /// build and line.
 pub struct Builds {
     rows: IndexedSheet<Build>,
@@ -60,7 +60,7 @@ fn remove_all(rows: &mut IndexedSheet<Spent>, numbers: &[Id]) -> Result<(), Allo
 }
 
 impl Builds {
-    ghost use Rattle.build_core.specs.BuildsView.{builds_before, builds_from, builds_now, has_open};
+    ghost use Rattle.build_core.specs.BuildsView.{builds_before, builds_from, builds_now};
     ghost use Rattle.build_core.specs.BuildsView.{spent_before, spendings_from, spent_now};
     ghost use Rattle.build_core.specs.RowTests.{is_again};
     ghost use Rattle.build_core.specs.Spent.{is_spent_on, put_spent, spent_on, spent_row, unspent};
@@ -198,15 +198,6 @@ impl Builds {
         ensures { result ≡ is_some (table.get (builds_now self.now) (number ∷ [])) }
     {
         self.rows.get(number).is_some()
-    }
-
-    /// Whether the part has an open build. It looks at such builds alone, and takes no memory.
-    pub fn has_open(&self, part: Id) -> bool
-        ensures { result ≡ has_open part (builds_now self.now) }
-    {
-        self.rows.any_under(open_of_key(part), |row| {
-            row.state.is_open() && row.part == part
-        })
     }
 
     /// The parts with an open build, in order of the builds' numbers: one of several builds stands there

@@ -16,8 +16,8 @@ ghost use Rattle.order_core.specs.Sound.{AreSoundOrders, IsSoundPurpose};
 use crate::line::OrderLine;
 use crate::orders::Orders;
 use alloc_core::{Allocation, Allocations, Purpose};
-use part_core::{Catalogue, Counter, Id, is_bad_quantity, is_drawn};
-use stock_core::part_at;
+use part_core::{Catalogue, Id, is_bad_quantity, is_drawn};
+use stock_core::{Floor, part_at};
 use yard_core::Yard;
 
 /// Whether what is done of the line, and what is allocated for it besides, are not more than it asks for.
@@ -91,28 +91,24 @@ impl Orders {
         !self.lines().any(|row| !is_within(allocations, row))
     }
 
-    fn are_sound_sales(&self, allocations: &Allocations, yard: &Yard, counter: &Counter) -> bool
-        ensures { let b = order_books self.now allocations.now yard.now counter.now in
+    fn are_sound_sales(&self, floor: &Floor) -> bool
+        ensures { let b = order_books self.now floor.now in
             IsTrue result ↔ EachRow (λ a. IsSoundPurpose b a.item a.purpose) b.allocations }
     {
-        let _ = counter;
-        !allocations
+        let yard = &floor.stock.yard;
+        !floor
+            .allocations
             .rows()
             .any(|row| !self.is_sound_purpose(yard, row))
     }
 
     /// Whether the orders are sound beside the catalogue, the allocations, the stock and the numbers that were drawn.
-    pub fn is_sound(
-        &self,
-        catalogue: &Catalogue,
-        allocations: &Allocations,
-        yard: &Yard,
-        counter: &Counter,
-    ) -> bool
+    pub fn is_sound(&self, catalogue: &Catalogue, floor: &Floor) -> bool
         requires { StandUnderKeys (λ o. o.number ∷ []) (now_of self.now.orders) }
         ensures { IsTrue result ↔ AreSoundOrders (parts_of catalogue.now)
-            (order_books self.now allocations.now yard.now counter.now) }
+            (order_books self.now floor.now) }
     {
+        let counter = &floor.stock.counter;
         if !self.are_orders_drawn(counter.next()) {
             return false;
         }
@@ -122,9 +118,9 @@ impl Orders {
         if !self.have_rows(catalogue) {
             return false;
         }
-        if !self.are_within(allocations) {
+        if !self.are_within(&floor.allocations) {
             return false;
         }
-        self.are_sound_sales(allocations, yard, counter)
+        self.are_sound_sales(floor)
     }
 }

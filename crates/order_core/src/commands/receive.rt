@@ -1,26 +1,25 @@
 //! Stock comes by a line of a purchase.
-ghost use Rattle.std.specs.Prelude.{◌≡◌, ◌+◌, OnOk, None, nat_lt};
+ghost use Rattle.std.specs.Prelude.{ℕ, ◌≡◌, ◌+◌, OnOk, None, nat_lt};
+ghost use Rattle.part_core.specs.Catalogue.{Parts};
 ghost use Rattle.part_core.specs.CatalogueView.{parts_of};
 ghost use Rattle.part_core.specs.Checks.{first};
 ghost use Rattle.part_core.specs.Day.{CivilDay};
 ghost use Rattle.stock_core.specs.Sound.{AreSoundItems};
 ghost use Rattle.stock_core.specs.Steps.{make_new};
-ghost use Rattle.yard_core.specs.StockBooks.{stock_books_of, is_full};
+ghost use Rattle.yard_core.specs.StockBooks.{is_full};
+ghost use Rattle.yard_core.specs.BooksView.{books_now};
 ghost use Rattle.order_core.specs.Receive.{arrival_at, receive, receive_checks};
 ghost use Rattle.order_core.specs.OrderBooks.{AreSoundSomehow, Does, order_books, order_books_before};
 
 use crate::order_books::finish;
 use crate::orders::Orders;
-use alloc_core::Allocations;
-use part_core::{
-    Answer, Catalogue, CoreFault, Counter, Day, Id, Quantity, Refusal, is_bad_quantity,
-};
-use std::alloc::{AllocError, Global};
+use part_core::{Answer, Catalogue, CoreFault, Day, Id, Quantity, Refusal, is_bad_quantity};
+use std::alloc::AllocError;
 use stock_core::{
-    Arrival, NewStock, count_of, is_no_location, lacks_room, make_new, names_many, names_needless,
-    names_other_count, names_taken,
+    Arrival, Floor, NewStock, count_of, is_no_location, lacks_room, make_new, names_many,
+    names_needless, names_other_count, names_taken,
 };
-use yard_core::{Kind, Place, Yard};
+use yard_core::{Kind, Place, YardBooks};
 
 /// Whether that much more beside what is done is above the most.
 fn is_over(most: Quantity, done: Quantity, more: Quantity) -> bool
@@ -30,30 +29,29 @@ fn is_over(most: Quantity, done: Quantity, more: Quantity) -> bool
 }
 
 /// Whether the limits leave no room for it: each new item needs a number and an entry.
-fn is_full(yard: &Yard, counter: &Counter, part: Id, location: Id, new: &NewStock) -> bool
-    requires { AreSoundItems (stock_books_of yard.now counter.now) }
-    ensures { (day : CivilDay) → result ≡ is_full
-        (make_new (arrival_at part location) new.now day (stock_books_of yard.now counter.now)) }
+fn is_full(books: &YardBooks, new: &NewStock) -> bool
+    requires { AreSoundItems (books_now books.now) }
+    ensures { (part location : ℕ) (day : CivilDay) → result ≡ is_full
+        (make_new (arrival_at part location) new.now day (books_now books.now)) }
 {
     let count = count_of(new);
-    lacks_room(yard, counter, count, count)
+    lacks_room(books, count, count)
 }
 
 /// Why nothing is received.
 fn receive_refusal(
     catalogue: &Catalogue,
     orders: &Orders,
-    allocations: &Allocations,
-    yard: &Yard,
-    counter: &Counter,
+    floor: &Floor,
     line: Id,
     location: Id,
     new: &NewStock,
 ) -> Option<Refusal>
-    requires { AreSoundItems (stock_books_of yard.now counter.now) }
+    requires { AreSoundItems (books_now floor.now.stock) }
     ensures { (day : CivilDay) → result ≡ first (receive_checks line location new.now day
-        (parts_of catalogue.now) (order_books orders.now allocations.now yard.now counter.now)) }
+        (parts_of catalogue.now) (order_books orders.now floor.now)) }
 {
+    let yard = &floor.stock.yard;
     let Some(row) = orders.line(line) else {
         return Some(Refusal::NoSuch);
     };
@@ -81,7 +79,7 @@ fn receive_refusal(
     if names_taken(catalogue, yard, row.part, new) {
         return Some(Refusal::SerialTaken);
     }
-    if is_full(yard, counter, row.part, location, new) {
+    if is_full(&floor.stock, new) {
         return Some(Refusal::Full);
     }
     None
@@ -89,25 +87,21 @@ fn receive_refusal(
 
 /// Makes the new items, and so much more of the line is done.
 fn arrive(
-    alloc: Global,
-    catalogue: &Catalogue,
     orders: &mut Orders,
-    allocations: &Allocations,
-    yard: &mut Yard,
-    counter: &mut Counter,
+    floor: &mut Floor,
     day: Day,
     line: Id,
     location: Id,
     new: &NewStock,
 ) -> Result<(), AllocError>
-    requires sound { AreSoundSomehow (order_books orders.old allocations.now yard.old counter.old) }
-    requires checked { first (receive_checks line location new.now day (parts_of catalogue.now)
-        (order_books orders.old allocations.now yard.old counter.old)) ≡ None }
-    ensures ok { OnOk result (order_books orders.new allocations.now yard.new counter.new
+    requires sound { AreSoundSomehow (order_books orders.old floor.old) }
+    requires checked { (parts : Parts) × (first (receive_checks line location new.now day parts
+        (order_books orders.old floor.old)) ≡ None) }
+    ensures ok { OnOk result (order_books orders.new floor.new
         ≡ receive line location new.now day
-        (order_books orders.old allocations.now yard.old counter.old)) }
-    ensures before { order_books_before orders.new allocations.now yard.new counter.new
-        ≡ order_books_before orders.old allocations.now yard.old counter.old }
+        (order_books orders.old floor.old)) }
+    ensures before { order_books_before orders.new floor.new
+        ≡ order_books_before orders.old floor.old }
 {
     let part = match orders.line(line) {
         Some(row) => row.part,
@@ -118,7 +112,7 @@ fn arrive(
         place: Place::At(location),
         part,
     };
-    make_new(alloc, yard, counter, arrival, new, day)?;
+    make_new(&mut floor.stock, arrival, new, day)?;
     orders.add_done(line, new.quantity)
 }
 
@@ -130,51 +124,28 @@ fn arrive(
 /// where one stands twice in the list or is held in the part's family, and `Full` where there aren't so many
 /// numbers or entries left.
 pub fn receive(
-    alloc: Global,
     catalogue: &Catalogue,
     orders: &mut Orders,
-    allocations: &mut Allocations,
-    yard: &mut Yard,
-    counter: &mut Counter,
+    floor: &mut Floor,
     day: Day,
     line: Id,
     location: Id,
     new: &NewStock,
 ) -> Result<Answer, CoreFault>
-    requires nothing_pending { order_books_before orders.old allocations.old yard.old counter.old
-        ≡ order_books orders.old allocations.old yard.old counter.old }
-    requires sound { AreSoundSomehow (order_books orders.old allocations.old yard.old counter.old) }
-    ensures does { let b = order_books orders.old allocations.old yard.old counter.old in
+    requires nothing_pending { order_books_before orders.old floor.old
+        ≡ order_books orders.old floor.old }
+    requires sound { AreSoundSomehow (order_books orders.old floor.old) }
+    ensures does { let b = order_books orders.old floor.old in
         Does (receive_checks line location new.now day (parts_of catalogue.now) b)
         (receive line location new.now day b) b result
-        (order_books orders.new allocations.new yard.new counter.new) }
-    ensures before { order_books_before orders.new allocations.new yard.new counter.new
-        ≡ order_books_before orders.old allocations.old yard.old counter.old }
+        (order_books orders.new floor.new) }
+    ensures before { order_books_before orders.new floor.new
+        ≡ order_books_before orders.old floor.old }
 {
-    let refusal = receive_refusal(
-        catalogue,
-        orders,
-        allocations,
-        yard,
-        counter,
-        line,
-        location,
-        new,
-    );
+    let refusal = receive_refusal(catalogue, orders, floor, line, location, new);
     if let Some(refusal) = refusal {
         return Err(CoreFault::Refused(refusal));
     }
-    let made = arrive(
-        alloc,
-        catalogue,
-        orders,
-        allocations,
-        yard,
-        counter,
-        day,
-        line,
-        location,
-        new,
-    );
-    finish(alloc, orders, allocations, yard, counter, made)
+    let made = arrive(orders, floor, day, line, location, new);
+    finish(orders, floor, made)
 }

@@ -7,7 +7,7 @@ use Rattle.order_core.proofs.orders.Orders.are_sound_sales.Goals as goal
 
 pub returns : goal.returns
 returns c =
-    let b = order_books c.args.self.now c.args.allocations.now c.args.yard.now c.args.counter.now in
+    let b = order_books c.args.self.now c.args.floor.now in
     each-tested (λ a. is_sound_purpose b.orders b.lines b.books.stock a.item a.purpose) _ b.allocations
     (λ a. purpose-is b a.item a.purpose) c.any.result
     (rw c.rows.ensures.value

@@ -48,7 +48,7 @@ returns-then-not-are_within c = (
   λ no. (let e : false ≡ true = no in cc),
   λ sound.
       let within : EachRow
-      (λ l. l.done + allocated_for_sale_line l.number (allocations_now c.args.allocations.now) ≤ l.quantity)
+      (λ l. l.done + allocated_for_sale_line l.number (allocations_now c.args.floor.now.allocations) ≤ l.quantity)
       (now_of c.args.self.now.lines) =
       (λ k l at. (sound.each_line k l at).needed) in
       let no : false ≡ true = sym c.if-not-are_within.true ∙ c.are_within.ensures.1 within in
