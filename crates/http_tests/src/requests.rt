@@ -36,7 +36,8 @@ fn other_methods(rt: HostRuntime) -> Result<(), Fail> {
 }
 
 /// Targets that begin as one of a report does, or nearly.
-const NO_REPORTS: [&str; 9] = [
+const NO_REPORTS: [&str; 10] = [
+    "GET /report/price/1 HTTP/1.1\r\n\r\n",
     "POST /report/price/1 HTTP/1.1\r\n\r\n",
     "GET /report/Ledger/1 HTTP/1.1\r\n\r\n",
     "GET /report/ledger/ HTTP/1.1\r\n\r\n",

@@ -4,6 +4,8 @@
 #[cfg(test)]
 mod delivery;
 #[cfg(test)]
+mod ends;
+#[cfg(test)]
 mod imports;
 #[cfg(test)]
 mod loopback;
