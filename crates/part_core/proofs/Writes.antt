@@ -11,7 +11,7 @@ use Rattle.indexmap.specs.IndexMap.{set_value_at}
 use Rattle.part_core.specs.declared.slots.Held.{Held}
 use Rattle.part_core.specs.Sheet.{IsDistinct, given}
 use Rattle.part_core.specs.Slots.{entry_of, slots_of, noted, now_row, row_before, table_by, noted_at}
-use Rattle.part_core.specs.Slots.{ArePlaces, IsSound, NoneFrom, IsUnnoted}
+use Rattle.part_core.specs.Slots.{ArePlaces, AreSlots, IsSound, NoneFrom, IsUnnoted}
 use Rattle.part_core.proofs.Entries.{find_in, IsDistinct-set, IsDistinct-push}
 use Rattle.part_core.proofs.SlotLemmas.{get-slot, len-put_same, table-written, table-same, table-added, table-added_none}
 use Rattle.part_core.proofs.Noted.{noted_at-set_same, noted_at-set_other, noted_at-push_same}
@@ -49,13 +49,13 @@ module _ {K X : Type 0} (digits : K → List ℕ) (es : List (K × Held X)) wher
     pub unnoted-written : noted w ≡ 0 → IsUnnoted (slots_of digits es) (slots_of digits (set_value_at es i w)) i
     unnoted-written none = record { here = noted-here ∙ none; others = noted-others }
 
-    pub places-pushed : (is : List ℕ) → ArePlaces is (slots_of digits es) → noted h ≡ 0 → noted w ≡ 1
+    places-pushed : (is : List ℕ) → ArePlaces is (slots_of digits es) → noted h ≡ 0 → noted w ≡ 1
         → ArePlaces (is ++ i ∷ []) (slots_of digits (set_value_at es i w))
     places-pushed is p old new =
         ArePlaces-push is (slots_of digits es) p i (slots_of digits (set_value_at es i w))
         (noted_at-slot (slots_of digits es) i (k, h) at ∙ old) (noted-here ∙ new) noted-others
 
-    pub places-same : (is : List ℕ) → ArePlaces is (slots_of digits es) → noted w ≡ noted h
+    places-same : (is : List ℕ) → ArePlaces is (slots_of digits es) → noted w ≡ noted h
         → ArePlaces is (slots_of digits (set_value_at es i w))
     places-same is p same =
         ArePlaces-same is (slots_of digits es) p (slots_of digits (set_value_at es i w)) (λ j. by j (same_or_other j i))
@@ -89,6 +89,16 @@ module _ {K X : Type 0} (digits : K → List ℕ) (es : List (K × Held X)) wher
           → table_by f (slots_of digits (set_value_at es i w)) ≡ table_by f (slots_of digits es)
       rows-same f same = ap (table_by f) written ∙ table-same f (slots_of digits es) i k h w d at same
 
+    pub slots-pushed : (is : List ℕ) → AreSlots (slots_of digits es) is → noted h ≡ 0 → noted w ≡ 1
+        → AreSlots (slots_of digits (set_value_at es i w)) (is ++ i ∷ [])
+    slots-pushed is s old new =
+        record { distinct = distinct-written s.distinct; places = places-pushed is s.places old new }
+
+    pub slots-same : (is : List ℕ) → AreSlots (slots_of digits es) is → noted w ≡ noted h
+        → AreSlots (slots_of digits (set_value_at es i w)) is
+    slots-same is s same =
+        record { distinct = distinct-written s.distinct; places = places-same is s.places same }
+
     -- a row is put over another, and what was before stays
     pub sound-put : (is : List ℕ) (len length_before : ℕ) (x : X)
         → IsSound (slots_of digits es) is len length_before → is_some (now_row h) ≡ true → now_row w ≡ Some x
@@ -96,12 +106,12 @@ module _ {K X : Type 0} (digits : K → List ℕ) (es : List (K × Held X)) wher
         → IsSound (slots_of digits (set_value_at es i w)) is len length_before
     sound-put is len length_before x sound some now before same =
         let m = table_by now_row (slots_of digits es) in
-        let has = sym (ap is_some (get-slot now_row (slots_of digits es) i k h sound.distinct at) ∙ some) in
+        let d = sound.slots.distinct in
+        let has = sym (ap is_some (get-slot now_row (slots_of digits es) i k h d at) ∙ some) in
         record {
-          distinct = distinct-written sound.distinct;
-          places = places-same is sound.places same;
-          len = sound.len ∙ sym (ap table.len (rows-put sound.distinct x now) ∙ len-put_same m k x true has refl);
-          length_before = sound.length_before ∙ sym (ap table.len (rows-same sound.distinct row_before before));
+          slots = slots-same is sound.slots same;
+          len = sound.len ∙ sym (ap table.len (rows-put d x now) ∙ len-put_same m k x true has refl);
+          length_before = sound.length_before ∙ sym (ap table.len (rows-same d row_before before));
         }
 
   -- a slot is put last
@@ -119,10 +129,10 @@ module _ {K X : Type 0} (digits : K → List ℕ) (es : List (K × Held X)) wher
     rows-added_none f nothing =
         ap (table_by f) pushed ∙ table-added_none f (slots_of digits es) (digits k) h d none nothing
 
-    pub distinct-added : IsDistinct (slots_of digits (es ++ (k, h) ∷ []))
+    distinct-added : IsDistinct (slots_of digits (es ++ (k, h) ∷ []))
     distinct-added = subst IsDistinct (sym pushed) (IsDistinct-push (slots_of digits es) (digits k) h d none)
 
-    pub places-added : (is : List ℕ) → ArePlaces is (slots_of digits es) → noted h ≡ 1
+    places-added : (is : List ℕ) → ArePlaces is (slots_of digits es) → noted h ≡ 1
         → ArePlaces (is ++ length es ∷ []) (slots_of digits (es ++ (k, h) ∷ []))
     places-added is p one =
         let n : length (slots_of digits es) ≡ length es = length-slots digits es in
@@ -134,6 +144,10 @@ module _ {K X : Type 0} (digits : K → List ℕ) (es : List (K × Held X)) wher
         (λ j other. noted_at-push_other (slots_of digits es) j (digits k, h) other) in
         subst (λ l. ArePlaces (is ++ length es ∷ []) l) (sym pushed)
         (subst (λ m. ArePlaces (is ++ m ∷ []) (slots_of digits es ++ (digits k, h) ∷ [])) n push)
+
+    pub slots-added : (is : List ℕ) → ArePlaces is (slots_of digits es) → noted h ≡ 1
+        → AreSlots (slots_of digits (es ++ (k, h) ∷ [])) (is ++ length es ∷ [])
+    slots-added is p one = record { distinct = distinct-added; places = places-added is p one }
 
   -- a slot is taken out
   module _ (i : ℕ) (e : K × Held X) (at : slice_get es i ≡ Some e) where

@@ -85,9 +85,13 @@ module _ {X : Type 0} where
     pub here : noted_at new i ≡ 0
     pub others : (j : ℕ) → j ≢ i → noted_at new j ≡ noted_at old j
 
-  -- no key stands twice, the places of the changes are known, and so are the numbers of rows
-  pub record IsSound (es : List (List ℕ × Held X)) (changed : List ℕ) (rows rows_before : ℕ) : Type 0 where
+  -- no key stands twice, and these are the places of the changes
+  pub record AreSlots (es : List (List ℕ × Held X)) (changed : List ℕ) : Type 0 where
     pub distinct : IsDistinct es
     pub places : ArePlaces changed es
+
+  -- with the numbers of rows, now and before
+  pub record IsSound (es : List (List ℕ × Held X)) (changed : List ℕ) (rows rows_before : ℕ) : Type 0 where
+    pub slots : AreSlots es changed
     pub len : rows ≡ table.len (table_by now_row es)
     pub length_before : rows_before ≡ table.len (table_by row_before es)

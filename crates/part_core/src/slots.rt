@@ -7,7 +7,7 @@ ghost use Rattle.std.specs.List.Sorted.{IsPermutation, IsSortedByKey};
 ghost use Rattle.std.specs.FinMap as table;
 ghost use Rattle.part_core.specs.Sheet.{key_cmp, HasKeyAt, IsDifference, IsDistinct, IsEachOnce, given};
 ghost use Rattle.part_core.specs.Select.{IsMeasure, IsTest};
-ghost use Rattle.part_core.specs.Slots.{ArePlaces, IsUnnoted, NoneFrom, is_changed, noted_at, now_row};
+ghost use Rattle.part_core.specs.Slots.{AreSlots, IsUnnoted, NoneFrom, is_changed, noted_at, now_row};
 ghost use Rattle.part_core.specs.Slots.{row_before, row_found, rows_by, slots_of, table_by};
 
 use crate::row::{Row, RowKey};
@@ -189,10 +189,8 @@ pub(crate) fn rewrite<R: Row>(
     row: Option<R>,
 ) -> Result<bool, AllocError>
     requires in_range { i < length slots.old.entries }
-    requires distinct { IsDistinct (slots_of R.Key.digits slots.old.entries) }
-    requires places { ArePlaces changed.old.items (slots_of R.Key.digits slots.old.entries) }
-    ensures distinct { IsDistinct (slots_of R.Key.digits slots.new.entries) }
-    ensures places { ArePlaces changed.new.items (slots_of R.Key.digits slots.new.entries) }
+    requires slots { AreSlots (slots_of R.Key.digits slots.old.entries) changed.old.items }
+    ensures slots { AreSlots (slots_of R.Key.digits slots.new.entries) changed.new.items }
     ensures rows { OnOk result ((k : List ℕ)
         → HasKeyAt (slots_of R.Key.digits slots.old.entries) i k
         → table_by now_row (slots_of R.Key.digits slots.new.entries)
@@ -234,10 +232,8 @@ pub(crate) fn add<R: Row>(
     requires absent { table.find key_cmp (R.Key.digits key)
         (slots_of R.Key.digits slots.old.entries)
         ≡ None }
-    requires distinct { IsDistinct (slots_of R.Key.digits slots.old.entries) }
-    requires places { ArePlaces changed.old.items (slots_of R.Key.digits slots.old.entries) }
-    ensures distinct { IsDistinct (slots_of R.Key.digits slots.new.entries) }
-    ensures places { ArePlaces changed.new.items (slots_of R.Key.digits slots.new.entries) }
+    requires slots { AreSlots (slots_of R.Key.digits slots.old.entries) changed.old.items }
+    ensures slots { AreSlots (slots_of R.Key.digits slots.new.entries) changed.new.items }
     ensures rows { OnOk result (table_by now_row (slots_of R.Key.digits slots.new.entries)
         ≡ table.insert
         (table_by now_row (slots_of R.Key.digits slots.old.entries)) (R.Key.digits key) row) }
@@ -305,10 +301,8 @@ fn back_at<R: Row>(slots: &mut IndexMap<R::Key, Held<R>>, i: usize)
 
 // Makes the changes final, from the last place on. It takes no memory.
 pub(crate) fn keep_all<R: Row>(slots: &mut IndexMap<R::Key, Held<R>>, changed: &mut Vec<usize>)
-    requires distinct { IsDistinct (slots_of R.Key.digits slots.old.entries) }
-    requires places { ArePlaces changed.old.items (slots_of R.Key.digits slots.old.entries) }
-    ensures distinct { IsDistinct (slots_of R.Key.digits slots.new.entries) }
-    ensures places { ArePlaces changed.new.items (slots_of R.Key.digits slots.new.entries) }
+    requires slots { AreSlots (slots_of R.Key.digits slots.old.entries) changed.old.items }
+    ensures slots { AreSlots (slots_of R.Key.digits slots.new.entries) changed.new.items }
     ensures rows { table_by now_row (slots_of R.Key.digits slots.new.entries)
         ≡ table_by now_row (slots_of R.Key.digits slots.old.entries) }
     ensures before { table_by row_before (slots_of R.Key.digits slots.new.entries)
@@ -322,10 +316,8 @@ pub(crate) fn keep_all<R: Row>(slots: &mut IndexMap<R::Key, Held<R>>, changed: &
 
 // Takes the changes back, from the last place on. It takes no memory.
 pub(crate) fn back_all<R: Row>(slots: &mut IndexMap<R::Key, Held<R>>, changed: &mut Vec<usize>)
-    requires distinct { IsDistinct (slots_of R.Key.digits slots.old.entries) }
-    requires places { ArePlaces changed.old.items (slots_of R.Key.digits slots.old.entries) }
-    ensures distinct { IsDistinct (slots_of R.Key.digits slots.new.entries) }
-    ensures places { ArePlaces changed.new.items (slots_of R.Key.digits slots.new.entries) }
+    requires slots { AreSlots (slots_of R.Key.digits slots.old.entries) changed.old.items }
+    ensures slots { AreSlots (slots_of R.Key.digits slots.new.entries) changed.new.items }
     ensures rows { table_by now_row (slots_of R.Key.digits slots.new.entries)
         ≡ table_by row_before (slots_of R.Key.digits slots.old.entries) }
     ensures before { table_by row_before (slots_of R.Key.digits slots.new.entries)
@@ -435,8 +427,7 @@ pub(crate) fn list_pending<'a, R: Row>(
     slots: &'a IndexMap<R::Key, Held<R>>,
     changed: &[usize],
 ) -> Result<Vec<Pending<'a, R>>, AllocError>
-    requires distinct { IsDistinct (slots_of R.Key.digits slots.now.entries) }
-    requires places { ArePlaces changed.now (slots_of R.Key.digits slots.now.entries) }
+    requires { AreSlots (slots_of R.Key.digits slots.now.entries) changed.now }
     ensures once { IfOk result (λ pending.
         IsEachOnce (map (λ p. R.Key.digits p.key.now) pending.items)) }
     ensures exact { IfOk result (λ pending.
@@ -470,13 +461,11 @@ pub(crate) fn note<R: Row>(
     changed: &mut Vec<usize>,
     key: &R::Key,
 ) -> Result<usize, AllocError>
-    requires distinct { IsDistinct (slots_of R.Key.digits slots.old.entries) }
-    requires places { ArePlaces changed.old.items (slots_of R.Key.digits slots.old.entries) }
+    requires slots { AreSlots (slots_of R.Key.digits slots.old.entries) changed.old.items }
     requires present { IsSome
         (table.get (table_by now_row (slots_of R.Key.digits slots.old.entries))
         (R.Key.digits key.now)) }
-    ensures distinct { IsDistinct (slots_of R.Key.digits slots.new.entries) }
-    ensures places { ArePlaces changed.new.items (slots_of R.Key.digits slots.new.entries) }
+    ensures slots { AreSlots (slots_of R.Key.digits slots.new.entries) changed.new.items }
     ensures rows { table_by now_row (slots_of R.Key.digits slots.new.entries)
         ≡ table_by now_row (slots_of R.Key.digits slots.old.entries) }
     ensures before { table_by row_before (slots_of R.Key.digits slots.new.entries)

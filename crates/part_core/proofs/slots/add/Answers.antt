@@ -4,28 +4,19 @@ use Rattle.part_core.specs.declared.slots.Held.{Held}
 use Rattle.part_core.specs.declared.slots.Held.TheVariants.{Added}
 use Rattle.part_core.specs.Slots.{now_row, row_before}
 use Rattle.part_core.proofs.Lookups.{find-lookup}
-use Rattle.part_core.proofs.Writes.{rows-added, rows-added_none, distinct-added, places-added}
+use Rattle.part_core.proofs.Writes.{rows-added, rows-added_none, slots-added}
 use Rattle.part_core.proofs.slots.add.Goals as goal
 
-pub returns-clause-distinct : goal.returns-clause-distinct
-returns-clause-distinct g c =
-    let digits = g.R.Key.RowKey.digits in
-    let es = c.args.slots.now.entries in
-    let h : Held g.row.R.Denot = Added c.args.row in
-    let none = sym (find-lookup digits _ g.met.R.Key.RowKey.exact es c.args.key) ∙ c.requires.absent in
-    let is = c.in_ok-insert.ensures.entries ∙ insert_entry-new _ c.args.slots.now c.args.key h none in
-    rw is (distinct-added digits es c.args.key h c.requires.distinct c.requires.absent)
-
-pub returns-clause-places : goal.returns-clause-places
-returns-clause-places g c =
+pub returns-clause-slots : goal.returns-clause-slots
+returns-clause-slots g c =
     let digits = g.R.Key.RowKey.digits in
     let es = c.args.slots.now.entries in
     let h : Held g.row.R.Denot = Added c.args.row in
     let none = sym (find-lookup digits _ g.met.R.Key.RowKey.exact es c.args.key) ∙ c.requires.absent in
     let is = c.in_ok-insert.ensures.entries ∙ insert_entry-new _ c.args.slots.now c.args.key h none in
     rw (is, c.push_within.ensures.items, c.in_ok-reserve.ensures.items, c.len-i.ensures.len)
-    (places-added digits es c.args.key h c.requires.distinct c.requires.absent c.args.changed.now.items
-    c.requires.places refl)
+    (slots-added digits es c.args.key h c.requires.slots.distinct c.requires.absent c.args.changed.now.items
+    c.requires.slots.places refl)
 
 pub returns-clause-rows : goal.returns-clause-rows
 returns-clause-rows g c =
@@ -34,7 +25,7 @@ returns-clause-rows g c =
     let h : Held g.row.R.Denot = Added c.args.row in
     let none = sym (find-lookup digits _ g.met.R.Key.RowKey.exact es c.args.key) ∙ c.requires.absent in
     let is = c.in_ok-insert.ensures.entries ∙ insert_entry-new _ c.args.slots.now c.args.key h none in
-    rw is (rows-added digits es c.args.key h c.requires.distinct c.requires.absent now_row)
+    rw is (rows-added digits es c.args.key h c.requires.slots.distinct c.requires.absent now_row)
 
 pub returns-clause-before : goal.returns-clause-before
 returns-clause-before g c =
@@ -43,4 +34,4 @@ returns-clause-before g c =
     let h : Held g.row.R.Denot = Added c.args.row in
     let none = sym (find-lookup digits _ g.met.R.Key.RowKey.exact es c.args.key) ∙ c.requires.absent in
     let is = c.in_ok-insert.ensures.entries ∙ insert_entry-new _ c.args.slots.now c.args.key h none in
-    rw is (rows-added_none digits es c.args.key h c.requires.distinct c.requires.absent row_before refl)
+    rw is (rows-added_none digits es c.args.key h c.requires.slots.distinct c.requires.absent row_before refl)

@@ -1,15 +1,13 @@
 use Rattle.std.proofs.Common.{◌≡◌, length}
 use Rattle.std.specs.List.Sorted.{IsNonDecreasing}
-use Rattle.part_core.specs.Sheet.{IsDistinct}
-use Rattle.part_core.specs.Slots.{ArePlaces, row_before, slots_of, table_by}
+use Rattle.part_core.specs.Slots.{AreSlots, row_before, slots_of, table_by}
 use Rattle.part_core.proofs.slots.back_all.Given as goal
 
 -- the places that are left rise
 abbrev pub invariant-loop-i : goal.invariant-loop-i
 invariant-loop-i g l =
     record {
-      distinct : IsDistinct (slots_of g.R.Key.RowKey.digits l.slots.entries);
-      places : ArePlaces l.changed.items (slots_of g.R.Key.RowKey.digits l.slots.entries);
+      slots : AreSlots (slots_of g.R.Key.RowKey.digits l.slots.entries) l.changed.items;
       up : IsNonDecreasing l.changed.items;
       rows :
           table_by row_before (slots_of g.R.Key.RowKey.digits l.slots.entries)

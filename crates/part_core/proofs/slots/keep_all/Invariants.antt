@@ -1,15 +1,13 @@
 use Rattle.std.proofs.Common.{◌≡◌, length}
 use Rattle.std.specs.List.Sorted.{IsNonDecreasing}
-use Rattle.part_core.specs.Sheet.{IsDistinct}
-use Rattle.part_core.specs.Slots.{ArePlaces, now_row, slots_of, table_by}
+use Rattle.part_core.specs.Slots.{AreSlots, now_row, slots_of, table_by}
 use Rattle.part_core.proofs.slots.keep_all.Given as goal
 
 -- the places that are left rise
 abbrev pub invariant-loop-i : goal.invariant-loop-i
 invariant-loop-i g l =
     record {
-      distinct : IsDistinct (slots_of g.R.Key.RowKey.digits l.slots.entries);
-      places : ArePlaces l.changed.items (slots_of g.R.Key.RowKey.digits l.slots.entries);
+      slots : AreSlots (slots_of g.R.Key.RowKey.digits l.slots.entries) l.changed.items;
       up : IsNonDecreasing l.changed.items;
       rows :
           table_by now_row (slots_of g.R.Key.RowKey.digits l.slots.entries)

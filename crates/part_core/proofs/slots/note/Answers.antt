@@ -10,7 +10,7 @@ pub unreachable-requires : goal.unreachable-requires
 unreachable-requires g c =
     let digits = g.R.Key.RowKey.digits in
     let none =
-    get-no_slot now_row (slots_of digits c.args.slots.now.entries) (digits c.args.key.now) c.requires.distinct
+    get-no_slot now_row (slots_of digits c.args.slots.now.entries) (digits c.args.key.now) c.requires.slots.distinct
     c.in_default.ensures.absent in
     let some = rw none at c.requires.present in cc
 
@@ -24,7 +24,7 @@ returns-in_ok-rewrite-clause-rows g c =
     let at = slot_of_key digits es i k h c.index.ensures c.in-Some.ensures.found in
     c.in_ok-rewrite.ensures.rows k c.in-Some.ensures.found
     ∙ given-same k (Some c.in_ok-row.row) (table_by now_row (slots_of digits es))
-    (get-slot now_row (slots_of digits es) i k h c.requires.distinct at
+    (get-slot now_row (slots_of digits es) i k h c.requires.slots.distinct at
     ∙ ap now_row c.in-Settled.is
     ∙ ap Some (sym c.in_ok-row.ensures))
 

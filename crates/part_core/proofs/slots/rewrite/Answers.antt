@@ -3,26 +3,18 @@ use Rattle.part_core.specs.Sheet.{given}
 use Rattle.part_core.specs.Slots.{slots_of, noted, now_row, row_before, table_by}
 use Rattle.part_core.proofs.SlotLemmas.{OnErr-always, get-slot}
 use Rattle.part_core.proofs.Lookups.{is_some-copied, key-stays, slot_of_value, slot_of_key}
-use Rattle.part_core.proofs.Writes.{distinct-written, noted-here, places-pushed, places-same, rows-written, rows-same}
+use Rattle.part_core.proofs.Writes.{noted-here, rows-written, rows-same, slots-pushed, slots-same}
 use Rattle.part_core.proofs.Noted.{noted-changed, noted-settled}
 use Rattle.part_core.proofs.slots.rewrite.Goals as goal
 
-pub returns-in_err-write-clause-distinct : goal.returns-in_err-write-clause-distinct
-returns-in_err-write-clause-distinct g c =
-    let digits = g.R.Key.RowKey.digits in
-    let es = c.args.slots.now.entries in
-    let h = c.index_mut-held.result.now in
-    let s = slot_of_value digits es c.args.i h c.index_mut-held.ensures.value in
-    distinct-written digits es c.args.i s.0 h c.write.new.self s.1 c.requires.distinct
-
-pub returns-in_err-write-clause-places : goal.returns-in_err-write-clause-places
-returns-in_err-write-clause-places g c =
+pub returns-in_err-write-clause-slots : goal.returns-in_err-write-clause-slots
+returns-in_err-write-clause-slots g c =
     let digits = g.R.Key.RowKey.digits in
     let es = c.args.slots.now.entries in
     let h = c.index_mut-held.result.now in
     let s = slot_of_value digits es c.args.i h c.index_mut-held.ensures.value in
     rw c.in_ok-reserve.ensures.items
-    (places-same digits es c.args.i s.0 h c.write.new.self s.1 c.args.changed.now.items c.requires.places
+    (slots-same digits es c.args.i s.0 h c.write.new.self s.1 c.args.changed.now.items c.requires.slots
     (ap noted c.in_err-write.ensures.err))
 
 pub returns-in_err-write-clause-before : goal.returns-in_err-write-clause-before
@@ -31,7 +23,7 @@ returns-in_err-write-clause-before g c =
     let es = c.args.slots.now.entries in
     let h = c.index_mut-held.result.now in
     let s = slot_of_value digits es c.args.i h c.index_mut-held.ensures.value in
-    rows-same digits es c.args.i s.0 h c.write.new.self s.1 c.requires.distinct row_before c.write.ensures.before
+    rows-same digits es c.args.i s.0 h c.write.new.self s.1 c.requires.slots.distinct row_before c.write.ensures.before
 
 pub returns-in_err-write-clause-err : goal.returns-in_err-write-clause-err
 returns-in_err-write-clause-err g c =
@@ -40,7 +32,7 @@ returns-in_err-write-clause-err g c =
     let h = c.index_mut-held.result.now in
     let s = slot_of_value digits es c.args.i h c.index_mut-held.ensures.value in
     OnErr-always _
-    (rows-same digits es c.args.i s.0 h c.write.new.self s.1 c.requires.distinct now_row
+    (rows-same digits es c.args.i s.0 h c.write.new.self s.1 c.requires.slots.distinct now_row
     (ap now_row c.in_err-write.ensures.err))
 
 pub returns-then-is_first : goal.returns-then-is_first
@@ -51,14 +43,13 @@ returns-then-is_first g c =
     let h = c.index_mut-held.result.now in
     let w = c.write.new.self in
     let s = slot_of_value digits es i h c.index_mut-held.ensures.value in
-    let d = c.requires.distinct in
+    let d = c.requires.slots.distinct in
     let one = noted-changed w c.in_ok-write.ensures.changed in
     let settled = sym (c.is_changed-is_first.ensures) ∙ c.if-is_first.true in
     record {
-      distinct = distinct-written digits es i s.0 h w s.1 d;
-      places =
+      slots =
           rw (c.push_within.ensures.items, c.in_ok-reserve.ensures.items)
-          (places-pushed digits es i s.0 h w s.1 c.args.changed.now.items c.requires.places (noted-settled h settled) one);
+          (slots-pushed digits es i s.0 h w s.1 c.args.changed.now.items c.requires.slots (noted-settled h settled) one);
       rows = λ k key. let at = slot_of_key digits es i k h c.index_mut-held.ensures.value key in
           rows-written digits es i k h w at d now_row
           ∙ ap (λ o. given k o (table_by now_row (slots_of digits es))) c.in_ok-write.ensures.ok;
@@ -82,14 +73,13 @@ returns-else-is_first g c =
     let h = c.index_mut-held.result.now in
     let w = c.write.new.self in
     let s = slot_of_value digits es i h c.index_mut-held.ensures.value in
-    let d = c.requires.distinct in
+    let d = c.requires.slots.distinct in
     let one = noted-changed w c.in_ok-write.ensures.changed in
     let changed = sym (c.is_changed-is_first.ensures) ∙ c.if-is_first.false in
     record {
-      distinct = distinct-written digits es i s.0 h w s.1 d;
-      places =
+      slots =
           rw c.in_ok-reserve.ensures.items
-          (places-same digits es i s.0 h w s.1 c.args.changed.now.items c.requires.places
+          (slots-same digits es i s.0 h w s.1 c.args.changed.now.items c.requires.slots
           (one ∙ sym (noted-changed h changed)));
       rows = λ k key. let at = slot_of_key digits es i k h c.index_mut-held.ensures.value key in
           rows-written digits es i k h w at d now_row

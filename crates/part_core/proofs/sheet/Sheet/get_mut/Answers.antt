@@ -18,7 +18,7 @@ unreachable-requires g c =
     let at = slot_of_key digits es i k h c.index_mut.ensures.value c.in_ok-i.ensures.found in
     let one = sym (noted_at-slot (slots_of digits es) i (k, h) at) ∙ c.in_ok-i.ensures.noted in
     let old = c.note.ensures.rows ∙ ap now_of c.self.view_is in
-    let row = ap (λ m. table.get m k) (sym old) ∙ get-slot now_row (slots_of digits es) i k h c.note.ensures.distinct at in
+    let row = ap (λ m. table.get m k) (sym old) ∙ get-slot now_row (slots_of digits es) i k h c.note.ensures.slots.distinct at in
     let some = sym (ap is_some row) ∙ c.requires in
     elim c.in-Settled.is [
       | inl settled ↦ let none = ap noted settled.1 in absurd (omega arith)
@@ -39,8 +39,7 @@ invariant_of-self-lent g c x =
     rw c.in-Added.is
     (sound-put digits es i k h _ at c.note.new.changed.items c.self.inside.len c.self.inside.length_before x
     (record {
-      distinct = c.note.ensures.distinct;
-      places = c.note.ensures.places;
+      slots = c.note.ensures.slots;
       len = c.self.invariant.len ∙ ap table.len (sym c.note.ensures.rows);
       length_before = c.self.invariant.length_before ∙ ap table.len (sym c.note.ensures.before);
     })
@@ -57,8 +56,7 @@ invariant_of-self-lent-in-Rewritten g c x =
     rw c.in-Rewritten.is
     (sound-put digits es i k h _ at c.note.new.changed.items c.self.inside.len c.self.inside.length_before x
     (record {
-      distinct = c.note.ensures.distinct;
-      places = c.note.ensures.places;
+      slots = c.note.ensures.slots;
       len = c.self.invariant.len ∙ ap table.len (sym c.note.ensures.rows);
       length_before = c.self.invariant.length_before ∙ ap table.len (sym c.note.ensures.before);
     })
@@ -72,7 +70,7 @@ returns-in-Added g c =
     let k = digits c.args.key in
     let h = c.index_mut.result.now in
     let at = slot_of_key digits es i k h c.index_mut.ensures.value c.in_ok-i.ensures.found in
-    let d = c.note.ensures.distinct in
+    let d = c.note.ensures.slots.distinct in
     let old = c.note.ensures.rows ∙ ap now_of c.self.view_is in
     rw c.in-Added.is (
       (
@@ -103,7 +101,7 @@ returns-in-Rewritten g c =
     let k = digits c.args.key in
     let h = c.index_mut.result.now in
     let at = slot_of_key digits es i k h c.index_mut.ensures.value c.in_ok-i.ensures.found in
-    let d = c.note.ensures.distinct in
+    let d = c.note.ensures.slots.distinct in
     let old = c.note.ensures.rows ∙ ap now_of c.self.view_is in
     rw c.in-Rewritten.is (
       (

@@ -21,8 +21,7 @@ invariant_of-self-then-not-had g c =
     let k = g.R.Key.RowKey.digits c.in_ok-key.key in
     let m = table_by now_row (slots_of g.R.Key.RowKey.digits c.self.inside.slots.entries) in
     record {
-      distinct = c.rewrite.ensures.distinct;
-      places = c.rewrite.ensures.places;
+      slots = c.rewrite.ensures.slots;
       len = ap (λ n. n + 1) c.self.invariant.len
           ∙ sym (ap table.len (c.in_ok-had-in-Some.ensures.rows k c.in-Some.ensures.found) ∙ len-put_new m k c.args.row
           c.in_ok-had-in-Some.had (c.in_ok-had-in-Some.ensures.had k c.in-Some.ensures.found) c.if-not-had.true);
@@ -34,8 +33,7 @@ invariant_of-self-else-not-had g c =
     let k = g.R.Key.RowKey.digits c.in_ok-key.key in
     let m = table_by now_row (slots_of g.R.Key.RowKey.digits c.self.inside.slots.entries) in
     record {
-      distinct = c.rewrite.ensures.distinct;
-      places = c.rewrite.ensures.places;
+      slots = c.rewrite.ensures.slots;
       len = c.self.invariant.len
           ∙ sym (ap table.len (c.in_ok-had-in-Some.ensures.rows k c.in-Some.ensures.found) ∙ len-put_same m k c.args.row
           c.in_ok-had-in-Some.had (c.in_ok-had-in-Some.ensures.had k c.in-Some.ensures.found) c.if-not-had.false);
@@ -58,10 +56,9 @@ invariant_of-self-in-None g c =
     let k = g.R.Key.RowKey.digits c.in_ok-key.key in
     let es = slots_of g.R.Key.RowKey.digits c.self.inside.slots.entries in
     let m = table_by now_row es in
-    let none = sym (ap is_some (get-no_slot now_row es k c.self.invariant.distinct c.in-None.ensures.absent)) in
+    let none = sym (ap is_some (get-no_slot now_row es k c.self.invariant.slots.distinct c.in-None.ensures.absent)) in
     record {
-      distinct = c.add.ensures.distinct;
-      places = c.add.ensures.places;
+      slots = c.add.ensures.slots;
       len =
           ap (λ n. n + 1) c.self.invariant.len
           ∙ sym (ap table.len c.in_ok-add-in-None.ensures.rows ∙ len-put_new m k c.args.row _ none refl);

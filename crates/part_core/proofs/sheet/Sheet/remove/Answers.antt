@@ -17,8 +17,7 @@ invariant_of-self-then-had g c =
     let k = g.R.Key.RowKey.digits c.args.key.now in
     let m = table_by now_row (slots_of g.R.Key.RowKey.digits c.self.inside.slots.entries) in
     record {
-      distinct = c.rewrite.ensures.distinct;
-      places = c.rewrite.ensures.places;
+      slots = c.rewrite.ensures.slots;
       len = ap (λ n. n - 1) c.self.invariant.len
           ∙ sym (ap table.len (c.in_ok-had.ensures.rows k c.in-Some.ensures.found) ∙ len-removed m k c.in_ok-had.had
           (c.in_ok-had.ensures.had k c.in-Some.ensures.found) c.if-had.true);
@@ -30,8 +29,7 @@ invariant_of-self-else-had g c =
     let k = g.R.Key.RowKey.digits c.args.key.now in
     let m = table_by now_row (slots_of g.R.Key.RowKey.digits c.self.inside.slots.entries) in
     record {
-      distinct = c.rewrite.ensures.distinct;
-      places = c.rewrite.ensures.places;
+      slots = c.rewrite.ensures.slots;
       len = c.self.invariant.len
           ∙ sym (ap table.len (c.in_ok-had.ensures.rows k c.in-Some.ensures.found) ∙ len-not_removed m k c.in_ok-had.had
           (c.in_ok-had.ensures.had k c.in-Some.ensures.found) c.if-had.false);
@@ -44,4 +42,4 @@ returns-in_default-clause-ok g c =
     let es = slots_of g.R.Key.RowKey.digits c.self.inside.slots.entries in
     rw (← c.self.view_is)
     (sym (remove-absent (table_by now_row es) k
-    (get-no_slot now_row es k c.self.invariant.distinct c.in_default.ensures.absent)))
+    (get-no_slot now_row es k c.self.invariant.slots.distinct c.in_default.ensures.absent)))
