@@ -9,13 +9,9 @@ use Rattle.yard_core.specs.StockBooks.{StockBooks}
 use Rattle.yard_core.specs.Stock.{IsHistory}
 use Rattle.stock_core.specs.Arrives.{count_of}
 use Rattle.stock_core.specs.Steps.{make_each, make_new, make_one, new_item}
-use Rattle.stock_core.specs.declared.arrivals.Arrival.{Arrival}
 use Rattle.stock_core.specs.declared.arrivals.NewStock.{NewStock}
+use Rattle.build_core.specs.NewOutputs.{begun_at}
 use Rattle.stock_core.proofs.Uses.{Uses, uses-as, uses-both, uses-change_drawn, uses-nothing}
-
--- at the output of a build
-abbrev pub begun_at : ℕ → ℕ → Arrival
-begun_at build part = record { kind = kind.Found; place = Output build; part = part }
 
 module _ (build part : ℕ) where
   uses-one : (quantity : ℕ) (batch serial : Option (List ℕ)) (day : CivilDay) (b : StockBooks)

@@ -57,7 +57,7 @@ use Rattle.build_core.specs.declared.spent.Spent.{Spent}
 use Rattle.build_core.proofs.Kept.{IsSameBuild, OutputStays, output-is}
 use Rattle.build_core.proofs.OpenBuilds.{open-there}
 use Rattle.build_core.proofs.Rests.{OutputsStay, outputs-left}
-use Rattle.build_core.proofs.Served.{IsLeft, full-grows, left-cut}
+use Rattle.stock_core.proofs.Served.{IsLeft, full-grows, left-cut}
 use Rattle.build_core.proofs.Using.{use-one}
 
 -- ---- the allocation

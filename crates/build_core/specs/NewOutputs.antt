@@ -14,15 +14,18 @@ use Rattle.yard_core.specs.StockBooks.{is_full}
 use Rattle.yard_core.specs.Outputs.{quantity_out}
 use Rattle.stock_core.specs.Serials.{are_many, are_taken, given, is_other_count}
 use Rattle.stock_core.specs.Steps.{make_new}
+use Rattle.stock_core.specs.declared.arrivals.Arrival.{Arrival}
 use Rattle.stock_core.specs.declared.arrivals.NewStock.{NewStock}
 use Rattle.build_core.specs.Builds.{BuildBooks, build_at, is_in_production, is_no_build, with_stock_books}
 use Rattle.build_core.specs.Needs.{has_tracked}
 
+-- what a build begins comes to its output
+abbrev pub begun_at : ℕ → ℕ → Arrival
+begun_at build part = record { kind = kind.Found; place = Output build; part = part }
+
 -- the new items are made at the build's output, without an entry
 abbrev pub new_outputs : ℕ → NewStock → CivilDay → BuildBooks → BuildBooks
-new_outputs n new day b =
-    with_stock_books
-    (make_new (record { kind = kind.Found; place = Output n; part = (build_at n b).part }) new day b.books) b
+new_outputs n new day b = with_stock_books (make_new (begun_at n (build_at n b).part) new day b.books) b
 
 -- why it is refused, in the order of checks
 abbrev pub new_outputs_checks : ℕ → NewStock → CivilDay → Parts → Bills → BuildBooks → List Check

@@ -11,26 +11,26 @@ ghost use Rattle.build_core.specs.BuildsView.{builds_now, spent_now};
 ghost use Rattle.build_core.specs.BuildBooks.{build_books};
 ghost use Rattle.build_core.specs.Needs.{has_tracked, is_below_need, is_named_right};
 ghost use Rattle.build_core.specs.Needs.{is_suited, is_tracked, is_untracked, lacks_for_build};
-ghost use Rattle.build_core.specs.Needs.{is_untracked_of, lacks_for_output, line_in, required, required_of, wanted_whole};
+ghost use Rattle.build_core.specs.Needs.{is_untracked_of, lacks_for_output, line_in, needed_whole, required, required_of, wanted_whole};
 
 use crate::build::Build;
 use crate::builds::Builds;
 use alloc_core::Allocations;
 use bom_core::{Boms, Line};
-use part_core::{Catalogue, Counter, Id, Quantity};
+use part_core::{Catalogue, Id, Quantity};
 use std::alloc::AllocError;
-use stock_core::quantity_at;
+use stock_core::{Floor, quantity_at};
 use yard_core::Yard;
 
 /// Whether the line is counted, and its component trackable.
-fn is_tracked(catalogue: &Catalogue, line: &Line) -> bool
+pub(crate) fn is_tracked(catalogue: &Catalogue, line: &Line) -> bool
     ensures { result ≡ is_tracked (parts_of catalogue.now) line.now }
 {
     catalogue.is_trackable(line.component) && !line.flags.consumable
 }
 
 /// Whether the line is counted, and its component not trackable.
-fn is_untracked(catalogue: &Catalogue, line: &Line) -> bool
+pub(crate) fn is_untracked(catalogue: &Catalogue, line: &Line) -> bool
     ensures { result ≡ is_untracked (parts_of catalogue.now) line.now }
 {
     !catalogue.is_trackable(line.component) && !line.flags.consumable
@@ -67,6 +67,13 @@ pub(crate) fn wanted_whole(line: &Line, build: &Build) -> u128
     times(line.quantity, build.quantity)
 }
 
+/// What a line needs for the whole build: what it wants, less what was spent on it.
+pub(crate) fn needed_whole(builds: &Builds, line: &Line, build: &Build) -> u128
+    ensures { result ≡ needed_whole line.now build.now (spent_now builds.now) }
+{
+    wanted_whole(line, build).saturating_sub(builds.spent_on(build.number, line.number))
+}
+
 /// What a line needs: for the whole build less what was spent on it, or for the output where one is named.
 pub(crate) fn needed(
     builds: &Builds,
@@ -79,10 +86,7 @@ pub(crate) fn needed(
         (stock_of yard.now) }
 {
     match output {
-        None => wanted_whole(line, build).saturating_sub(builds.spent_on(
-            build.number,
-            line.number,
-        )),
+        None => needed_whole(builds, line, build),
         Some(output) => times(line.quantity, quantity_at(yard, output)),
     }
 }
@@ -211,22 +215,20 @@ pub(crate) fn lacks_for_output(
     catalogue: &Catalogue,
     boms: &Boms,
     builds: &Builds,
-    allocations: &Allocations,
-    yard: &Yard,
-    counter: &Counter,
+    floor: &Floor,
     build: &Build,
     output: Id,
 ) -> Result<bool, AllocError>
     ensures { IfOk result (λ lacks. lacks ≡ lacks_for_output
         (parts_of catalogue.now) (bills_of boms.now) build.now output
-        (build_books builds.now allocations.now yard.now counter.now)) }
+        (build_books builds.now floor.now)) }
 {
     let lines = boms.effective(catalogue, build.part)?;
     Ok(any_lacks_tracked(
         catalogue,
         builds,
-        allocations,
-        yard,
+        &floor.allocations,
+        &floor.stock.yard,
         lines.as_slice(),
         build,
         output,
@@ -238,21 +240,19 @@ pub(crate) fn lacks_for_build(
     catalogue: &Catalogue,
     boms: &Boms,
     builds: &Builds,
-    allocations: &Allocations,
-    yard: &Yard,
-    counter: &Counter,
+    floor: &Floor,
     build: &Build,
 ) -> Result<bool, AllocError>
     ensures { IfOk result (λ lacks. lacks ≡ lacks_for_build
         (parts_of catalogue.now) (bills_of boms.now) build.now
-        (build_books builds.now allocations.now yard.now counter.now)) }
+        (build_books builds.now floor.now)) }
 {
     let lines = boms.effective(catalogue, build.part)?;
     Ok(any_lacks_untracked(
         catalogue,
         builds,
-        allocations,
-        yard,
+        &floor.allocations,
+        &floor.stock.yard,
         lines.as_slice(),
         build,
     ))

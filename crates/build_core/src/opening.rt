@@ -22,9 +22,9 @@ use crate::outputs::is_output_of;
 use crate::spent::Spent;
 use alloc_core::{Allocation, Allocations, OutputNumber, Purpose};
 use bom_core::Boms;
-use part_core::{Catalogue, Counter, Id, is_bad_quantity, is_drawn};
+use part_core::{Catalogue, Id, is_bad_quantity, is_drawn};
 use std::alloc::AllocError;
-use stock_core::part_at;
+use stock_core::{Floor, part_at};
 use yard_core::{Item, Place, Yard, rows_in_order};
 
 /// Whether the build's part is there, it is of 1 to 1,000,000,000, and no more are done and begun than that.
@@ -268,18 +268,11 @@ impl Builds {
 
     /// Whether what was spent is sound: each row is of an open build and an untracked line of its part, once for each of
     /// these, and of no more than the line wants.
-    fn is_sound_spending(
-        &self,
-        catalogue: &Catalogue,
-        boms: &Boms,
-        allocations: &Allocations,
-        yard: &Yard,
-        counter: &Counter,
-    ) -> bool
+    fn is_sound_spending(&self, catalogue: &Catalogue, boms: &Boms, floor: &Floor) -> bool
         ensures { IsTrue result ↔ IsSoundSpending (parts_of catalogue.now) (bills_of boms.now)
-            (build_books self.now allocations.now yard.now counter.now) }
+            (build_books self.now floor.now) }
     {
-        if !self.are_drawn_spent(counter.next()) {
+        if !self.are_drawn_spent(floor.stock.counter.next()) {
             return false;
         }
         if !self.are_sound_spent(catalogue, boms) {
@@ -294,24 +287,23 @@ impl Builds {
         &self,
         catalogue: &Catalogue,
         boms: &Boms,
-        allocations: &Allocations,
-        yard: &Yard,
-        counter: &Counter,
+        floor: &Floor,
     ) -> Result<bool, AllocError>
         ensures { IfOk result (λ sound. IsTrue sound
             ↔ AreSoundBuilds (parts_of catalogue.now) (bills_of boms.now)
-            (build_books self.now allocations.now yard.now counter.now)) }
+            (build_books self.now floor.now)) }
     {
-        if !self.are_drawn(counter.next()) {
+        let yard = &floor.stock.yard;
+        if !self.are_drawn(floor.stock.counter.next()) {
             return Ok(false);
         }
         if !self.are_sound_rows(catalogue, yard) {
             return Ok(false);
         }
-        if !self.are_right_meant(catalogue, boms, allocations, yard) {
+        if !self.are_right_meant(catalogue, boms, &floor.allocations, yard) {
             return Ok(false);
         }
-        if !self.is_sound_spending(catalogue, boms, allocations, yard, counter) {
+        if !self.is_sound_spending(catalogue, boms, floor) {
             return Ok(false);
         }
         self.are_sound_outputs(catalogue, boms, yard)

@@ -8,7 +8,7 @@ ghost use Rattle.build_core.specs.Shortage.{required_still, shortage_of, shortag
 
 use crate::build::Build;
 use crate::builds::Builds;
-use crate::needs::wanted_whole;
+use crate::needs::{is_tracked, needed_whole};
 use alloc_core::Allocations;
 use bom_core::{Boms, Line};
 use part_core::{Catalogue, Id};
@@ -33,11 +33,11 @@ fn required_still(catalogue: &Catalogue, builds: &Builds, line: &Line, build: &B
     ensures { result ≡ required_still (parts_of catalogue.now) line.now build.now
         (spent_now builds.now) }
 {
-    if catalogue.is_trackable(line.component) && !line.flags.consumable {
+    if is_tracked(catalogue, line) {
         let units = build.quantity.saturating_sub(build.done);
         return u128::from(line.quantity) * u128::from(units);
     }
-    wanted_whole(line, build).saturating_sub(builds.spent_on(build.number, line.number))
+    needed_whole(builds, line, build)
 }
 
 /// The row of a line.

@@ -24,25 +24,22 @@ use build_core::{Builds, build_command};
 use order_core::{Orders, order_command};
 use part_core::{Answer, Catalogue, CoreFault, Counter, Limits, Refusal, Sheet, part_command};
 use std::alloc::{AllocError, Global};
-use stock_core::stock_command;
-use yard_core::{Yard, yard_command};
+use stock_core::{Floor, stock_command};
+use yard_core::{Yard, YardBooks, yard_command};
 
 mod assemble;
 
 pub use assemble::{AssembleFault, Tables};
 
-/// All that a desk holds: the catalogue, the bills, the yard, the allocations, the orders, the builds, the counter and
-/// the answers that are kept.
+/// All that a desk holds: the catalogue, the bills, the yard with the counter and the allocations, the orders, the
+/// builds and the answers that are kept.
 pub struct Shop {
     catalogue: Catalogue,
     boms: Boms,
-    yard: Yard,
-    allocations: Allocations,
+    floor: Floor,
     orders: Orders,
     builds: Builds,
-    counter: Counter,
     answers: Sheet<Kept>,
-    alloc: Global,
 }
 
 // It is written out, so that a caller does not prove again how each part is dropped.
@@ -51,13 +48,10 @@ impl Drop for Shop {
         let Shop {
             catalogue: _,
             boms: _,
-            yard: _,
-            allocations: _,
+            floor: _,
             orders: _,
             builds: _,
-            counter: _,
             answers: _,
-            alloc: _,
         } = self;
     }
 }
@@ -72,13 +66,17 @@ impl Shop {
         Shop {
             catalogue: Catalogue::new(alloc),
             boms: Boms::new(alloc),
-            yard: Yard::new(alloc),
-            allocations: Allocations::new(alloc),
+            floor: Floor {
+                allocations: Allocations::new(alloc),
+                stock: YardBooks {
+                    yard: Yard::new(alloc),
+                    counter: Counter::new(limits),
+                    alloc,
+                },
+            },
             orders: Orders::new(alloc),
             builds: Builds::new(alloc),
-            counter: Counter::new(limits),
             answers: Sheet::new(alloc),
-            alloc,
         }
     }
 
@@ -98,16 +96,16 @@ impl Shop {
 
     /// The locations, the items and their history.
     pub fn yard(&self) -> &Yard
-        ensures { result.now ≡ self.now.yard }
+        ensures { result.now ≡ self.now.floor.stock.yard }
     {
-        &self.yard
+        &self.floor.stock.yard
     }
 
     /// What of items is meant for orders and builds.
     pub fn allocations(&self) -> &Allocations
-        ensures { result.now ≡ self.now.allocations }
+        ensures { result.now ≡ self.now.floor.allocations }
     {
-        &self.allocations
+        &self.floor.allocations
     }
 
     /// The orders and their lines.
@@ -126,9 +124,9 @@ impl Shop {
 
     /// The counter of row numbers.
     pub fn counter(&self) -> &Counter
-        ensures { result.now ≡ self.now.counter }
+        ensures { result.now ≡ self.now.floor.stock.counter }
     {
-        &self.counter
+        &self.floor.stock.counter
     }
 
     /// The answers that are kept, as a sheet.
@@ -149,58 +147,49 @@ impl Shop {
             (after, answer_of s after) s result (state_of self.new) }
         ensures before { state_before self.new ≡ state_before self.old }
     {
+        let alloc = self.floor.stock.alloc;
         match &request.command {
             Command::Part(command) => part_command::act(
-                self.alloc,
+                alloc,
                 &mut self.catalogue,
-                &mut self.counter,
+                &mut self.floor.stock.counter,
                 command,
             ),
             Command::Bom(command) => {
                 let open = self.builds.open_parts()?;
                 bom_command::act(
-                    self.alloc,
+                    alloc,
                     &self.catalogue,
                     &mut self.boms,
-                    &mut self.counter,
+                    &mut self.floor.stock.counter,
                     open.as_slice(),
                     command,
                 )
             }
-            Command::Yard(command) => {
-                yard_command::act(self.alloc, &mut self.yard, &mut self.counter, command)
-            }
+            Command::Yard(command) => yard_command::act(&mut self.floor.stock, command),
             Command::Stock(command) => stock_command::act(
-                self.alloc,
                 &self.catalogue,
                 &self.boms,
-                &self.allocations,
-                &mut self.yard,
-                &mut self.counter,
+                &self.floor.allocations,
+                &mut self.floor.stock,
                 request.day,
                 command,
             ),
             Command::Alloc(command) => {
-                alloc_command::act(self.alloc, &mut self.allocations, command)
+                alloc_command::act(alloc, &mut self.floor.allocations, command)
             }
             Command::Order(command) => order_command::act(
-                self.alloc,
                 &self.catalogue,
                 &mut self.orders,
-                &mut self.allocations,
-                &mut self.yard,
-                &mut self.counter,
+                &mut self.floor,
                 request.day,
                 command,
             ),
             Command::Build(command) => build_command::act(
-                self.alloc,
                 &self.catalogue,
                 &self.boms,
                 &mut self.builds,
-                &mut self.allocations,
-                &mut self.yard,
-                &mut self.counter,
+                &mut self.floor,
                 request.day,
                 command,
             ),
@@ -219,9 +208,10 @@ impl Shop {
             ≡ with_answer (Some key.now) text answer.now (state_of self.old)) }
         ensures before { state_before self.new ≡ state_before self.old }
     {
-        let command = CommandText::new(command_text(self.alloc, command)?);
-        let word = key.copy(self.alloc)?;
-        let answer = answer.copy(self.alloc)?;
+        let alloc = self.floor.stock.alloc;
+        let command = CommandText::new(command_text(alloc, command)?);
+        let word = key.copy(alloc)?;
+        let answer = answer.copy(alloc)?;
         self.answers.put(Kept {
             word,
             command,
@@ -241,11 +231,12 @@ impl Shop {
         ensures sound { IsSoundState (state_of self.new) }
     {
         if let Some(kept) = self.answers.get(key.text()) {
-            let command = CommandText::new(command_text(self.alloc, &request.command)?);
+            let alloc = self.floor.stock.alloc;
+            let command = CommandText::new(command_text(alloc, &request.command)?);
             if !kept.command.equals(&command) {
                 return Err(CoreFault::Refused(Refusal::KeyTaken));
             }
-            return Ok(Accepted::Again(kept.answer.copy(self.alloc)?));
+            return Ok(Accepted::Again(kept.answer.copy(alloc)?));
         }
         let answer = self.act(request)?;
         match self.keep_answer(key, &request.command, &answer) {
@@ -264,11 +255,9 @@ impl Shop {
     {
         self.catalogue.keep();
         self.boms.keep();
-        self.yard.keep();
-        self.allocations.keep();
+        self.floor.keep();
         self.orders.keep();
         self.builds.keep();
-        self.counter.keep();
         self.answers.keep();
     }
 
@@ -279,11 +268,9 @@ impl Shop {
     {
         self.catalogue.back();
         self.boms.back();
-        self.yard.back();
-        self.allocations.back();
+        self.floor.back();
         self.orders.back();
         self.builds.back();
-        self.counter.back();
         self.answers.back();
     }
 

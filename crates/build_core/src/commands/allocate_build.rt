@@ -20,8 +20,8 @@ use crate::outputs::is_output_of;
 use alloc_core::{Allocation, Allocations, OutputNumber, Purpose};
 use bom_core::Boms;
 use part_core::{Answer, Catalogue, CoreFault, Counter, Id, Quantity, Refusal, is_bad_quantity};
-use std::alloc::{AllocError, Global};
-use stock_core::{is_available, is_loose, is_no_item, part_at};
+use std::alloc::AllocError;
+use stock_core::{Floor, is_available, is_loose, is_no_item, part_at};
 use yard_core::Yard;
 
 /// Whether an output is named that isn't there.
@@ -56,9 +56,7 @@ fn allocate_build_refusal(
     catalogue: &Catalogue,
     boms: &Boms,
     builds: &Builds,
-    allocations: &Allocations,
-    yard: &Yard,
-    counter: &Counter,
+    floor: &Floor,
     build: Id,
     line: Id,
     item: Id,
@@ -67,8 +65,9 @@ fn allocate_build_refusal(
 ) -> Option<Refusal>
     ensures { result ≡ first (allocate_build_checks (wanted build line item quantity output)
         (parts_of catalogue.now) (bills_of boms.now)
-        (build_books builds.now allocations.now yard.now counter.now)) }
+        (build_books builds.now floor.now)) }
 {
+    let yard = &floor.stock.yard;
     let Some(row) = builds.build(build) else {
         return Some(Refusal::NoSuch);
     };
@@ -100,10 +99,10 @@ fn allocate_build_refusal(
     if !is_available(yard, item) {
         return Some(Refusal::Unavailable);
     }
-    if allocations.is_above_free(yard, item, quantity) {
+    if floor.allocations.is_above_free(yard, item, quantity) {
         return Some(Refusal::Allocated);
     }
-    let allocated = allocations.allocated_for_line(build, line, output);
+    let allocated = floor.allocations.allocated_for_line(build, line, output);
     if is_over(
         needed(builds, yard, bill_line, row, output),
         allocated,
@@ -111,7 +110,7 @@ fn allocate_build_refusal(
     ) {
         return Some(Refusal::OverNeed);
     }
-    if counter.lacks(1) {
+    if floor.stock.counter.lacks(1) {
         return Some(Refusal::Full);
     }
     None
@@ -171,46 +170,41 @@ fn put_meant(
 /// item's part, `NotLoose` and `Unavailable` (the status isn't allocatable) as it is, `Allocated` where less
 /// of it is free, `OverNeed` where the line doesn't need so much, and `Full` where there is no number left.
 pub fn allocate_build(
-    alloc: Global,
     catalogue: &Catalogue,
     boms: &Boms,
     builds: &mut Builds,
-    allocations: &mut Allocations,
-    yard: &mut Yard,
-    counter: &mut Counter,
+    floor: &mut Floor,
     build: Id,
     line: Id,
     item: Id,
     quantity: Quantity,
     output: Option<Id>,
 ) -> Result<Answer, CoreFault>
-    requires nothing_pending { build_books_before builds.old allocations.old yard.old counter.old
-        ≡ build_books builds.old allocations.old yard.old counter.old }
-    requires sound { AreSoundSomehow (build_books builds.old allocations.old yard.old counter.old) }
-    ensures does { let b = build_books builds.old allocations.old yard.old counter.old in
+    requires nothing_pending { build_books_before builds.old floor.old
+        ≡ build_books builds.old floor.old }
+    requires sound { AreSoundSomehow (build_books builds.old floor.old) }
+    ensures does { let b = build_books builds.old floor.old in
         Does (allocate_build_checks (wanted build line item quantity output)
         (parts_of catalogue.now) (bills_of boms.now) b)
         (allocate_build (wanted build line item quantity output) b) b result
-        (build_books builds.new allocations.new yard.new counter.new) }
-    ensures before { build_books_before builds.new allocations.new yard.new counter.new
-        ≡ build_books_before builds.old allocations.old yard.old counter.old }
+        (build_books builds.new floor.new) }
+    ensures before { build_books_before builds.new floor.new
+        ≡ build_books_before builds.old floor.old }
 {
     let refusal = allocate_build_refusal(
-        catalogue,
-        boms,
-        builds,
-        allocations,
-        yard,
-        counter,
+        catalogue, boms, builds, floor, build, line, item, quantity, output,
+    );
+    if let Some(refusal) = refusal {
+        return Err(CoreFault::Refused(refusal));
+    }
+    let made = put_meant(
+        &mut floor.allocations,
+        &mut floor.stock.counter,
         build,
         line,
         item,
         quantity,
         output,
     );
-    if let Some(refusal) = refusal {
-        return Err(CoreFault::Refused(refusal));
-    }
-    let made = put_meant(allocations, counter, build, line, item, quantity, output);
-    finish(alloc, builds, allocations, yard, counter, made)
+    finish(builds, floor, made)
 }

@@ -1,28 +1,29 @@
 //! Items that a build makes are begun.
-ghost use Rattle.std.specs.Prelude.{◌≡◌, ◌+◌, IfOk, OnOk, None, nat_lt};
+ghost use Rattle.std.specs.Prelude.{ℕ, ◌≡◌, ◌+◌, IfOk, OnOk, None, nat_lt};
+ghost use Rattle.part_core.specs.Catalogue.{Parts};
 ghost use Rattle.part_core.specs.CatalogueView.{parts_of};
 ghost use Rattle.part_core.specs.Checks.{first};
 ghost use Rattle.part_core.specs.Day.{CivilDay};
+ghost use Rattle.bom_core.specs.Bills.{Bills};
 ghost use Rattle.bom_core.specs.BomsView.{bills_of};
-ghost use Rattle.yard_core.specs.StockBooks.{stock_books_of, is_full, stock_books_before};
+ghost use Rattle.yard_core.specs.StockBooks.{is_full};
+ghost use Rattle.yard_core.specs.BooksView.{books_now};
 ghost use Rattle.stock_core.specs.Sound.{AreSoundItems};
+ghost use Rattle.stock_core.specs.Steps.{make_new};
 ghost use Rattle.build_core.specs.BuildBooks.{AreSoundSomehow, Does, build_books, build_books_before};
-ghost use Rattle.build_core.specs.NewOutputs.{new_outputs, new_outputs_checks};
+ghost use Rattle.build_core.specs.NewOutputs.{begun_at, new_outputs, new_outputs_checks};
 
 use crate::build_books::finish;
 use crate::builds::Builds;
 use crate::needs::has_tracked;
-use alloc_core::Allocations;
 use bom_core::Boms;
-use part_core::{
-    Answer, Catalogue, CoreFault, Counter, Day, Id, Quantity, Refusal, is_bad_quantity,
-};
-use std::alloc::{AllocError, Global};
+use part_core::{Answer, Catalogue, CoreFault, Day, Id, Quantity, Refusal, is_bad_quantity};
+use std::alloc::AllocError;
 use stock_core::{
-    Arrival, NewStock, count_of, lacks_room, make_new, names_many, names_needless,
+    Arrival, Floor, NewStock, count_of, lacks_room, make_new, names_many, names_needless,
     names_other_count, names_taken,
 };
-use yard_core::{Kind, Place, Yard};
+use yard_core::{Kind, Place, YardBooks};
 
 /// Whether that much more, beside what is done and what is begun, is above the most.
 fn is_over(most: Quantity, done: Quantity, begun: u128, more: Quantity) -> bool
@@ -33,19 +34,12 @@ fn is_over(most: Quantity, done: Quantity, begun: u128, more: Quantity) -> bool
 }
 
 /// Whether the limits leave no room for it: each new item needs a number, and none an entry.
-fn is_full(
-    builds: &Builds,
-    allocations: &Allocations,
-    yard: &Yard,
-    counter: &Counter,
-    build: Id,
-    new: &NewStock,
-) -> bool
-    requires { AreSoundItems (stock_books_of yard.now counter.now) }
-    ensures { (day : CivilDay) → result ≡ is_full (new_outputs build new.now day
-        (build_books builds.now allocations.now yard.now counter.now)).books }
+fn is_full(books: &YardBooks, new: &NewStock) -> bool
+    requires { AreSoundItems (books_now books.now) }
+    ensures { (build part : ℕ) (day : CivilDay) → result ≡ is_full
+        (make_new (begun_at build part) new.now day (books_now books.now)) }
 {
-    lacks_room(yard, counter, count_of(new), 0)
+    lacks_room(books, count_of(new), 0)
 }
 
 /// Why nothing is begun. An error is one of memory.
@@ -53,18 +47,17 @@ fn new_outputs_refusal(
     catalogue: &Catalogue,
     boms: &Boms,
     builds: &Builds,
-    allocations: &Allocations,
-    yard: &Yard,
-    counter: &Counter,
+    floor: &Floor,
     build: Id,
     new: &NewStock,
 ) -> Result<Option<Refusal>, AllocError>
-    requires { AreSoundItems (stock_books_of yard.now counter.now) }
+    requires { AreSoundItems (books_now floor.now.stock) }
     ensures { IfOk result (λ refusal. (day : CivilDay)
         → refusal ≡ first (new_outputs_checks build new.now day
         (parts_of catalogue.now) (bills_of boms.now)
-        (build_books builds.now allocations.now yard.now counter.now))) }
+        (build_books builds.now floor.now))) }
 {
+    let yard = &floor.stock.yard;
     let Some(row) = builds.build(build) else {
         return Ok(Some(Refusal::NoSuch));
     };
@@ -91,7 +84,7 @@ fn new_outputs_refusal(
     if names_taken(catalogue, yard, row.part, new) {
         return Ok(Some(Refusal::SerialTaken));
     }
-    if is_full(builds, allocations, yard, counter, build, new) {
+    if is_full(&floor.stock, new) {
         return Ok(Some(Refusal::Full));
     }
     Ok(None)
@@ -99,26 +92,21 @@ fn new_outputs_refusal(
 
 /// Makes the new items, at the build's output.
 fn begin(
-    alloc: Global,
-    catalogue: &Catalogue,
-    boms: &Boms,
     builds: &Builds,
-    allocations: &Allocations,
-    yard: &mut Yard,
-    counter: &mut Counter,
+    floor: &mut Floor,
     day: Day,
     build: Id,
     new: &NewStock,
 ) -> Result<(), AllocError>
-    requires sound { AreSoundSomehow (build_books builds.now allocations.now yard.old counter.old) }
-    requires checked { first (new_outputs_checks build new.now day
-        (parts_of catalogue.now) (bills_of boms.now)
-        (build_books builds.now allocations.now yard.old counter.old)) ≡ None }
-    ensures ok { OnOk result (build_books builds.now allocations.now yard.new counter.new
+    requires sound { AreSoundSomehow (build_books builds.now floor.old) }
+    requires checked { (parts : Parts) × (bills : Bills)
+        × (first (new_outputs_checks build new.now day parts bills
+        (build_books builds.now floor.old)) ≡ None) }
+    ensures ok { OnOk result (build_books builds.now floor.new
         ≡ new_outputs build new.now day
-        (build_books builds.now allocations.now yard.old counter.old)) }
-    ensures before { stock_books_before yard.new counter.new
-        ≡ stock_books_before yard.old counter.old }
+        (build_books builds.now floor.old)) }
+    ensures before { build_books_before builds.now floor.new
+        ≡ build_books_before builds.now floor.old }
 {
     let part = match builds.build(build) {
         Some(row) => row.part,
@@ -129,7 +117,7 @@ fn begin(
         place: Place::Output(build),
         part,
     };
-    make_new(alloc, yard, counter, arrival, new, day)
+    make_new(&mut floor.stock, arrival, new, day)
 }
 
 /// Begins items that a build in production makes: new items of the build's part at its output, without an
@@ -140,51 +128,28 @@ fn begin(
 /// there are more or fewer serials than pieces, `SerialTaken` where one stands twice in the list or is held
 /// in the part's family, and `Full` where there aren't so many numbers left.
 pub fn new_outputs(
-    alloc: Global,
     catalogue: &Catalogue,
     boms: &Boms,
     builds: &mut Builds,
-    allocations: &mut Allocations,
-    yard: &mut Yard,
-    counter: &mut Counter,
+    floor: &mut Floor,
     day: Day,
     build: Id,
     new: &NewStock,
 ) -> Result<Answer, CoreFault>
-    requires nothing_pending { build_books_before builds.old allocations.old yard.old counter.old
-        ≡ build_books builds.old allocations.old yard.old counter.old }
-    requires sound { AreSoundSomehow (build_books builds.old allocations.old yard.old counter.old) }
-    ensures does { let b = build_books builds.old allocations.old yard.old counter.old in
+    requires nothing_pending { build_books_before builds.old floor.old
+        ≡ build_books builds.old floor.old }
+    requires sound { AreSoundSomehow (build_books builds.old floor.old) }
+    ensures does { let b = build_books builds.old floor.old in
         Does (new_outputs_checks build new.now day (parts_of catalogue.now) (bills_of boms.now) b)
         (new_outputs build new.now day b) b result
-        (build_books builds.new allocations.new yard.new counter.new) }
-    ensures before { build_books_before builds.new allocations.new yard.new counter.new
-        ≡ build_books_before builds.old allocations.old yard.old counter.old }
+        (build_books builds.new floor.new) }
+    ensures before { build_books_before builds.new floor.new
+        ≡ build_books_before builds.old floor.old }
 {
-    let refusal = new_outputs_refusal(
-        catalogue,
-        boms,
-        builds,
-        allocations,
-        yard,
-        counter,
-        build,
-        new,
-    )?;
+    let refusal = new_outputs_refusal(catalogue, boms, builds, floor, build, new)?;
     if let Some(refusal) = refusal {
         return Err(CoreFault::Refused(refusal));
     }
-    let made = begin(
-        alloc,
-        catalogue,
-        boms,
-        builds,
-        allocations,
-        yard,
-        counter,
-        day,
-        build,
-        new,
-    );
-    finish(alloc, builds, allocations, yard, counter, made)
+    let made = begin(builds, floor, day, build, new);
+    finish(builds, floor, made)
 }

@@ -19,7 +19,7 @@ write_sheet-requires-clause-sheet g c =
 
 pub write_sheet-requires-in-Locations-clause-sheet : goal.write_sheet-requires-in-Locations-clause-sheet
 write_sheet-requires-in-Locations-clause-sheet g c =
-    at_table c.args.table Locations c.locations.result.now c.args.shop.now.yard.locations c.in-Locations.is
+    at_table c.args.table Locations c.locations.result.now c.args.shop.now.floor.stock.yard.locations c.in-Locations.is
     (c.locations.ensures ∙ ap (λ k. k.locations) c.yard.ensures) (location-sheet c.args.shop.now c.requires.follows)
 
 pub write_sheet-requires-in-Parts-clause-sheet : goal.write_sheet-requires-in-Parts-clause-sheet
@@ -41,12 +41,12 @@ write_sheet-requires-in-Substitutes-clause-sheet g c =
 
 pub write_sheet-requires-in-Items-clause-sheet : goal.write_sheet-requires-in-Items-clause-sheet
 write_sheet-requires-in-Items-clause-sheet g c =
-    at_table c.args.table Items c.items.result.now c.args.shop.now.yard.items c.in-Items.is
+    at_table c.args.table Items c.items.result.now c.args.shop.now.floor.stock.yard.items c.in-Items.is
     (c.items.ensures ∙ ap (λ k. k.items) c.yard-in-Items.ensures) (item-sheet c.args.shop.now c.requires.follows)
 
 pub write_sheet-requires-in-History-clause-sheet : goal.write_sheet-requires-in-History-clause-sheet
 write_sheet-requires-in-History-clause-sheet g c =
-    at_table c.args.table History c.whole_history.result.now c.args.shop.now.yard.history c.in-History.is
+    at_table c.args.table History c.whole_history.result.now c.args.shop.now.floor.stock.yard.history c.in-History.is
     (c.whole_history.ensures ∙ ap (λ k. k.history) c.yard-in-History.ensures)
     (entry-sheet c.args.shop.now c.requires.follows)
 
@@ -68,7 +68,7 @@ write_sheet-requires-in-Builds-clause-sheet g c =
 
 pub write_sheet-requires-in-Allocations-clause-sheet : goal.write_sheet-requires-in-Allocations-clause-sheet
 write_sheet-requires-in-Allocations-clause-sheet g c =
-    at_table c.args.table Allocations c.rows-in-Allocations.result.now c.args.shop.now.allocations.rows
+    at_table c.args.table Allocations c.rows-in-Allocations.result.now c.args.shop.now.floor.allocations.rows
     c.in-Allocations.is (c.rows-in-Allocations.ensures.value ∙ ap (λ k. k.rows) c.allocations.ensures)
     (allocation-sheet c.args.shop.now c.requires.follows)
 

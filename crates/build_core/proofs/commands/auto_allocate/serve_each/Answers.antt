@@ -8,7 +8,7 @@ use Rattle.build_core.proofs.commands.auto_allocate.serve_each.Goals as goal
 
 pub returns-in-Err-clause-full : goal.returns-in-Err-clause-full
 returns-in-Err-clause-full c = λ e.
-    let sound = c.requires.sound.3 in
+    let sound = c.requires.sound.1.3 in
     served-past c.args.with_substitutes (parts_of c.args.catalogue.now) (bills_of c.args.boms.now)
     (stock_of c.args.yard.now) sound.stock.items.stock c.args.counter.now.next sound.stock.items.rows
     c.requires.bill c.args.build c.args.lacks.now c.requires.lines c.loop-lack.lack-index
@@ -17,7 +17,7 @@ returns-in-Err-clause-full c = λ e.
 
 pub loop-lack-preserved : goal.loop-lack-preserved
 loop-lack-preserved c =
-    let sound = c.requires.sound.3 in
+    let sound = c.requires.sound.1.3 in
     let old = allotments_of c.loop-lack.allocations c.loop-lack.counter in
     let new = allotments_of c.serve_line-served.new.allocations c.serve_line-served.new.counter in
     record {

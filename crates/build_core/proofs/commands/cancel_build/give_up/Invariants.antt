@@ -1,5 +1,5 @@
 use Rattle.std.proofs.Common.{◌≡◌, drop}
-use Rattle.yard_core.specs.StockBooks.{stock_books_of}
+use Rattle.yard_core.specs.BooksView.{books_now}
 use Rattle.yard_core.specs.YardView.{stock_before}
 use Rattle.build_core.proofs.Clearing.{IsClearing}
 use Rattle.build_core.proofs.commands.cancel_build.give_up.Given as goal
@@ -9,6 +9,7 @@ invariant-loop-output l =
     record {
       left :
           IsClearing l.build l.day l.output-items (drop l.output-index l.output-items)
-          (stock_books_of l.initial.yard l.counter) (stock_books_of l.yard l.counter);
-      before : stock_before l.yard ≡ stock_before l.initial.yard;
+          (books_now l.initial.books) (books_now l.books);
+      before : stock_before l.books.yard ≡ stock_before l.initial.books.yard;
+      counter : l.books.counter ≡ l.initial.books.counter;
     }

@@ -1,9 +1,7 @@
 use Rattle.std.proofs.Common.{◌≡◌, ℕ, ◌≤◌, false, List, length, Option, Some, None, arith}
 use Rattle.std.proofs.lemmas.Bool.{ltb-false}
-use Rattle.part_core.specs.CatalogueView.{parts_of}
 use Rattle.part_core.specs.Quantity.{is_bad_quantity}
 use Rattle.part_core.proofs.Conditions.{none-holds, or_none}
-use Rattle.bom_core.specs.BomsView.{bills_of}
 use Rattle.stock_core.specs.Arrives.{count_of}
 use Rattle.stock_core.specs.Serials.{are_many, given}
 use Rattle.stock_core.proofs.Checked.{good-quantity}
@@ -21,24 +19,24 @@ few-named (Some xs) e = omega (arith, ltb-false 1000 (length xs) e)
 
 pub make_new-requires-clause-room : goal.make_new-requires-clause-room
 make_new-requires-clause-room c =
-    let b = build_books c.args.builds.now c.args.allocations.now c.args.yard.now c.args.counter.now in
+    let b = build_books c.args.builds.now c.args.floor.now in
     let n = c.args.build in
     let new = c.args.new.now in
     let holds =
-    none-holds (new_outputs_checks n new c.args.day (parts_of c.args.catalogue.now) (bills_of c.args.boms.now) b)
-    c.requires.checked in
+    none-holds (new_outputs_checks n new c.args.day c.requires.checked.0 c.requires.checked.1 b)
+    c.requires.checked.2 in
     let named = or_none (is_bad_quantity new.quantity) (given are_many new.serials) holds.1.0 in
     let items = c.requires.sound.3.stock.items in
     room-few (count_of new.serials) 0 b.books (new_outputs n new c.args.day b).books items
-    (omega (arith, c.args.counter.now.limits.entries_within)) (few-named new.serials named.1)
+    (omega (arith, c.args.floor.now.stock.counter.limits.entries_within)) (few-named new.serials named.1)
     (uses-begun n (build_at n b).part new c.args.day b.books items.stock.history) holds.1.1.1.1.1.1.1.1.0
 
 pub make_new-requires-clause-quantity : goal.make_new-requires-clause-quantity
 make_new-requires-clause-quantity c =
-    let b = build_books c.args.builds.now c.args.allocations.now c.args.yard.now c.args.counter.now in
+    let b = build_books c.args.builds.now c.args.floor.now in
     let new = c.args.new.now in
     let holds =
     none-holds
-    (new_outputs_checks c.args.build new c.args.day (parts_of c.args.catalogue.now) (bills_of c.args.boms.now) b)
-    c.requires.checked in
+    (new_outputs_checks c.args.build new c.args.day c.requires.checked.0 c.requires.checked.1 b)
+    c.requires.checked.2 in
     good-quantity new.quantity (or_none (is_bad_quantity new.quantity) (given are_many new.serials) holds.1.0).0
