@@ -102,6 +102,8 @@ impl<R: Row> Sheet<R> {
     }
 
     /// A sheet of these rows, put in their order, now and before. An error is one of memory.
+    ///
+    /// Each is kept at once, so that no list of changes grows with the rows.
     pub fn filled(alloc: Global, rows: Vec<R>) -> Result<Self, AllocError>
         ensures rows { IfOk result (λ sheet. now_of sheet ≡ filled R.key_of rows.items) }
         ensures before { IfOk result (λ sheet. sheet.before ≡ filled R.key_of rows.items) }
@@ -109,8 +111,8 @@ impl<R: Row> Sheet<R> {
         let mut sheet = Sheet::new(alloc);
         for row in rows {
             sheet.put(row)?;
+            sheet.keep();
         }
-        sheet.keep();
         Ok(sheet)
     }
 
