@@ -12,3 +12,4 @@ pub mod Sums
 pub mod YardForms
 pub mod YardMachine
 pub mod YardView
+pub mod EntryLines
