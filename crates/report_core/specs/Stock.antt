@@ -6,7 +6,8 @@ use Rattle.part_core.specs.Status.{status_name}
 use Rattle.forest.specs.declared.item.Item.{Item}
 use Rattle.yard_core.specs.Stock.{is_gone}
 use Rattle.desk_core.specs.Machine.{State}
-use Rattle.report_core.specs.Fields.{place_text, text_or_empty}
+use Rattle.yard_core.specs.EntryLines.{place_text}
+use Rattle.report_core.specs.Fields.{text_or_empty}
 use Rattle.report_core.specs.Lines.{Lines}
 
 -- whether an item is of the part, and not gone

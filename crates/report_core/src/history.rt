@@ -1,26 +1,15 @@
 //! The history of an item: what became of it.
 ghost use Rattle.std.specs.Prelude.{◌≡◌, map, IfOk};
 ghost use Rattle.desk_core.specs.ShopView.{state_of};
-ghost use Rattle.report_core.specs.History.{entry_line, history_lines};
-ghost use Rattle.report_core.specs.Lines.{Gives, fields_of, lines_of};
+ghost use Rattle.report_core.specs.History.{history_lines};
+ghost use Rattle.report_core.specs.Lines.{Gives, lines_of};
+ghost use Rattle.yard_core.specs.EntryLines.{entry_line};
 
-use crate::fields::{kind_name, number_field, place_field};
 use crate::lines::Report;
 use desk_core::Shop;
 use part_core::{CoreFault, Refusal};
 use std::alloc::{AllocError, Global};
-use yard_core::Entry;
-
-fn entry_line(alloc: Global, entry: &Entry) -> Result<Vec<String>, AllocError>
-    ensures { IfOk result (λ line. fields_of line ≡ entry_line entry.now) }
-{
-    let number = number_field(alloc, entry.number)?;
-    let day = entry.day.text(alloc)?;
-    let kind = String::from_str(alloc, kind_name(entry.note.kind))?;
-    let quantity = number_field(alloc, entry.note.quantity)?;
-    let place = place_field(alloc, entry.note.place)?;
-    Ok(vec![in alloc; number, day, kind, quantity, place]?)
-}
+use yard_core::{Entry, entry_line};
 
 fn entry_lines(alloc: Global, entries: &[&Entry]) -> Result<Vec<Vec<String>>, AllocError>
     ensures { IfOk result (λ lines. lines_of lines.items

@@ -12,7 +12,7 @@ pub mod shortage;
 pub mod stock;
 pub mod where_used;
 
-pub use lines::Report;
+pub use lines::{Report, line_text};
 pub use name::{ReportName, report_named};
 pub use reports::report;
 pub use where_used::uses_tells_walks;

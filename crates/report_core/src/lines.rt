@@ -47,6 +47,15 @@ fn push_line(text: &mut String, fields: &[String]) -> Result<(), AllocError>
     Ok(())
 }
 
+/// A line as text: its fields with a tab between two, and an LF.
+pub fn line_text(alloc: Global, fields: &[String]) -> Result<String, AllocError>
+    ensures { IfOk result (λ text. string_bytes text ≡ line_text (map string_bytes fields.now)) }
+{
+    let mut text = String::new(alloc);
+    push_line(&mut text, fields)?;
+    Ok(text)
+}
+
 fn push_lines(text: &mut String, lines: &[Vec<String>]) -> Result<(), AllocError>
     ensures { OnOk result (string_bytes text.new
         ≡ string_bytes text.old ++ report_text (lines_of lines.now)) }

@@ -7,12 +7,12 @@ ghost use Rattle.desk_core.specs.ShopView.{state_of};
 ghost use Rattle.report_core.specs.Lines.{Gives, fields_of, lines_of};
 ghost use Rattle.report_core.specs.Stock.{is_stock_of, item_line, stock_lines};
 
-use crate::fields::{batch_field, number_field, place_field, serial_field};
+use crate::fields::{batch_field, number_field, serial_field};
 use crate::lines::Report;
 use desk_core::Shop;
 use part_core::{CoreFault, Refusal, Worded};
 use std::alloc::{AllocError, Global};
-use yard_core::{Item, Place, Yard};
+use yard_core::{Item, Place, Yard, place_text};
 
 fn is_gone(item: &Item) -> bool
     ensures { result ≡ is_gone item.now.place }
@@ -26,7 +26,7 @@ fn item_line(alloc: Global, item: &Item) -> Result<Vec<String>, AllocError>
     let number = number_field(alloc, item.number)?;
     let quantity = number_field(alloc, item.quantity)?;
     let status = String::from_str(alloc, item.lot.status.word())?;
-    let place = place_field(alloc, item.place)?;
+    let place = place_text(alloc, item.place)?;
     let batch = batch_field(alloc, &item.lot.batch)?;
     let serial = serial_field(alloc, &item.lot.serial)?;
     Ok(vec![in alloc; number, quantity, status, place, batch, serial]?)

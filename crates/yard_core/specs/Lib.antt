@@ -13,3 +13,4 @@ pub mod Sums
 pub mod YardForms
 pub mod YardMachine
 pub mod YardView
+pub mod EntryLines

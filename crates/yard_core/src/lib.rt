@@ -2,6 +2,7 @@
 #![tactic(auto)]
 
 mod change;
+mod line;
 mod opening;
 mod sums;
 mod walks;
@@ -11,6 +12,7 @@ pub mod yard_command;
 mod yard_forms;
 
 pub use forest::{Entry, Item, Kind, Lot, Note, Place, Reason, copy_batch, is_same_batch};
+pub use line::{entry_line, place_text};
 pub use opening::rows_in_order;
 pub use sums::Sums;
 pub use walks::{Inside, Tree};

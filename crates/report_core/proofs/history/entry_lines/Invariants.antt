@@ -1,5 +1,5 @@
 use Rattle.std.proofs.Common.{◌≡◌, ◌++◌, drop, map}
-use Rattle.report_core.specs.History.{entry_line}
+use Rattle.yard_core.specs.EntryLines.{entry_line}
 use Rattle.report_core.specs.Lines.{lines_of}
 use Rattle.report_core.proofs.history.entry_lines.Given as goal
 
