@@ -1,4 +1,4 @@
-//! Tests of rows in sheets, serial lists, catalogues and bills.
+//! Tests of rows in sheets and logs, serial lists, catalogues and bills.
 #![tactic(auto)]
 
 #[cfg(test)]
@@ -9,6 +9,8 @@ mod calls;
 mod catalogues;
 #[cfg(test)]
 mod indexed;
+#[cfg(test)]
+mod logs;
 #[cfg(test)]
 mod serials;
 #[cfg(test)]

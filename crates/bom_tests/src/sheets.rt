@@ -6,9 +6,9 @@ use std::test::Fail;
 
 // So many of a part.
 #[derive(Drop)]
-struct Stock {
-    number: u64,
-    count: u64,
+pub struct Stock {
+    pub number: u64,
+    pub count: u64,
 }
 
 impl Row for Stock {

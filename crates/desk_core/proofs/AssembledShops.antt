@@ -1,5 +1,6 @@
 -- Tables are those of a sound state where their rows are sound.
-use Rattle.std.proofs.Common.{◌≡◌, ℕ, zero, suc, ◌<◌, true, List, [], ◌∷◌, length, get_or, Some, arith}
+use Rattle.std.proofs.Common.{◌≡◌, ℕ, zero, suc, ◌<◌, true, List, [], ◌∷◌, length, get_or, Option, Some, subst, arith}
+use Rattle.std.specs.Prelude.{IfSome}
 use Rattle.std.specs.FinMap as table
 use Rattle.part_core.specs.Counter.{IsNext}
 use Rattle.part_core.specs.Filled.{StandUnderKeys, filled, filled_onto}
@@ -7,12 +8,14 @@ use Rattle.part_core.specs.Rows.{EachRow}
 use Rattle.part_core.specs.Sheet.{Table}
 use Rattle.part_core.proofs.FilledTables.{filled-own}
 use Rattle.part_core.proofs.RowLemmas.{each-empty, each-insert}
-use Rattle.forest.specs.declared.entry.Entry.{Entry}
 use Rattle.order_core.specs.declared.order.Order.{Order}
+use Rattle.yard_core.specs.Stock.{IsRun}
 use Rattle.desk_core.specs.Assembled.{AreKeys, AreSoundTables, HasSoundBooks, state_from}
 use Rattle.desk_core.specs.Key.{is_key}
 use Rattle.desk_core.specs.Machine.{StandsKept}
+use Rattle.desk_core.specs.ShopView.{state_of}
 use Rattle.desk_core.specs.declared.kept.Kept.{Kept}
+use Rattle.desk_core.specs.declared.shop.Shop.{Shop}
 use Rattle.desk_core.specs.declared.shop.assemble.Tables.{Tables}
 
 -- the word of a row is a key
@@ -33,10 +36,11 @@ stand-kept rows keys k row e = record {
   key = keys-onto table.empty rows keys (each-empty HasKey) k row e;
 }
 
-pub sound_tables : (t : Tables) → IsNext t.limits t.next → t.entries ≡ length t.history.items → AreKeys t.answers.items
-    → HasSoundBooks (state_from t) → AreSoundTables t
-sound_tables t next entries keys books = record {
+pub sound_tables : (t : Tables) → IsNext t.limits t.next → t.entries ≡ length t.history.items
+    → IsRun 1 t.history.items → AreKeys t.answers.items → HasSoundBooks (state_from t) → AreSoundTables t
+sound_tables t next entries numbered keys books = record {
   entries = entries;
+  numbered = numbered;
   state = record {
     next = next;
     bills = books.bills;
@@ -57,8 +61,10 @@ sound_books t sound =
       owners = record { allocations = s.allocations; orders = s.orders; builds = s.builds };
     }
 
-pub history_own : (t : Tables) → StandUnderKeys (λ (e : Entry). e.number ∷ []) (state_from t).stock.history
-history_own t = filled-own (λ (e : Entry). e.number ∷ []) t.history.items
+-- a shop that was made is that of the tables
+pub shop_is : (made : Option Shop) (shop : Shop) (t : Tables) → made ≡ Some shop
+    → IfSome made (λ s. state_of s ≡ state_from t) → state_of shop ≡ state_from t
+shop_is made shop t is now = subst (λ (o : Option Shop). IfSome o (λ s. state_of s ≡ state_from t)) is now
 
 pub orders_own : (t : Tables) → StandUnderKeys (λ (o : Order). o.number ∷ []) (state_from t).orders
 orders_own t = filled-own (λ (o : Order). o.number ∷ []) t.orders.items

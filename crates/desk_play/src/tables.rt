@@ -32,6 +32,14 @@ fn push_sheet<R: Stored>(
     Ok(())
 }
 
+fn push_history(alloc: Global, text: &mut String, shop: &Shop) -> Result<(), AllocError> {
+    text.push_str("history\n")?;
+    for entry in shop.yard().whole_history().as_slice() {
+        push_row(alloc, text, entry)?;
+    }
+    Ok(())
+}
+
 fn push_parts_and_bills(alloc: Global, text: &mut String, shop: &Shop) -> Result<(), AllocError> {
     push_row(alloc, text, &MetaRow::of(shop))?;
     push_sheet(alloc, text, "categories", shop.catalogue().categories())?;
@@ -43,7 +51,7 @@ fn push_parts_and_bills(alloc: Global, text: &mut String, shop: &Shop) -> Result
 fn push_stock(alloc: Global, text: &mut String, shop: &Shop) -> Result<(), AllocError> {
     push_sheet(alloc, text, "locations", shop.yard().locations())?;
     push_sheet(alloc, text, "items", shop.yard().items())?;
-    push_sheet(alloc, text, "history", shop.yard().whole_history())?;
+    push_history(alloc, text, shop)?;
     push_sheet(alloc, text, "allocations", shop.allocations().rows())
 }
 

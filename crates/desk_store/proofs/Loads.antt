@@ -1,5 +1,6 @@
 -- The rows that were read are those of a sound state, and of no other.
-use Rattle.std.proofs.Common.{◌≡◌, ℕ, ◌≤◌, List, [], ◌∷◌, map, length, Ok, Err, sym, ap, subst, ◌∙◌}
+use Rattle.std.proofs.Common.{◌≡◌, inl, inr, ℕ, ◌≤◌, List, [], ◌∷◌, map, length, Option, Some, Ok, Err}
+use Rattle.std.proofs.Common.{refl, sym, ap, subst, ◌∙◌}
 use Rattle.std.proofs.Math.Bridge.{le_prop}
 use Rattle.std.proofs.Math.Path.{to_path_p}
 use Rattle.std.proofs.lemmas.List.{length-map}
@@ -11,9 +12,11 @@ use Rattle.sqlite.proofs.StateLemmas.{survives_then}
 use Rattle.sqlite.specs.Tree.{Trees}
 use Rattle.part_core.specs.Filled.{filled}
 use Rattle.part_core.specs.Sheet.{Table}
+use Rattle.part_core.proofs.Standing.{Stands, each-value}
 use Rattle.part_core.specs.declared.limits.Limits.{Limits}
 use Rattle.forest.specs.EntryColumns.{entry_columns, entry_from}
 use Rattle.forest.specs.declared.entry.Entry.{Entry}
+use Rattle.yard_core.specs.Stock.{IsRun}
 use Rattle.yard_core.proofs.OwnKeys.{keyed-own}
 use Rattle.desk_core.specs.Assembled.{AreSoundTables, state_from}
 use Rattle.desk_core.specs.Machine.{IsSoundState, State}
@@ -30,8 +33,8 @@ use Rattle.desk_store.specs.declared.meta.MetaRow.{MetaRow}
 use Rattle.desk_store.proofs.Readings.{HasRead, fails-later, gives-first, has-read, read-then, reads-ok, was-clean}
 use Rattle.desk_store.proofs.Sheets.{own_keys}
 use Rattle.table_store.specs.Schema.{tree_number}
-use Rattle.table_store.specs.Stored.{values_of}
-use Rattle.table_store.specs.Written.{IsTableOf}
+use Rattle.table_store.specs.Stored.{row_of, values_of}
+use Rattle.table_store.specs.Written.{IsRead, IsTableOf}
 use Rattle.table_store.specs.declared.name.TableName.TheVariants.{Meta, Categories, Locations, Parts, Lines}
 use Rattle.table_store.specs.declared.name.TableName.TheVariants.{Substitutes, Items, History, Orders}
 use Rattle.table_store.specs.declared.name.TableName.TheVariants.{OrderLines, Builds, Allocations, Kept, Spent}
@@ -50,19 +53,41 @@ same-limits a b numbers entries =
           to_path_p (λ j. entries j ≤ 10000000000) {a = a.entries_within} {b = b.entries_within} (le_prop _ _) i;
     }
 
--- the history has as many rows as were loaded
-as-many : (tree : List Row) (rows : List Entry)
-    → AreTheRows entry_from entry_columns (λ row. row.number ∷ []) History tree rows
-    → table.len (filled (λ (row : Entry). row.number ∷ []) rows) ≡ length rows
-as-many tree rows are =
-    let all = filled (λ (row : Entry). row.number ∷ []) rows in
-    let shown : map (values_of entry_columns) (table.values all) ≡ map (values_of entry_columns) rows =
-    are.its.table_of.holds ∙ sym are.loaded.loaded ∙ are.loaded.same in
-    table.len-entries all
-    ∙ sym (length-map (table.entries all) (λ (e : List ℕ × Entry). e.1))
-    ∙ sym (length-map (table.values all) (values_of entry_columns))
-    ∙ ap length shown
-    ∙ length-map rows (values_of entry_columns)
+module _ (tree : List Row) (rows : List Entry)
+    (are : AreTheRows entry_from entry_columns (λ row. row.number ∷ []) History tree rows) where
+  abbrev all : Table Entry
+  all = filled (λ (row : Entry). row.number ∷ []) rows
+
+  read-again : (xs : List Entry) → ((x : Entry) → Stands x xs → IsRead entry_from entry_columns x)
+      → map (row_of entry_from) (map (values_of entry_columns) xs) ≡ map (λ x. Some x) xs
+  read-again [] reads = refl
+  read-again (x ∷ xs) reads = ap₂ (λ o os. o ∷ os) (reads x (inl refl)) (read-again xs (λ y s. reads y (inr s)))
+
+  -- the history was loaded in order of number
+  in-order : table.values all ≡ rows
+  in-order =
+      some-rows (table.values all) rows
+      (sym (read-again (table.values all) (each-value (IsRead entry_from entry_columns) all are.its.table_of.read))
+      ∙ ap (map (row_of entry_from)) (are.its.table_of.holds ∙ sym are.loaded.loaded)
+      ∙ are.loaded.read)
+    where
+      first : (x y : Entry) (xs ys : List (Option Entry)) → Some x ∷ xs ≡ Some y ∷ ys → (x ≡ y) × (xs ≡ ys)
+      first x y xs ys e = (cc, cc)
+
+      some-rows : (xs ys : List Entry) → map (λ x. Some x) xs ≡ map (λ x. Some x) ys → xs ≡ ys
+      some-rows [] [] e = refl
+      some-rows [] (y ∷ ys) e = cc
+      some-rows (x ∷ xs) [] e = cc
+      some-rows (x ∷ xs) (y ∷ ys) e =
+          let both = first x y (map (λ x. Some x) xs) (map (λ x. Some x) ys) e in
+          ap₂ (λ z zs. z ∷ zs) both.0 (some-rows xs ys both.1)
+
+  -- it has as many rows as were loaded
+  as-many : table.len all ≡ length rows
+  as-many =
+      table.len-entries all
+      ∙ sym (length-map (table.entries all) (λ (e : List ℕ × Entry). e.1))
+      ∙ ap length in-order
 
 module _ (trees : Trees) (t : Tables) (are : AreTables trees t) where
   -- the row of the counter is that of the tables' state
@@ -196,6 +221,9 @@ module _ (trees : Trees) (t : Tables) (are : AreTables trees t) where
     -- the tables of a sound state are sound
     pub are-sound : AreSoundTables t
     are-sound = record {
+      numbered =
+          subst (IsRun 1) (in-order (trees (tree_number History)) t.history.items are.sheets.stock.history_are)
+          (subst (λ (h : Table Entry). IsRun 1 (table.values h)) same-history sound.stock.items.stock.history.run);
       entries =
           sym (ap (λ (m : MetaRow). m.entries) same-meta) ∙ ap (λ (h : Table Entry). table.len h) same-history
           ∙ as-many (trees (tree_number History)) t.history.items are.sheets.stock.history_are;

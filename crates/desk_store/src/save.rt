@@ -1,7 +1,7 @@
 //! The changes of a request go into the tables, all in one transaction.
 //!
 //! The tables are those of the state before, and become those of the state now: each sheet writes the rows that
-//! changed, and the row of the counter is written whole. No table is written outside the transaction, so what a crash
+//! changed, the history those that were added, and the row of the counter is written whole. No table is written outside the transaction, so what a crash
 //! leaves has all of it or none.
 //!
 //! The tables are written in turns, in their order but for the row of the counter, which is the last: where so many had
@@ -21,7 +21,7 @@ ghost use Rattle.desk_store.specs.MetaColumns.{meta_columns, meta_of};
 ghost use Rattle.desk_store.specs.Saving.{Goes, IsSheetIn, IsUnderWay, MayFollow, turn_of};
 ghost use Rattle.table_store.specs.Transactions.{IsOfMemoryOrStore};
 ghost use Rattle.table_store.specs.declared.fault.TableFault.TheVariants.{Memory};
-ghost use Rattle.table_store.specs.declared.name.TableName.TheVariants.{Kept as KeptTable};
+ghost use Rattle.table_store.specs.declared.name.TableName.TheVariants.{History, Kept as KeptTable};
 
 use crate::laws::may_follow;
 use crate::meta::MetaRow;
@@ -30,8 +30,9 @@ use part_core::{Row, Sheet, Stored};
 use sqlite::{Alter, Connection};
 use std::alloc::Global;
 use table_store::{
-    TableFault, TableName, begin, commit, rollback, write_kept, write_pending, write_row,
+    TableFault, TableName, begin, commit, rollback, write_kept, write_log, write_pending, write_row,
 };
+use yard_core::Entry;
 
 /// A table whose sheet is one of the shop's is written.
 fn write_sheet<S: Alter, R: Stored + Row<Key = u64>>(
@@ -83,6 +84,23 @@ fn write_answers<S: Alter>(
     write_kept::<S, Kept>(alloc, conn, shop.answers())
 }
 
+/// The history is written.
+fn write_history<S: Alter>(
+    alloc: Global,
+    conn: &mut Connection<S>,
+    shop: &Shop,
+) -> Result<(), TableFault>
+    requires follows { MayFollow (state_before shop.now) (state_of shop.now) }
+    requires under_way { HasCleanDisk (state S.Store conn.old)
+        → IsUnderWay (state_before shop.now) (state_of shop.now) (turn_of History)
+        (state S.Store conn.old) }
+    ensures { Goes (state_before shop.now) (state_of shop.now) (turn_of History + 1)
+        (state S.Store conn.old) (state S.Store conn.new) result }
+{
+    let history = shop.yard().whole_history();
+    write_log::<S, Entry>(alloc, conn, TableName::History, history)
+}
+
 /// One table is written, where those whose turn is before it are.
 fn write_table<S: Alter>(
     alloc: Global,
@@ -107,7 +125,7 @@ fn write_table<S: Alter>(
         TableName::Lines => write_sheet(alloc, conn, shop, table, shop.boms().lines()),
         TableName::Substitutes => write_sheet(alloc, conn, shop, table, shop.boms().substitutes()),
         TableName::Items => write_sheet(alloc, conn, shop, table, shop.yard().items()),
-        TableName::History => write_sheet(alloc, conn, shop, table, shop.yard().whole_history()),
+        TableName::History => write_history(alloc, conn, shop),
         TableName::Orders => write_sheet(alloc, conn, shop, table, shop.orders().orders()),
         TableName::OrderLines => write_sheet(alloc, conn, shop, table, shop.orders().lines()),
         TableName::Builds => write_sheet(alloc, conn, shop, table, shop.builds().rows()),

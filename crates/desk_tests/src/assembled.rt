@@ -78,7 +78,7 @@ fn tables_of(alloc: Global, shop: &Shop) -> Result<Tables, Fail> {
         substitutes: rows_of(alloc, shop.boms().substitutes())?,
         locations: rows_of(alloc, shop.yard().locations())?,
         items: rows_of(alloc, shop.yard().items())?,
-        history: rows_of(alloc, shop.yard().whole_history())?,
+        history: shop.yard().whole_history().as_slice().to_vec(alloc)?,
         allocations: rows_of(alloc, shop.allocations().rows())?,
         orders: rows_of(alloc, shop.orders().orders())?,
         order_lines: rows_of(alloc, shop.orders().lines())?,

@@ -61,7 +61,7 @@ fn pending(alloc: Global, shop: &Shop) -> Result<Vec<usize>, AllocError> {
     counts.push(shop.boms().substitutes().pending()?.len())?;
     counts.push(shop.yard().locations().pending()?.len())?;
     counts.push(shop.yard().items().pending()?.len())?;
-    counts.push(shop.yard().whole_history().pending()?.len())?;
+    counts.push(shop.yard().whole_history().pending().len())?;
     counts.push(shop.answers().pending()?.len())?;
     counts.push(shop.orders().orders().pending()?.len())?;
     counts.push(shop.orders().lines().pending()?.len())?;

@@ -107,7 +107,7 @@ fn is_found_sound(
         parent: None,
     };
     let locations = vec![in alloc; shelf]?;
-    let yard = Yard::assemble(alloc, locations, items, history)?;
+    let yard = Yard::assemble(alloc, locations, items, history)?.ok_or("entries by number")?;
     let catalogue = catalogue(alloc)?;
     let counter = drawn(limits);
     let books = YardBooks {

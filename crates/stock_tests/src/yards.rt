@@ -18,6 +18,7 @@ fn are_found_sound(alloc: Global, other: Location) -> Result<bool, Fail> {
     let top = location(alloc, 1, None)?;
     let locations = vec![in alloc; top, other]?;
     let yard = Yard::assemble(alloc, locations, Vec::new(alloc), Vec::new(alloc))?;
+    let yard = yard.ok_or("no entries")?;
     Ok(yard.are_locations_sound(10)?)
 }
 
@@ -94,8 +95,10 @@ fn is_found_sound(
     items: Vec<Item>,
     history: Vec<Entry>,
 ) -> Result<bool, AllocError> {
-    let yard = Yard::assemble(alloc, Vec::new(alloc), items, history)?;
-    yard.is_sound()
+    match Yard::assemble(alloc, Vec::new(alloc), items, history)? {
+        None => Ok(false),
+        Some(yard) => yard.is_sound(),
+    }
 }
 
 #[test]

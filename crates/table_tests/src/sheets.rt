@@ -1,4 +1,4 @@
-//! Sheets go into their tables and come back.
+//! Sheets and logs go into their tables and come back.
 ghost use Rattle.std.specs.Prelude.{◌≡◌, ◌∷◌, ◌++◌, ◌<◌, ◌^◌, [], false, IfOk, All};
 ghost use Rattle.std.specs.FinMap.{empty};
 ghost use Rattle.sqlite.specs.Held.{state};
@@ -15,13 +15,14 @@ ghost use Rattle.table_store.specs.Written.{tree_of, IsReady, IsTableOf};
 ghost use Rattle.table_store.specs.declared.name.TableName.TheVariants.{Categories};
 
 use crate::tables::{committed, holds, location, made};
-use part_core::{Category, Name, Sheet};
+use part_core::{Category, Log, Name, Sheet};
 use sqlite::{Alter, Connection};
 use sqlite_value::value::ValueRef;
 use std::alloc::{AllocError, Global};
 use std::test::Fail;
 use table_store::{
     TableFault, TableName, Visitor, begin, commit, create_tables, each_row, load_sheet, put_row,
+    write_log,
     write_pending,
 };
 
@@ -44,7 +45,8 @@ fn fresh<S: Alter>(conn: &mut Connection<S>) -> Result<(), Fail>
 
 fn category(alloc: Global, number: u64, name: &str) -> Result<Category, Fail>
     requires { number < 2 ^ 63 }
-    ensures { IfOk result (λ row. All IsSmall (named_columns row)) }
+    ensures small { IfOk result (λ row. All IsSmall (named_columns row)) }
+    ensures number { IfOk result (λ row. row.number ≡ number) }
 {
     let text = String::from_str(alloc, name)?;
     let name = Name::new(text).ok_or("a name")?;
@@ -163,6 +165,49 @@ fn walked<S: Alter>(alloc: Global, conn: &mut Connection<S>) -> Result<Vec<u64>,
     Ok(numbers.seen)
 }
 
+/// A log with a category that is pending.
+fn log_of_one(alloc: Global) -> Result<Log<Category>, Fail>
+    ensures small { IfOk result (λ log. AreSmall named_columns (now_of log)) }
+    ensures before { IfOk result (λ log. log.before ≡ empty) }
+{
+    let mut log = Log::new(alloc);
+    let row = category(alloc, 1, "Screws")?;
+    log.put(row)?;
+    Ok(log)
+}
+
+/// Writes the log, where the table has its rows before.
+fn log_written<S: Alter>(
+    alloc: Global,
+    conn: &mut Connection<S>,
+    log: &Log<Category>,
+) -> Result<(), Fail>
+    requires ready { HasCleanDisk (state S.Store conn.old) → IsReady (state S.Store conn.old) }
+    requires own { StandUnderKeys (λ row. row.number ∷ []) log.now.before }
+    requires small { AreSmall named_columns (now_of log.now) }
+    requires before { HasCleanDisk (state S.Store conn.old)
+        → IsTableOf named_from named_columns Categories
+        (tree_of Categories (state S.Store conn.old)) log.now.before }
+    ensures ready { IfOk result (λ _. HasCleanDisk (state S.Store conn.new)
+        → IsReady (state S.Store conn.new)) }
+{
+    Ok(write_log::<S, Category>(alloc, conn, TableName::Categories, log)?)
+}
+
+fn writes_log<S: Alter>(alloc: Global, conn: &mut Connection<S>) -> Result<(), Fail>
+    requires bare { HasCleanDisk (state S.Store conn.old)
+        → (state S.Store conn.old).now.schema ≡ schema_up_to 0 }
+    requires free { HasCleanDisk (state S.Store conn.old)
+        → (state S.Store conn.old).in_transaction ≡ false }
+{
+    fresh(conn)?;
+    let log = log_of_one(alloc)?;
+    log_written(alloc, conn, &log)?;
+    let rows = load_sheet::<S, Category>(alloc, conn, TableName::Categories)?;
+    let numbers: Vec<u64> = rows.iter().map(|row| row.number).collect(alloc)?;
+    holds(numbers.as_slice() == [1].as_slice(), "the row that was put")
+}
+
 /// A location whose parent is this number is loaded as this fault, or as none.
 fn loads<S: Alter>(
     alloc: Global,
@@ -203,6 +248,13 @@ fn each_row_is_handed_on_in_order(rt: HostRuntime) -> Result<(), Fail> {
     let mut conn = Connection::open_in_memory(alloc)?;
     let numbers = walked(alloc, &mut conn)?;
     holds(numbers.as_slice() == [10, 20, 30].as_slice(), "each row")
+}
+
+#[test]
+fn a_log_is_written_and_loaded(rt: HostRuntime) -> Result<(), Fail> {
+    let alloc = rt.alloc();
+    let mut conn = Connection::open_in_memory(alloc)?;
+    writes_log(alloc, &mut conn)
 }
 
 #[test]

@@ -3,11 +3,11 @@ use Rattle.sqlite.specs.Held.{state}
 use Rattle.desk_core.specs.ShopView.{state_before, state_of}
 use Rattle.desk_store.specs.Saving.{Goes, IsUnderWay, turn_of}
 use Rattle.desk_store.proofs.Sheets.{allocation-sheet, at_table, build-sheet, category-sheet}
-use Rattle.desk_store.proofs.Sheets.{entry-sheet, item-sheet, line-sheet, location-sheet}
+use Rattle.desk_store.proofs.Sheets.{item-sheet, line-sheet, location-sheet}
 use Rattle.desk_store.proofs.Sheets.{order-line-sheet, order-sheet, part-sheet, spent-sheet, substitute-sheet}
 use Rattle.table_store.specs.declared.name.TableName.{TableName}
 use Rattle.table_store.specs.declared.name.TableName.TheVariants.{Categories, Locations, Parts, Lines}
-use Rattle.table_store.specs.declared.name.TableName.TheVariants.{Substitutes, Items, History, Orders}
+use Rattle.table_store.specs.declared.name.TableName.TheVariants.{Substitutes, Items, Orders}
 use Rattle.table_store.specs.declared.name.TableName.TheVariants.{OrderLines, Builds, Allocations, Spent}
 use Rattle.desk_store.proofs.save.write_table.Goals as goal
 
@@ -44,11 +44,17 @@ write_sheet-requires-in-Items-clause-sheet g c =
     at_table c.args.table Items c.items.result.now c.args.shop.now.floor.stock.yard.items c.in-Items.is
     (c.items.ensures ∙ ap (λ k. k.items) c.yard-in-Items.ensures) (item-sheet c.args.shop.now c.requires.follows)
 
-pub write_sheet-requires-in-History-clause-sheet : goal.write_sheet-requires-in-History-clause-sheet
-write_sheet-requires-in-History-clause-sheet g c =
-    at_table c.args.table History c.whole_history.result.now c.args.shop.now.floor.stock.yard.history c.in-History.is
-    (c.whole_history.ensures ∙ ap (λ k. k.history) c.yard-in-History.ensures)
-    (entry-sheet c.args.shop.now c.requires.follows)
+pub write_history-requires-clause-under_way : goal.write_history-requires-clause-under_way
+write_history-requires-clause-under_way g c clean =
+    subst (λ (t : TableName).
+    IsUnderWay (state_before c.args.shop.now) (state_of c.args.shop.now) (turn_of t) (state g.S.Store c.args.conn.now))
+    c.in-History.is (c.requires.under_way clean)
+
+pub returns-in-History : goal.returns-in-History
+returns-in-History g c =
+    subst (λ (t : TableName). Goes (state_before c.args.shop.now) (state_of c.args.shop.now) (turn_of t + 1)
+    (state g.S.Store c.args.conn.now) (state g.S.Store c.write_history.new.conn) c.write_history.result)
+    (sym c.in-History.is) c.write_history.ensures
 
 pub write_sheet-requires-in-Orders-clause-sheet : goal.write_sheet-requires-in-Orders-clause-sheet
 write_sheet-requires-in-Orders-clause-sheet g c =

@@ -31,7 +31,7 @@ unfolding IsLow
 returns-clause-small c =
     subst (EachRow IsLow) (sym c.in_ok-put-2.ensures.ok)
     (each-insert IsLow (now_of c.put.new.self) (c.in_ok-first.first.number ∷ []) c.in_ok-first.first
-    c.in_ok-first.ensures
+    c.in_ok-first.ensures.small
     (subst (EachRow IsLow) (sym c.in_ok-put.ensures.ok)
     (each-insert IsLow (now_of c.new-sheet.result) (c.in_ok-later.later.number ∷ []) c.in_ok-later.later
-    c.in_ok-later.ensures (subst (EachRow IsLow) (sym c.new-sheet.ensures.rows) (each-empty IsLow)))))
+    c.in_ok-later.ensures.small (subst (EachRow IsLow) (sym c.new-sheet.ensures.rows) (each-empty IsLow)))))

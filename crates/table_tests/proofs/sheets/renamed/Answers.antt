@@ -38,7 +38,7 @@ returns-clause-small c =
     subst (EachRow IsLow)
     (sym (is-put (now_of c.put.new.self) (now_of c.keep.new.self) old c.in_ok-row.row c.in_ok-put.ensures.ok
     c.keep.ensures.rows))
-    (each-insert IsLow old (c.in_ok-row.row.number ∷ []) c.in_ok-row.row c.in_ok-row.ensures c.requires.small)
+    (each-insert IsLow old (c.in_ok-row.row.number ∷ []) c.in_ok-row.row c.in_ok-row.ensures.small c.requires.small)
 
 pub returns-clause-stays : goal.returns-clause-stays
 returns-clause-stays c =
