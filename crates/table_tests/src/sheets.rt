@@ -22,8 +22,7 @@ use std::alloc::{AllocError, Global};
 use std::test::Fail;
 use table_store::{
     TableFault, TableName, Visitor, begin, commit, create_tables, each_row, load_sheet, put_row,
-    write_log,
-    write_pending,
+    write_log, write_pending,
 };
 
 /// Makes the tables, and begins the next transaction.
