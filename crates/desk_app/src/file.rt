@@ -12,6 +12,7 @@ ghost use Rattle.desk_store.specs.StateTables.{TablesAre};
 ghost use Rattle.desk_store.specs.Desks.{IsDesk};
 ghost use Rattle.desk_store.specs.Migrating.{EitherAre};
 ghost use Rattle.desk_store.specs.Exports.{AppendsFront, table_text};
+ghost use Rattle.report_core.specs.History.{history_lines};
 ghost use Rattle.report_core.specs.Reports.{report_lines};
 ghost use Rattle.table_store.specs.Schema.{IsOwn};
 ghost use Rattle.desk_app.specs.Empty.{AreLargest, IsEmpty};
@@ -24,7 +25,7 @@ use crate::run::Told;
 use desk_core::Shop;
 use desk_store::{Desk, ExportFault, WriteFailed, send};
 use desk_wire::refused_text;
-use part_core::{CoreFault, Limits};
+use part_core::{CoreFault, Limits, Refusal};
 use report_core::{ReportName, report};
 use sqlite::{Alter, Connection};
 use std::alloc::Global;
@@ -189,8 +190,8 @@ pub(crate) fn tell_report_as_text(
     }
 }
 
-/// Prints the report of that name as text, or that there is no such row, which isn't fine.
-pub fn print_report<S: Alter, W: Write>(
+/// Prints the report of that name as text, or that there is no such row, which isn't fine: the whole text in one write.
+fn print_whole<S: Alter, W: Write>(
     alloc: Global,
     desk: &Desk<S>,
     name: ReportName,
@@ -222,15 +223,88 @@ pub fn print_report<S: Alter, W: Write>(
     }
 }
 
-/// Prints a table as text.
+/// Prints that there is no such row, which isn't fine.
+fn print_no_such<W: Write>(alloc: Global, writer: &mut W) -> RunEnd
+    ensures whole { (there : Bool) → result ≡ RunEnd.Done there
+        → IsPrinted (W.contents writer.old) (W.contents writer.new) None there }
+    ensures front { (result ≡ RunEnd.WriteFailed) ⊎ (result ≡ RunEnd.Memory)
+        → AppendsFront (W.contents writer.old) (W.contents writer.new) (printed None).0 }
+    ensures only { (result ≢ RunEnd.ReadFailed) × (result ≢ RunEnd.Store) }
+{
+    let Ok(text) = refused_text(alloc, Refusal::NoSuch) else {
+        return RunEnd::Memory;
+    };
+    match send(writer, text.as_bytes()) {
+        Ok(()) => RunEnd::Done(false),
+        Err(WriteFailed) => RunEnd::WriteFailed,
+    }
+}
+
+/// Prints the history of an item line by line, or that there is no such item, which isn't fine.
+fn print_history<S: Alter, W: Write>(
+    alloc: Global,
+    desk: &Desk<S>,
+    item: u64,
+    writer: &mut W,
+) -> RunEnd
+    ensures whole { (there : Bool) → result ≡ RunEnd.Done there
+        → IsPrinted (W.contents writer.old) (W.contents writer.new)
+        (history_lines item (state_of desk.now.shop)) there }
+    ensures front { (result ≡ RunEnd.WriteFailed) ⊎ (result ≡ RunEnd.Memory)
+        → AppendsFront (W.contents writer.old) (W.contents writer.new)
+        (printed (history_lines item (state_of desk.now.shop))).0 }
+    ensures nothing { result ≡ RunEnd.Store
+        → Keeps (W.contents writer.old) (W.contents writer.new) }
+    ensures closed { (result ≡ RunEnd.Store) ↔ IsSome desk.now.failed }
+    ensures never { result ≢ RunEnd.ReadFailed }
+{
+    match desk.history(item, writer) {
+        Ok(()) => RunEnd::Done(true),
+        Err(ExportFault::NoSuch) => print_no_such(alloc, writer),
+        Err(ExportFault::Memory) => RunEnd::Memory,
+        Err(ExportFault::Closed) => RunEnd::Store,
+        Err(ExportFault::WriteFailed) => RunEnd::WriteFailed,
+    }
+}
+
+/// Prints the report of that name as text, or that there is no such row, which isn't fine. A history is printed line by
+/// line, so that a front of it may be printed before memory runs out.
+pub fn print_report<S: Alter, W: Write>(
+    alloc: Global,
+    desk: &Desk<S>,
+    name: ReportName,
+    of: u64,
+    writer: &mut W,
+) -> RunEnd
+    requires { IsSoundState (state_of desk.now.shop) }
+    ensures whole { (there : Bool) → result ≡ RunEnd.Done there
+        → IsPrinted (W.contents writer.old) (W.contents writer.new)
+        (report_lines name of (state_of desk.now.shop)) there }
+    ensures front { (result ≡ RunEnd.WriteFailed) ⊎ (result ≡ RunEnd.Memory)
+        → AppendsFront (W.contents writer.old) (W.contents writer.new)
+        (printed (report_lines name of (state_of desk.now.shop))).0 }
+    ensures none { name ≢ ReportName.History → result ≡ RunEnd.Memory
+        → Keeps (W.contents writer.old) (W.contents writer.new) }
+    ensures nothing { result ≡ RunEnd.Store
+        → Keeps (W.contents writer.old) (W.contents writer.new) }
+    ensures closed { (result ≡ RunEnd.Store) ↔ IsSome desk.now.failed }
+    ensures never { result ≢ RunEnd.ReadFailed }
+{
+    match name {
+        ReportName::History => print_history(alloc, desk, of, writer),
+        _ => print_whole(alloc, desk, name, of, writer),
+    }
+}
+
+/// Prints a table as text, line by line, so that a front of it may be printed before memory runs out.
 pub fn print_export<S: Alter, W: Write>(desk: &Desk<S>, table: TableName, writer: &mut W) -> RunEnd
     ensures whole { (all : Bool) → result ≡ RunEnd.Done all
         → (all ≡ true) × Appends (W.contents writer.old) (W.contents writer.new)
         (table_text table (state_of desk.now.shop)) }
-    ensures front { result ≡ RunEnd.WriteFailed
+    ensures front { (result ≡ RunEnd.WriteFailed) ⊎ (result ≡ RunEnd.Memory)
         → AppendsFront (W.contents writer.old) (W.contents writer.new)
         (table_text table (state_of desk.now.shop)) }
-    ensures nothing { (result ≡ RunEnd.Memory) ⊎ (result ≡ RunEnd.Store)
+    ensures nothing { result ≡ RunEnd.Store
         → Keeps (W.contents writer.old) (W.contents writer.new) }
     ensures closed { (result ≡ RunEnd.Store) ↔ IsSome desk.now.failed }
     ensures never { result ≢ RunEnd.ReadFailed }
@@ -240,5 +314,6 @@ pub fn print_export<S: Alter, W: Write>(desk: &Desk<S>, table: TableName, writer
         Err(ExportFault::Memory) => RunEnd::Memory,
         Err(ExportFault::Closed) => RunEnd::Store,
         Err(ExportFault::WriteFailed) => RunEnd::WriteFailed,
+        Err(ExportFault::NoSuch) => unreachable!(),
     }
 }

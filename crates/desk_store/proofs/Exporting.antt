@@ -1,54 +1,113 @@
--- Lines of rows, one after another.
-use Rattle.std.proofs.Common.{◌≡◌, ℕ, ◌<◌, ◌≤◌, ◌+◌, suc, List, ◌++◌, length, get_or, map, drop, refl, sym}
-use Rattle.std.proofs.Common.{ap, ◌∙◌, subst, append_assoc, append-nil, drop-cons, add-one, Result, OnOk}
+-- Lines that are written one after another.
+use Rattle.std.proofs.Common.{◌≡◌, ℕ, ◌<◌, ◌≤◌, ◌+◌, suc, List, [], ◌∷◌, ◌++◌, length, get_or, map, drop, refl, sym}
+use Rattle.std.proofs.Common.{ap, ◌∙◌, subst, append_assoc, append-nil, drop-cons, add-one, Result, Ok, Err}
 use Rattle.std.specs.Borrow.{Bor}
-use Rattle.std.specs.declared.vec.Vec.{Vec}
+use Rattle.std.specs.Prelude.{◌≢◌, Option, OnOk, OnErr}
+use Rattle.std.specs.Io.KnownBytes.{Appends, Keeps}
+use Rattle.std.proofs.KnownBytes.{Appends-kept, Appends-nil, Appends-trans}
 use Rattle.std.proofs.lemmas.List.{drop_all}
-use Rattle.csv.specs.declared.writer.Writer.{Writer}
-use Rattle.part_core.specs.declared.column.Column.{Column}
-use Rattle.desk_store.specs.Exports.{HasLines, WritesLines, lines_of, row_line}
+use Rattle.desk_store.specs.Exports.{AppendsFront, Sends}
+use Rattle.desk_store.specs.declared.export.ExportFault.{ExportFault}
+use Rattle.desk_store.specs.declared.export.ExportFault.TheVariants.{Memory, Closed, NoSuch, WriteFailed}
+use Rattle.desk_store.proofs.Sent.{front-sent, front-then}
 
-module _ {R : Type 0} (columns : R → List Column) where
+module _ {X : Type 0} (whole : List X → List ℕ) where
   -- the lines of the rows from this one on
-  abbrev pub left_of : ℕ → List (Bor R) → List ℕ
-  left_of i rows = lines_of columns (map (λ row. row.now) (drop i rows))
+  abbrev pub left_of : ℕ → List (Bor X) → List ℕ
+  left_of i rows = whole (map (λ row. row.now) (drop i rows))
 
-  left_next : (rows : List (Bor R)) (i : ℕ) (row : Bor R) → i < length rows → row ≡ get_or rows i row
-      → left_of i rows ≡ row_line (columns row.now) ++ left_of (i + 1) rows
-  left_next rows i row lt at =
-      ap (λ rest. lines_of columns (map (λ r. r.now) rest)) (drop-cons rows i row lt)
-      ∙ ap (λ (r : Bor R). row_line (columns r.now) ++ left_of (suc i) rows) (sym at)
-      ∙ ap (λ j. row_line (columns row.now) ++ left_of j rows) (sym (add-one i))
-
-module _ {A R : Type 0} (columns : R → List Column) where
   -- the lines of the rows before this one are written
-  abbrev pub AreWritten : Writer (Vec ℕ A) → Writer (Vec ℕ A) → ℕ → List (Bor R) → Type 0
-  AreWritten old new i rows =
-      (text : List ℕ) → HasLines text old → (so_far : List ℕ) × HasLines so_far new
-      × (so_far ++ left_of columns i rows ≡ text ++ lines_of columns (map (λ row. row.now) rows))
+  pub record AreSent (old new : Option (List ℕ)) (i : ℕ) (rows : List (Bor X)) : Type 0 where
+    pub sent : List ℕ
+    pub appends : Appends old new sent
+    pub left : sent ++ left_of i rows ≡ whole (map (λ row. row.now) rows)
 
-  pub none_written : (old : Writer (Vec ℕ A)) (rows : List (Bor R)) → AreWritten old old 0 rows
-  none_written old rows text has = (text, has, refl)
+  pub none-sent : (old : Option (List ℕ)) (rows : List (Bor X)) → AreSent old old 0 rows
+  none-sent old rows = record { sent = []; appends = Appends-nil old; left = refl }
 
-  pub next_written : (old mid new : Writer (Vec ℕ A)) (rows : List (Bor R)) (i : ℕ) (row : Bor R) → i < length rows
-      → row ≡ get_or rows i row → AreWritten old mid i rows → WritesLines mid new (row_line (columns row.now))
-      → AreWritten old new (i + 1) rows
-  next_written old mid new rows i row lt at before writes text has =
-      let s = before text has in
-      let line = row_line (columns row.now) in (
-        s.0 ++ line,
-        writes s.0 s.1,
-        append_assoc s.0 line (left_of columns (i + 1) rows)
-            ∙ (ap (λ l. s.0 ++ l) (sym (left_next columns rows i row lt at)) ∙ s.2),
-      )
+  -- what was written so far is a front
+  pub so-far : (old mid : Option (List ℕ)) (i : ℕ) (rows : List (Bor X)) → AreSent old mid i rows
+      → AppendsFront old mid (whole (map (λ row. row.now) rows))
+  so-far old mid i rows it =
+      subst (AppendsFront old mid) it.left (front-sent old mid it.sent (left_of i rows) it.appends)
 
-  pub all_written : (old new : Writer (Vec ℕ A)) (rows : List (Bor R)) (i : ℕ) → length rows ≤ i
-      → AreWritten old new i rows → WritesLines old new (lines_of columns (map (λ row. row.now) rows))
-  all_written old new rows i le before text has =
-      let s = before text has in
-      let none = ap (λ rest. s.0 ++ lines_of columns (map (λ (row : Bor R). row.now) rest)) (drop_all i rows le) in
-      subst (λ t. HasLines t new) (sym (append-nil s.0) ∙ (sym none ∙ s.2)) s.1
+  module _ (line : X → List ℕ) (none : whole [] ≡ [])
+      (more : (x : X) (xs : List X) → whole (x ∷ xs) ≡ line x ++ whole xs) where
+    pub all-sent : (old new : Option (List ℕ)) (i : ℕ) (rows : List (Bor X)) → length rows ≤ i → AreSent old new i rows
+        → Appends old new (whole (map (λ row. row.now) rows))
+    all-sent old new i rows le it =
+        let end = ap (λ (rest : List (Bor X)). it.sent ++ whole (map (λ row. row.now) rest)) (drop_all i rows le) in
+        let empty = ap (λ rest. it.sent ++ rest) none in
+        subst (Appends old new) (sym (append-nil it.sent) ∙ sym empty ∙ sym end ∙ it.left) it.appends
 
-pub same_lines : {A T E : Type 0} (r : Result T E) (old new : Writer (Vec ℕ A)) (lines text : List ℕ) → lines ≡ text
-    → OnOk r (WritesLines old new lines) → OnOk r (WritesLines old new text)
-same_lines r old new lines text e = subst (λ l. OnOk r (WritesLines old new l)) e
+    module _ (old mid new : Option (List ℕ)) (i : ℕ) (rows : List (Bor X)) (row : Bor X) (lt : i < length rows)
+        (at : row ≡ get_or rows i row) (it : AreSent old mid i rows) where
+      left-next : left_of i rows ≡ line row.now ++ left_of (i + 1) rows
+      left-next =
+          ap (λ rest. whole (map (λ (r : Bor X). r.now) rest)) (drop-cons rows i row lt)
+          ∙ more (get_or rows i row).now (map (λ (r : Bor X). r.now) (drop (suc i) rows))
+          ∙ ap (λ (r : Bor X). line r.now ++ left_of (suc i) rows) (sym at)
+          ∙ ap (λ j. line row.now ++ left_of j rows) (sym (add-one i))
+
+      pub next-sent : Appends mid new (line row.now) → AreSent old new (i + 1) rows
+      next-sent p = record {
+        sent = it.sent ++ line row.now;
+        appends = Appends-trans old mid new it.sent (line row.now) it.appends p;
+        left =
+            append_assoc it.sent (line row.now) (left_of (i + 1) rows)
+            ∙ ap (λ l. it.sent ++ l) (sym left-next)
+            ∙ it.left;
+      }
+
+      pub front-of : AppendsFront mid new (line row.now) → AppendsFront old new (whole (map (λ row. row.now) rows))
+      front-of h =
+          subst (AppendsFront old new) (ap (λ l. it.sent ++ l) (sym left-next) ∙ it.left)
+          (front-then old mid new it.sent (line row.now) (left_of (i + 1) rows) it.appends h)
+
+-- a fault in the middle leaves a front
+pub sends-front : (old mid new : Option (List ℕ)) (text whole : List ℕ) (fault : ExportFault)
+    → Sends mid new text (Err fault) → (AppendsFront mid new text → AppendsFront old new whole)
+    → Sends old new whole (Err fault)
+sends-front old mid new text whole Memory h on = on h
+sends-front old mid new text whole WriteFailed h on = on h
+sends-front old mid new text whole Closed h on = absurd h
+sends-front old mid new text whole NoSuch h on = absurd h
+
+-- one text after another
+pub sends-then : (old mid new : Option (List ℕ)) (first second : List ℕ) (r : Result (Unit {0}) ExportFault)
+    → Appends old mid first → Sends mid new second r → Sends old new (first ++ second) r
+sends-then old mid new first second (Ok x) p h = Appends-trans old mid new first second p h
+sends-then old mid new first second (Err fault) p h =
+    sends-front old mid new second (first ++ second) fault h
+    (λ front. subst (λ l. AppendsFront old new (first ++ l)) (append-nil second)
+    (front-then old mid new first second [] p front))
+
+pub same-text : (old new : Option (List ℕ)) (text other : List ℕ) (r : Result (Unit {0}) ExportFault) → text ≡ other
+    → Sends old new text r → Sends old new other r
+same-text old new text other r e = subst (λ t. Sends old new t r) e
+
+-- what is kept behind a text that was written is that text
+pub sends-kept : (old mid new : Option (List ℕ)) (text : List ℕ) → Appends old mid text → Keeps mid new
+    → Appends old new text × AppendsFront old new text
+sends-kept old mid new text sent kept =
+    let all = Appends-kept old mid new text sent kept in
+    (all, subst (AppendsFront old new) (append-nil text) (front-sent old new text [] all))
+
+-- what a call says that sent the text
+module _ (old new : Option (List ℕ)) (text : List ℕ) where
+  pub sent-whole : (r : Result (Unit {0}) ExportFault) → Sends old new text r → OnOk r (Appends old new text)
+  sent-whole (Ok x) h = h
+  sent-whole (Err fault) h = tt
+
+  pub sent-front : (r : Result (Unit {0}) ExportFault) → Sends old new text r → OnErr r (AppendsFront old new text)
+  sent-front (Ok x) h = tt
+  sent-front (Err Memory) h = h
+  sent-front (Err WriteFailed) h = h
+  sent-front (Err Closed) h = absurd h
+  sent-front (Err NoSuch) h = absurd h
+
+  pub never-closed : (r : Result (Unit {0}) ExportFault) → Sends old new text r → r ≢ Err Closed
+  never-closed r h e = subst (Sends old new text) e h
+
+  pub never-absent : (r : Result (Unit {0}) ExportFault) → Sends old new text r → r ≢ Err NoSuch
+  never-absent r h e = subst (Sends old new text) e h

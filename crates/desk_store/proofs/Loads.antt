@@ -1,6 +1,6 @@
 -- The rows that were read are those of a sound state, and of no other.
 use Rattle.std.proofs.Common.{◌≡◌, inl, inr, ℕ, ◌≤◌, List, [], ◌∷◌, map, length, Option, Some, Ok, Err}
-use Rattle.std.proofs.Common.{refl, sym, ap, subst, ◌∙◌}
+use Rattle.std.proofs.Common.{refl, sym, ap, ap₂, subst, ◌∙◌}
 use Rattle.std.proofs.Math.Bridge.{le_prop}
 use Rattle.std.proofs.Math.Path.{to_path_p}
 use Rattle.std.proofs.lemmas.List.{length-map}
@@ -30,7 +30,8 @@ use Rattle.desk_store.specs.Opening.{AreNoBooks, IsOfOtherVersion, WhyBut, WhyUn
 use Rattle.desk_store.specs.declared.fault.OpenFault.{OpenFault}
 use Rattle.desk_store.specs.declared.fault.OpenFault.TheVariants as why
 use Rattle.desk_store.specs.declared.meta.MetaRow.{MetaRow}
-use Rattle.desk_store.proofs.Readings.{HasRead, fails-later, gives-first, has-read, read-then, reads-ok, was-clean}
+use Rattle.table_store.proofs.Walks.{fails-later}
+use Rattle.desk_store.proofs.Readings.{HasRead, gives-first, has-read, read-then, reads-ok, was-clean}
 use Rattle.desk_store.proofs.Sheets.{own_keys}
 use Rattle.table_store.specs.Schema.{tree_number}
 use Rattle.table_store.specs.Stored.{row_of, values_of}

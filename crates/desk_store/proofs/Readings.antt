@@ -48,19 +48,6 @@ fails_to_load from table a b (Store failed) may = may
 fails_to_load from table a b (NoTable failed) never = absurd never
 fails_to_load from table a b (BadRow failed) bad = inl bad.1
 
--- what fails after a look fails of what was there before it
-pub fails-later : (a b c : State) → IsUnchanged a b → IsUnchanged b c ⊎ IsRolledBack b c
-    → IsUnchanged a c ⊎ IsRolledBack a c
-fails-later a b c one (inl same) = inl (unchanged_then a b c one same)
-fails-later a b c one (inr back) = inr (record {
-  was_open = λ up. one.0.was_open;
-  undone = λ up. let at = back.undone up in (at.0 ∙ one.0.committed_is, at.1 ∙ one.0.committed_is);
-  autocommit = back.autocommit;
-  unmarked = back.unmarked;
-  counts =
-      record { changes = back.counts.changes ∙ one.1.changes; last_rowid = back.counts.last_rowid ∙ one.1.last_rowid };
-})
-
 -- the tables are still there
 pub still-tables : (a b : State) → HasRead a b → (HasCleanDisk a → HasTables a) → HasCleanDisk b → HasTables b
 still-tables a b read tables clean =

@@ -7,6 +7,7 @@ mod desk;
 mod export;
 mod fault;
 mod group;
+mod history;
 mod laws;
 mod load;
 mod meta;

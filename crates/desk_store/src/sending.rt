@@ -1,6 +1,6 @@
 //! Whole writes.
 ghost use Rattle.std.specs.Prelude.{OnOk, OnErr};
-ghost use Rattle.std.specs.Io.KnownBytes.{Appends};
+ghost use Rattle.std.specs.Io.KnownBytes.{Appends, Keeps};
 ghost use Rattle.desk_store.specs.Exports.{AppendsFront};
 
 use std::io::Write;
@@ -9,8 +9,8 @@ use std::io::Write;
 #[derive(Clone, Copy, Debug, PartialEq, Eq)]
 pub struct WriteFailed;
 
-/// Writes all the bytes and flushes; else a front of them.
-pub fn send<W: Write>(writer: &mut W, text: &[u8]) -> Result<(), WriteFailed>
+/// Writes all the bytes; else a front of them.
+pub(crate) fn write_whole<W: Write>(writer: &mut W, text: &[u8]) -> Result<(), WriteFailed>
     ensures whole { OnOk result (Appends (W.contents writer.old) (W.contents writer.new) text.now) }
     ensures front { OnErr result
         (AppendsFront (W.contents writer.old) (W.contents writer.new) text.now) }
@@ -23,8 +23,25 @@ pub fn send<W: Write>(writer: &mut W, text: &[u8]) -> Result<(), WriteFailed>
             Err(_) => return Err(WriteFailed),
         }
     }
+    Ok(())
+}
+
+/// Flushes the writer.
+pub(crate) fn flush<W: Write>(writer: &mut W) -> Result<(), WriteFailed>
+    ensures { Keeps (W.contents writer.old) (W.contents writer.new) }
+{
     match writer.flush() {
         Ok(()) => Ok(()),
         Err(_) => Err(WriteFailed),
     }
+}
+
+/// Writes all the bytes and flushes; else a front of them.
+pub fn send<W: Write>(writer: &mut W, text: &[u8]) -> Result<(), WriteFailed>
+    ensures whole { OnOk result (Appends (W.contents writer.old) (W.contents writer.new) text.now) }
+    ensures front { OnErr result
+        (AppendsFront (W.contents writer.old) (W.contents writer.new) text.now) }
+{
+    write_whole(writer, text)?;
+    flush(writer)
 }

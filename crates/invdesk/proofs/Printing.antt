@@ -6,13 +6,15 @@ use Rattle.std.specs.Io.KnownBytes.{Appends, Keeps}
 use Rattle.table_store.specs.declared.name.TableName.{TableName}
 use Rattle.desk_core.specs.Machine.{State}
 use Rattle.desk_store.specs.Exports.{AppendsFront}
+use Rattle.report_core.specs.Reports.{report_lines}
 use Rattle.report_core.specs.declared.name.ReportName.{ReportName}
-use Rattle.desk_app.specs.Printed.{migrated_text}
+use Rattle.report_core.specs.declared.name.ReportName.TheVariants.{Ledger, Stock, WhereUsed, History, Content, Shortage}
+use Rattle.desk_app.specs.Printed.{IsPrinted, migrated_text, printed}
 use Rattle.desk_app.specs.declared.end.RunEnd.{RunEnd}
 use Rattle.desk_app.specs.declared.end.RunEnd.TheVariants.{Done, ReadFailed, WriteFailed, Memory, Store}
 use Rattle.desk_app.specs.declared.words.Task.{Task}
 use Rattle.desk_app.specs.declared.words.Task.TheVariants as task
-use Rattle.invdesk.specs.Prints.{Prints, PrintsText}
+use Rattle.invdesk.specs.Prints.{Prints, PrintsLines, PrintsReport, PrintsText}
 
 pub prints_text : (told : List ℕ × Bool) (w w' : Option (List ℕ)) (end : RunEnd)
     → ((fine : Bool) → end ≡ Done fine → (fine ≡ told.1) × Appends w w' told.0)
@@ -25,6 +27,50 @@ prints_text told w w' WriteFailed whole front nothing never = front refl
 prints_text told w w' Memory whole front nothing never = nothing (inl refl)
 prints_text told w w' Store whole front nothing never = nothing (inr refl)
 prints_text told w w' ReadFailed whole front nothing never = absurd (never refl)
+
+-- the same of what is printed line by line
+pub prints_lines : (told : List ℕ × Bool) (w w' : Option (List ℕ)) (end : RunEnd)
+    → ((fine : Bool) → end ≡ Done fine → (fine ≡ told.1) × Appends w w' told.0)
+    → ((end ≡ WriteFailed) ⊎ (end ≡ Memory) → AppendsFront w w' told.0)
+    → (end ≡ Store → Keeps w w')
+    → end ≢ ReadFailed
+    → PrintsLines told w w' end
+prints_lines told w w' (Done fine) whole front nothing never = whole fine refl
+prints_lines told w w' WriteFailed whole front nothing never = front (inl refl)
+prints_lines told w w' Memory whole front nothing never = front (inr refl)
+prints_lines told w w' Store whole front nothing never = nothing refl
+prints_lines told w w' ReadFailed whole front nothing never = absurd (never refl)
+
+pub prints_report : (name : ReportName) (number : ℕ) (s : State) (w w' : Option (List ℕ)) (end : RunEnd)
+    → ((fine : Bool) → end ≡ Done fine → IsPrinted w w' (report_lines name number s) fine)
+    → ((end ≡ WriteFailed) ⊎ (end ≡ Memory) → AppendsFront w w' (printed (report_lines name number s)).0)
+    → (name ≢ History → end ≡ Memory → Keeps w w')
+    → (end ≡ Store → Keeps w w')
+    → end ≢ ReadFailed
+    → PrintsReport name number s w w' end
+prints_report name number s w w' end whole front none nothing never = go name whole front none
+  where
+    text : (it : ReportName) → it ≢ History
+        → ((fine : Bool) → end ≡ Done fine → IsPrinted w w' (report_lines it number s) fine)
+        → ((end ≡ WriteFailed) ⊎ (end ≡ Memory) → AppendsFront w w' (printed (report_lines it number s)).0)
+        → (it ≢ History → end ≡ Memory → Keeps w w')
+        → PrintsText (printed (report_lines it number s)) w w' end
+    text it other whole front none =
+        prints_text (printed (report_lines it number s)) w w' end whole (λ e. front (inl e))
+        (λ h. elim h [ inl e ↦ none other e | inr e ↦ nothing e ]) never
+
+    go : (it : ReportName)
+        → ((fine : Bool) → end ≡ Done fine → IsPrinted w w' (report_lines it number s) fine)
+        → ((end ≡ WriteFailed) ⊎ (end ≡ Memory) → AppendsFront w w' (printed (report_lines it number s)).0)
+        → (it ≢ History → end ≡ Memory → Keeps w w')
+        → PrintsReport it number s w w' end
+    go History whole front none =
+        prints_lines (printed (report_lines History number s)) w w' end whole front nothing never
+    go Ledger whole front none = text Ledger (λ e. absurd cc) whole front none
+    go Stock whole front none = text Stock (λ e. absurd cc) whole front none
+    go WhereUsed whole front none = text WhereUsed (λ e. absurd cc) whole front none
+    go Content whole front none = text Content (λ e. absurd cc) whole front none
+    go Shortage whole front none = text Shortage (λ e. absurd cc) whole front none
 
 pub prints_migrated : (w w' : Option (List ℕ)) (end : RunEnd)
     → ((all : Bool) → end ≡ Done all → (all ≡ true) × Appends w w' migrated_text)

@@ -4,6 +4,8 @@ use Rattle.std.specs.Io.KnownBytes.{Appends, Keeps}
 use Rattle.desk_core.specs.Machine.{State}
 use Rattle.desk_store.specs.Exports.{AppendsFront, table_text}
 use Rattle.report_core.specs.Reports.{report_lines}
+use Rattle.report_core.specs.declared.name.ReportName.{ReportName}
+use Rattle.report_core.specs.declared.name.ReportName.TheVariants.{History}
 use Rattle.desk_app.specs.Printed.{migrated_text, printed}
 use Rattle.desk_app.specs.declared.end.RunEnd.{RunEnd}
 use Rattle.desk_app.specs.declared.end.RunEnd.TheVariants.{Done, ReadFailed, WriteFailed, Memory, Store}
@@ -19,9 +21,19 @@ PrintsText told w w' Memory = Keeps w w'
 PrintsText told w w' Store = Keeps w w'
 PrintsText told w w' ReadFailed = ⊥
 
+-- this text was printed line by line: whole, or a front of it, where the writer failed or memory ran out
+abbrev pub PrintsLines : List ℕ × Bool → Option (List ℕ) → Option (List ℕ) → RunEnd → Type 0
+PrintsLines told w w' Memory = AppendsFront w w' told.0
+PrintsLines told w w' end = PrintsText told w w' end
+
+-- the report was printed, a history line by line
+abbrev pub PrintsReport : ReportName → ℕ → State → Option (List ℕ) → Option (List ℕ) → RunEnd → Type 0
+PrintsReport History number s w w' end = PrintsLines (printed (report_lines History number s)) w w' end
+PrintsReport name number s w w' end = PrintsText (printed (report_lines name number s)) w w' end
+
 -- what the words ask for was printed of a desk in this state; of other tasks nothing is printed
 abbrev pub Prints : Task → State → Option (List ℕ) → Option (List ℕ) → RunEnd → Type 0
-Prints (task.Report file name number) s w w' end = PrintsText (printed (report_lines name number s)) w w' end
-Prints (task.Export file table) s w w' end = PrintsText (table_text table s, true) w w' end
+Prints (task.Report file name number) s w w' end = PrintsReport name number s w w' end
+Prints (task.Export file table) s w w' end = PrintsLines (table_text table s, true) w w' end
 Prints (task.Migrate file) s w w' end = PrintsText (migrated_text, true) w w' end
 Prints _ s w w' end = (end ≡ Done true) × Keeps w w'

@@ -1,17 +1,17 @@
 use Rattle.desk_core.specs.ShopView.{state_of}
-use Rattle.invdesk.proofs.Printing.{prints_migrated, prints_nothing, prints_text}
+use Rattle.invdesk.proofs.Printing.{prints_lines, prints_migrated, prints_nothing, prints_report}
 use Rattle.invdesk.proofs.print.Goals as goal
 
 pub returns-in-Report : goal.returns-in-Report
 returns-in-Report g c =
     rw c.in-Report.is
-    (prints_text _ _ _ c.print_report.result c.print_report.ensures.whole c.print_report.ensures.front
-    c.print_report.ensures.nothing c.print_report.ensures.never)
+    (prints_report _ _ _ _ _ c.print_report.result c.print_report.ensures.whole c.print_report.ensures.front
+    c.print_report.ensures.none c.print_report.ensures.nothing c.print_report.ensures.never)
 
 pub returns-in-Export : goal.returns-in-Export
 returns-in-Export g c =
     rw c.in-Export.is
-    (prints_text _ _ _ c.print_export.result c.print_export.ensures.whole c.print_export.ensures.front
+    (prints_lines _ _ _ c.print_export.result c.print_export.ensures.whole c.print_export.ensures.front
     c.print_export.ensures.nothing c.print_export.ensures.never)
 
 pub returns-in-Migrate : goal.returns-in-Migrate

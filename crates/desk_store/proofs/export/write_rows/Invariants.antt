@@ -1,5 +1,8 @@
-use Rattle.desk_store.proofs.Exporting.{AreWritten}
+use Rattle.desk_store.specs.Exports.{lines_of}
+use Rattle.desk_store.proofs.Exporting.{AreSent}
 use Rattle.desk_store.proofs.export.write_rows.Given as goal
 
 abbrev pub invariant-loop-row : goal.invariant-loop-row
-invariant-loop-row g l = AreWritten g.R.Stored.columns_of l.initial.writer l.writer l.row-index l.rows
+invariant-loop-row g l =
+    AreSent (lines_of g.R.Stored.columns_of) (g.W.Write.contents l.initial.writer) (g.W.Write.contents l.writer)
+    l.row-index l.rows

@@ -1,6 +1,6 @@
 use Rattle.std.proofs.Common.{length, ◌-◌, ◌≤◌, take}
 use Rattle.std.specs.Io.KnownBytes.{Appends}
-use Rattle.desk_store.proofs.sending.send.Given as goal
+use Rattle.desk_store.proofs.sending.write_whole.Given as goal
 
 abbrev pub invariant-loop-at : goal.invariant-loop-at
 invariant-loop-at g l = record {

@@ -1,7 +1,7 @@
 use Rattle.std.proofs.Common.{arith, length}
 use Rattle.desk_store.proofs.Sent.{sent_more, from_index}
 use Rattle.std.proofs.Common.{ap, length-drop}
-use Rattle.desk_store.proofs.sending.send.Goals as goal
+use Rattle.desk_store.proofs.sending.write_whole.Goals as goal
 
 pub loop-at-preserved : goal.loop-at-preserved
 loop-at-preserved g c =
