@@ -51,9 +51,13 @@ machine: build
 memory: build
 	python3 tools/check_memory.py $(PROGRAM)
 
+# Tests of hostile input that aren't proved yet, run by 'rt try' in a copy of the repository.
+hostile:
+	python3 tools/check_hostile.py
+
 # The wrong bodies that the gate leaves out: each has to be refused. It takes hours; 'make refuse CRATES=forest' tries
 # those of one crate, and 'make refuse RANDOM=20' twenty, chosen anew each time.
 refuse:
 	python3 tools/refuse.py $(if $(RANDOM),--random $(RANDOM)) $(CRATES)
 
-.PHONY: try run test build install bench file http machine memory refuse
+.PHONY: try run test build install bench file http machine memory hostile refuse

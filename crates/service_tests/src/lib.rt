@@ -4,8 +4,6 @@
 #[cfg(test)]
 mod delivery;
 #[cfg(test)]
-mod ends;
-#[cfg(test)]
 mod imports;
 #[cfg(test)]
 mod loopback;
