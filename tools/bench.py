@@ -13,21 +13,35 @@ file   20,000 and 40,000 finds and removals on a file, on a disk and on a memory
        transfers of single pieces among 1,000 items and among 20,000; and imports of 10,000, 20,000 and 100,000 counts,
        the first two beside the same requests as lines. It prints seconds, ratios and peak memory. The program over the
        kit's `sqlite` is proved and built in a folder of its own, in some minutes.
+history  Books of 100,000 and of 200,000 items with one entry each, and with five: how long they take to be opened,
+       beside Python's sqlite3, which reads the same rows; what is held in memory then, and the most until then; the
+       history exported, and that of one item; and so how many bytes an entry takes, an item with one, and a key.
 http   2,000 and 20,000 finds by POST /run, a connection for each, in memory and with a file on a memory disk; and
        beside them, in the same run, as many requests to a server of Python's http.server that reads the body and does
        nothing. The client is a C program where there is a C compiler, so that little of what is timed is the client's;
        else it is Python's. It prints requests a second, the median and the 99th percentile in milliseconds.
+names  20,000 lines of each of three kinds with names and with numbers of the same rows, in memory and with a file on a
+       memory disk, among 2,000 parts, items and locations and among 200,000 of each: parts by their names, locations by
+       their ways, items by their parts and serials, and by keys. It prints seconds of a processor, and by what factor
+       names take longer.
 calls  Calls of the libraries, without the reading and writing of lines: the cycle test of bills, and transfers in
        part, each at 1,000 and at 2,000 rows. It prints milliseconds per call, and by what factor they grow.
 
-usage: tools/bench.py PROGRAM [lines] [file] [http] [calls]"""
+usage: tools/bench.py PROGRAM [lines] [file] [history] [http] [names] [calls]"""
 import multiprocessing
 import sys
 
 from shared import reader_of_words
-from timings import calls, file, lines, service
+from timings import calls, file, history, lines, names, service
 
-PARTS = {"lines": lines.time_lines, "file": file.time_files, "http": service.time_service, "calls": calls.time_calls}
+PARTS = {
+    "lines": lines.time_lines,
+    "file": file.time_files,
+    "history": history.time_history,
+    "http": service.time_service,
+    "names": names.time_names,
+    "calls": calls.time_calls,
+}
 
 
 def main():

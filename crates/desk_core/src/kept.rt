@@ -28,9 +28,11 @@ impl Model for CommandText {
 }
 
 impl CommandText {
-    pub fn new(text: String) -> Self
+    /// It takes no more room than its bytes: it may be kept for good.
+    pub fn new(mut text: String) -> Self
         ensures { result ≡ string_bytes text }
     {
+        text.shrink_to_fit();
         CommandText { text }
     }
 

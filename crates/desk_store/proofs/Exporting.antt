@@ -1,7 +1,6 @@
 -- Lines that are written one after another.
 use Rattle.std.proofs.Common.{◌≡◌, ℕ, ◌<◌, ◌≤◌, ◌+◌, suc, List, [], ◌∷◌, ◌++◌, length, get_or, map, drop, refl, sym}
 use Rattle.std.proofs.Common.{ap, ◌∙◌, subst, append_assoc, append-nil, drop-cons, add-one, Result, Ok, Err}
-use Rattle.std.specs.Borrow.{Bor}
 use Rattle.std.specs.Prelude.{◌≢◌, Option, OnOk, OnErr}
 use Rattle.std.specs.Io.KnownBytes.{Appends, Keeps}
 use Rattle.std.proofs.KnownBytes.{Appends-kept, Appends-nil, Appends-trans}
@@ -11,58 +10,52 @@ use Rattle.desk_store.specs.declared.export.ExportFault.{ExportFault}
 use Rattle.desk_store.specs.declared.export.ExportFault.TheVariants.{Memory, Closed, NoSuch, WriteFailed}
 use Rattle.desk_store.proofs.Sent.{front-sent, front-then}
 
-module _ {X : Type 0} (whole : List X → List ℕ) where
+module _ {X Y : Type 0} (now : Y → X) (whole : List X → List ℕ) where
   -- the lines of the rows from this one on
-  abbrev pub left_of : ℕ → List (Bor X) → List ℕ
-  left_of i rows = whole (map (λ row. row.now) (drop i rows))
+  abbrev pub left_of : ℕ → List Y → List ℕ
+  left_of i rows = whole (map now (drop i rows))
 
   -- the lines of the rows before this one are written
-  pub record AreSent (old new : Option (List ℕ)) (i : ℕ) (rows : List (Bor X)) : Type 0 where
+  pub record AreSent (old new : Option (List ℕ)) (i : ℕ) (rows : List Y) : Type 0 where
     pub sent : List ℕ
     pub appends : Appends old new sent
-    pub left : sent ++ left_of i rows ≡ whole (map (λ row. row.now) rows)
+    pub left : sent ++ left_of i rows ≡ whole (map now rows)
 
-  pub none-sent : (old : Option (List ℕ)) (rows : List (Bor X)) → AreSent old old 0 rows
+  pub none-sent : (old : Option (List ℕ)) (rows : List Y) → AreSent old old 0 rows
   none-sent old rows = record { sent = []; appends = Appends-nil old; left = refl }
-
-  -- what was written so far is a front
-  pub so-far : (old mid : Option (List ℕ)) (i : ℕ) (rows : List (Bor X)) → AreSent old mid i rows
-      → AppendsFront old mid (whole (map (λ row. row.now) rows))
-  so-far old mid i rows it =
-      subst (AppendsFront old mid) it.left (front-sent old mid it.sent (left_of i rows) it.appends)
 
   module _ (line : X → List ℕ) (none : whole [] ≡ [])
       (more : (x : X) (xs : List X) → whole (x ∷ xs) ≡ line x ++ whole xs) where
-    pub all-sent : (old new : Option (List ℕ)) (i : ℕ) (rows : List (Bor X)) → length rows ≤ i → AreSent old new i rows
-        → Appends old new (whole (map (λ row. row.now) rows))
+    pub all-sent : (old new : Option (List ℕ)) (i : ℕ) (rows : List Y) → length rows ≤ i → AreSent old new i rows
+        → Appends old new (whole (map now rows))
     all-sent old new i rows le it =
-        let end = ap (λ (rest : List (Bor X)). it.sent ++ whole (map (λ row. row.now) rest)) (drop_all i rows le) in
+        let end = ap (λ (rest : List Y). it.sent ++ whole (map now rest)) (drop_all i rows le) in
         let empty = ap (λ rest. it.sent ++ rest) none in
         subst (Appends old new) (sym (append-nil it.sent) ∙ sym empty ∙ sym end ∙ it.left) it.appends
 
-    module _ (old mid new : Option (List ℕ)) (i : ℕ) (rows : List (Bor X)) (row : Bor X) (lt : i < length rows)
+    module _ (old mid new : Option (List ℕ)) (i : ℕ) (rows : List Y) (row : Y) (lt : i < length rows)
         (at : row ≡ get_or rows i row) (it : AreSent old mid i rows) where
-      left-next : left_of i rows ≡ line row.now ++ left_of (i + 1) rows
+      left-next : left_of i rows ≡ line (now row) ++ left_of (i + 1) rows
       left-next =
-          ap (λ rest. whole (map (λ (r : Bor X). r.now) rest)) (drop-cons rows i row lt)
-          ∙ more (get_or rows i row).now (map (λ (r : Bor X). r.now) (drop (suc i) rows))
-          ∙ ap (λ (r : Bor X). line r.now ++ left_of (suc i) rows) (sym at)
-          ∙ ap (λ j. line row.now ++ left_of j rows) (sym (add-one i))
+          ap (λ rest. whole (map now rest)) (drop-cons rows i row lt)
+          ∙ more (now (get_or rows i row)) (map now (drop (suc i) rows))
+          ∙ ap (λ (r : Y). line (now r) ++ left_of (suc i) rows) (sym at)
+          ∙ ap (λ j. line (now row) ++ left_of j rows) (sym (add-one i))
 
-      pub next-sent : Appends mid new (line row.now) → AreSent old new (i + 1) rows
+      pub next-sent : Appends mid new (line (now row)) → AreSent old new (i + 1) rows
       next-sent p = record {
-        sent = it.sent ++ line row.now;
-        appends = Appends-trans old mid new it.sent (line row.now) it.appends p;
+        sent = it.sent ++ line (now row);
+        appends = Appends-trans old mid new it.sent (line (now row)) it.appends p;
         left =
-            append_assoc it.sent (line row.now) (left_of (i + 1) rows)
+            append_assoc it.sent (line (now row)) (left_of (i + 1) rows)
             ∙ ap (λ l. it.sent ++ l) (sym left-next)
             ∙ it.left;
       }
 
-      pub front-of : AppendsFront mid new (line row.now) → AppendsFront old new (whole (map (λ row. row.now) rows))
+      pub front-of : AppendsFront mid new (line (now row)) → AppendsFront old new (whole (map now rows))
       front-of h =
           subst (AppendsFront old new) (ap (λ l. it.sent ++ l) (sym left-next) ∙ it.left)
-          (front-then old mid new it.sent (line row.now) (left_of (i + 1) rows) it.appends h)
+          (front-then old mid new it.sent (line (now row)) (left_of (i + 1) rows) it.appends h)
 
 -- a fault in the middle leaves a front
 pub sends-front : (old mid new : Option (List ℕ)) (text whole : List ℕ) (fault : ExportFault)
@@ -95,19 +88,9 @@ sends-kept old mid new text sent kept =
 
 -- what a call says that sent the text
 module _ (old new : Option (List ℕ)) (text : List ℕ) where
-  pub sent-whole : (r : Result (Unit {0}) ExportFault) → Sends old new text r → OnOk r (Appends old new text)
-  sent-whole (Ok x) h = h
-  sent-whole (Err fault) h = tt
-
   pub sent-front : (r : Result (Unit {0}) ExportFault) → Sends old new text r → OnErr r (AppendsFront old new text)
   sent-front (Ok x) h = tt
   sent-front (Err Memory) h = h
   sent-front (Err WriteFailed) h = h
   sent-front (Err Closed) h = absurd h
   sent-front (Err NoSuch) h = absurd h
-
-  pub never-closed : (r : Result (Unit {0}) ExportFault) → Sends old new text r → r ≢ Err Closed
-  never-closed r h e = subst (Sends old new text) e h
-
-  pub never-absent : (r : Result (Unit {0}) ExportFault) → Sends old new text r → r ≢ Err NoSuch
-  never-absent r h e = subst (Sends old new text) e h

@@ -17,12 +17,6 @@ sent_more a b c t at n p q =
     subst (Appends a c) (sym (take-add at n t))
     (Appends-trans a b c _ _ p (subst (λ l. Appends b c (take n l)) (from_index t at) q))
 
--- where nothing is written, that is a front of any text
-pub none_sent : {T E : Type 0} (r : Result T E) (known : Option (List ℕ)) (text : List ℕ)
-    → OnErr r (AppendsFront known known text)
-none_sent (Ok x) known text = tt
-none_sent (Err e) known text = (0, omega arith, Appends-nil known)
-
 take-onto : (s t : List ℕ) (n : ℕ) → take (length s + n) (s ++ t) ≡ s ++ take n t
 take-onto [] t n =
     let e : length {A = ℕ} [] + n ≡ n = omega arith in

@@ -30,11 +30,15 @@ use std::alloc::Global;
 use table_store::{TableName, load_kept, load_sheet};
 use yard_core::{Entry, Item, Location};
 
-/// The rows of a table under numbers.
+/// How many rows a table is expected to have that doesn't tell.
+const UNTOLD: usize = 0;
+
+/// The rows of a table under numbers, of which so many are expected.
 fn load_rows<S: Alter, R: Stored>(
     alloc: Global,
     conn: &mut Connection<S>,
     table: TableName,
+    expected: usize,
 ) -> Result<Vec<R>, OpenFault>
     requires tables { HasCleanDisk (state S.Store conn.old) → HasTables (state S.Store conn.old) }
     requires suits { Suits R.columns_of R.key_of number_digits table }
@@ -46,7 +50,7 @@ fn load_rows<S: Alter, R: Stored>(
         (trees (tree_number table)) rows.items)
         WhyUnread (state S.Store conn.old) (state S.Store conn.new) result }
 {
-    match load_sheet::<S, R>(alloc, conn, table) {
+    match load_sheet::<S, R>(alloc, conn, table, expected) {
         Ok(rows) => Ok(rows),
         Err(fault) => Err(OpenFault::from(fault)),
     }
@@ -88,7 +92,7 @@ fn load_meta<S: Alter>(alloc: Global, conn: &mut Connection<S>) -> Result<MetaRo
     ensures { Reads IsMetaRow (WhyBut IsOfOtherVersion) (state S.Store conn.old)
         (state S.Store conn.new) result }
 {
-    match load_sheet::<S, MetaRow>(alloc, conn, TableName::Meta) {
+    match load_sheet::<S, MetaRow>(alloc, conn, TableName::Meta, 1) {
         Ok(rows) => meta_in(rows.as_slice()),
         Err(fault) => Err(OpenFault::from(fault)),
     }
@@ -121,8 +125,8 @@ fn load_catalogue<S: Alter>(
     ensures { Reads (λ trees rows. ArePartRows trees rows.0.items rows.1.items) WhyUnread
         (state S.Store conn.old) (state S.Store conn.new) result }
 {
-    let categories = load_rows::<S, Category>(alloc, conn, TableName::Categories)?;
-    let parts = load_rows::<S, Part>(alloc, conn, TableName::Parts)?;
+    let categories = load_rows::<S, Category>(alloc, conn, TableName::Categories, UNTOLD)?;
+    let parts = load_rows::<S, Part>(alloc, conn, TableName::Parts, UNTOLD)?;
     Ok((categories, parts))
 }
 
@@ -135,8 +139,8 @@ fn load_bills<S: Alter>(
     ensures { Reads (λ trees rows. AreBillRows trees rows.0.items rows.1.items) WhyUnread
         (state S.Store conn.old) (state S.Store conn.new) result }
 {
-    let lines = load_rows::<S, Line>(alloc, conn, TableName::Lines)?;
-    let substitutes = load_rows::<S, Substitute>(alloc, conn, TableName::Substitutes)?;
+    let lines = load_rows::<S, Line>(alloc, conn, TableName::Lines, UNTOLD)?;
+    let substitutes = load_rows::<S, Substitute>(alloc, conn, TableName::Substitutes, UNTOLD)?;
     Ok((lines, substitutes))
 }
 
@@ -155,18 +159,19 @@ fn load_parts<S: Alter>(
     Ok((categories, parts, lines, substitutes))
 }
 
-/// The rows of the stock.
+/// The rows of the stock, whose history has so many entries by the row of the counter.
 fn load_stock<S: Alter>(
     alloc: Global,
     conn: &mut Connection<S>,
+    entries: u64,
 ) -> Result<(Vec<Location>, Vec<Item>, Vec<Entry>), OpenFault>
     requires { HasCleanDisk (state S.Store conn.old) → HasTables (state S.Store conn.old) }
     ensures { Reads (λ trees rows. AreStockRows trees rows.0.items rows.1.items rows.2.items)
         WhyUnread (state S.Store conn.old) (state S.Store conn.new) result }
 {
-    let locations = load_rows::<S, Location>(alloc, conn, TableName::Locations)?;
-    let items = load_rows::<S, Item>(alloc, conn, TableName::Items)?;
-    let history = load_rows::<S, Entry>(alloc, conn, TableName::History)?;
+    let locations = load_rows::<S, Location>(alloc, conn, TableName::Locations, UNTOLD)?;
+    let items = load_rows::<S, Item>(alloc, conn, TableName::Items, UNTOLD)?;
+    let history = load_rows::<S, Entry>(alloc, conn, TableName::History, entries as usize)?;
     Ok((locations, items, history))
 }
 
@@ -179,8 +184,8 @@ fn load_order_rows<S: Alter>(
     ensures { Reads (λ trees rows. AreOrderRows trees rows.0.items rows.1.items) WhyUnread
         (state S.Store conn.old) (state S.Store conn.new) result }
 {
-    let orders = load_rows::<S, Order>(alloc, conn, TableName::Orders)?;
-    let lines = load_rows::<S, OrderLine>(alloc, conn, TableName::OrderLines)?;
+    let orders = load_rows::<S, Order>(alloc, conn, TableName::Orders, UNTOLD)?;
+    let lines = load_rows::<S, OrderLine>(alloc, conn, TableName::OrderLines, UNTOLD)?;
     Ok((orders, lines))
 }
 
@@ -193,9 +198,9 @@ fn load_build_rows<S: Alter>(
     ensures { Reads (λ trees rows. AreBuildRows trees rows.0.items rows.1.items rows.2.items)
         WhyUnread (state S.Store conn.old) (state S.Store conn.new) result }
 {
-    let builds = load_rows::<S, Build>(alloc, conn, TableName::Builds)?;
-    let allocations = load_rows::<S, Allocation>(alloc, conn, TableName::Allocations)?;
-    let spent = load_rows::<S, Spent>(alloc, conn, TableName::Spent)?;
+    let builds = load_rows::<S, Build>(alloc, conn, TableName::Builds, UNTOLD)?;
+    let allocations = load_rows::<S, Allocation>(alloc, conn, TableName::Allocations, UNTOLD)?;
+    let spent = load_rows::<S, Spent>(alloc, conn, TableName::Spent, UNTOLD)?;
     Ok((builds, allocations, spent))
 }
 
@@ -239,7 +244,7 @@ fn load_sheets<S: Alter>(
 {
     let (orders, order_lines, builds, allocations, spent) = load_orders(alloc, conn)?;
     let (categories, parts, lines, substitutes) = load_parts(alloc, conn)?;
-    let (locations, items, history) = load_stock(alloc, conn)?;
+    let (locations, items, history) = load_stock(alloc, conn, row.entries)?;
     let answers = load_answers(alloc, conn)?;
     Ok(Tables {
         categories,

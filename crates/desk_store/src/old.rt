@@ -43,7 +43,7 @@ pub(crate) fn load_old_rows<S: Alter>(
     ensures { Reads (λ trees rows. AreOldRows trees rows.items) WhyNoneOld
         (state S.Store conn.old) (state S.Store conn.new) result }
 {
-    let rows = match load_sheet::<S, MetaRow>(alloc, conn, TableName::Meta) {
+    let rows = match load_sheet::<S, MetaRow>(alloc, conn, TableName::Meta, 1) {
         Ok(rows) => rows,
         Err(TableFault::BadRow(_)) => return Err(OpenFault::Foreign),
         Err(fault) => return Err(OpenFault::from(fault)),

@@ -87,14 +87,25 @@ pub(crate) fn row_of<R: Stored>(alloc: Global, row: &Row) -> Result<R, ColumnFau
     R::from_columns(alloc, columns.as_slice())
 }
 
+/// An empty vector with room for so many items, or with none where there is no memory for so many.
+fn with_room<T: Drop>(alloc: Global, expected: usize) -> Vec<T>
+    ensures { result.items ≡ [] }
+{
+    let mut items = Vec::new(alloc);
+    let _ = items.try_reserve_exact(expected);
+    items
+}
+
 /// All rows of a table under numbers, as rows of the machine, in the order of their numbers. The table may be one of
-/// version 1.
+/// version 1. Room is made at once for as many rows as are expected, so that a long list needn't be moved while it grows;
+/// there may be more or fewer.
 ///
 /// `BadRow` where one of them is none. `NoTable` is never answered: whether the tables are there is asked before.
 pub fn load_sheet<S: Alter, R: Stored>(
     alloc: Global,
     conn: &mut Connection<S>,
     table: TableName,
+    expected: usize,
 ) -> Result<Vec<R>, TableFault>
     requires { HasCleanDisk (state S.Store conn.old) → HasTable table (state S.Store conn.old) }
     ensures loaded { HasCleanDisk (state S.Store conn.new)
@@ -116,7 +127,7 @@ pub fn load_sheet<S: Alter, R: Stored>(
     ensures named { IfErr result (NamesTable table) }
     ensures crash { Survives (state S.Store conn.old) (state S.Store conn.new) (λ _. ⊥) }
 {
-    let mut rows = Vec::new(alloc);
+    let mut rows = with_room(alloc, expected);
     each_row::<S, R, Vec<R>>(alloc, conn, table, &mut rows)?;
     Ok(rows)
 }

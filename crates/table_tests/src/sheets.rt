@@ -120,7 +120,7 @@ fn writes<S: Alter>(alloc: Global, conn: &mut Connection<S>) -> Result<(), Fail>
     written(alloc, conn, &sheet)?;
     renamed(alloc, &mut sheet)?;
     written(alloc, conn, &sheet)?;
-    let rows = load_sheet::<S, Category>(alloc, conn, TableName::Categories)?;
+    let rows = load_sheet::<S, Category>(alloc, conn, TableName::Categories, 2)?;
     let numbers: Vec<u64> = rows.iter().map(|row| row.number).collect(alloc)?;
     let is_as_now = |row: &Category| (row.number == 20) == (row.name.as_str() == "Bolts");
     holds(
@@ -202,7 +202,7 @@ fn writes_log<S: Alter>(alloc: Global, conn: &mut Connection<S>) -> Result<(), F
     fresh(conn)?;
     let log = log_of_one(alloc)?;
     log_written(alloc, conn, &log)?;
-    let rows = load_sheet::<S, Category>(alloc, conn, TableName::Categories)?;
+    let rows = load_sheet::<S, Category>(alloc, conn, TableName::Categories, 2)?;
     let numbers: Vec<u64> = rows.iter().map(|row| row.number).collect(alloc)?;
     holds(numbers.as_slice() == [1].as_slice(), "the row that was put")
 }
@@ -227,7 +227,7 @@ fn loads<S: Alter>(
     ];
     put_row(conn, TableName::Locations, &values)?;
     committed(conn)?;
-    match load_sheet::<S, Category>(alloc, conn, TableName::Locations) {
+    match load_sheet::<S, Category>(alloc, conn, TableName::Locations, 0) {
         Ok(rows) => Ok(rows.len() == 1),
         Err(TableFault::BadRow(_)) => Ok(false),
         Err(fault) => Err(Fail::from(fault)),

@@ -19,11 +19,11 @@ returns-clause-rows g c clean =
     let tree = tree_of c.args.table (state g.S.Store c.args.conn.now) in
     loaded-are g.R.Stored.row_from g.R.Stored.columns_of g.R.Row.key_of c.args.table tree c.each_row.new.visitor.items
     (c.requires (omega (arith, clean, c.each_row.ensures.crash.clean))).shaped.0
-    (all-taken g.R.Stored.row_from g.R.Stored.columns_of c.args.table tree c.new-rows.result
-    c.each_row.new.visitor c.new-rows.ensures.items (c.in_ok-each_row.ensures.whole clean))
+    (all-taken g.R.Stored.row_from g.R.Stored.columns_of c.args.table tree c.with_room-rows.result
+    c.each_row.new.visitor c.with_room-rows.ensures (c.in_ok-each_row.ensures.whole clean))
 
 pub returns-clause-loaded : goal.returns-clause-loaded
 returns-clause-loaded g c clean =
     all-taken g.R.Stored.row_from g.R.Stored.columns_of c.args.table
-    (tree_of c.args.table (state g.S.Store c.args.conn.now)) c.new-rows.result c.each_row.new.visitor
-    c.new-rows.ensures.items (c.in_ok-each_row.ensures.whole clean)
+    (tree_of c.args.table (state g.S.Store c.args.conn.now)) c.with_room-rows.result c.each_row.new.visitor
+    c.with_room-rows.ensures (c.in_ok-each_row.ensures.whole clean)
