@@ -31,7 +31,7 @@ use Rattle.alloc_core.proofs.Sound.{release-is, sound-without}
 use Rattle.alloc_core.proofs.Sums.{sum-cons, sum-stands}
 use Rattle.yard_core.specs.Outputs.{LeavesOutputs}
 use Rattle.yard_core.specs.Stock.{Stock, item_at}
-use Rattle.yard_core.specs.StockBooks.{StockBooks, entries_in, is_full}
+use Rattle.yard_core.specs.StockBooks.{StockBooks, is_full}
 use Rattle.yard_core.proofs.Quiet.{leaves-none}
 use Rattle.stock_core.specs.ItemTests.{has_more, part_at}
 use Rattle.stock_core.specs.Pieces.{CanCut}

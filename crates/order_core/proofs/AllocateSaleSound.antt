@@ -1,6 +1,6 @@
 -- What is allocated for a sale leaves orders, allocations and stock sound.
-use Rattle.std.proofs.Common.{◌≡◌, ℕ, ◌+◌, ◌≤◌, Bool, true, false, not, List, [], ◌∷◌, Option}
-use Rattle.std.proofs.Common.{Some, None, refl, sym, ap, ◌∙◌, subst, arith, eqb-true, eq-eqb}
+use Rattle.std.proofs.Common.{◌≡◌, ℕ, ◌+◌, ◌≤◌, Bool, true, false, [], ◌∷◌}
+use Rattle.std.proofs.Common.{Some, None, refl, ap, ◌∙◌, subst, arith, eqb-true}
 use Rattle.std.specs.Prelude.{◌==◌}
 use Rattle.std.specs.FinMap as table
 use Rattle.std.proofs.lemmas.Bool.{ltb-false}
@@ -9,10 +9,10 @@ use Rattle.part_core.specs.Checks.{NoneHolds, first}
 use Rattle.part_core.specs.Quantity.{largest}
 use Rattle.part_core.specs.Rows.{EachRow, IsThere}
 use Rattle.part_core.proofs.Conditions.{none-holds, not_false, or_none}
-use Rattle.part_core.proofs.RowLemmas.{each-insert, right-later, right-none, right-number}
+use Rattle.part_core.proofs.RowLemmas.{each-insert, right-later, right-none}
 use Rattle.part_core.proofs.Totals.{sum-insert_new}
 use Rattle.forest.specs.Forest.{is_at}
-use Rattle.alloc_core.specs.Allocations.{allocated_for_sale_line, amount_where, is_above_free, is_for_sale_line}
+use Rattle.alloc_core.specs.Allocations.{allocated_for_sale_line, amount_where}
 use Rattle.alloc_core.specs.declared.allocation.Allocation.{Allocation}
 use Rattle.alloc_core.proofs.Sound.{free-enough, sound-allocated}
 use Rattle.alloc_core.proofs.Sums.{amount-in, amount-out}

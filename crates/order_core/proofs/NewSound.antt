@@ -1,29 +1,26 @@
 -- A new order, and a new line of one, leave orders, allocations and stock sound.
-use Rattle.std.proofs.Common.{◌≡◌, ℕ, ◌+◌, ◌≤◌, Bool, true, false, List, [], ◌∷◌, Option}
-use Rattle.std.proofs.Common.{Some, None, is_none, refl, sym, ap, ◌∙◌, subst, arith, eqb-true}
-use Rattle.std.specs.Prelude.{◌==◌, ◌||◌, not}
+use Rattle.std.proofs.Common.{◌≡◌, ℕ, ◌+◌, ◌≤◌, Bool, true, false, List, [], ◌∷◌}
+use Rattle.std.proofs.Common.{Some, None, is_none, refl, sym, ap, ◌∙◌, arith, eqb-true}
+use Rattle.std.specs.Prelude.{◌==◌, ◌||◌}
 use Rattle.std.specs.FinMap as table
-use Rattle.part_core.specs.Catalogue.{Parts, is_virtual, part_in}
+use Rattle.part_core.specs.Catalogue.{Parts, part_in}
 use Rattle.part_core.specs.Checks.{first}
-use Rattle.part_core.specs.Rows.{EachRow, IsThere}
 use Rattle.part_core.proofs.Conditions.{none-holds, or_none}
 use Rattle.part_core.proofs.RowLemmas.{each-insert, get-insert_other, right-later, right-new}
 use Rattle.part_core.proofs.RowLemmas.{right-none, row_there, same_digit, there-insert}
-use Rattle.alloc_core.specs.Allocations.{allocated_for_sale_line}
 use Rattle.alloc_core.specs.declared.allocation.Allocation.{Allocation}
 use Rattle.alloc_core.specs.declared.purpose.Purpose.TheVariants.{Sale}
 use Rattle.alloc_core.specs.Sound.{AreSoundAllocations}
 use Rattle.alloc_core.proofs.Sound.{sound-changed}
-use Rattle.stock_core.specs.Sound.{OwnersStay}
 use Rattle.stock_core.specs.StockMachine.{Grows}
 use Rattle.stock_core.proofs.Beside.{sound-later}
 use Rattle.stock_core.proofs.Checked.{good-quantity, there-row}
 use Rattle.stock_core.proofs.Owned.{sound-owned}
 use Rattle.order_core.specs.NewLine.{line_row, new_line, new_line_checks}
-use Rattle.order_core.specs.NewOrder.{new_order, new_order_checks, order_row}
+use Rattle.order_core.specs.NewOrder.{new_order, order_row}
 use Rattle.part_core.specs.Side.{is_sale}
 use Rattle.order_core.specs.Orders.{OrderBooks, is_no_order, one_drawn, order_at, owners_beside}
-use Rattle.order_core.specs.Sound.{AreSoundBooks, IsSoundLine, IsSoundPurpose, IsSoundSale}
+use Rattle.order_core.specs.Sound.{AreSoundBooks, IsSoundLine, IsSoundSale}
 use Rattle.order_core.specs.declared.line.OrderLine.{OrderLine}
 use Rattle.order_core.specs.declared.order.Order.{Order}
 use Rattle.part_core.specs.declared.side.Side.{Side}

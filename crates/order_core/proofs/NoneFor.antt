@@ -1,12 +1,12 @@
 -- A line for which nothing can be allocated has nothing allocated; what no order can have allocated is of none.
 use Rattle.std.proofs.Common.{◌≡◌, inl, inr, ℕ, ◌+◌, ◌≤◌, Bool, true, false, List, [], ◌∷◌}
-use Rattle.std.proofs.Common.{Some, refl, sym, ap, ◌∙◌, subst, arith, eqb-true, eq-eqb}
+use Rattle.std.proofs.Common.{Some, refl, ap, ◌∙◌, subst, arith, eqb-true, eq-eqb}
 use Rattle.std.specs.Prelude.{◌==◌}
 use Rattle.std.specs.FinMap as table
 use Rattle.part_core.specs.Sheet.{Table}
 use Rattle.part_core.specs.Rows.{EachRow}
 use Rattle.part_core.proofs.Standing.{Stands, each-value, get-Stands}
-use Rattle.alloc_core.specs.Allocations.{allocated_for_sale_line, amount_where, is_for_sale_line, sum_where}
+use Rattle.alloc_core.specs.Allocations.{allocated_for_sale_line, is_for_sale_line, sum_where}
 use Rattle.alloc_core.specs.declared.allocation.Allocation.{Allocation}
 use Rattle.alloc_core.specs.declared.purpose.Purpose.{Purpose}
 use Rattle.alloc_core.specs.declared.purpose.Purpose.TheVariants.{Sale, Build}

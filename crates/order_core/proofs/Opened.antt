@@ -1,10 +1,9 @@
 -- What tests of each row say of orders.
-use Rattle.std.proofs.Common.{◌≡◌, ◌↔◌, ℕ, ◌+◌, ◌≤◌, Bool, true, refl, sym, ap, ◌∙◌, arith, eqb-true, eq-eqb}
-use Rattle.std.specs.Prelude.{◌&&◌, ◌==◌, nat_le, not, is_some, ◌∷◌, []}
+use Rattle.std.proofs.Common.{◌≡◌, ◌↔◌, ℕ, ◌+◌, ◌≤◌, true, refl, ◌∙◌, arith, eqb-true, eq-eqb}
+use Rattle.std.specs.Prelude.{◌&&◌, ◌==◌, is_some, ◌∷◌, []}
 use Rattle.std.specs.FinMap as table
 use Rattle.std.proofs.lemmas.Bool.Decides.{nat_tests}
 use Rattle.part_core.specs.Catalogue.{Parts, part_in}
-use Rattle.part_core.specs.Quantity.{is_bad_quantity}
 use Rattle.part_core.specs.Sheet.{Table}
 use Rattle.part_core.proofs.Conditions.{and_both, and_parts}
 use Rattle.alloc_core.specs.Allocations.{allocated_for_sale_line}

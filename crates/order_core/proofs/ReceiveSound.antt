@@ -1,22 +1,19 @@
 -- What is received leaves orders, allocations and stock sound.
-use Rattle.std.proofs.Common.{◌≡◌, ℕ, ◌+◌, ◌≤◌, Bool, true, false, List, [], ◌∷◌, Option}
+use Rattle.std.proofs.Common.{◌≡◌, ℕ, ◌+◌, ◌≤◌, Bool, true, false, [], ◌∷◌}
 use Rattle.std.proofs.Common.{Some, None, refl, sym, ap, ◌∙◌, subst, arith, eqb-true}
-use Rattle.std.specs.Prelude.{◌==◌, ◌||◌, not}
+use Rattle.std.specs.Prelude.{◌==◌, ◌||◌}
 use Rattle.std.specs.FinMap as table
 use Rattle.std.proofs.lemmas.Bool.{eqb-false, ltb-false}
 use Rattle.part_core.specs.Catalogue.{Parts}
 use Rattle.part_core.specs.Checks.{NoneHolds, first}
 use Rattle.part_core.specs.Day.{CivilDay}
 use Rattle.part_core.specs.Quantity.{is_bad_quantity}
-use Rattle.part_core.specs.Rows.{EachRow, IsThere}
 use Rattle.part_core.proofs.Conditions.{none-holds, or_none}
 use Rattle.part_core.proofs.RowLemmas.{each-insert, get-insert_new, get-insert_other, right-changed}
 use Rattle.part_core.proofs.RowLemmas.{right-later, right-number, row_there, same_digit}
 use Rattle.forest.specs.declared.entry.Kind.TheVariants as kind
 use Rattle.forest.specs.declared.place.Place.TheVariants.{At}
 use Rattle.alloc_core.specs.Allocations.{allocated_for_sale_line}
-use Rattle.alloc_core.specs.declared.allocation.Allocation.{Allocation}
-use Rattle.yard_core.specs.StockBooks.{StockBooks}
 use Rattle.yard_core.specs.Outputs.{LeavesOutputs}
 use Rattle.stock_core.specs.ItemTests.{is_no_location}
 use Rattle.stock_core.specs.Serials.{are_many, given}
@@ -31,7 +28,7 @@ use Rattle.stock_core.proofs.Holding.{sound-held}
 use Rattle.stock_core.proofs.OutputsStay.{leaves-make_new}
 use Rattle.stock_core.proofs.Upright.{upright-of}
 use Rattle.part_core.specs.Side.{is_sale}
-use Rattle.order_core.specs.Orders.{OrderBooks, is_no_line, line_at, order_at, order_of_line, owners_beside}
+use Rattle.order_core.specs.Orders.{OrderBooks, is_no_line, line_at, order_at, owners_beside}
 use Rattle.order_core.specs.Receive.{receive, receive_checks}
 use Rattle.order_core.specs.Sound.{AreSoundBooks, IsSoundLine, IsSoundSale}
 use Rattle.order_core.specs.declared.line.OrderLine.{OrderLine}

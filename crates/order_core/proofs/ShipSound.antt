@@ -1,21 +1,20 @@
 -- What is shipped leaves orders, allocations and stock sound.
-use Rattle.std.proofs.Common.{◌≡◌, ℕ, ◌+◌, ◌≤◌, Bool, true, false, not, List, [], ◌∷◌, ◌++◌, Option}
-use Rattle.std.proofs.Common.{Some, None, refl, sym, ap, ◌∙◌, subst, arith, is_some, eqb-true}
+use Rattle.std.proofs.Common.{◌≡◌, ℕ, ◌+◌, ◌≤◌, Bool, true, false, not, List, [], ◌∷◌, ◌++◌}
+use Rattle.std.proofs.Common.{None, refl, sym, ap, ◌∙◌, subst, arith, eqb-true}
 use Rattle.std.specs.Prelude.{◌==◌, filter, option_map}
 use Rattle.std.specs.FinMap as table
 use Rattle.std.proofs.lemmas.Bool.{eqb-false}
 use Rattle.part_core.specs.Catalogue.{Parts}
 use Rattle.part_core.specs.Checks.{NoneHolds, first}
 use Rattle.part_core.specs.Day.{CivilDay}
-use Rattle.part_core.specs.Rows.{EachRow, IsThere}
-use Rattle.part_core.specs.Sheet.{Table}
+use Rattle.part_core.specs.Rows.{EachRow}
 use Rattle.part_core.proofs.Conditions.{none-holds}
 use Rattle.part_core.proofs.RowLemmas.{right-later, right-number}
 use Rattle.forest.specs.declared.item.Item.{Item}
 use Rattle.forest.specs.declared.place.Place.TheVariants.{Sent}
 use Rattle.forest.specs.Forest.{row_of}
 use Rattle.forest.specs.Moves.{lifted_root}
-use Rattle.alloc_core.specs.Allocations.{allocated_for_sale_line, is_for_sale_line, is_owned, released_for, sum_where}
+use Rattle.alloc_core.specs.Allocations.{is_for_sale_line, is_owned, sum_where}
 use Rattle.alloc_core.specs.declared.allocation.Allocation.{Allocation}
 use Rattle.alloc_core.specs.declared.purpose.Owner.{Owner}
 use Rattle.alloc_core.specs.declared.purpose.Owner.TheVariants as owner
@@ -23,12 +22,12 @@ use Rattle.alloc_core.proofs.Covers.{IsCovered, covered-of, covered-split}
 use Rattle.alloc_core.proofs.Sound.{sound-served}
 use Rattle.alloc_core.proofs.Sums.{sum-split}
 use Rattle.part_core.proofs.TableRows.{get-without, values-without}
-use Rattle.yard_core.specs.StockBooks.{StockBooks, is_full}
+use Rattle.yard_core.specs.StockBooks.{StockBooks}
 use Rattle.yard_core.specs.Stock.{item_at, tree_of}
 use Rattle.yard_core.specs.Outputs.{LeavesOutputs}
 use Rattle.yard_core.proofs.Quiet.{leaves-more, leaves-none}
 use Rattle.yard_core.proofs.Rows.{get-other}
-use Rattle.stock_core.specs.Serving.{serve, serve_each}
+use Rattle.stock_core.specs.Serving.{serve}
 use Rattle.stock_core.specs.Sound.{IsSoundStock, Owners}
 use Rattle.stock_core.specs.StockMachine.{Grows}
 use Rattle.stock_core.specs.Steps.{take}
@@ -38,8 +37,7 @@ use Rattle.stock_core.proofs.Serving.{GoesOn, IsServed, served-all, taken-one}
 use Rattle.stock_core.proofs.Steps.{leads-sent}
 use Rattle.stock_core.proofs.Taking.{IsTaken, there-loose}
 use Rattle.stock_core.proofs.Upright.{Upright, upright-of}
-use Rattle.part_core.specs.TableRows.{mapped}
-use Rattle.order_core.specs.Orders.{OrderBooks, is_no_order, owners_beside}
+use Rattle.order_core.specs.Orders.{OrderBooks, owners_beside}
 use Rattle.order_core.specs.Ship.{delivered, sale_rows, sent_for, ship, ship_checks}
 use Rattle.order_core.specs.Sound.{AreSoundBooks, AreSoundOrders, IsSoundLine}
 use Rattle.order_core.specs.declared.line.OrderLine.{OrderLine}

@@ -1,12 +1,10 @@
 -- What a shipment is done with: the allocations of a sale are covered, and can be done of its lines.
 use Rattle.std.proofs.Common.{◌≡◌, ℕ, ◌+◌, ◌≤◌, inl, inr, Bool, true, false, cond, not}
-use Rattle.std.proofs.Common.{List, [], ◌∷◌, ◌++◌, Some, refl, sym, ap, ◌∙◌, subst, arith}
+use Rattle.std.proofs.Common.{List, [], ◌∷◌, ◌++◌, refl, ap, ◌∙◌, arith}
 use Rattle.std.specs.Prelude.{filter}
 use Rattle.std.specs.FinMap as table
 use Rattle.part_core.specs.Catalogue.{Parts}
-use Rattle.part_core.specs.Quantity.{largest}
-use Rattle.part_core.specs.Rows.{EachRow, IsThere}
-use Rattle.part_core.specs.TableRows.{mapped}
+use Rattle.part_core.specs.Rows.{IsThere}
 use Rattle.part_core.proofs.Mapped.{row-mapped}
 use Rattle.part_core.proofs.Standing.{Stands, each-value}
 use Rattle.alloc_core.specs.Allocations.{is_for_order, is_of_item, is_owned}

@@ -1,13 +1,13 @@
 -- An order that is issued, closed or cancelled leaves orders, allocations and stock sound.
-use Rattle.std.proofs.Common.{◌≡◌, inl, inr, ℕ, ◌+◌, ◌<◌, ◌≤◌, Bool, true, false, not, List, [], ◌∷◌, Option}
-use Rattle.std.proofs.Common.{Some, None, refl, sym, ap, ◌∙◌, subst, arith, eqb-true, eq-eqb, is_some}
+use Rattle.std.proofs.Common.{◌≡◌, inl, inr, ℕ, ◌+◌, ◌<◌, ◌≤◌, Bool, true, false, List, [], ◌∷◌, Option}
+use Rattle.std.proofs.Common.{Some, None, refl, sym, ap, ◌∙◌, subst, arith, eqb-true, eq-eqb}
 use Rattle.std.specs.Prelude.{◌==◌, ◌&&◌, nat_lt}
 use Rattle.std.specs.FinMap as table
 use Rattle.std.specs.List.{list_any}
 use Rattle.std.proofs.lemmas.Bool.{eqb-false, ltb-false}
 use Rattle.part_core.specs.Catalogue.{Parts}
 use Rattle.part_core.specs.Checks.{first}
-use Rattle.part_core.specs.Rows.{EachRow, IsThere}
+use Rattle.part_core.specs.Rows.{IsThere}
 use Rattle.part_core.specs.Sheet.{Table}
 use Rattle.part_core.proofs.Conditions.{and_both, none-holds, not_false, or_none}
 use Rattle.part_core.proofs.RowLemmas.{get-insert_other, right-changed, right-number}
@@ -16,10 +16,9 @@ use Rattle.part_core.proofs.Standing.{Stands, get-Stands}
 use Rattle.alloc_core.specs.Allocations.{allocated_for_sale_line, is_for_order}
 use Rattle.alloc_core.specs.Allocations.{is_for_sale_line, is_owned, released_for, sum_where}
 use Rattle.alloc_core.specs.declared.allocation.Allocation.{Allocation}
-use Rattle.alloc_core.specs.declared.purpose.Owner.{Owner}
 use Rattle.alloc_core.specs.declared.purpose.Owner.TheVariants as owner
 use Rattle.alloc_core.specs.declared.purpose.Purpose.{Purpose}
-use Rattle.alloc_core.specs.declared.purpose.Purpose.TheVariants.{Sale, Build}
+use Rattle.alloc_core.specs.declared.purpose.Purpose.TheVariants.{Sale}
 use Rattle.alloc_core.proofs.Sound.{sound-released}
 use Rattle.alloc_core.proofs.Sums.{sum-split}
 use Rattle.part_core.proofs.TableRows.{get-without, values-without}
@@ -33,7 +32,7 @@ use Rattle.order_core.specs.CloseOrder.{close_order, close_order_checks, is_miss
 use Rattle.order_core.specs.IssueOrder.{issue_order, issue_order_checks}
 use Rattle.order_core.specs.Orders.{OrderBooks, is_in_progress, is_pending, line_at}
 use Rattle.order_core.specs.Orders.{no_order, order_at, owners_beside, with_state}
-use Rattle.order_core.specs.Sound.{AreSoundBooks, AreSoundOrders, IsSoundLine, IsSoundPurpose}
+use Rattle.order_core.specs.Sound.{AreSoundBooks, AreSoundOrders, IsSoundPurpose}
 use Rattle.order_core.specs.declared.line.OrderLine.{OrderLine}
 use Rattle.order_core.specs.declared.order.Order.{Order}
 use Rattle.order_core.specs.declared.state.OrderState.{OrderState}

@@ -1,11 +1,11 @@
 -- What passes its checks leaves the outputs of builds alone, step by step and command by command.
-use Rattle.std.proofs.Common.{◌≡◌, ℕ, ◌+◌, ◌-◌, ◌≤◌, Bool, true, false, not, is_none, List}
-use Rattle.std.proofs.Common.{[], ◌∷◌, Option, Some, None, refl, sym, ap, ◌∙◌, subst, arith}
+use Rattle.std.proofs.Common.{◌≡◌, ℕ, ◌+◌, ◌-◌, ◌≤◌, Bool, true, false, not, List}
+use Rattle.std.proofs.Common.{[], ◌∷◌, Option, Some, None, refl, ap, ◌∙◌, arith}
 use Rattle.std.specs.Prelude.{◌==◌, ◌&&◌, if◌then◌else◌, IsSome}
 use Rattle.std.specs.FinMap as table
 use Rattle.std.proofs.lemmas.Bool.{ltb-false}
 use Rattle.part_core.specs.Catalogue.{Parts}
-use Rattle.part_core.specs.Checks.{NoneHolds, first}
+use Rattle.part_core.specs.Checks.{first}
 use Rattle.part_core.specs.Day.{CivilDay}
 use Rattle.part_core.specs.Rows.{StandRight}
 use Rattle.part_core.specs.Sheet.{Table}
@@ -23,21 +23,21 @@ use Rattle.forest.specs.Rows.{parent_in}
 use Rattle.alloc_core.specs.declared.allocation.Allocation.{Allocation}
 use Rattle.yard_core.specs.StockBooks.{StockBooks, with_stock}
 use Rattle.yard_core.specs.Outputs.{LeavesOutputs, is_output}
-use Rattle.yard_core.specs.Stock.{CanPourItem, IsSound, Stock, children_of, graft}
+use Rattle.yard_core.specs.Stock.{IsSound, Stock, children_of, graft}
 use Rattle.yard_core.specs.Stock.{grow, item_at, lift, mark, pour, prune, shrink}
 use Rattle.yard_core.proofs.Grafting.{pruned}
 use Rattle.yard_core.proofs.Items.{own_number}
 use Rattle.yard_core.proofs.Quiet.{leaves-more, leaves-none}
-use Rattle.yard_core.proofs.QuietMoves.{HasOwn, at-quiet, leaves-cut, leaves-graft, leaves-grow}
+use Rattle.yard_core.proofs.QuietMoves.{at-quiet, leaves-cut, leaves-graft, leaves-grow}
 use Rattle.yard_core.proofs.QuietMoves.{leaves-lift, leaves-make, leaves-mark, leaves-pour}
 use Rattle.yard_core.proofs.QuietMoves.{leaves-prune, leaves-shrink, left-quiet, own-right}
 use Rattle.stock_core.specs.Add.{add_checks}
-use Rattle.stock_core.specs.ItemTests.{has_less, has_more, is_loose, is_no_item}
-use Rattle.stock_core.specs.ItemTests.{is_no_location, is_serialised, quantity_at}
+use Rattle.stock_core.specs.ItemTests.{has_less, has_more, is_loose}
+use Rattle.stock_core.specs.ItemTests.{is_serialised, quantity_at}
 use Rattle.stock_core.specs.Count.{count_checks, counted}
-use Rattle.stock_core.specs.Disassemble.{CanPruneEach, disassemble, disassemble_checks, prune_each, taken_apart}
+use Rattle.stock_core.specs.Disassemble.{CanPruneEach, disassemble, disassemble_checks, prune_each}
 use Rattle.stock_core.specs.Install.{install, install_checks, put_in}
-use Rattle.stock_core.specs.Merge.{merge_checks, pour_each}
+use Rattle.stock_core.specs.Merge.{pour_each}
 use Rattle.stock_core.specs.Reinstate.{reinstate, reinstate_checks}
 use Rattle.stock_core.specs.Remove.{remove_checks, removed}
 use Rattle.stock_core.specs.Serialise.{serialise_checks}

@@ -28,7 +28,6 @@ use Rattle.stock_core.specs.Arrives.{count_of}
 use Rattle.stock_core.specs.ItemTests.{has_more, is_loose}
 use Rattle.stock_core.specs.Merge.{pour_each}
 use Rattle.stock_core.specs.Steps.{cut_each, cut_off, make_each, make_new, make_one, new_item, take}
-use Rattle.stock_core.specs.StockMachine.{Grows}
 
 -- so many numbers are drawn and so many entries written, and the history is one still
 pub record Uses (numbers entries : ℕ) (old new : StockBooks) : Type 0 where

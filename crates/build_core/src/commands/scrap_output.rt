@@ -6,9 +6,11 @@ ghost use Rattle.yard_core.specs.BooksView.{books_now};
 ghost use Rattle.yard_core.specs.StockBooks.{is_full};
 ghost use Rattle.yard_core.specs.Stock.{IsThere};
 ghost use Rattle.yard_core.specs.YardView.{stock_of};
+ghost use Rattle.stock_core.specs.FloorView.{floor_before};
 ghost use Rattle.stock_core.specs.Sound.{AreSoundItems};
 ghost use Rattle.build_core.specs.BuildBooks.{AreSoundSomehow, Does, build_books, build_books_before};
 ghost use Rattle.build_core.specs.ScrapOutput.{scrap_output, scrap_output_checks, scrapped};
+ghost use Rattle.build_core.specs.declared.builds.Builds.{Builds};
 
 use crate::build_books::finish;
 use crate::builds::Builds;
@@ -57,15 +59,12 @@ fn scrap_output_refusal(
 }
 
 /// Its allocations go, and it is built and written off.
-fn write_off(builds: &Builds, floor: &mut Floor, day: Day, output: Id) -> Result<(), AllocError>
-    requires sound { AreSoundSomehow (build_books builds.now floor.old) }
-    requires checked { first (scrap_output_checks output day
-        (build_books builds.now floor.old)) ≡ None }
-    ensures ok { OnOk result (build_books builds.now floor.new
-        ≡ scrap_output output day
-        (build_books builds.now floor.old)) }
-    ensures before { build_books_before builds.now floor.new
-        ≡ build_books_before builds.now floor.old }
+fn write_off(floor: &mut Floor, day: Day, output: Id) -> Result<(), AllocError>
+    requires { (builds : Builds) × AreSoundSomehow (build_books builds floor.old)
+        × (first (scrap_output_checks output day (build_books builds floor.old)) ≡ None) }
+    ensures ok { (builds : Builds) → OnOk result (build_books builds floor.new
+        ≡ scrap_output output day (build_books builds floor.old)) }
+    ensures before { floor_before floor.new ≡ floor_before floor.old }
 {
     floor.allocations.release_for(Owner::Output(output))?;
     floor
@@ -96,6 +95,6 @@ pub fn scrap_output(
     if let Some(refusal) = refusal {
         return Err(CoreFault::Refused(refusal));
     }
-    let made = write_off(builds, floor, day, output);
+    let made = write_off(floor, day, output);
     finish(builds, floor, made)
 }

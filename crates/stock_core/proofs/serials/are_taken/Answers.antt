@@ -1,10 +1,7 @@
-use Rattle.std.proofs.Common.{◌≡◌, ◌∙◌, Bool, true, false, ap, refl, sym}
+use Rattle.std.proofs.Common.{◌≡◌, ◌∙◌, Bool, true, false, refl, sym}
 use Rattle.std.specs.Prelude.{◌||◌}
 use Rattle.std.specs.Str.{bytes_eq}
-use Rattle.part_core.specs.CatalogueView.{parts_of}
 use Rattle.part_core.specs.Twice.{stands_twice}
-use Rattle.yard_core.specs.YardView.{stock_of}
-use Rattle.stock_core.specs.Serials.{are_taken}
 use Rattle.stock_core.proofs.serials.are_taken.Goals as goal
 
 or_one : (a b : Bool) → true ≡ b → true ≡ (a || b)
