@@ -1,11 +1,11 @@
 #!/usr/bin/env python3
 """Runs the program as a server on the loopback and asks it as clients do, with Python's http.client, with curl where it
-is there, and with bare sockets: each route and each error; a request that is sent in pieces, cut off at a byte, or sent
-again under its key after its connection was dropped; made-up bytes; many connections one after another, of which no
-descriptor and no memory may stay; and a server that is killed, whose file has to be the books before or after each
-request. What a web page sends is refused, and who doesn't show the token; clients that are silent or slow are left;
-descriptors are waited for; and a server that goes on is stopped by a signal, and its books are copied. It takes about
-a minute.
+is there, and with bare sockets: each route and each error; rows that are said by what they are called; a request that
+is sent in pieces, cut off at a byte, or sent again under its key after its connection was dropped; made-up bytes; many
+connections one after another, of which no descriptor and no memory may stay; and a server that is killed, whose file
+has to be the books before or after each request. What a web page sends is refused, and who doesn't show the token;
+clients that are silent or slow are left; descriptors are waited for; and a server that goes on is stopped by a signal,
+and its books are copied. It takes about a minute.
 
 usage: tools/check_http.py PROGRAM"""
 import concurrent.futures
@@ -150,6 +150,35 @@ def routes(program):
         allow = {"/run": "POST", "/report/ledger/1": "GET"}.get(path) if status == 405 else None
         expect(fields["Allow"] == allow, f"{what} allows {fields['Allow']}")
     expect(server.ended() == 0, "it doesn't end well")
+
+
+def names(program):
+    """Rows that are said by what they are called, in a line and in a file, and not in a target."""
+    named = '1,"{""key"":""PO-1/1""}",A,100,,\n2,4,B,50,,\n'
+    found = {"day": DAY, "do": "found", "location": "A", "part": "Screw", "quantity": 5}
+    ordered = dict(ORDERED, key="PO-1/1", order={"key": "PO-1"}, part="Screw")
+    cases = [
+        ("POST", "/run", LOCATION, 200, b'{"entries":0,"ids":[1]}\n'),
+        ("POST", "/run", PART, 200, b'{"entries":0,"ids":[2]}\n'),
+        ("POST", "/run", {"day": DAY, "do": "order", "key": "PO-1", "partner": "Acme", "side": "purchase"}, 200, None),
+        ("POST", "/run", ordered, 200, b'{"entries":0,"ids":[4]}\n'),
+        ("POST", "/run", {"day": DAY, "do": "issue_order", "order": {"key": "PO-1"}}, 200, None),
+        ("POST", "/run", found, 200, b'{"entries":1,"ids":[5]}\n'),
+        ("POST", "/run", dict(found, part="Nut"), 400, b'{"fault":"NoName","field":"part","line":1}\n'),
+        ("POST", "/run", {"of": "Screw", "report": "stock"}, 400, b'{"fault":"NoField","line":1}\n'),
+        ("POST", f"/import/receipts/D1/{DAY}", RECEIPTS.split("\n")[0] + "\n" + named, 400,
+         b'{"fault":"NoName","field":"location","line":3}\n'),
+        ("POST", f"/import/receipts/D1/{DAY}", RECEIPTS.split("\n")[0] + "\n" + named.replace("B", "1"), 200,
+         b'1\t{"entries":1,"ids":[6]}\n2\t{"entries":1,"ids":[7]}\n'),
+        ("GET", "/report/stock/Screw", None, 404, b'{"http":404}\n'),
+        ("GET", "/report/where_used/2", None, 200, b""),
+    ]
+    server = Server(program, len(cases), "--names")
+    for method, path, body, status, text in cases:
+        got, _, answer = server.asked(method, path, json.dumps(body) if isinstance(body, dict) else body)
+        is_so = got == status and text in (None, answer)
+        expect(is_so, f"with names {method} {path} {body!r} is answered {got}, {answer!r}")
+    expect(server.ended() == 0, "with names it doesn't end well")
 
 
 def heads(program):
@@ -469,6 +498,7 @@ def main():
         waits = [beside.submit(slow, program) for slow in (slow_head, fair_body, slow_body, slow_taker)]
         words(program)
         routes(program)
+        names(program)
         heads(program)
         by_curl(program)
         pages(program)

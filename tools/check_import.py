@@ -4,9 +4,9 @@ in quotes or only those that need it, with a byte order mark and without; with b
 ends in them. Then on files that LibreOffice saved of a spreadsheet, where its `soffice` is found. Looks at what the
 program answers, and with sqlite3 at what is kept: that a file sent again, on another day too, is answered alike and
 changes nothing; that a row with another quantity is KeyTaken in its line alone; that of a faulty file nothing is run;
-which status a missing path, a folder and wrong words end with; what a terminal shows of the rows that are done; and
-that a file of a MiB takes little memory, whatever serials its rows list. It prints the seconds that this takes. Where
-something differs it goes on, and counts what does.
+that rows are found by what they are called, or told not to be; which status a missing path, a folder and wrong words
+end with; what a terminal shows of the rows that are done; and that a file of a MiB takes little memory, whatever
+serials its rows list. It prints the seconds that this takes. Where something differs it goes on, and counts what does.
 
 usage: tools/check_import.py PROGRAM"""
 import codecs
@@ -72,10 +72,10 @@ class Workshop:
         done = shared.run(self.program, word, "--db", self.path, *words, lines=lines)
         return done.returncode, done.stdout
 
-    def imported(self, kind, file, document="D7", day="2030-03-01"):
+    def imported(self, kind, file, document="D7", day="2030-03-01", words=()):
         path = self.folder / "sent.csv"
         path.write_bytes(file)
-        return self.run("import", "--kind", kind, "--document", document, "--day", day, str(path))
+        return self.run("import", *words, "--kind", kind, "--document", document, "--day", day, str(path))
 
     def words_of_import(self, kind, document):
         """The words of an import, but for the path."""
@@ -203,6 +203,42 @@ def faults(program):
             compare(f"a file that begins {file[:60]!r}", shop.rows() == before, True)
 
 
+def names(program):
+    """Rows that are said by what they are called: each way to say them, the same file with numbers, and faults."""
+    rows = [[1, 5, "A", 100, BATCH, ""], [2, "05", '["A"]', 50, "", ""], [3, 6, "1", 2, "", "M1,M2"]]
+    other = f"""{{{DAY},"do":"add_location","name":"7"}}
+{{{DAY},"do":"order_line","key":"L","order":4,"part":2,"quantity":1}}
+{{{DAY},"do":"add_location","name":"B","parent":1}}
+"""
+    with workshop(program) as shop:
+        def imported(kind, rows, document="D7"):
+            header = RECEIPTS if kind == "receipts" else COUNTS
+            return shop.imported(kind, written(header, rows), document, words=["--names"])
+
+        compare("a delivery with names", imported("receipts", rows), (0, DELIVERED))
+        before = shop.rows()
+        compare("a delivery with names, again", imported("receipts", rows), (0, DELIVERED))
+        compare("the same with numbers", shop.imported("receipts", written(RECEIPTS, DELIVERY)), (0, DELIVERED))
+        compare("the same with numbers", shop.rows() == before, True)
+        counted = [[1, '{"part":"Motor","serial":"M1"}', 1], [2, '{"key":"receipts/D7/1"}', 97]]
+        report = b'1\t{"entries":0,"ids":[]}\n2\t{"entries":1,"ids":[]}\n'
+        compare("a stocktake with names", imported("counts", counted, "C3"), (0, report))
+        compare("more rows", shop.run("run", lines=other.encode())[0], 0)
+        told = b'1\t{"entries":1,"ids":[14]}\n'
+        compare("a name of digits", imported("receipts", [[1, '{"key":"L"}', '["7"]', 1, "", ""]], "D8"), (0, told))
+        before = shop.rows()
+        for line, location, told in (
+            (5, "C", '"NoName","field":"location"'), (5, "B", '"NoName","field":"location"'), (5, "[]", '"WrongType"'),
+            (5, "[", '"WrongType"'), (5, '["A","B","B"]', '"NoName","field":"location"'), ("A", "A", '"WrongType"'),
+            ('{"key":"receipts/D7/3"}', "A", '"Ambiguous","field":"line"'), ('{"key":"L","x":1}', "A", '"UnknownField"'),
+            ("", "A", '"WrongType"'), (5, "", '"NoName","field":"location"'), ('{"key":"a b"}', "A", '"BadKey"'),
+        ):
+            faulty = [[1, 5, "A", 1, "", ""], [2, line, location, 1, "", ""]]
+            wanted = f'{{"fault":{told},"line":3}}\n'.encode()
+            compare(f"{line}, {location}", imported("receipts", faulty, "D9"), (1, wanted))
+        compare("after faults", shop.rows() == before, True)
+
+
 def statuses(program):
     with workshop(program) as shop:
         there = shop.folder / "sent.csv"
@@ -268,7 +304,7 @@ def small(program):
 
 def main():
     program = shared.reader_of_words(__doc__).parse_args().program
-    for check in (forms, by_office, corrections, faults, statuses, terminals, small):
+    for check in (forms, by_office, corrections, faults, names, statuses, terminals, small):
         check(program)
     print(f"check_import: {len(differences)} differ" if differences else "check_import: all as it should be")
     sys.exit(1 if differences else 0)

@@ -2,7 +2,8 @@
 """Compares the program with the rules written once more in Python: sends requests that are made up as a workshop would
 send them, with and without a file, and looks at every answer, every report, the exit status and every table. With a
 file the program ends and begins again between, a delivery or a stocktake is imported each time, and in the end the
-books have small limits. Each tenth run is of lines that fit nothing, most of them faulty.
+books have small limits. Each tenth run is of lines that fit nothing, most of them faulty. In each third run rows are
+said by what they are called, on lines, in files and as words of a report.
 
 usage: tools/check_machine.py PROGRAM [--runs N] [--lines N] [--seed N]"""
 import contextlib
@@ -20,8 +21,9 @@ import compare_lines
 from machine.imports import imported
 from machine.lines import COMMANDS, FIELDS, REPORTS
 from machine.machine import Machine
+from machine.made_names import STRANGE_NAMES, Caller, word_of
 from machine.made_up import Maker
-from machine.reports import HEADERS, answer, answer_line, table
+from machine.reports import HEADERS, answer, answer_line, printed, table
 from shared import reader_of_words, run
 
 WRONG = [None, True, 0, -1, 1.5, 1e3, "", "x", "7", [], [1], {}, 2**64, 2**64 - 1, "a\tb", "x" * 201, "é" * 101]
@@ -29,26 +31,30 @@ WRONG = [None, True, 0, -1, 1.5, 1e3, "", "x", "7", [], [1], {}, 2**64, 2**64 - 
 
 @dataclasses.dataclass
 class Stop:
-    """Where the program ends: after so many lines, with other limits or none, and with the import of a file."""
+    """Where the program ends: after so many lines, with other limits or none, with the import of a file, and with
+    reports that words ask for."""
 
     at: int
     limits: tuple
     asked: tuple
     wanted: tuple
+    reports: list
 
 
 class Run:
     """The lines of one run, what the machine answers each, and where the program is stopped and started again."""
 
-    def __init__(self, seed):
-        self.r, self.m = random.Random(seed), Machine()
-        self.maker = Maker(self.r, self.m)
+    def __init__(self, seed, with_names=False):
+        self.r, self.m, self.with_names = random.Random(seed), Machine(), with_names
+        self.maker = Maker(self.r, self.m, STRANGE_NAMES if with_names else ())
+        self.caller = Caller(self.r, self.m) if with_names else None
+        self.words = ["--names"] if with_names else []
         self.lines, self.wanted, self.stops, self.keyed, self.told = [], [], [], [], []
 
     def send(self, line):
         begin = self.stops[-1].at if self.stops else 0
         self.lines.append(line)
-        self.wanted.append(answer(self.m, line, len(self.lines) - begin))
+        self.wanted.append(answer(self.m, line, len(self.lines) - begin, self.with_names))
         return self.wanted[-1]
 
     def stop(self, with_limits):
@@ -57,9 +63,18 @@ class Run:
         if with_limits:
             limits = self.m.next + self.r.randint(0, 40), len(self.m.history) + self.r.randint(0, 60)
             self.m.most_numbers, self.m.most_entries = limits
-        kind, held = self.maker.file()
+        kind, held = self.maker.file(self.caller)
         asked = kind, f"D{self.r.randint(1, 3)}", "2031-02-03", held
-        self.stops.append(Stop(len(self.lines), limits, asked, imported(self.m, *asked)))
+        wanted = imported(self.m, *asked, self.with_names)
+        reports = [self.report_by_words() for _ in range(6)] if self.caller else []
+        self.stops.append(Stop(len(self.lines), limits, asked, wanted, reports))
+
+    def report_by_words(self):
+        """The name of a report, the word for what it is of, and what is printed, with the status."""
+        name, word = self.r.choice(list(REPORTS)), ""
+        while not word or word.startswith("-"):
+            word = word_of(self.caller.call(REPORTS[name], self.row_of(name)))
+        return name, word, printed(self.m, name, word)
 
     def request(self):
         do, made = self.maker.request()
@@ -89,15 +104,22 @@ class Run:
             del members[r.choice(list(members))]
         if r.random() < 0.005:
             members[r.choice(["x", "of", "report", "Do", ""])] = r.choice([None, 1, "ledger"])
+        if self.caller:
+            members = self.caller.members(members)
         names = r.sample(list(members), len(members))
         return json.dumps({it: members[it] for it in names}, ensure_ascii=r.random() < 0.5).encode()
 
     def report(self, name, number):
-        self.send(json.dumps({"of": number, "report": name}).encode())
+        of = self.caller.call(REPORTS[name], number) if self.caller else number
+        self.send(json.dumps({"of": of, "report": name}).encode())
+
+    def row_of(self, name):
+        """The number of a row that there is such a report of, now and then of none."""
+        return self.r.choice([*getattr(self.m, REPORTS[name]), 0])
 
     def any_report(self):
         name = self.r.choice(list(REPORTS))
-        self.report(name, self.r.choice([*getattr(self.m, REPORTS[name]), 0]))
+        self.report(name, self.row_of(name))
 
     def every_report(self):
         for name, rows in REPORTS.items():
@@ -105,9 +127,9 @@ class Run:
                 self.report(name, number)
 
 
-def workshop(seed, count):
+def workshop(seed, count, with_names=False):
     """A run of requests that fit the state."""
-    made = Run(seed)
+    made = Run(seed, with_names)
     last = count - count // 8
     for at in range(count):
         if seed % 2 and at in (count // 3, 2 * count // 3, last):
@@ -119,29 +141,37 @@ def workshop(seed, count):
     return made
 
 
-def wild(seed, count):
+def wild(seed, count, with_names=False):
     """A run of lines that fit nothing."""
-    made = Run(seed)
-    for line in compare_lines.lines(count, seed):
+    made = Run(seed, with_names)
+    for line in compare_lines.lines(count, seed, 0.5 if with_names else 0):
         made.send(line)
     return made
 
 
-def run_on(program, path, lines):
-    """Runs the program on the lines, with the file or without one."""
-    words = ["run", "--db", path] if path else ["run"]
-    return run(program, *words, lines=b"".join(it + b"\n" for it in lines))
+def run_on(program, words, path, lines):
+    """Runs the program with these words on the lines, with the file or without one."""
+    on_file = ["--db", path] if path else []
+    return run(program, "run", *words, *on_file, lines=b"".join(it + b"\n" for it in lines))
 
 
-def import_fault(program, path, stop):
+def import_fault(program, words, path, stop):
     """What an import told otherwise than it should, or an empty text."""
     kind, document, day, held = stop.asked
     with open(path + ".csv", "wb") as file:
         file.write(held)
-    words = ["import", "--db", path, "--kind", kind, "--document", document, "--day", day, path + ".csv"]
-    done = run(program, *words, lines=b"")
+    asked = ["--kind", kind, "--document", document, "--day", day]
+    done = run(program, "import", *words, "--db", path, *asked, path + ".csv", lines=b"")
     told = done.stdout.decode(), done.returncode
     return "" if told == stop.wanted else f"{held!r} is told as {told}, and not as {stop.wanted}"
+
+
+def report_fault(program, words, path, asked):
+    """What a report that words ask for told otherwise than it should, or an empty text."""
+    name, word, wanted = asked
+    done = run(program, "report", *words, "--db", path, name, word, lines=b"")
+    told = done.stdout.decode(), bool(done.stderr), done.returncode
+    return "" if told == wanted else f"{name} of {word!r} is told as {told}, and not as {wanted}"
 
 
 def told_by(program, made, path):
@@ -149,7 +179,7 @@ def told_by(program, made, path):
     answers, begin = [], 0
     for stop in [*made.stops, None]:
         end = stop.at if stop else len(made.lines)
-        told = run_on(program, path if made.stops else None, made.lines[begin:end])
+        told = run_on(program, made.words, path if made.stops else None, made.lines[begin:end])
         answers += told.stdout.decode().split("\n")[:-1]
         status = int(any(it and it.keys() & {"refused", "fault"} for it in made.wanted[begin:end]))
         if told.stderr or told.returncode != status:
@@ -157,7 +187,9 @@ def told_by(program, made, path):
         if stop and stop.limits:
             with contextlib.closing(sqlite3.connect(path)) as file, file:
                 file.execute("update meta set max_numbers = ?, max_entries = ?", stop.limits)
-        fault = import_fault(program, path, stop) if stop else ""
+        fault = import_fault(program, made.words, path, stop) if stop else ""
+        for asked in stop.reports if stop else []:
+            fault = fault or report_fault(program, made.words, path, asked)
         if fault:
             return answers, fault
         begin = end
@@ -193,7 +225,8 @@ def main():
     said = words.parse_args()
     told, sent, differ = {}, 0, 0
     for seed in range(said.seed, said.seed + said.runs):
-        made = wild(seed, said.lines) if seed % 10 == 0 else workshop(seed, said.lines)
+        make = wild if seed % 10 == 0 else workshop
+        made = make(seed, said.lines, with_names=seed % 3 == 0)
         sent += len(made.lines)
         for do, answer in made.told:
             told[do, answer] = told.get((do, answer), 0) + 1

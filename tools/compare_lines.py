@@ -3,26 +3,28 @@
 
 The lines are the same in each run with one seed. They ask for every command and report, with each field there, absent,
 null, of another type or out of its range, members too many or twice and in any order, unknown commands, bad keys and
-days, and bytes that are no JSON. A file of lines may be given too: each is sent whole to both programs.
+days, and bytes that are no JSON. In a share of them rows are said by names, ways, keys and serials, which are faults
+without the word that allows them. A file of lines may be given too: each is sent whole to both programs.
 
-usage: tools/compare_lines.py OLD NEW [--lines N] [--seed N] [FILE..]"""
+usage: tools/compare_lines.py OLD NEW [--lines N] [--seed N] [--names SHARE] [FILE..]"""
 import json
 import pathlib
 import random
 import sys
 
-from machine.lines import FIELDS, FLAGS, REPORTS, SIDES, STATUSES
+from machine.lines import FIELDS, FLAGS, REPORTS, ROWS, SIDES, STATUSES
 from shared import reader_of_words, run
 
 
-def kind_of(name, kind, is_optional):
-    """What is made up for a field: quantities are another kind than numbers of rows."""
-    if kind in ("row", "rows"):
-        kind = "quantity" if name == "quantity" else kind.replace("row", "number")
+def kind_of(kind, is_optional):
+    """What is made up for a field of a kind."""
+    kind = {"number": "quantity", "row": "number", "rows": "numbers"}.get(kind, kind)
     return f"maybe_{kind}" if is_optional else kind
 
 
-COMMANDS = {do: {name: kind_of(name, *of) for name, *of in fields} for do, fields in FIELDS.items()}
+COMMANDS = {do: {name: kind_of(*of) for name, *of in fields} for do, fields in FIELDS.items()}
+# What fields that say rows are called, in whatever command.
+ROW_NAMES = {name for tables in ROWS.values() for name in tables} | {"of"}
 LATER = "consumes build_line output complete auto_allocates".split()
 STRANGE = [None, True, False, 0, 1, -1, 1.5, "", "x", "7", [], [1], ["x"], [None], {}, {"a": 1}, 2**64, 10**30, -0.0]
 # Numbers as they may be spelled: a number with a sign, a fraction or an exponent is none.
@@ -109,6 +111,27 @@ def spelled(held):
     return json.dumps(held, ensure_ascii=False)
 
 
+def called(r):
+    """What a row may be said by where names are allowed, and what is near it."""
+    name, other = (r.choice([text(r), "Motor", "Robot", "Sold", "Hall"]) for _ in range(2))
+    key = r.choice([f"k{r.randint(1, 3000)}"] * 6 + ["none", "", "a b"])
+    part = r.choice([2, 3, 7, "Motor", "Robot", name])
+    serial = r.choice([f"S{r.randint(1, 400)}", "R-1", "A-1", "A-2", serials(r)])
+    return r.choice([
+        name, name, "Motor", "Hall", [name], ["Hall", name], [name, other], [], [name, 7], [[name]], {}, {"key": key},
+        {"key": key}, {"key": r.choice([7, None, [key]])}, {"key": key, "x": 1}, {"part": part, "serial": serial},
+        {"part": part, "serial": serial}, {"part": part}, {"serial": serial}, {"part": part, "serial": serial, "x": 1},
+        {"part": r.choice([None, -1, [name], {"key": key}]), "serial": serial}, {"part": part, "serial": 7},
+        Spelled('{"key":"none","key":"k1"}'), Spelled('{"part":2,"serial":"none","part":3,"serial":"R-1"}')])
+
+
+def by_names(r, members):
+    """The members, with some of their rows said by what they are called."""
+    for at, (name, held) in enumerate(members):
+        if name in ROW_NAMES and r.random() < 0.6:
+            members[at] = (name, [called(r) for _ in held] if isinstance(held, list) else called(r))
+
+
 def line_of(r, members):
     space = r.choice(["", "", "", " "])
     return "{" + f",{space}".join(f"{json.dumps(name)}:{space}{spelled(held)}" for name, held in members) + "}"
@@ -131,8 +154,8 @@ def report(r):
     return [("report", r.choice([*REPORTS, "Ledger", ""])), ("of", value(r, "number"))]
 
 
-def made_up(r):
-    """One line, as bytes."""
+def made_up(r, named, share):
+    """One line, as bytes; in such a share of the lines rows are said by what they are called, as `named` chooses."""
     way = r.random()
     members = report(r) if way < 0.05 else request(r)
     if r.random() < 0.02:
@@ -140,6 +163,8 @@ def made_up(r):
     for _ in range(r.choice([0, 0, 0, 1, 1, 2])):
         if members:
             damaged(r, members)
+    if named.random() < share:
+        by_names(named, members)
     if r.random() < 0.5:
         r.shuffle(members)
     line = line_of(r, members).encode()
@@ -150,8 +175,10 @@ def made_up(r):
     return line.replace(b"\n", b" ")
 
 
-def lines(count, seed):
-    r = random.Random(seed)
+def lines(count, seed, share=0.0):
+    """So many lines. What rows are called by is chosen by random numbers of its own, so that the other lines are the
+    same whatever the share is."""
+    r, named = random.Random(seed), random.Random(f"names {seed}")
     first = [b'{"day":"2030-01-02","do":"add_location","name":"Hall"}',
              b'{"day":"2030-01-02","do":"add_part","name":"Motor","flags":["component","trackable"]}',
              b'{"day":"2030-01-02","do":"add_part","name":"Robot","flags":["assembly","component","trackable"]}',
@@ -171,7 +198,7 @@ def lines(count, seed):
              b'{"day":"2030-01-02","do":"issue_build","build":14}',
              b'{"day":"2030-01-02","do":"outputs","build":14,"quantity":3,"serials":"A-1,A-2,A-3"}',
              b'{"day":"2030-01-02","do":"build","part":3,"quantity":1000000}']
-    return first + [made_up(r) for _ in range(count - len(first))]
+    return first + [made_up(r, named, share) for _ in range(count - len(first))]
 
 
 def answers(program, sent):
@@ -197,10 +224,11 @@ def main():
     reader = reader_of_words(__doc__, "old", "new")
     reader.add_argument("--lines", type=int, default=20_000)
     reader.add_argument("--seed", type=int, default=25)
+    reader.add_argument("--names", type=float, default=0.1)
     reader.add_argument("files", nargs="*", type=pathlib.Path)
     words = reader.parse_intermixed_args()
     old, new = words.old, words.new
-    made = b"".join(line + b"\n" for line in lines(words.lines, words.seed))
+    made = b"".join(line + b"\n" for line in lines(words.lines, words.seed, words.names))
     same = [compare(old, new, made, f"seed {words.seed}")]
     kinds = {}
     for answer in answers(old, made)[0].split(b"\n"):

@@ -1,11 +1,12 @@
 #!/usr/bin/env python3
 """The gate: passes every proof and every test, and says how many passed.
 
-First it looks whether each wrong body still applies, and whether each name that the documents cite stands where they
-say. Then 'rt ci' proves every crate from nothing, tries the must-fail edits, and runs the tests and the program. The
-program that this built is then tried as its owner would: with files, imports, clients of HTTP and kills, and beside the
-rules written once more. Where a step fails, those behind it are not run. The last line is 'N passed, M failed': what
-'rt ci' counts, and one for each script. It takes two to three hours, of which the scripts take five minutes.
+First it looks whether each wrong body still applies, whether each name that the documents cite stands where they say,
+and whether the worked examples with names ask for what those with numbers do. Then 'rt ci' proves every crate from
+nothing, tries the must-fail edits, and runs the tests and the program. The program that this built is then tried as its
+owner would: with the examples with names, with files, imports, clients of HTTP and kills, and beside the rules written
+once more. Where a step fails, those behind it are not run. The last line is 'N passed, M failed': what 'rt ci' counts,
+and one for each script. It takes two to three hours, of which the scripts take five minutes.
 
 usage: tools/gate.py [--jobs N]     N proofs side by side; without it one for each processor that has 7 GB"""
 import argparse
@@ -19,13 +20,14 @@ from shared import TOP
 PROGRAM = "crates/invdesk/out/invdesk"
 # What a proof takes of memory, in KiB: most take 2 to 4 GB, but those of tests of the whole desk take up to 7.
 MEMORY = 7_000_000
-BEFORE = ["check_edits.py", "check_names.py"]
+BEFORE = ["check_edits.py", "check_names.py", "name_lines.py --check"]
 AFTER = [
+    f"check_examples.py {PROGRAM}",
     f"check_file.py {PROGRAM}",
     f"check_import.py {PROGRAM}",
     f"check_http.py {PROGRAM}",
     f"check_kills.py {PROGRAM}",
-    f"check_machine.py {PROGRAM} --runs 8",
+    f"check_machine.py {PROGRAM} --runs 9",
     f"check_opening.py {PROGRAM} --runs 3",
 ]
 

@@ -1,6 +1,8 @@
 """For which reasons a state refuses a command."""
 import copy
 
+from machine.lines import ROWS
+
 REFUSALS = """
     KeyTaken NoSuch BadNumber NameTaken WrongFlag Retired WrongState Mismatch OpenOutputs InUse Cycle SelfInside Unfit
     NotLoose Serialised NotSerialised HasContent Unavailable Short Allocated OverNeed SerialCount SerialTaken TooDeep
@@ -9,14 +11,6 @@ ALLOCATABLE = {"OK", "Attention", "Damaged", "Returned"}
 # The first three are open.
 BUILD_STATES = ["Pending", "Production", "On Hold", "Cancelled", "Complete"]
 MOST = 1_000_000_000
-# The tables whose rows the fields name. (A parent is an item where nothing else is said, a line a bill's.)
-TABLES = {
-    "category": "categories", "template": "parts", "part": "parts", "assembly": "parts", "component": "parts",
-    "location": "locations", "item": "items", "into": "items", "output": "items", "parent": "items", "line": "lines",
-    "substitute": "substitutes", "order": "orders", "build": "builds", "allocation": "allocations"}
-OTHER_TABLES = {
-    ("add_category", "parent"): "categories", ("add_location", "parent"): "locations",
-    ("receive", "line"): "order_lines", ("allocate_sale", "line"): "order_lines"}
 
 
 class Refused(Exception):
@@ -43,11 +37,10 @@ class Checks:
             self.found.add(name)
 
     def rows(self):
-        for name, held in self.c.items():
-            table = OTHER_TABLES.get((self.do, name)) or TABLES.get(name)
-            if table and held is not None:
-                self.when(held not in getattr(self.m, table), "NoSuch")
-        self.when(any(it not in self.m.items for it in self.c.get("items", [])), "NoSuch")
+        for name, table in ROWS[self.do].items():
+            held = self.c[name]
+            for it in held if isinstance(held, list) else [held]:
+                self.when(it is not None and it not in getattr(self.m, table), "NoSuch")
 
     def numbers(self):
         least = 0 if self.do == "count" else 1

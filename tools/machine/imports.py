@@ -4,7 +4,8 @@ import io
 import re
 
 from machine.checks import Refused
-from machine.lines import Fault, Row, is_text, serials_or_fault
+from machine.lines import ROWS, Fault, Row, is_text, serials_or_fault
+from machine.names import Names, said
 from machine.reports import answer_line
 
 HEADERS = {"receipts": "number line location quantity batch serials".split(), "counts": "number item quantity".split()}
@@ -15,9 +16,9 @@ MOST_BYTES = 16_777_216
 class FileFault(Exception):
     """What is wrong with a file, and in which record."""
 
-    def __init__(self, what, record):
-        super().__init__(what)
-        self.answer = {"fault": str(what), "line": record}
+    def __init__(self, fault, record):
+        super().__init__(fault)
+        self.answer = fault.answer(record)
 
 
 def records(held):
@@ -34,7 +35,10 @@ def whole(text, form=r"[0-9]{1,19}"):
     return int(text)
 
 
-def field(name, text):
+def field(kind, name, text, names):
+    table = ROWS[COMMAND_OF[kind]].get(name)
+    if names and table:
+        return names.row(table, said(text), name)
     if name == "number":
         return whole(text, r"[1-9][0-9]{0,8}")
     if name in ("batch", "serials") and not text:
@@ -46,29 +50,29 @@ def field(name, text):
     return serials_or_fault(text) if name == "serials" else whole(text)
 
 
-def rows(kind, held):
-    """The rows of a file, each its fields by name."""
+def rows(kind, held, names=None):
+    """The rows of a file, each its fields by name. With names a row of the books may be said by what it is called."""
     if len(held) > MOST_BYTES:
-        raise FileFault("TooLong", 0)
+        raise FileFault(Fault("TooLong"), 0)
     header, *others = list(records(held)) or [None]
     if header != [it.encode() for it in HEADERS[kind]]:
-        raise FileFault("Header", 1)
+        raise FileFault(Fault("Header"), 1)
     for at, record in enumerate(others, 2):
         try:
             texts = [it.decode() for it in record]
             if len(texts) != len(header):
                 raise Fault("Csv")
-            yield Row((name, field(name, text)) for name, text in zip(HEADERS[kind], texts))
+            yield Row((name, field(kind, name, text, names)) for name, text in zip(HEADERS[kind], texts))
         except UnicodeDecodeError:
-            raise FileFault("Csv", at) from None
+            raise FileFault(Fault("Csv"), at) from None
         except Fault as fault:
             raise FileFault(fault, at) from None
 
 
-def imported(m, kind, document, day, held):
-    """What the import of a file prints, and its status."""
+def imported(m, kind, document, day, held, with_names=False):
+    """What the import of a file prints, and its status. Names are looked up before anything is run."""
     try:
-        found = list(rows(kind, held))
+        found = list(rows(kind, held, Names(m) if with_names else None))
     except FileFault as fault:
         return answer_line(fault.answer) + "\n", 1
     told, status = "", 0

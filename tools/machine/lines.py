@@ -7,47 +7,47 @@ STATUSES = "OK Attention Damaged Destroyed Rejected Lost Quarantined Returned".s
 SIDES = "purchase sale".split()
 FLAGS = "template assembly component trackable purchaseable salable virtual".split()
 
-# A command's fields in order, each with its kind.
+# A command's fields in order, each with its kind: a number is a quantity, and a row stands in one of the tables below.
 COMMANDS = {
     "add_category": "name:text parent:row?",
     "add_location": "name:text parent:row?",
     "add_part": "name:text category:row? template:row? flags:flags",
     "retire_part": "part:row",
-    "add_line": "assembly:row component:row quantity:row optional:yes consumable:yes inherited:yes variants:yes",
+    "add_line": "assembly:row component:row quantity:number optional:yes consumable:yes inherited:yes variants:yes",
     "drop_line": "line:row",
     "add_substitute": "line:row part:row",
     "drop_substitute": "substitute:row",
-    "found": "part:row location:row quantity:row batch:text? serials:serials?",
-    "add": "item:row quantity:row",
-    "remove": "item:row quantity:row",
-    "count": "item:row quantity:row",
-    "transfer": "item:row location:row quantity:row",
-    "split": "item:row quantity:row",
+    "found": "part:row location:row quantity:number batch:text? serials:serials?",
+    "add": "item:row quantity:number",
+    "remove": "item:row quantity:number",
+    "count": "item:row quantity:number",
+    "transfer": "item:row location:row quantity:number",
+    "split": "item:row quantity:number",
     "merge": "into:row items:rows",
-    "serialise": "item:row quantity:row serials:serials",
+    "serialise": "item:row quantity:number serials:serials",
     "set_status": "item:row status:status",
-    "install": "item:row parent:row quantity:row",
+    "install": "item:row parent:row quantity:number",
     "uninstall": "item:row location:row",
     "disassemble": "item:row location:row",
     "reinstate": "item:row location:row",
     "order": "side:side partner:text",
-    "order_line": "order:row part:row quantity:row",
+    "order_line": "order:row part:row quantity:number",
     "issue_order": "order:row",
-    "receive": "line:row location:row quantity:row batch:text? serials:serials?",
-    "allocate_sale": "line:row item:row quantity:row",
+    "receive": "line:row location:row quantity:number batch:text? serials:serials?",
+    "allocate_sale": "line:row item:row quantity:number",
     "ship": "order:row",
     "return_item": "item:row location:row",
     "close_order": "order:row",
     "cancel_order": "order:row",
-    "build": "part:row quantity:row",
+    "build": "part:row quantity:number",
     "issue_build": "build:row",
     "hold_build": "build:row",
     "cancel_build": "build:row",
-    "outputs": "build:row quantity:row batch:text? serials:serials?",
+    "outputs": "build:row quantity:number batch:text? serials:serials?",
     "complete_output": "output:row location:row",
     "cancel_output": "output:row",
     "scrap_output": "output:row",
-    "allocate_build": "build:row line:row item:row quantity:row output:row?",
+    "allocate_build": "build:row line:row item:row quantity:number output:row?",
     "auto_allocate": "build:row substitutes:yes optional:yes",
     "release": "allocation:row",
     "complete_build": "build:row",
@@ -55,6 +55,18 @@ COMMANDS = {
 }
 # Each field as its name, its kind, and whether it may be left out.
 FIELDS = {do: [(*it.rstrip("?").split(":"), it.endswith("?")) for it in said.split()] for do, said in COMMANDS.items()}
+# The table that has the rows of a field. (A parent is an item where nothing else is said, a line a bill's.)
+TABLES = {
+    "category": "categories", "template": "parts", "part": "parts", "assembly": "parts", "component": "parts",
+    "location": "locations", "item": "items", "into": "items", "items": "items", "output": "items", "parent": "items",
+    "line": "lines", "substitute": "substitutes", "order": "orders", "build": "builds", "allocation": "allocations"}
+OTHER_TABLES = {
+    ("add_category", "parent"): "categories", ("add_location", "parent"): "locations",
+    ("receive", "line"): "order_lines", ("allocate_sale", "line"): "order_lines"}
+# Each command's fields that say rows, with the table of each.
+ROWS = {
+    do: {name: OTHER_TABLES.get((do, name)) or TABLES[name] for name, kind, _ in fields if kind in ("row", "rows")}
+    for do, fields in FIELDS.items()}
 # Each report with the table that has what it is of.
 REPORTS = {
     "ledger": "parts", "stock": "parts", "where_used": "parts", "history": "items", "content": "items",
@@ -74,7 +86,15 @@ class Row(dict):
 
 
 class Fault(Exception):
-    """Why a line isn't read."""
+    """Why a line isn't read, and where a name is not one row's, which field has it."""
+
+    def __init__(self, what, named_in=None):
+        super().__init__(what)
+        self.named_in = named_in
+
+    def answer(self, line):
+        told = {"field": self.named_in} if self.named_in else {}
+        return {"fault": str(self), **told, "line": line}
 
 
 class Whole(int):
@@ -160,8 +180,8 @@ def serials_of(text):
 
 
 def is_of_type(kind, held):
-    if kind in ("row", "yes"):
-        return type(held) is {"row": Whole, "yes": bool}[kind]
+    if kind in ("row", "number", "yes"):
+        return type(held) is (bool if kind == "yes" else Whole)
     if kind in ("rows", "flags"):
         return type(held) is list and all(type(it) is {"rows": Whole, "flags": str}[kind] for it in held)
     return type(held) is str
@@ -178,6 +198,7 @@ def content_fault(kind, held):
     """What is wrong with the content of a member that is of its type, or None."""
     is_bad, fault = {
         "text": lambda: (not is_text(held), "BadText"),
+        "serial": lambda: (not re.fullmatch(r"[A-Za-z0-9._/-]{1,24}", held, re.ASCII), "BadSerials"),
         "key": lambda: (not re.fullmatch(r"[\x21-\x7e]{1,80}", held), "BadKey"),
         "day": lambda: (not is_day(held), "BadDay"),
         "flags": lambda: (len(set(held)) < len(held) or set(held) - set(FLAGS), "BadWord"),
@@ -188,8 +209,8 @@ def content_fault(kind, held):
     return fault if is_bad else None
 
 
-def field(kind, is_optional, members, name):
-    """A member of a line, as its kind is read."""
+def field(kind, is_optional, members, name, row=None):
+    """A member of a line, as its kind is read; each row in it by that function, where there is one."""
     held = members.get(name)
     if name not in members and kind == "yes":
         return False
@@ -197,17 +218,26 @@ def field(kind, is_optional, members, name):
         return None
     if name not in members:
         raise Fault("NoField")
+    if row and kind == "row":
+        return row(held)
+    if row and kind == "rows" and type(held) is list:
+        return [row(it) for it in held]
     if not is_of_type(kind, held):
         raise Fault("WrongType")
     fault = content_fault(kind, held)
     if fault:
         raise Fault(fault)
-    made = {"row": int, "rows": lambda it: [int(n) for n in it], "flags": frozenset, "serials": serials_or_fault}
+    made = {"row": int, "number": int, "rows": lambda it: [int(n) for n in it], "flags": frozenset,
+            "serials": serials_or_fault}
     return made.get(kind, lambda it: it)(held)
 
 
-def wish_of(line):
-    """A line's request as (do, fields, day, key), or its report as (None, number, name)."""
+def wish_of(line, names=None):
+    """A line's request as (do, fields, day, key), or its report as (None, number, name). With names a row may be said
+    by what it is called."""
+    def rows_in(table, name):
+        return names and table and (lambda held: names.row(table, held, name))
+
     if len(line) > 65_536:
         raise Fault("TooLong")
     held = json_of(line)
@@ -216,7 +246,9 @@ def wish_of(line):
     if "do" not in held and "report" in held:
         if set(held) - {"of", "report"}:
             raise Fault("UnknownField")
-        return None, field("row", False, held, "of"), field("report", False, held, "report")
+        # Where there is no such report, nobody knows what it is of.
+        table = REPORTS.get(held["report"]) if type(held["report"]) is str else None
+        return None, field("row", False, held, "of", rows_in(table, "of")), field("report", False, held, "report")
     do = field("word", False, held, "do")
     if do not in FIELDS:
         raise Fault("UnknownCommand")
@@ -224,4 +256,6 @@ def wish_of(line):
         raise Fault("UnknownField")
     key = field("key", False, held, "key") if "key" in held else None
     day = field("day", False, held, "day")
-    return do, Row({name: field(kind, is_optional, held, name) for name, kind, is_optional in FIELDS[do]}), day, key
+    fields = Row({name: field(kind, is_optional, held, name, rows_in(ROWS[do].get(name), name))
+                  for name, kind, is_optional in FIELDS[do]})
+    return do, fields, day, key

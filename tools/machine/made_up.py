@@ -5,7 +5,8 @@ import io
 
 from machine.checks import ALLOCATABLE, Checks, Refused
 from machine.imports import COMMAND_OF, HEADERS
-from machine.lines import COMMANDS, FIELDS, FLAGS, Fault, Row, SIDES, STATUSES, Whole, field
+from machine.lines import COMMANDS, FIELDS, FLAGS, ROWS, Fault, Row, SIDES, STATUSES, Whole, field
+from machine.made_names import word_of
 from machine.reports import LINE_FLAGS
 
 # How often a command is tried for, beside 4 where nothing is said.
@@ -49,8 +50,9 @@ def typed(do, made):
 class Maker:
     """Makes requests up for one machine."""
 
-    def __init__(self, r, machine):
+    def __init__(self, r, machine, names=()):
         self.r, self.m, self.style, self.serials_made = r, machine, style_of(r), 0
+        self.names = [*NAMES, *names]
         self.first = self.builder() if self.style["builder"] else self.chain(self.style["chain"])
         # How often what fits is not looked for, and how often each command came to each end.
         self.wild, self.ends = 0.05, collections.Counter()
@@ -223,12 +225,14 @@ class Maker:
 
     # files of comma-separated values
 
-    def file(self):
+    def file(self, caller=None):
         """A kind, and a delivery or a stocktake of it as bytes; now and then the bytes are damaged."""
         r, kind = self.r, self.r.choice(["receipts", "counts"])
         rows = [HEADERS[kind]]
         for number in range(1, r.choice([1, 3, 10, 30])):
             made = {"number": number, **self.fields(COMMAND_OF[kind])}
+            for name, table in ROWS[COMMAND_OF[kind]].items() if caller else ():
+                made[name] = word_of(caller.call(table, made[name], wild=0.01))
             rows.append(["" if made[name] is None else made[name] for name in HEADERS[kind]])
         text = io.StringIO()
         quoting = r.choice([csv.QUOTE_MINIMAL, csv.QUOTE_MINIMAL, csv.QUOTE_ALL])
@@ -242,10 +246,10 @@ class Maker:
     # commands of parts and bills
 
     def add_category(self):
-        return {"name": self.r.choice(NAMES[:5]), "parent": self.r.choice([None, self.one(self.m.categories)])}
+        return {"name": self.r.choice(self.names[:5]), "parent": self.r.choice([None, self.one(self.m.categories)])}
 
     def add_location(self):
-        return {"name": self.r.choice(NAMES[:12]), "parent": self.r.choice([None, self.one(self.m.locations)])}
+        return {"name": self.r.choice(self.names[:12]), "parent": self.r.choice([None, self.one(self.m.locations)])}
 
     def add_part(self):
         r = self.r
@@ -260,8 +264,8 @@ class Maker:
         if r.random() < 0.05:
             flags.add(r.choice(FLAGS))
         return {
-            "name": r.choice(NAMES), "category": r.choice([None, self.one(self.m.categories)]), "template": template,
-            "flags": r.sample(sorted(flags), len(flags))}
+            "name": r.choice(self.names), "category": r.choice([None, self.one(self.m.categories)]),
+            "template": template, "flags": r.sample(sorted(flags), len(flags))}
 
     def add_line(self):
         made = {"assembly": self.one(self.parts("assembly")), "component": self.one(self.parts("component")),
@@ -354,7 +358,7 @@ class Maker:
     # commands of orders
 
     def order(self):
-        return {"side": self.r.choice(SIDES), "partner": self.r.choice(NAMES)}
+        return {"side": self.r.choice(SIDES), "partner": self.r.choice(self.names)}
 
     def order_line(self):
         order = self.row("order")

@@ -3,6 +3,7 @@ import json
 
 from machine.checks import BUILD_STATES, Refused
 from machine.lines import FLAGS, Fault, REPORTS, SIDES, STATUSES, wish_of
+from machine.names import Names, said
 
 LINE_FLAGS = "optional consumable inherited variants".split()
 PLACES = "at in output sent used off gone".split()
@@ -124,14 +125,25 @@ def answer_line(answer):
     return json.dumps(answer, ensure_ascii=False, sort_keys=True, separators=(",", ":"))
 
 
-def answer(m, line, at):
+def answer(m, line, at, with_names=False):
     """What answers the line at that place, or None where nothing does."""
     if line in (b"", b"\r"):
         return None
     try:
-        do, *wish = wish_of(line)
+        do, *wish = wish_of(line, Names(m) if with_names else None)
         return {"report": report(m, *reversed(wish))} if do is None else m.run(do, *wish)
     except Fault as fault:
-        return {"fault": str(fault), "line": at}
+        return fault.answer(at)
     except Refused as refusal:
         return {"refused": str(refusal)}
+
+
+def printed(m, name, word):
+    """What the word `report` prints where names are allowed, whether a fault is told beside it, and the status."""
+    try:
+        number = Names(m).row(REPORTS[name], said(word), "of")
+        return "".join("\t".join(line) + "\n" for line in report(m, name, number)), False, 0
+    except Fault:
+        return "", True, 1
+    except Refused as refusal:
+        return answer_line({"refused": str(refusal)}) + "\n", False, 1

@@ -116,15 +116,6 @@ fn finds_rows_by_each_key(rt: HostRuntime) -> Result<(), Fail> {
 }
 
 #[test]
-fn tests_the_row_of_a_number(rt: HostRuntime) -> Result<(), Fail> {
-    let sheet = sheet_before(rt.alloc())?;
-    assert!(rt; sheet.any_at(5, |tool| tool.number == 5 && tool.drawer == 2));
-    assert!(rt; !sheet.any_at(5, |tool| tool.number == 5 && tool.drawer == 1));
-    assert!(rt; !sheet.any_at(6, |tool| tool.number == 6));
-    Ok(())
-}
-
-#[test]
 fn takes_a_changed_row_back(rt: HostRuntime) -> Result<(), Fail> {
     let mut sheet = sheet_before(rt.alloc())?;
     put_tool(&mut sheet, 3, 2, 2)?;

@@ -7,7 +7,7 @@ ghost use Rattle.build_core.specs.BuildForms.{build_back, build_distinct, build_
 ghost use Rattle.build_core.specs.BuildForms.{build_forms, build_told, build_verb};
 
 use crate::build_command::BuildCommand;
-use part_core::{Field, FieldKind, Fields, Form, Formed, form_in};
+use part_core::{Field, FieldKind, Fields, Form, Formed, RowKind, form_in};
 use std::alloc::{AllocError, Global};
 use stock_core::{NewStock, copy_serials};
 use yard_core::copy_batch;
@@ -15,24 +15,27 @@ use yard_core::copy_batch;
 const FORMS: &[Form] = &[
     Form {
         verb: "build",
-        fields: &[("part", FieldKind::Number), ("quantity", FieldKind::Number)],
+        fields: &[
+            ("part", FieldKind::Row(RowKind::Part)),
+            ("quantity", FieldKind::Number),
+        ],
     },
     Form {
         verb: "issue_build",
-        fields: &[("build", FieldKind::Number)],
+        fields: &[("build", FieldKind::Row(RowKind::Build))],
     },
     Form {
         verb: "hold_build",
-        fields: &[("build", FieldKind::Number)],
+        fields: &[("build", FieldKind::Row(RowKind::Build))],
     },
     Form {
         verb: "cancel_build",
-        fields: &[("build", FieldKind::Number)],
+        fields: &[("build", FieldKind::Row(RowKind::Build))],
     },
     Form {
         verb: "outputs",
         fields: &[
-            ("build", FieldKind::Number),
+            ("build", FieldKind::Row(RowKind::Build)),
             ("quantity", FieldKind::Number),
             ("batch", FieldKind::MaybeText),
             ("serials", FieldKind::MaybeSerials),
@@ -41,43 +44,43 @@ const FORMS: &[Form] = &[
     Form {
         verb: "complete_output",
         fields: &[
-            ("output", FieldKind::Number),
-            ("location", FieldKind::Number),
+            ("output", FieldKind::Row(RowKind::Item)),
+            ("location", FieldKind::Row(RowKind::Location)),
         ],
     },
     Form {
         verb: "cancel_output",
-        fields: &[("output", FieldKind::Number)],
+        fields: &[("output", FieldKind::Row(RowKind::Item))],
     },
     Form {
         verb: "scrap_output",
-        fields: &[("output", FieldKind::Number)],
+        fields: &[("output", FieldKind::Row(RowKind::Item))],
     },
     Form {
         verb: "allocate_build",
         fields: &[
-            ("build", FieldKind::Number),
-            ("line", FieldKind::Number),
-            ("item", FieldKind::Number),
+            ("build", FieldKind::Row(RowKind::Build)),
+            ("line", FieldKind::Row(RowKind::Line)),
+            ("item", FieldKind::Row(RowKind::Item)),
             ("quantity", FieldKind::Number),
-            ("output", FieldKind::MaybeNumber),
+            ("output", FieldKind::MaybeRow(RowKind::Item)),
         ],
     },
     Form {
         verb: "auto_allocate",
         fields: &[
-            ("build", FieldKind::Number),
+            ("build", FieldKind::Row(RowKind::Build)),
             ("substitutes", FieldKind::Yes),
             ("optional", FieldKind::Yes),
         ],
     },
     Form {
         verb: "complete_build",
-        fields: &[("build", FieldKind::Number)],
+        fields: &[("build", FieldKind::Row(RowKind::Build))],
     },
     Form {
         verb: "consume",
-        fields: &[("allocation", FieldKind::Number)],
+        fields: &[("allocation", FieldKind::Row(RowKind::Allocation))],
     },
 ];
 
@@ -85,7 +88,7 @@ const FORMS: &[Form] = &[
 fn new_build(mut fields: Fields) -> Option<BuildCommand>
     ensures { result ≡ command_by build_forms (codes "build") fields }
 {
-    let part = fields.number()?;
+    let part = fields.row(RowKind::Part)?;
     let quantity = fields.number()?;
     fields.end()?;
     Some(BuildCommand::NewBuild { part, quantity })
@@ -95,7 +98,7 @@ fn new_build(mut fields: Fields) -> Option<BuildCommand>
 fn issue_build(mut fields: Fields) -> Option<BuildCommand>
     ensures { result ≡ command_by build_forms (codes "issue_build") fields }
 {
-    let build = fields.number()?;
+    let build = fields.row(RowKind::Build)?;
     fields.end()?;
     Some(BuildCommand::IssueBuild { build })
 }
@@ -104,7 +107,7 @@ fn issue_build(mut fields: Fields) -> Option<BuildCommand>
 fn hold_build(mut fields: Fields) -> Option<BuildCommand>
     ensures { result ≡ command_by build_forms (codes "hold_build") fields }
 {
-    let build = fields.number()?;
+    let build = fields.row(RowKind::Build)?;
     fields.end()?;
     Some(BuildCommand::HoldBuild { build })
 }
@@ -113,7 +116,7 @@ fn hold_build(mut fields: Fields) -> Option<BuildCommand>
 fn cancel_build(mut fields: Fields) -> Option<BuildCommand>
     ensures { result ≡ command_by build_forms (codes "cancel_build") fields }
 {
-    let build = fields.number()?;
+    let build = fields.row(RowKind::Build)?;
     fields.end()?;
     Some(BuildCommand::CancelBuild { build })
 }
@@ -122,7 +125,7 @@ fn cancel_build(mut fields: Fields) -> Option<BuildCommand>
 fn new_outputs(mut fields: Fields) -> Option<BuildCommand>
     ensures { result ≡ command_by build_forms (codes "outputs") fields }
 {
-    let build = fields.number()?;
+    let build = fields.row(RowKind::Build)?;
     let quantity = fields.number()?;
     let batch = fields.maybe_text()?;
     let serials = fields.maybe_serials()?;
@@ -139,8 +142,8 @@ fn new_outputs(mut fields: Fields) -> Option<BuildCommand>
 fn complete_output(mut fields: Fields) -> Option<BuildCommand>
     ensures { result ≡ command_by build_forms (codes "complete_output") fields }
 {
-    let output = fields.number()?;
-    let location = fields.number()?;
+    let output = fields.row(RowKind::Item)?;
+    let location = fields.row(RowKind::Location)?;
     fields.end()?;
     Some(BuildCommand::CompleteOutput { output, location })
 }
@@ -149,7 +152,7 @@ fn complete_output(mut fields: Fields) -> Option<BuildCommand>
 fn cancel_output(mut fields: Fields) -> Option<BuildCommand>
     ensures { result ≡ command_by build_forms (codes "cancel_output") fields }
 {
-    let output = fields.number()?;
+    let output = fields.row(RowKind::Item)?;
     fields.end()?;
     Some(BuildCommand::CancelOutput { output })
 }
@@ -158,7 +161,7 @@ fn cancel_output(mut fields: Fields) -> Option<BuildCommand>
 fn scrap_output(mut fields: Fields) -> Option<BuildCommand>
     ensures { result ≡ command_by build_forms (codes "scrap_output") fields }
 {
-    let output = fields.number()?;
+    let output = fields.row(RowKind::Item)?;
     fields.end()?;
     Some(BuildCommand::ScrapOutput { output })
 }
@@ -167,11 +170,11 @@ fn scrap_output(mut fields: Fields) -> Option<BuildCommand>
 fn allocate_build(mut fields: Fields) -> Option<BuildCommand>
     ensures { result ≡ command_by build_forms (codes "allocate_build") fields }
 {
-    let build = fields.number()?;
-    let line = fields.number()?;
-    let item = fields.number()?;
+    let build = fields.row(RowKind::Build)?;
+    let line = fields.row(RowKind::Line)?;
+    let item = fields.row(RowKind::Item)?;
     let quantity = fields.number()?;
-    let output = fields.maybe_number()?;
+    let output = fields.maybe_row(RowKind::Item)?;
     fields.end()?;
     Some(BuildCommand::AllocateBuild {
         build,
@@ -186,7 +189,7 @@ fn allocate_build(mut fields: Fields) -> Option<BuildCommand>
 fn auto_allocate(mut fields: Fields) -> Option<BuildCommand>
     ensures { result ≡ command_by build_forms (codes "auto_allocate") fields }
 {
-    let build = fields.number()?;
+    let build = fields.row(RowKind::Build)?;
     let with_substitutes = fields.yes()?;
     let with_optional = fields.yes()?;
     fields.end()?;
@@ -201,7 +204,7 @@ fn auto_allocate(mut fields: Fields) -> Option<BuildCommand>
 fn complete_build(mut fields: Fields) -> Option<BuildCommand>
     ensures { result ≡ command_by build_forms (codes "complete_build") fields }
 {
-    let build = fields.number()?;
+    let build = fields.row(RowKind::Build)?;
     fields.end()?;
     Some(BuildCommand::CompleteBuild { build })
 }
@@ -210,7 +213,7 @@ fn complete_build(mut fields: Fields) -> Option<BuildCommand>
 fn consume(mut fields: Fields) -> Option<BuildCommand>
     ensures { result ≡ command_by build_forms (codes "consume") fields }
 {
-    let allocation = fields.number()?;
+    let allocation = fields.row(RowKind::Allocation)?;
     fields.end()?;
     Some(BuildCommand::Consume { allocation })
 }

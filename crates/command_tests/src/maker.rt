@@ -288,8 +288,8 @@ impl Maker {
         kind: FieldKind,
     ) -> Result<Field, Fail> {
         Ok(match kind {
-            FieldKind::Number => Field::Number(self.number(verb, name)),
-            FieldKind::MaybeNumber => Field::MaybeNumber(if self.is_missing() {
+            FieldKind::Number | FieldKind::Row(_) => Field::Number(self.number(verb, name)),
+            FieldKind::MaybeRow(_) => Field::MaybeNumber(if self.is_missing() {
                 None
             } else {
                 Some(self.number(verb, name))
@@ -310,7 +310,7 @@ impl Maker {
             } else {
                 Some(self.serials(alloc)?)
             }),
-            FieldKind::Numbers => Field::Numbers(self.items(alloc, verb)?),
+            FieldKind::Rows(_) => Field::Numbers(self.items(alloc, verb)?),
         })
     }
 

@@ -18,77 +18,82 @@ begins_before None told group h = tt
 begins_before (Some xs) told group (rest, e) = (group ++ rest, e ∙ append_assoc told group rest)
 
 -- the tables after these lines alone
-after_these : (text : Option (List ℕ)) (s s' : State) (done : List (List ℕ)) (trees : Trees) → BeginWith text done
-    → s' ≡ run_after s 1 done → TablesAre s' trees → AreAfterNoFewer text s done trees
-after_these text s s' done trees first state tables = record {
+after_these : (names : Bool) (text : Option (List ℕ)) (s s' : State) (done : List (List ℕ)) (trees : Trees)
+    → BeginWith text done
+    → s' ≡ run_after names s 1 done → TablesAre s' trees → AreAfterNoFewer names text s done trees
+after_these names text s s' done trees first state tables = record {
   further = [];
   first = subst (BeginWith text) (sym (append-nil done)) first;
-  tables = subst (λ v. TablesAre v trees) (state ∙ ap (run_after s 1) (sym (append-nil done))) tables;
+  tables = subst (λ v. TablesAre v trees) (state ∙ ap (run_after names s 1) (sym (append-nil done))) tables;
 }
 
 -- all lines that were run have their answers written whole
-all_answered : (text w w' : Option (List ℕ)) (s s' : State) (leaves : Trees → Type 0) (done : List (List ℕ))
-    → BeginWith text done → s' ≡ run_after s 1 done → Appends w w' (run_out s 1 done)
+all_answered : (names : Bool) (text w w' : Option (List ℕ)) (s s' : State) (leaves : Trees → Type 0)
+    (done : List (List ℕ))
+    → BeginWith text done → s' ≡ run_after names s 1 done → Appends w w' (run_out names s 1 done)
     → ((trees : Trees) → leaves trees → TablesAre s' trees)
-    → AnsweredIsKept text w w' s leaves
-all_answered text w w' s s' leaves done first state written left = record {
+    → AnsweredIsKept names text w w' s leaves
+all_answered names text w w' s s' leaves done first state written left = record {
   answered = done;
-  front = run_out s 1 done;
+  front = run_out names s 1 done;
   more = [];
   first = first;
-  answers = sym (append-nil (run_out s 1 done));
+  answers = sym (append-nil (run_out names s 1 done));
   written = written;
-  kept = λ trees may. after_these text s s' done trees first state (left trees may);
+  kept = λ trees may. after_these names text s s' done trees first state (left trees may);
 }
 
-pub answered_finished : (text w w' : Option (List ℕ)) (s s' : State) (all : Bool) (leaves : Trees → Type 0)
-    → Finished text w w' s s' all → ((trees : Trees) → leaves trees → TablesAre s' trees)
-    → AnsweredIsKept text w w' s leaves
-answered_finished None w w' s s' all leaves (lines, ran) left =
-    all_answered None w w' s s' leaves lines tt ran.state ran.written left
-answered_finished (Some xs) w w' s s' all leaves ran left =
-    all_answered (Some xs) w w' s s' leaves (lines_of xs) ([], sym (append-nil (lines_of xs))) ran.state ran.written left
+pub answered_finished : (names : Bool) (text w w' : Option (List ℕ)) (s s' : State) (all : Bool)
+    (leaves : Trees → Type 0)
+    → Finished names text w w' s s' all → ((trees : Trees) → leaves trees → TablesAre s' trees)
+    → AnsweredIsKept names text w w' s leaves
+answered_finished names None w w' s s' all leaves (lines, ran) left =
+    all_answered names None w w' s s' leaves lines tt ran.state ran.written left
+answered_finished names (Some xs) w w' s s' all leaves ran left =
+    all_answered names (Some xs) w w' s s' leaves (lines_of xs)
+    ([], sym (append-nil (lines_of xs))) ran.state ran.written left
 
-pub answered_stopped : (stop : Stop) (text w w' : Option (List ℕ)) (s s' : State) (leaves : Trees → Type 0)
-    → Stopped stop text w w' s s' leaves
+pub answered_stopped : (names : Bool) (stop : Stop) (text w w' : Option (List ℕ)) (s s' : State)
+    (leaves : Trees → Type 0)
+    → Stopped names stop text w w' s s' leaves
     → (stop ≢ Store → (trees : Trees) → leaves trees → TablesAre s' trees)
-    → AnsweredIsKept text w w' s leaves
-answered_stopped ReadFailed text w w' s s' leaves h left =
-    all_answered text w w' s s' leaves h.done h.first h.state h.written (left (λ e. absurd (cc)))
-answered_stopped WriteFailed text w w' s s' leaves h left = record {
+    → AnsweredIsKept names text w w' s leaves
+answered_stopped names ReadFailed text w w' s s' leaves h left =
+    all_answered names text w w' s s' leaves h.done h.first h.state h.written (left (λ e. absurd (cc)))
+answered_stopped names WriteFailed text w w' s s' leaves h left = record {
   answered = h.told ++ h.group;
-  front = run_out s 1 h.told ++ h.front;
+  front = run_out names s 1 h.told ++ h.front;
   more = h.more;
   first = h.first;
   answers =
-      run_out-append s 1 h.told h.group
-      ∙ ap (λ v. run_out s 1 h.told ++ v) h.answers
-      ∙ sym (append_assoc (run_out s 1 h.told) h.front h.more);
+      run_out-append names s 1 h.told h.group
+      ∙ ap (λ v. run_out names s 1 h.told ++ v) h.answers
+      ∙ sym (append_assoc (run_out names s 1 h.told) h.front h.more);
   written = h.written;
-  kept = λ trees may. after_these text s s' (h.told ++ h.group) trees h.first h.state
+  kept = λ trees may. after_these names text s s' (h.told ++ h.group) trees h.first h.state
       (left (λ e. absurd (cc)) trees may);
 }
-answered_stopped Memory text w w' s s' leaves h left = record {
+answered_stopped names Memory text w w' s s' leaves h left = record {
   answered = h.told ++ h.untold;
-  front = run_out s 1 h.told;
-  more = run_out (run_after s 1 h.told) (1 + length h.told) h.untold;
+  front = run_out names s 1 h.told;
+  more = run_out names (run_after names s 1 h.told) (1 + length h.told) h.untold;
   first = h.first;
-  answers = run_out-append s 1 h.told h.untold;
+  answers = run_out-append names s 1 h.told h.untold;
   written = h.written;
-  kept = λ trees may. after_these text s s' (h.told ++ h.untold) trees h.first h.state
+  kept = λ trees may. after_these names text s s' (h.told ++ h.untold) trees h.first h.state
       (left (λ e. absurd (cc)) trees may);
 }
-answered_stopped Store text w w' s s' leaves h left =
+answered_stopped names Store text w w' s s' leaves h left =
     let first = begins_before text h.told h.group h.first in
     record {
       answered = h.told;
-      front = run_out s 1 h.told;
+      front = run_out names s 1 h.told;
       more = [];
       first = first;
-      answers = sym (append-nil (run_out s 1 h.told));
+      answers = sym (append-nil (run_out names s 1 h.told));
       written = h.written;
       kept = λ trees may. elim (h.left trees may) [
-        | inl before ↦ after_these text s (run_after s 1 h.told) h.told trees first refl before
+        | inl before ↦ after_these names text s (run_after names s 1 h.told) h.told trees first refl before
         | inr after ↦ record { further = h.group; first = h.first; tables = after }
       ];
     }

@@ -1,99 +1,87 @@
 -- Lines that are sent again.
 use Rattle.std.proofs.Common.{◌≡◌, ◌+◌, ℕ, Bool, true, false, ◌&&◌, List, [], ◌∷◌, ◌++◌, length}
-use Rattle.std.proofs.Common.{ap, sym, refl, ◌∙◌, true≢false}
-use Rattle.std.specs.Prelude.{Ok, Err}
+use Rattle.std.proofs.Common.{ap, sym, refl, subst, ◌∙◌, true≢false}
+use Rattle.std.specs.Prelude.{IsSome, Ok, Err}
+use Rattle.part_core.specs.declared.answer.Answer.{Answer}
 use Rattle.desk_core.specs.Machine.{State, Outcome, run, step}
-use Rattle.desk_core.specs.Repeats.{AreAccepted, AreKeyed, RepeatsChangeNothing}
+use Rattle.desk_core.specs.Repeats.{LaterRepeatsChangeNothing}
 use Rattle.desk_core.specs.declared.command.Request.{Request as Req}
-use Rattle.desk_wire.specs.Writing.{answer_text, refused_text}
+use Rattle.desk_wire.specs.Writing.{answer_text}
 use Rattle.desk_app.specs.LinesAgain.{AskUnderKeys, LinesSentAgainEndAlike}
-use Rattle.desk_app.specs.Runs.{all_fine, by_outcome, is_fine, line_after, run_after, run_out}
+use Rattle.desk_app.specs.Runs.{all_fine, by_outcome, is_fine, line_after, line_out, line_step, run_after, run_out}
 use Rattle.desk_app.proofs.Running.{run_after-append, run_out-append}
 use Rattle.desk_app.proofs.Stepping.{request_after, request_step}
 
 -- what the lines ask for
-abbrev requests_in : (ls : List (List ℕ)) → AskUnderKeys ls → List Req
-requests_in [] h = []
-requests_in (l ∷ ls) h = h.0.request ∷ requests_in ls h.1
+abbrev requests_in : (names : Bool) (later s : State) (ls : List (List ℕ)) → AskUnderKeys names later s ls → List Req
+requests_in names later s [] h = []
+requests_in names later s (l ∷ ls) h = h.0.request ∷ requests_in names later (step s h.0.request).0 ls h.1
 
-are_keyed : (ls : List (List ℕ)) (h : AskUnderKeys ls) → AreKeyed (requests_in ls h)
-are_keyed [] h = tt
-are_keyed (l ∷ ls) h = (h.0.keyed, are_keyed ls h.1)
+after_lines : (names : Bool) (later s : State) (n : ℕ) (ls : List (List ℕ)) (h : AskUnderKeys names later s ls)
+    → run_after names s n ls ≡ (run s (requests_in names later s ls h)).0
+after_lines names later s n [] h = refl
+after_lines names later s n (l ∷ ls) h =
+    ap (λ t. run_after names t (n + 1) ls) (request_after names s n l h.0.request h.0.filled h.0.read)
+    ∙ after_lines names later (step s h.0.request).0 (n + 1) ls h.1
 
-after_lines : (s : State) (n : ℕ) (ls : List (List ℕ)) (h : AskUnderKeys ls)
-    → run_after s n ls ≡ (run s (requests_in ls h)).0
-after_lines s n [] h = refl
-after_lines s n (l ∷ ls) h =
-    ap (λ t. run_after t (n + 1) ls) (request_after s n l h.0.request h.0.filled h.0.read)
-    ∙ after_lines (step s h.0.request).0 (n + 1) ls h.1
-
--- ---- their answers
-
-abbrev text_of : Outcome → List ℕ
-text_of (Ok answer) = answer_text answer
-text_of (Err refusal) = refused_text refusal
-
-abbrev texts_of : List Outcome → List ℕ
-texts_of [] = []
-texts_of (o ∷ os) = text_of o ++ texts_of os
-
-outcome_text : (p : State × Outcome) → (by_outcome p).1 ≡ text_of p.1
-outcome_text (s, Ok answer) = refl
-outcome_text (s, Err refusal) = refl
-
-out_lines : (s : State) (n : ℕ) (ls : List (List ℕ)) (h : AskUnderKeys ls)
-    → run_out s n ls ≡ texts_of (run s (requests_in ls h)).1
-out_lines s n [] h = refl
-out_lines s n (l ∷ ls) h =
-    let r = h.0.request in
-    ap (λ v. v ++ run_out (line_after s n l) (n + 1) ls)
-    (ap (λ t. t.1) (request_step s n l r h.0.filled h.0.read) ∙ outcome_text (step s r))
-    ∙ ap (λ v. text_of (step s r).1 ++ v)
-    (ap (λ t. run_out t (n + 1) ls) (request_after s n l r h.0.filled h.0.read)
-    ∙ out_lines (step s r).0 (n + 1) ls h.1)
-
--- ---- lines of which none was refused
+-- ---- a line of which nothing was refused
 
 both_true : (a b : Bool) → (a && b) ≡ true → (a ≡ true) × (b ≡ true)
 both_true true b h = (refl, h)
 both_true false b h = absurd (true≢false (sym h))
 
-accepted_first : (p : State × Outcome) (os : List Outcome) → (by_outcome p).2 ≡ true → AreAccepted os
-    → AreAccepted (p.1 ∷ os)
-accepted_first (s, Ok answer) os fine h = h
-accepted_first (s, Err refusal) os fine h = absurd (true≢false (sym fine))
+answer_of : (p : State × Outcome) → (by_outcome p).2 ≡ true → (a : Answer) × (p.1 ≡ Ok a)
+answer_of (s, Ok answer) fine = (answer, refl)
+answer_of (s, Err refusal) fine = absurd (true≢false (sym fine))
 
-accepted : (s : State) (n : ℕ) (ls : List (List ℕ)) (h : AskUnderKeys ls) → all_fine s n ls ≡ true
-    → AreAccepted (run s (requests_in ls h)).1
-accepted s n [] h fine = tt
-accepted s n (l ∷ ls) h fine =
-    let r = h.0.request in
-    let both = both_true (is_fine s n l) (all_fine (line_after s n l) (n + 1) ls) fine in
-    let same : line_after s n l ≡ (step s r).0 = request_after s n l r h.0.filled h.0.read in
-    accepted_first (step s r) (run (step s r).0 (requests_in ls h.1)).1
-    (sym (ap (λ t. t.2) (request_step s n l r h.0.filled h.0.read)) ∙ both.0)
-    (accepted (step s r).0 (n + 1) ls h.1 (sym (ap (λ t. all_fine t (n + 1) ls) same) ∙ both.1))
+answer_told : (p : State × Outcome) (a : Answer) → p.1 ≡ Ok a → (by_outcome p).1 ≡ answer_text a
+answer_told (s, Ok answer) a e = let same : answer ≡ a = cc in ap answer_text same
+answer_told (s, Err refusal) a e = absurd (cc)
 
 -- ---- sent again
 
-pub lines_end_alike : RepeatsChangeNothing → LinesSentAgainEndAlike
-lines_end_alike law s done rest asks fine =
-    let rs = requests_in done asks in
-    let there = run_after s 1 done in
-    let same : run_after s 1 done ≡ (run s rs).0 = after_lines s 1 done asks in
-    let again : run (run s rs).0 rs ≡ run s rs = law s rs (are_keyed done asks) (accepted s 1 done asks fine) in
-    let still : run_after there 1 done ≡ there =
-    after_lines there 1 done asks ∙ ap (λ v. (run v rs).0) same ∙ ap (λ p. p.0) again ∙ sym same in
-    let told : run_out there 1 done ≡ run_out s 1 done =
-    out_lines there 1 done asks
-    ∙ ap (λ v. texts_of (run v rs).1) same
-    ∙ ap (λ p. texts_of p.1) again
-    ∙ sym (out_lines s 1 done asks) in (
-      run_after-append there 1 done rest
-          ∙ ap (λ v. run_after v (1 + length done) rest) still
-          ∙ sym (run_after-append s 1 done rest),
-      run_out-append there 1 done rest
-          ∙ ap (λ v. v ++ run_out (run_after there 1 done) (1 + length done) rest) told
-          ∙ ap (λ v. run_out s 1 done ++ run_out v (1 + length done) rest) still
-          ∙ sym (run_out-append s 1 done rest),
+module _ (law : LaterRepeatsChangeNothing) (names : Bool) (there : State) where
+  again_one : (t : State) (r : Req) (rs : List Req) (a : Answer) → IsSome r.key → (step t r).1 ≡ Ok a
+      → (run t (r ∷ rs)).0 ≡ there → step there r ≡ (there, Ok a)
+  again_one t r rs a keyed is at =
+      subst (λ v. step v r ≡ (v, Ok a)) at (law t [] rs r r a keyed (record { key = refl; command = refl }) is)
+
+  -- each of the lines changes nothing, and is answered as before
+  still : (t : State) (n m : ℕ) (ls : List (List ℕ)) (h : AskUnderKeys names there t ls)
+      → (run t (requests_in names there t ls h)).0 ≡ there → all_fine names t n ls ≡ true
+      → (run_after names there m ls ≡ there) × (run_out names there m ls ≡ run_out names t n ls)
+  still t n m [] h at fine = (refl, refl)
+  still t n m (l ∷ ls) h at fine =
+      let r = h.0.request in
+      let both = both_true (is_fine names t n l) (all_fine names (line_after names t n l) (n + 1) ls) fine in
+      let first : line_step names t n l ≡ by_outcome (step t r) =
+      request_step names t n l r h.0.filled h.0.read in
+      let next : line_after names t n l ≡ (step t r).0 = request_after names t n l r h.0.filled h.0.read in
+      let answer = answer_of (step t r) (sym (ap (λ v. v.2) first) ∙ both.0) in
+      let told : line_out names t n l ≡ answer_text answer.0 =
+      ap (λ v. v.1) first ∙ answer_told (step t r) answer.0 answer.1 in
+      let same = again_one t r (requests_in names there (step t r).0 ls h.1) answer.0 h.0.keyed answer.1 at in
+      let second : line_step names there m l ≡ by_outcome (there, Ok answer.0) =
+      request_step names there m l r h.0.filled h.0.read_again ∙ ap by_outcome same in
+      let rest =
+      still (step t r).0 (n + 1) (m + 1) ls h.1 at (sym (ap (λ v. all_fine names v (n + 1) ls) next) ∙ both.1) in (
+        ap (λ v. run_after names v.0 (m + 1) ls) second ∙ rest.0,
+        ap (λ v. v.1 ++ run_out names v.0 (m + 1) ls) second
+            ∙ ap (λ v. answer_text answer.0 ++ v) rest.1
+            ∙ sym (ap (λ v. v ++ run_out names (line_after names t n l) (n + 1) ls) told
+            ∙ ap (λ v. answer_text answer.0 ++ run_out names v (n + 1) ls) next),
+      )
+
+pub lines_end_alike : LaterRepeatsChangeNothing → LinesSentAgainEndAlike
+lines_end_alike law names s done rest asks fine =
+    let there = run_after names s 1 done in
+    let both =
+    still law names there s 1 1 done asks (sym (after_lines names there s 1 done asks)) fine in (
+      run_after-append names there 1 done rest
+          ∙ ap (λ v. run_after names v (1 + length done) rest) both.0
+          ∙ sym (run_after-append names s 1 done rest),
+      run_out-append names there 1 done rest
+          ∙ ap (λ v. v ++ run_out names (run_after names there 1 done) (1 + length done) rest) both.1
+          ∙ ap (λ v. run_out names s 1 done ++ run_out names v (1 + length done) rest) both.0
+          ∙ sym (run_out-append names s 1 done rest),
     )

@@ -1,25 +1,72 @@
--- What is replied to a body that is a request.
-use Rattle.std.proofs.Common.{◌≡◌, ◌∙◌, ℕ, List, ap, sym, refl, subst, ◌⊎◌, inl, inr}
-use Rattle.std.specs.Prelude.{Ok, Err}
+-- What is replied to a body that is a request, or a file.
+use Rattle.std.proofs.Common.{◌≡◌, ◌∙◌, ℕ, Bool, List, ap, sym, refl, subst, ◌⊎◌, inl, inr}
+use Rattle.std.specs.Prelude.{Option, None, Result, Ok, Err, IfErr}
 use Rattle.sqlite.specs.Tree.{Trees}
+use Rattle.part_core.specs.Day.{CivilDay}
 use Rattle.desk_core.specs.Machine.{State, Outcome, step}
 use Rattle.desk_core.specs.declared.command.Request.{Request}
 use Rattle.desk_store.specs.StateTables.{TablesAre}
+use Rattle.desk_wire.specs.Imports.{import}
 use Rattle.desk_wire.specs.Reading as reading
-use Rattle.desk_app.specs.Services.{by_outcome, by_request, run_line}
+use Rattle.desk_wire.specs.declared.row.ImportRow.{ImportRow}
+use Rattle.desk_http.specs.Services.{ImportFile, ReplyView, RunLine, Stops, why_none}
+use Rattle.desk_http.specs.declared.target.ImportKind.{ImportKind}
+use Rattle.desk_http.specs.declared.service.Failure.TheVariants.{Memory, Store}
+use Rattle.desk_http.specs.declared.service.NoReply.{NoReply}
+use Rattle.desk_http.specs.declared.service.NoReply.TheVariants.{Failed, Untold}
+use Rattle.desk_http.specs.declared.service.Reply.{Reply}
+use Rattle.desk_app.specs.ImportRuns.{RanFront, RanSome, Reading}
+use Rattle.desk_app.specs.Runs.{naming}
+use Rattle.desk_app.specs.Services.{beside, by_outcome, by_request, desk_machine, import_kind, IsFailed}
+use Rattle.desk_app.specs.Services.{IsFailedRequest, StaysOpenBy, leaves, run_line}
 
 outcome_state : (p : State × Outcome) → (by_outcome p).0 ≡ p.0
 outcome_state (s, Ok answer) = refl
 outcome_state (s, Err refusal) = refl
 
-state_after : (s : State) (line : List ℕ) (r : Request) → reading.request line ≡ Ok r
-    → (run_line s line).0 ≡ (step s r).0
+state_after : (names : Bool) (s : State) (line : List ℕ) (r : Request)
+    → reading.request (naming names s) line ≡ Ok r
+    → (run_line names s line).0 ≡ (step s r).0
 unfolding run_line
-state_after s line r is = ap (λ q. (by_request s q).0) is ∙ outcome_state (step s r)
+state_after names s line r is = ap (λ q. (by_request s q).0) is ∙ outcome_state (step s r)
 
--- what a crash leaves of a request, it leaves of its line
-pub left_by_line : (s : State) (line : List ℕ) (r : Request) (trees : Trees) → reading.request line ≡ Ok r
-    → TablesAre s trees ⊎ TablesAre (step s r).0 trees
-    → TablesAre s trees ⊎ TablesAre (run_line s line).0 trees
-left_by_line s line r trees is (inl h) = inl h
-left_by_line s line r trees is (inr h) = inr (subst (λ t. TablesAre t trees) (sym (state_after s line r is)) h)
+-- what a crash leaves of a request, it leaves of its line: where the database failed, the books are as they were, and else
+-- it leaves their tables
+pub left_by_line : {F : Type 0} (result : Result Reply NoReply) (names : Bool) (s s' : State) (line : List ℕ)
+    (r : Request) (trees : Trees) (old new : Option F) → reading.request (naming names s) line ≡ Ok r
+    → StaysOpenBy old new (why_none result) → IfErr result (λ why. IsFailedRequest why s s' r)
+    → old ≡ None → (new ≡ None → TablesAre s' trees)
+    → TablesAre s' trees ⊎ TablesAre (step s' r).0 trees
+    → TablesAre s' trees ⊎ TablesAre (run_line names s line).0 trees
+left_by_line (Ok reply) names s s' line r trees old new is stays failed before kept left = inl (kept (stays before))
+left_by_line (Err Untold) names s s' line r trees old new is stays failed before kept left = inl (kept (stays before))
+left_by_line (Err (Failed Memory)) names s s' line r trees old new is stays failed before kept left =
+    inl (kept stays.1)
+left_by_line (Err (Failed Store)) names s s' line r trees old new is stays failed before kept (inl h) = inl h
+left_by_line (Err (Failed Store)) names s s' line r trees old new is stays failed before kept (inr h) =
+    let same : (step s' r).0 ≡ (run_line names s line).0 =
+    ap (λ v. (step v r).0) failed ∙ sym (state_after names s line r is) in
+    inr (subst (λ t. TablesAre t trees) same h)
+
+-- a request that wasn't answered leaves what its line does
+pub stops_by_request : (why : NoReply) (names : Bool) (s s' : State) (line : List ℕ) (r : Request)
+    → reading.request (naming names s) line ≡ Ok r → IsFailedRequest why s s' r
+    → Stops desk_machine leaves why (s, names) (RunLine line) (s', names)
+stops_by_request (Failed e) names s s' line r is h = (h, refl)
+stops_by_request Untold names s s' line r is h =
+    let after = h ∙ sym (state_after names s line r is) in
+    inr (inl (λ i. (after i, names)))
+
+-- rows that weren't answered leave what their file does
+pub stops_by_rows : (why : NoReply) (names : Bool) (s s' : State) (kind : ImportKind) (document : List ℕ)
+    (day : CivilDay) (bytes : List ℕ) (rows : List ImportRow)
+    → import (naming names s) (import_kind kind) document day bytes ≡ Ok rows → IsFailed why × RanFront rows s s'
+    → Stops desk_machine leaves why (s, names) (ImportFile kind document day bytes) (s', names)
+stops_by_rows (Failed e) names s s' kind document day bytes rows is h =
+    (subst (λ (r : Reading). RanSome r s s') (sym is) h.1, refl)
+stops_by_rows Untold names s s' kind document day bytes rows is h = absurd h.0
+
+-- the state and the reply of an operation, where the service has a flag beside its state
+pub told_beside : (names : Bool) (s : State) (reply : ReplyView) (done : State × ReplyView) → (s, reply) ≡ done
+    → ((s, names), reply) ≡ beside names done
+told_beside names s reply done told = λ i. (((told i).0, names), (told i).1)

@@ -15,7 +15,7 @@ use Rattle.desk_app.specs.declared.end.Stop.TheVariants.{ReadFailed, WriteFailed
 use Rattle.desk_app.specs.declared.run.Told.{Told}
 use Rattle.desk_app.specs.Runs.{by_outcome, CutRequest, IsOfBooks, StaysOpen}
 use Rattle.desk_app.specs.ImportRuns.{are_answers, import_told, rows_after, rows_out, rows_outcomes, rows_told}
-use Rattle.desk_app.specs.ImportRuns.{AreLeftByRows, ImportStopped, IsLeftByImport, RanFront, Reading}
+use Rattle.desk_app.specs.ImportRuns.{AreLeftByRows, ImportStopped, IsLeftByImport, RanFront, RanSome, Reading}
 
 -- the first `at` rows were run from s to s', and this is the text of theirs
 pub record RowsRunning (rows : List ImportRow) (at : ℕ) (s s' : State) (text : List ℕ) (fine : Bool) : Type 0 where
@@ -262,3 +262,8 @@ import_written reading w w' s s' text f k told wrote =
 pub left_alone : (reading : Reading) (s : State) (trees : Trees) → TablesAre s trees → IsLeftByImport reading s trees
 left_alone (Ok rows) s trees h = left_none rows s trees h
 left_alone (Err fault) s trees h = h
+
+-- nothing was run
+pub ran_none : (reading : Reading) (s : State) → RanSome reading s s
+ran_none (Ok rows) s = record { done = []; rest = rows; split = refl; state = refl }
+ran_none (Err fault) s = refl

@@ -1,13 +1,14 @@
 -- A file that is sent again.
 use Rattle.std.proofs.Common.{◌≡◌, ◌+◌, ◌==◌, ℕ, true, List, [], ◌∷◌, ◌++◌, length}
 use Rattle.std.proofs.Common.{nat_le, map, ap, sym, refl, ◌∙◌, subst, append_assoc}
-use Rattle.std.specs.Prelude.{Some, Result, Ok, Err}
+use Rattle.std.specs.Prelude.{Option, Some, Result, Ok, Err}
 use Rattle.std.specs.Cmp.Lexicographic.{pointwise}
 use Rattle.std.specs.Str.{bytes_eq}
 use Rattle.csv.specs.Reading.{default_config, records, strip_bom}
 use Rattle.part_core.specs.Day.{CivilDay}
 use Rattle.part_core.specs.declared.answer.Answer.{Answer}
 use Rattle.desk_core.specs.Machine.{State, Outcome, run, step}
+use Rattle.desk_core.specs.Naming.{Naming}
 use Rattle.desk_core.specs.Repeats.{LaterRepeatsChangeNothing}
 use Rattle.desk_core.specs.declared.command.Command.{Command}
 use Rattle.desk_core.specs.declared.command.Request.{Request}
@@ -23,6 +24,7 @@ use Rattle.desk_wire.specs.declared.kind.ImportKind.{ImportKind}
 use Rattle.desk_wire.specs.declared.row.ImportRow.{ImportRow}
 use Rattle.desk_app.specs.ImportRuns.{are_answers, import_told, numbers_of}
 use Rattle.desk_app.specs.ImportRuns.{requests_of, rows_out, rows_outcomes, rows_told}
+use Rattle.desk_app.specs.Runs.{naming}
 use Rattle.desk_app.specs.SentAgain.{FilesSentAgainChangeNothing}
 
 -- ---- what a file says of its rows, whatever the document and the day
@@ -53,72 +55,74 @@ at_map : {A B : Type 0} (h : A → B) (n : ℕ) (r : Result A What) → at n (ma
 at_map h n (Ok x) = refl
 at_map h n (Err what) = refl
 
-part_of : ImportKind → Fields → Result Part What
-part_of kind fields = do
+part_of : Option Naming → ImportKind → Fields → Result Part What
+part_of names kind fields = do
   whole ← must Csv (length fields == length (names_of kind))
   texts ← must Csv (are_texts fields)
   number ← or_fault WrongType (row_number_in (field 0 fields))
-  command ← command_of kind fields
+  command ← command_of names kind fields
   Ok (number, command)
 
-row_parts : (kind : ImportKind) (document : List ℕ) (day : CivilDay) (fields : Fields)
-    → row_of kind document day fields ≡ map_ok (row_on kind document day) (part_of kind fields)
+row_parts : (names : Option Naming) (kind : ImportKind) (document : List ℕ) (day : CivilDay) (fields : Fields)
+    → row_of names kind document day fields ≡ map_ok (row_on kind document day) (part_of names kind fields)
 unfolding row_of part_of
-row_parts kind document day fields =
+row_parts names kind document day fields =
     bind_map _ (must Csv (length fields == length (names_of kind))) _ _ (λ _.
     bind_map _ (must Csv (are_texts fields)) _ _ (λ _.
     bind_map _ (or_fault WrongType (row_number_in (field 0 fields))) _ _ (λ number.
-    bind_map (row_on kind document day) (command_of kind fields) (λ command. Ok (number, command)) _
+    bind_map (row_on kind document day) (command_of names kind fields) (λ command. Ok (number, command)) _
     (λ command. refl))))
 
-abbrev with_parts : ImportKind → ℕ → List Part → List Fields → Result (List Part) WireFault
-with_parts kind number parts [] = Ok parts
-with_parts kind number parts (r ∷ rs) = do
-  part ← at number (part_of kind r)
-  with_parts kind (number + 1) (parts ++ part ∷ []) rs
+abbrev with_parts : Option Naming → ImportKind → ℕ → List Part → List Fields → Result (List Part) WireFault
+with_parts names kind number parts [] = Ok parts
+with_parts names kind number parts (r ∷ rs) = do
+  part ← at number (part_of names kind r)
+  with_parts names kind (number + 1) (parts ++ part ∷ []) rs
 
 map_push : {A B : Type 0} (h : A → B) (xs : List A) (x : A) → map h (xs ++ x ∷ []) ≡ map h xs ++ h x ∷ []
 map_push h [] x = refl
 map_push h (y ∷ ys) x = ap (λ v. h y ∷ v) (map_push h ys x)
 
-all_parts : (kind : ImportKind) (document : List ℕ) (day : CivilDay) (number : ℕ) (parts : List Part) (rs : List Fields)
-    → with_rows kind document day number (map (row_on kind document day) parts) rs
-    ≡ map_ok (map (row_on kind document day)) (with_parts kind number parts rs)
-all_parts kind document day number parts [] = refl
-all_parts kind document day number parts (r ∷ rs) =
+all_parts : (names : Option Naming) (kind : ImportKind) (document : List ℕ) (day : CivilDay) (number : ℕ)
+    (parts : List Part) (rs : List Fields)
+    → with_rows names kind document day number (map (row_on kind document day) parts) rs
+    ≡ map_ok (map (row_on kind document day)) (with_parts names kind number parts rs)
+all_parts names kind document day number parts [] = refl
+all_parts names kind document day number parts (r ∷ rs) =
     let on = row_on kind document day in
-    ap (λ v. at number v >>= (λ row. with_rows kind document day (number + 1) (map on parts ++ row ∷ []) rs))
-    (row_parts kind document day r)
-    ∙ ap (λ v. v >>= (λ row. with_rows kind document day (number + 1) (map on parts ++ row ∷ []) rs))
-    (at_map on number (part_of kind r))
-    ∙ map_bind on (map on) (at number (part_of kind r)) (λ part. with_parts kind (number + 1) (parts ++ part ∷ []) rs)
-    (λ row. with_rows kind document day (number + 1) (map on parts ++ row ∷ []) rs)
-    (λ part. ap (λ v. with_rows kind document day (number + 1) v rs) (sym (map_push on parts part))
-    ∙ all_parts kind document day (number + 1) (parts ++ part ∷ []) rs)
+    ap (λ v. at number v >>= (λ row. with_rows names kind document day (number + 1) (map on parts ++ row ∷ []) rs))
+    (row_parts names kind document day r)
+    ∙ ap (λ v. v >>= (λ row. with_rows names kind document day (number + 1) (map on parts ++ row ∷ []) rs))
+    (at_map on number (part_of names kind r))
+    ∙ map_bind on (map on) (at number (part_of names kind r))
+    (λ part. with_parts names kind (number + 1) (parts ++ part ∷ []) rs)
+    (λ row. with_rows names kind document day (number + 1) (map on parts ++ row ∷ []) rs)
+    (λ part. ap (λ v. with_rows names kind document day (number + 1) v rs) (sym (map_push on parts part))
+    ∙ all_parts names kind document day (number + 1) (parts ++ part ∷ []) rs)
 
-abbrev parts_in : ImportKind → List Fields → Result (List Part) WireFault
-parts_in kind [] = at 1 (Err Header)
-parts_in kind (r ∷ rs) = do
+abbrev parts_in : Option Naming → ImportKind → List Fields → Result (List Part) WireFault
+parts_in names kind [] = at 1 (Err Header)
+parts_in names kind (r ∷ rs) = do
   header ← at 1 (must Header (pointwise bytes_eq (names_of kind) r))
-  with_parts kind 2 [] rs
+  with_parts names kind 2 [] rs
 
-header_parts : (kind : ImportKind) (document : List ℕ) (day : CivilDay) (rs : List Fields)
-    → rows_in kind document day rs ≡ map_ok (map (row_on kind document day)) (parts_in kind rs)
-header_parts kind document day [] = refl
-header_parts kind document day (r ∷ rs) =
+header_parts : (names : Option Naming) (kind : ImportKind) (document : List ℕ) (day : CivilDay) (rs : List Fields)
+    → rows_in names kind document day rs ≡ map_ok (map (row_on kind document day)) (parts_in names kind rs)
+header_parts names kind document day [] = refl
+header_parts names kind document day (r ∷ rs) =
     bind_map (map (row_on kind document day)) (at 1 (must Header (pointwise bytes_eq (names_of kind) r))) _ _
-    (λ _. all_parts kind document day 2 [] rs)
+    (λ _. all_parts names kind document day 2 [] rs)
 
-abbrev parts_of : ImportKind → List ℕ → Result (List Part) WireFault
-parts_of kind bytes = do
+abbrev parts_of : Option Naming → ImportKind → List ℕ → Result (List Part) WireFault
+parts_of names kind bytes = do
   fits ← at 0 (must TooLong (nat_le (length bytes) 16777216))
-  parts_in kind (records default_config (strip_bom bytes))
+  parts_in names kind (records default_config (strip_bom bytes))
 
-import_parts : (kind : ImportKind) (document : List ℕ) (day : CivilDay) (bytes : List ℕ)
-    → import kind document day bytes ≡ map_ok (map (row_on kind document day)) (parts_of kind bytes)
-import_parts kind document day bytes =
+import_parts : (names : Option Naming) (kind : ImportKind) (document : List ℕ) (day : CivilDay) (bytes : List ℕ)
+    → import names kind document day bytes ≡ map_ok (map (row_on kind document day)) (parts_of names kind bytes)
+import_parts names kind document day bytes =
     bind_map (map (row_on kind document day)) (at 0 (must TooLong (nat_le (length bytes) 16777216))) _ _
-    (λ _. header_parts kind document day (records default_config (strip_bom bytes)))
+    (λ _. header_parts names kind document day (records default_config (strip_bom bytes)))
 
 -- ---- rows that are run again
 
@@ -199,7 +203,8 @@ module _ (law : LaterRepeatsChangeNothing) (kind : ImportKind) (document : List 
   of_parts (Err fault) rows e h = absurd (cc)
 
 pub sent_again : LaterRepeatsChangeNothing → FilesSentAgainChangeNothing
-sent_again law s kind document day later bytes rows between is answered =
-    ap (λ v. import_told (run s (requests_of rows ++ between)).0 v) (import_parts kind document later bytes)
-    ∙ of_parts law kind document day later s between (parts_of kind bytes) rows
-    (sym (import_parts kind document day bytes) ∙ is) answered
+sent_again law names s kind document day later bytes rows between is answered still =
+    let then_ = (run s (requests_of rows ++ between)).0 in
+    ap (λ v. import_told then_ v) (import_parts (naming names then_) kind document later bytes)
+    ∙ of_parts law kind document day later s between (parts_of (naming names then_) kind bytes) rows
+    (sym (import_parts (naming names then_) kind document day bytes) ∙ still) answered

@@ -1,8 +1,9 @@
 -- A line, of which as much is here as is held.
 use Rattle.std.proofs.Common.{◌≡◌, ◌+◌, ◌≤◌, ℕ, Bool, true, false, List, [], ◌∷◌, length, nat_le}
 use Rattle.std.proofs.Common.{arith, ap, sym, subst, refl, ◌∙◌, length-take, take, ◌⊎◌, inl, inr}
-use Rattle.std.specs.Prelude.{Ok, Err}
+use Rattle.std.specs.Prelude.{Option, Ok, Err}
 use Rattle.desk_core.specs.Machine.{State, Outcome, step}
+use Rattle.desk_core.specs.Naming.{Naming}
 use Rattle.desk_core.specs.declared.command.Request.{Request as Req}
 use Rattle.desk_wire.specs.declared.read.Wish.TheVariants.{Request}
 use Rattle.desk_wire.specs.declared.fault.What.TheVariants.{TooLong}
@@ -10,12 +11,13 @@ use Rattle.desk_app.specs.Cuts.{held}
 use Rattle.desk_wire.specs.Reading.{line}
 use Rattle.desk_app.specs.declared.end.Stop.{Stop}
 use Rattle.desk_app.specs.declared.end.Stop.TheVariants.{ReadFailed, WriteFailed, Memory, Store}
-use Rattle.desk_app.specs.Runs.{by_outcome, is_blank, line_after, line_step, CutLine, CutRequest}
+use Rattle.desk_app.specs.Runs.{by_outcome, is_blank, line_after, line_step, naming, CutLine, CutRequest}
 use Rattle.desk_app.proofs.Cutting.{held_short}
 
-pub blank_step : (s : State) (n : ℕ) (l : List ℕ) → is_blank l ≡ true → line_step s n l ≡ (s, [], true)
+pub blank_step : (names : Bool) (s : State) (n : ℕ) (l : List ℕ) → is_blank l ≡ true → line_step names s n l ≡
+    (s, [], true)
 unfolding line_step
-blank_step s n l e = rw e refl
+blank_step names s n l e = rw e refl
 
 blank-held : (l : List ℕ) → is_blank (held l) ≡ is_blank l
 unfolding held
@@ -23,8 +25,8 @@ blank-held [] = refl
 blank-held (b ∷ []) = refl
 blank-held (b ∷ c ∷ bs) = refl
 
-line_long : (l : List ℕ) → nat_le (length l) 65536 ≡ false → line l ≡ Err TooLong
-line_long l e = rw e refl
+line_long : (o : Option Naming) (l : List ℕ) → nat_le (length l) 65536 ≡ false → line o l ≡ Err TooLong
+line_long o l e = rw e refl
 
 pub long_take : (m : ℕ) (l : List ℕ) → nat_le (length l) m ≡ false → nat_le (length (take (m + 1) l)) m ≡ false
 long_take m l e = grind (arith, length-take (m + 1) l)
@@ -36,16 +38,16 @@ long-held l e = long_take 65536 l e
 pub short_length : (m : ℕ) (l : List ℕ) → nat_le (length l) m ≡ true → length l ≤ m + 1
 short_length m l e = grind arith
 
-line-held : (l : List ℕ) → line (held l) ≡ line l
-line-held l = cases (nat_le (length l) 65536) refl
+line-held : (o : Option Naming) (l : List ℕ) → line o (held l) ≡ line o l
+line-held o l = cases (nat_le (length l) 65536) refl
   where
-    cases : (b : Bool) → nat_le (length l) 65536 ≡ b → line (held l) ≡ line l
-    cases true e = ap line (held_short l (short_length 65536 l e))
-    cases false e = line_long (held l) (long-held l e) ∙ sym (line_long l e)
+    cases : (b : Bool) → nat_le (length l) 65536 ≡ b → line o (held l) ≡ line o l
+    cases true e = ap (line o) (held_short l (short_length 65536 l e))
+    cases false e = line_long o (held l) (long-held l e) ∙ sym (line_long o l e)
 
-pub step-held : (s : State) (n : ℕ) (l : List ℕ) → line_step s n (held l) ≡ line_step s n l
+pub step-held : (names : Bool) (s : State) (n : ℕ) (l : List ℕ) → line_step names s n (held l) ≡ line_step names s n l
 unfolding line_step
-step-held s n l = rw (blank-held l, line-held l) refl
+step-held names s n l = rw (blank-held l, line-held (naming names s) l) refl
 
 -- ---- a line that asks for a request
 
@@ -53,18 +55,21 @@ pub outcome_state : (p : State × Outcome) → (by_outcome p).0 ≡ p.0
 outcome_state (s, Ok answer) = refl
 outcome_state (s, Err refusal) = refl
 
-pub request_step : (s : State) (n : ℕ) (l : List ℕ) (r : Req) → is_blank l ≡ false → line l ≡ Ok (Request r)
-    → line_step s n l ≡ by_outcome (step s r)
+pub request_step : (names : Bool) (s : State) (n : ℕ) (l : List ℕ) (r : Req) → is_blank l ≡ false → line
+    (naming names s) l ≡ Ok (Request r)
+    → line_step names s n l ≡ by_outcome (step s r)
 unfolding line_step
-request_step s n l r filled is = rw (filled, is) refl
+request_step names s n l r filled is = rw (filled, is) refl
 
-pub request_after : (s : State) (n : ℕ) (l : List ℕ) (r : Req) → is_blank l ≡ false → line l ≡ Ok (Request r)
-    → line_after s n l ≡ (step s r).0
-request_after s n l r filled is = ap (λ t. t.0) (request_step s n l r filled is) ∙ outcome_state (step s r)
+pub request_after : (names : Bool) (s : State) (n : ℕ) (l : List ℕ) (r : Req) → is_blank l ≡ false → line
+    (naming names s) l ≡ Ok (Request r)
+    → line_after names s n l ≡ (step s r).0
+request_after names s n l r filled is = ap (λ t. t.0) (request_step names s n l r filled is) ∙ outcome_state (step s r)
 
-pub cut_line : (stop : Stop) (s s' : State) (n : ℕ) (l : List ℕ) (r : Req) → line_after s n l ≡ (step s r).0
-    → CutRequest stop s s' r → CutLine stop s s' n l
-cut_line ReadFailed s s' n l r e h = absurd h
-cut_line WriteFailed s s' n l r e h = absurd h
-cut_line Memory s s' n l r e h = elim h [ inl same ↦ inl same | inr after ↦ inr (after ∙ sym e) ]
-cut_line Store s s' n l r e h = h
+pub cut_line : (names : Bool) (stop : Stop) (s s' : State) (n : ℕ) (l : List ℕ) (r : Req) → line_after names s n l ≡
+    (step s r).0
+    → CutRequest stop s s' r → CutLine names stop s s' n l
+cut_line names ReadFailed s s' n l r e h = absurd h
+cut_line names WriteFailed s s' n l r e h = absurd h
+cut_line names Memory s s' n l r e h = elim h [ inl same ↦ inl same | inr after ↦ inr (after ∙ sym e) ]
+cut_line names Store s s' n l r e h = h

@@ -1,22 +1,22 @@
 -- What is told of a task of a desk.
-use Rattle.std.proofs.Common.{◌≡◌, ◌∙◌, List, [], sym, refl, inr}
+use Rattle.std.proofs.Common.{◌≡◌, ◌∙◌, List, [], false, sym, refl, inr}
 use Rattle.std.specs.Prelude.{Option, Some, None, option_map}
 use Rattle.clap.specs.Words.{Text}
 use Rattle.desk_app.specs.declared.words.Task.{Task}
 use Rattle.desk_app.specs.declared.words.Task.TheVariants.{Run, Report, Export, Migrate, Import, Serve}
 use Rattle.desk_app.specs.declared.words.Task.TheVariants.{Help, Wrong, Unreadable, Memory}
 use Rattle.desk_app.specs.Words.{Places, DeskTask, run, report, export, migrate, import, serve}
-use Rattle.desk_app.specs.Words.{desk_task, faults, Tells, AnswersAt, Runs, RunsOn}
+use Rattle.desk_app.specs.Words.{desk_task, faults, subject_of, Tells, AnswersAt, Runs, RunsOn}
 
 pub told_answers : (places : Places) (words : List Text) (w : Option DeskTask) (task : Task) → faults places words ≡ []
     → w ≡ desk_task places words
     → Tells w task → AnswersAt places words task
-told_answers places words w (Run file) free same t = (free, sym same ∙ t)
-told_answers places words w (Report file name number) free same t = (free, sym same ∙ t)
+told_answers places words w (Run file names) free same t = (free, sym same ∙ t)
+told_answers places words w (Report file name of) free same t = (free, sym same ∙ t)
 told_answers places words w (Export file table) free same t = (free, sym same ∙ t)
 told_answers places words w (Migrate file) free same t = (free, sym same ∙ t)
-told_answers places words w (Import file kind document day path) free same t = (free, sym same ∙ t)
-told_answers places words w (Serve file port count token) free same t = (free, sym same ∙ t)
+told_answers places words w (Import file kind document day path names) free same t = (free, sym same ∙ t)
+told_answers places words w (Serve file port count token names) free same t = (free, sym same ∙ t)
 told_answers places words w (Help e) free same t = absurd t
 told_answers places words w (Wrong e) free same t = inr (free, sym same ∙ t.0, t.1)
 told_answers places words w Unreadable free same t = absurd t
@@ -26,41 +26,45 @@ no_file : {X Y : Type 0} (f : X → Y) (file : Option X) → option_map f file �
 no_file f None e = refl
 no_file f (Some x) e = absurd (cc)
 
-pub told_runs : (w : Option DeskTask) (task : Task) → w ≡ Some (run None) → Tells w task → Runs task
-told_runs w (Run file) e t =
-    let f : Some (run None) ≡ Some (run (option_map (λ path. path.now) file)) = sym e ∙ t in
-    no_file (λ path. path.now) file (cc)
-told_runs w (Report file name number) e t =
-    let f : Some (run None) ≡ Some (report file.now name number) = sym e ∙ t in
+pub told_runs : (w : Option DeskTask) (task : Task) → w ≡ Some (run None false) → Tells w task → Runs task
+told_runs w (Run file names) e t =
+    let f : Some (run None false) ≡ Some (run (option_map (λ path. path.now) file) names) = sym e ∙ t in
+    (no_file (λ path. path.now) file (cc), cc)
+told_runs w (Report file name of) e t =
+    let f : Some (run None false) ≡ Some (report file.now name (subject_of of)) = sym e ∙ t in
     absurd (cc)
-told_runs w (Export file table) e t = let f : Some (run None) ≡ Some (export file.now table) = sym e ∙ t in absurd (cc)
-told_runs w (Migrate file) e t = let f : Some (run None) ≡ Some (migrate file.now) = sym e ∙ t in absurd (cc)
-told_runs w (Import file kind document day path) e t =
-    let f : Some (run None) ≡ Some (import file.now kind document day path.now) = sym e ∙ t in absurd (cc)
-told_runs w (Serve file port count token) e t =
-    let f : Some (run None)
-    ≡ Some (serve (option_map (λ path. path.now) file) port count (option_map (λ path. path.now) token)) = sym e ∙ t in
+told_runs w (Export file table) e t = let f : Some (run None false) ≡ Some (export file.now table) = sym e
+    ∙ t in absurd (cc)
+told_runs w (Migrate file) e t = let f : Some (run None false) ≡ Some (migrate file.now) = sym e ∙ t in absurd (cc)
+told_runs w (Import file kind document day path names) e t =
+    let f : Some (run None false) ≡ Some (import file.now kind document day path.now names) = sym e ∙ t in absurd (cc)
+told_runs w (Serve file port count token names) e t =
+    let f : Some (run None false)
+    ≡ Some (serve (option_map (λ path. path.now) file) port count (option_map (λ path. path.now) token) names) = sym e
+    ∙ t in
     absurd (cc)
 told_runs w (Help error) e t = absurd t
 told_runs w (Wrong error) e t = let f = t.0 in absurd (cc)
 told_runs w Unreadable e t = absurd t
 told_runs w Memory e t = tt
 
-pub told_runs_on : (path : Text) (w : Option DeskTask) (task : Task) → w ≡ Some (run (Some path)) → Tells w task
+pub told_runs_on : (path : Text) (w : Option DeskTask) (task : Task) → w ≡ Some (run (Some path) false) → Tells w task
     → RunsOn path task
-told_runs_on path w (Run file) e t =
-    let f : Some (run (Some path)) ≡ Some (run (option_map (λ given. given.now) file)) = sym e ∙ t in cc
-told_runs_on path w (Report file name number) e t =
-    let f : Some (run (Some path)) ≡ Some (report file.now name number) = sym e ∙ t in absurd (cc)
+told_runs_on path w (Run file names) e t =
+    let f : Some (run (Some path) false) ≡ Some (run (option_map (λ given. given.now) file) names) = sym e ∙ t in
+    (cc, cc)
+told_runs_on path w (Report file name of) e t =
+    let f : Some (run (Some path) false) ≡ Some (report file.now name (subject_of of)) = sym e ∙ t in absurd (cc)
 told_runs_on path w (Export file table) e t =
-    let f : Some (run (Some path)) ≡ Some (export file.now table) = sym e ∙ t in absurd (cc)
+    let f : Some (run (Some path) false) ≡ Some (export file.now table) = sym e ∙ t in absurd (cc)
 told_runs_on path w (Migrate file) e t =
-    let f : Some (run (Some path)) ≡ Some (migrate file.now) = sym e ∙ t in absurd (cc)
-told_runs_on path w (Import file kind document day from) e t =
-    let f : Some (run (Some path)) ≡ Some (import file.now kind document day from.now) = sym e ∙ t in absurd (cc)
-told_runs_on path w (Serve file port count token) e t =
-    let f : Some (run (Some path))
-    ≡ Some (serve (option_map (λ given. given.now) file) port count (option_map (λ given. given.now) token)) =
+    let f : Some (run (Some path) false) ≡ Some (migrate file.now) = sym e ∙ t in absurd (cc)
+told_runs_on path w (Import file kind document day from names) e t =
+    let f : Some (run (Some path) false) ≡ Some (import file.now kind document day from.now names) = sym e
+    ∙ t in absurd (cc)
+told_runs_on path w (Serve file port count token names) e t =
+    let f : Some (run (Some path) false)
+    ≡ Some (serve (option_map (λ given. given.now) file) port count (option_map (λ given. given.now) token) names) =
     sym e ∙ t in
     absurd (cc)
 told_runs_on path w (Help error) e t = absurd t

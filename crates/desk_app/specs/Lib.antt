@@ -15,3 +15,4 @@ pub mod Closed
 pub mod Services
 pub mod Looks
 pub mod Escaped
+pub mod Subjects

@@ -4,6 +4,7 @@ use Rattle.std.specs.Prelude.{◌++◌, if◌then◌else◌, ◌⊎◌, Option, 
 use Rattle.std.specs.Io.KnownBytes.{Appends, Keeps}
 use Rattle.part_core.specs.declared.refusal.Refusal.TheVariants.{NoSuch}
 use Rattle.desk_core.specs.Machine.{State, Outcome, step}
+use Rattle.desk_core.specs.Naming.{Naming, naming_in}
 use Rattle.desk_core.specs.declared.command.Request.{Request as Req}
 use Rattle.report_core.specs.Lines.{Lines}
 use Rattle.report_core.specs.Reports.{report_lines}
@@ -43,18 +44,23 @@ is_blank [] = true
 is_blank (b ∷ []) = b == 13
 is_blank (b ∷ c ∷ bs) = false
 
--- a blank line gives nothing
-unfoldable pub line_step : State → ℕ → List ℕ → RunStep
-line_step s number line = if is_blank line then (s, [], true) else by_wish s number (reading.line line)
+-- where rows may be named, they are called what they are called in this state
+abbrev pub naming : Bool → State → Option Naming
+naming names s = if names then Some (naming_in s) else None
 
-abbrev pub line_after : State → ℕ → List ℕ → State
-line_after s number line = (line_step s number line).0
+-- a blank line gives nothing; names are looked up as they are before the line
+unfoldable pub line_step : Bool → State → ℕ → List ℕ → RunStep
+line_step names s number line =
+    if is_blank line then (s, [], true) else by_wish s number (reading.line (naming names s) line)
 
-abbrev pub line_out : State → ℕ → List ℕ → List ℕ
-line_out s number line = (line_step s number line).1
+abbrev pub line_after : Bool → State → ℕ → List ℕ → State
+line_after names s number line = (line_step names s number line).0
 
-abbrev pub is_fine : State → ℕ → List ℕ → Bool
-is_fine s number line = (line_step s number line).2
+abbrev pub line_out : Bool → State → ℕ → List ℕ → List ℕ
+line_out names s number line = (line_step names s number line).1
+
+abbrev pub is_fine : Bool → State → ℕ → List ℕ → Bool
+is_fine names s number line = (line_step names s number line).2
 
 -- ---- many lines, of which the first has the number
 
@@ -67,31 +73,34 @@ abbrev pub lines_of : List ℕ → List (List ℕ)
 lines_of [] = []
 lines_of (b ∷ bs) = if b == 10 then [] ∷ lines_of bs else onto_first b (lines_of bs)
 
-abbrev pub run_after : State → ℕ → List (List ℕ) → State
-run_after s number [] = s
-run_after s number (l ∷ ls) = run_after (line_after s number l) (number + 1) ls
+abbrev pub run_after : Bool → State → ℕ → List (List ℕ) → State
+run_after names s number [] = s
+run_after names s number (l ∷ ls) = run_after names (line_after names s number l) (number + 1) ls
 
-abbrev pub run_out : State → ℕ → List (List ℕ) → List ℕ
-run_out s number [] = []
-run_out s number (l ∷ ls) = line_out s number l ++ run_out (line_after s number l) (number + 1) ls
+abbrev pub run_out : Bool → State → ℕ → List (List ℕ) → List ℕ
+run_out names s number [] = []
+run_out names s number (l ∷ ls) = line_out names s number l ++ run_out names (line_after names s number l)
+    (number + 1) ls
 
-abbrev pub all_fine : State → ℕ → List (List ℕ) → Bool
-all_fine s number [] = true
-all_fine s number (l ∷ ls) = is_fine s number l && all_fine (line_after s number l) (number + 1) ls
+abbrev pub all_fine : Bool → State → ℕ → List (List ℕ) → Bool
+all_fine names s number [] = true
+all_fine names s number (l ∷ ls) = is_fine names s number l && all_fine names (line_after names s number l)
+    (number + 1) ls
 
 -- ---- how a run ends
 
 -- these lines were run, and all their answers written
-pub record RanLines (lines : List (List ℕ)) (w w' : Option (List ℕ)) (s s' : State) (all : Bool) : Type 0 where
-  pub state : s' ≡ run_after s 1 lines
-  pub written : Appends w w' (run_out s 1 lines)
-  pub fine : all ≡ all_fine s 1 lines
+pub record RanLines (names : Bool) (lines : List (List ℕ)) (w w' : Option (List ℕ)) (s s' : State)
+    (all : Bool) : Type 0 where
+  pub state : s' ≡ run_after names s 1 lines
+  pub written : Appends w w' (run_out names s 1 lines)
+  pub fine : all ≡ all_fine names s 1 lines
 
 -- all lines of the text were; of unknown bytes, some lines
-abbrev pub Finished : Option (List ℕ) → Option (List ℕ) → Option (List ℕ) → State → State → Bool
+abbrev pub Finished : Bool → Option (List ℕ) → Option (List ℕ) → Option (List ℕ) → State → State → Bool
     → Type 0
-Finished None w w' s s' all = (lines : List (List ℕ)) × RanLines lines w w' s s' all
-Finished (Some text) w w' s s' all = RanLines (lines_of text) w w' s s' all
+Finished names None w w' s s' all = (lines : List (List ℕ)) × RanLines names lines w w' s s' all
+Finished names (Some text) w w' s s' all = RanLines names (lines_of text) w w' s s' all
 
 -- the lines of a text begin with these; those of unknown bytes may be any
 abbrev pub BeginWith : Option (List ℕ) → List (List ℕ) → Type 0
@@ -99,52 +108,53 @@ BeginWith None lines = Unit {0}
 BeginWith (Some text) lines = (rest : List (List ℕ)) × (lines_of text ≡ lines ++ rest)
 
 -- the first of the lines were run, and their answers written whole; the others were not run
-pub record StoppedBetween (text w w' : Option (List ℕ)) (s s' : State) : Type 0 where
+pub record StoppedBetween (names : Bool) (text w w' : Option (List ℕ)) (s s' : State) : Type 0 where
   pub done : List (List ℕ)
   pub first : BeginWith text done
-  pub state : s' ≡ run_after s 1 done
-  pub written : Appends w w' (run_out s 1 done)
+  pub state : s' ≡ run_after names s 1 done
+  pub written : Appends w w' (run_out names s 1 done)
 
 -- of the lines that were run the last were one group, of whose answers a front is written; the others have theirs whole
-pub record StoppedWriting (text w w' : Option (List ℕ)) (s s' : State) : Type 0 where
+pub record StoppedWriting (names : Bool) (text w w' : Option (List ℕ)) (s s' : State) : Type 0 where
   pub told : List (List ℕ)
   pub group : List (List ℕ)
   pub front : List ℕ
   pub more : List ℕ
   pub first : BeginWith text (told ++ group)
-  pub state : s' ≡ run_after s 1 (told ++ group)
-  pub answers : run_out (run_after s 1 told) (1 + length told) group ≡ front ++ more
-  pub written : Appends w w' (run_out s 1 told ++ front)
+  pub state : s' ≡ run_after names s 1 (told ++ group)
+  pub answers : run_out names (run_after names s 1 told) (1 + length told) group ≡ front ++ more
+  pub written : Appends w w' (run_out names s 1 told ++ front)
 
 -- of the lines that were run the last may have nothing of its answer written, the others have theirs
 -- whole
-pub record StoppedForMemory (text w w' : Option (List ℕ)) (s s' : State) : Type 0 where
+pub record StoppedForMemory (names : Bool) (text w w' : Option (List ℕ)) (s s' : State) : Type 0 where
   pub told : List (List ℕ)
   pub untold : List (List ℕ)
   pub first : BeginWith text (told ++ untold)
   pub one : length untold ≤ 1
-  pub state : s' ≡ run_after s 1 (told ++ untold)
-  pub written : Appends w w' (run_out s 1 told)
+  pub state : s' ≡ run_after names s 1 (told ++ untold)
+  pub written : Appends w w' (run_out names s 1 told)
 
 -- The database failed in a group, or as it was committed, and the books are closed. The lines before the group have
 -- their answers written whole, and those of the group nothing of theirs. A crash leaves the tables before the group, or,
 -- where the commit failed, those after it.
-pub record StoppedInGroup (text w w' : Option (List ℕ)) (s s' : State) (leaves : Trees → Type 0) : Type 0 where
+pub record StoppedInGroup (names : Bool) (text w w' : Option (List ℕ)) (s s' : State)
+    (leaves : Trees → Type 0) : Type 0 where
   pub told : List (List ℕ)
   pub group : List (List ℕ)
   pub first : BeginWith text (told ++ group)
-  pub state : s' ≡ run_after s 1 (told ++ group)
-  pub written : Appends w w' (run_out s 1 told)
+  pub state : s' ≡ run_after names s 1 (told ++ group)
+  pub written : Appends w w' (run_out names s 1 told)
   pub left : (trees : Trees) → leaves trees
-      → TablesAre (run_after s 1 told) trees ⊎ TablesAre (run_after s 1 (told ++ group)) trees
+      → TablesAre (run_after names s 1 told) trees ⊎ TablesAre (run_after names s 1 (told ++ group)) trees
 
 -- some of the lines were run, by what it was that failed; these tables a crash may leave of the books
-abbrev pub Stopped : Stop → Option (List ℕ) → Option (List ℕ) → Option (List ℕ) → State → State
+abbrev pub Stopped : Bool → Stop → Option (List ℕ) → Option (List ℕ) → Option (List ℕ) → State → State
     → (Trees → Type 0) → Type 0
-Stopped ReadFailed text w w' s s' leaves = StoppedBetween text w w' s s'
-Stopped WriteFailed text w w' s s' leaves = StoppedWriting text w w' s s'
-Stopped Memory text w w' s s' leaves = StoppedForMemory text w w' s s'
-Stopped Store text w w' s s' leaves = StoppedInGroup text w w' s s' leaves
+Stopped names ReadFailed text w w' s s' leaves = StoppedBetween names text w w' s s'
+Stopped names WriteFailed text w w' s s' leaves = StoppedWriting names text w w' s s'
+Stopped names Memory text w w' s s' leaves = StoppedForMemory names text w w' s s'
+Stopped names Store text w w' s s' leaves = StoppedInGroup names text w w' s s' leaves
 
 -- a request that the books did not answer, or whose answer was not told: where memory ran out it was run or not; where
 -- the database failed it was not
@@ -154,10 +164,10 @@ CutRequest Store s s' r = s' ≡ s
 CutRequest _ s s' r = ⊥
 
 -- the same of a line
-abbrev pub CutLine : Stop → State → State → ℕ → List ℕ → Type 0
-CutLine Memory s s' number line = (s' ≡ s) ⊎ (s' ≡ line_after s number line)
-CutLine Store s s' number line = s' ≡ s
-CutLine _ s s' number line = ⊥
+abbrev pub CutLine : Bool → Stop → State → State → ℕ → List ℕ → Type 0
+CutLine names Memory s s' number line = (s' ≡ s) ⊎ (s' ≡ line_after names s number line)
+CutLine names Store s s' number line = s' ≡ s
+CutLine names _ s s' number line = ⊥
 
 -- neither the reader nor the writer stops it
 abbrev pub IsOfBooks : Stop → Type 0
@@ -204,21 +214,22 @@ IsOfSettling _ = ⊥
 
 -- the first lines have their answers written, and those of the group wait with theirs; one line more may have been run,
 -- which has none; these tables a crash may leave, and they are those before the group
-pub record Halting (text w w' : Option (List ℕ)) (s s' : State) (waits : List ℕ) (leaves : Trees → Type 0) : Type 0 where
+pub record Halting (names : Bool) (text w w' : Option (List ℕ)) (s s' : State) (waits : List ℕ)
+    (leaves : Trees → Type 0) : Type 0 where
   pub told : List (List ℕ)
   pub group : List (List ℕ)
   pub untold : List (List ℕ)
   pub first : BeginWith text ((told ++ group) ++ untold)
   pub one : length untold ≤ 1
-  pub state : s' ≡ run_after s 1 ((told ++ group) ++ untold)
-  pub written : Appends w w' (run_out s 1 told)
-  pub answers : waits ≡ run_out (run_after s 1 told) (1 + length told) group
-  pub left : (trees : Trees) → leaves trees → TablesAre (run_after s 1 told) trees
+  pub state : s' ≡ run_after names s 1 ((told ++ group) ++ untold)
+  pub written : Appends w w' (run_out names s 1 told)
+  pub answers : waits ≡ run_out names (run_after names s 1 told) (1 + length told) group
+  pub left : (trees : Trees) → leaves trees → TablesAre (run_after names s 1 told) trees
 
 -- the group ends behind its last answer
-abbrev pub HaltsWhole : Option (List ℕ) → Option (List ℕ) → Option (List ℕ) → State → State → List ℕ
+abbrev pub HaltsWhole : Bool → Option (List ℕ) → Option (List ℕ) → Option (List ℕ) → State → State → List ℕ
     → (Trees → Type 0) → Type 0
-HaltsWhole text w w' s s' waits leaves = (h : Halting text w w' s s' waits leaves) × (h.untold ≡ [])
+HaltsWhole names text w w' s s' waits leaves = (h : Halting names text w w' s s' waits leaves) × (h.untold ≡ [])
 
 -- these are all lines of the text
 abbrev pub AreAll : Option (List ℕ) → List (List ℕ) → Type 0
@@ -226,16 +237,16 @@ AreAll None lines = Unit {0}
 AreAll (Some text) lines = lines_of text ≡ lines
 
 -- all lines were run, and the last of them wait
-abbrev pub Gathered : Option (List ℕ) → Option (List ℕ) → Option (List ℕ) → State → State → Bool → List ℕ
+abbrev pub Gathered : Bool → Option (List ℕ) → Option (List ℕ) → Option (List ℕ) → State → State → Bool → List ℕ
     → (Trees → Type 0) → Type 0
-Gathered text w w' s s' all waits leaves =
-    (h : Halting text w w' s s' waits leaves) × (h.untold ≡ []) × AreAll text (h.told ++ h.group)
-    × (all ≡ all_fine s 1 (h.told ++ h.group))
+Gathered names text w w' s s' all waits leaves =
+    (h : Halting names text w w' s s' waits leaves) × (h.untold ≡ []) × AreAll text (h.told ++ h.group)
+    × (all ≡ all_fine names s 1 (h.told ++ h.group))
 
 -- the lines stop before the last group is ended, or as a group was ended
-abbrev pub Halts : Stop → Option (List ℕ) → Option (List ℕ) → Option (List ℕ) → State → State → List ℕ
+abbrev pub Halts : Bool → Stop → Option (List ℕ) → Option (List ℕ) → Option (List ℕ) → State → State → List ℕ
     → (Trees → Type 0) → Type 0
-Halts ReadFailed text w w' s s' waits leaves = HaltsWhole text w w' s s' waits leaves
-Halts Memory text w w' s s' waits leaves = Halting text w w' s s' waits leaves
-Halts WriteFailed text w w' s s' waits leaves = StoppedWriting text w w' s s'
-Halts Store text w w' s s' waits leaves = StoppedInGroup text w w' s s' leaves
+Halts names ReadFailed text w w' s s' waits leaves = HaltsWhole names text w w' s s' waits leaves
+Halts names Memory text w w' s s' waits leaves = Halting names text w w' s s' waits leaves
+Halts names WriteFailed text w w' s s' waits leaves = StoppedWriting names text w w' s s'
+Halts names Store text w w' s s' waits leaves = StoppedInGroup names text w w' s s' leaves

@@ -26,6 +26,7 @@ use Rattle.desk_http.specs.declared.service.NoReply.{NoReply}
 use Rattle.desk_http.specs.declared.service.NoReply.TheVariants.{Failed, Untold}
 use Rattle.desk_app.specs.ImportRuns.{Reading, rows_after, rows_out, RanSome, IsLeftByImport}
 use Rattle.desk_app.specs.Printed.{printed}
+use Rattle.desk_app.specs.Runs.{naming}
 
 -- a kind and a name, as the lines and the reports have them
 abbrev pub import_kind : ImportKind → wire_kind.ImportKind
@@ -40,7 +41,7 @@ report_name WhereUsed = reports.WhereUsed
 report_name Shortage = reports.Shortage
 report_name History = reports.History
 
--- ---- each operation: the state after it, and what is replied
+-- ---- each operation: the state after it, and what is replied. Lines and files may name rows, or may not
 
 abbrev pub by_outcome : State × Outcome → State × ReplyView
 by_outcome (s, Ok answer) = (s, (Answered, answer_text answer))
@@ -51,16 +52,17 @@ abbrev pub by_request : State → Result Request What → State × ReplyView
 by_request s (Ok request) = by_outcome (step s request)
 by_request s (Err what) = (s, (Faulty, fault_text (record { line = 1; what = what })))
 
-unfoldable pub run_line : State → List ℕ → State × ReplyView
-run_line s line = by_request s (reading.request line)
+unfoldable pub run_line : Bool → State → List ℕ → State × ReplyView
+run_line names s line = by_request s (reading.request (naming names s) line)
 
 -- a report is told though rows of it were refused
 abbrev pub by_reading : State → Reading → State × ReplyView
 by_reading s (Ok rows) = (rows_after s rows, (Reported, rows_out s rows))
 by_reading s (Err fault) = (s, (Faulty, fault_text fault))
 
-unfoldable pub import_file : State → ImportKind → List ℕ → CivilDay → List ℕ → State × ReplyView
-import_file s kind document day rows = by_reading s (import (import_kind kind) document day rows)
+unfoldable pub import_file : Bool → State → ImportKind → List ℕ → CivilDay → List ℕ → State × ReplyView
+import_file names s kind document day rows =
+    by_reading s (import (naming names s) (import_kind kind) document day rows)
 
 abbrev pub by_printed : List ℕ × Bool → ReplyView
 by_printed (text, true) = (Reported, text)
@@ -69,16 +71,31 @@ by_printed (text, false) = (Refused, text)
 unfoldable pub show_report : State → ReportName → ℕ → ReplyView
 show_report s name number = by_printed (printed (report_lines (report_name name) number s))
 
-abbrev pub desk_machine : Machine State
-desk_machine = record { run_line = run_line; import_file = import_file; show_report = show_report }
+-- what a service is a state of: the books' state, and whether rows may be named, which no operation changes
+abbrev pub ServiceState : Type 0
+ServiceState = State × Bool
+
+abbrev pub beside : Bool → State × ReplyView → ServiceState × ReplyView
+beside names done = ((done.0, names), done.1)
+
+abbrev pub desk_machine : Machine ServiceState
+desk_machine = record {
+  run_line = λ d line. beside d.1 (run_line d.1 d.0 line);
+  import_file = λ d kind document day rows. beside d.1 (import_file d.1 d.0 kind document day rows);
+  show_report = λ d name number. show_report d.0 name number;
+}
 
 -- ---- what is left where there was no reply
 
 -- of a line nothing was run, of a file the first of its rows
-abbrev pub leaves : Failure → State → Operation → State → Type 0
-leaves e s (RunLine line) s' = s' ≡ s
-leaves e s (ImportFile kind document day rows) s' = RanSome (import (import_kind kind) document day rows) s s'
-leaves e s (ShowReport name number) s' = s' ≡ s
+abbrev pub leaves_of : Bool → State → Operation → State → Type 0
+leaves_of names s (RunLine line) s' = s' ≡ s
+leaves_of names s (ImportFile kind document day rows) s' =
+    RanSome (import (naming names s) (import_kind kind) document day rows) s s'
+leaves_of names s (ShowReport name number) s' = s' ≡ s
+
+abbrev pub leaves : Failure → ServiceState → Operation → ServiceState → Type 0
+leaves e d o d' = leaves_of d.1 d.0 o d'.0 × (d'.1 ≡ d.1)
 
 -- a request that failed was not run; where its reply was not told, it was
 abbrev pub IsFailedRequest : NoReply → State → State → Request → Type 0
@@ -107,16 +124,17 @@ IsShownOfOpen old (ShowReport name number) (Some (Failed Memory)) = old ≡ None
 IsShownOfOpen old (ShowReport name number) (Some (Failed Store)) = IsSome old
 IsShownOfOpen old (ShowReport name number) (Some Untold) = old ≡ None
 
--- what a crash leaves of books in this state: its tables or, where the database failed, those after the request that
--- failed; of a file those after the first of its rows
-abbrev pub IsLeftByOperation : Operation → State → State → Trees → Type 0
-IsLeftByOperation (RunLine line) s s' trees = TablesAre s' trees ⊎ TablesAre (run_line s' line).0 trees
-IsLeftByOperation (ImportFile kind document day rows) s s' trees =
-    IsLeftByImport (import (import_kind kind) document day rows) s trees
-IsLeftByOperation (ShowReport name number) s s' trees = TablesAre s' trees
+-- what a crash leaves of books that come from the one state to the other: the tables of this or, where the database
+-- failed, those after the request that failed; of a file those after the first of its rows
+abbrev pub IsLeftByOperation : Bool → Operation → State → State → Trees → Type 0
+IsLeftByOperation names (RunLine line) s s' trees = TablesAre s' trees ⊎ TablesAre (run_line names s line).0 trees
+IsLeftByOperation names (ImportFile kind document day rows) s s' trees =
+    IsLeftByImport (import (naming names s) (import_kind kind) document day rows) s trees
+IsLeftByOperation names (ShowReport name number) s s' trees = TablesAre s' trees
 
 -- of books with these faults of the database before and after, of which a crash may leave these tables
-abbrev pub Relates : {F : Type 0} → Option F → Option F → (Trees → Type 0) → State → State → Operation
+abbrev pub Relates : {F : Type 0} → Bool → Option F → Option F → (Trees → Type 0) → State → State → Operation
     → Option NoReply → Type 0
-Relates old new may_leave s s' o why =
-    StaysOpenBy old new why × IsShownOfOpen old o why × (old ≡ None → (trees : Trees) → may_leave trees → IsLeftByOperation o s s' trees)
+Relates names old new may_leave s s' o why =
+    StaysOpenBy old new why × IsShownOfOpen old o why × (old ≡ None → (trees : Trees) → may_leave trees
+    → IsLeftByOperation names o s s' trees)

@@ -23,12 +23,12 @@ status_of_fault _ = 3
 
 -- at once, unless the words ask for a desk
 abbrev pub early_status : Task → Option ℕ
-early_status (task.Run file) = None
-early_status (task.Report file name number) = None
+early_status (task.Run file names) = None
+early_status (task.Report file name of) = None
 early_status (task.Export file table) = None
 early_status (task.Migrate file) = None
-early_status (task.Import file kind document day path) = None
-early_status (task.Serve file port count token) = None
+early_status (task.Import file kind document day path names) = None
+early_status (task.Serve file port count token names) = None
 early_status (task.Help e) = Some 0
 early_status (task.Wrong e) = Some 2
 early_status task.Unreadable = Some 2

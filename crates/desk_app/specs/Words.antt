@@ -7,7 +7,7 @@ use Rattle.clap.specs.Words.{App, Rule, Row, Text, new_app, new_rule, with_rule,
 use Rattle.clap.specs.Words.{IsAmong, FailsBy, kind_of, first_of, found_of, rows_of, subcommand_of, subcommand_rows_of}
 use Rattle.clap.specs.Simple.{on_top}
 use Rattle.clap.specs.Walk.{texts}
-use Rattle.clap.specs.declared.builder.action.ArgAction.TheVariants.{Set}
+use Rattle.clap.specs.declared.builder.action.ArgAction.TheVariants.{Set, SetTrue}
 use Rattle.clap.specs.declared.builder.value_parser.ValueParser.TheVariants.{Names}
 use Rattle.clap.specs.declared.error.Error.{Error}
 use Rattle.clap.specs.declared.error.kind.ErrorKind.TheVariants.{DisplayHelp, DisplayVersion}
@@ -23,6 +23,8 @@ use Rattle.desk_wire.specs.Documents.{is_document}
 use Rattle.desk_wire.specs.Kinds.{import_kind_named}
 use Rattle.desk_wire.specs.Numbers.{number_in}
 use Rattle.desk_wire.specs.declared.kind.ImportKind.{ImportKind}
+use Rattle.desk_app.specs.declared.words.ReportOf.{ReportOf}
+use Rattle.desk_app.specs.declared.words.ReportOf.TheVariants.{Number, Word}
 use Rattle.desk_app.specs.declared.words.Task.{Task}
 use Rattle.desk_app.specs.declared.words.Task.TheVariants.{Run, Report, Export, Migrate, Import, Serve}
 use Rattle.desk_app.specs.declared.words.Task.TheVariants.{Help, Wrong, Unreadable, Memory}
@@ -89,6 +91,10 @@ pub record Places : Type 0 where
 abbrev pub file_rule : Rule
 file_rule = record (new_rule (codes "db")) { long = Some (codes "db"); value_names = 1; action = Some Set }
 
+-- `--names`
+abbrev pub names_rule : Rule
+names_rule = record (new_rule (codes "names")) { long = Some (codes "names"); action = Some SetTrue }
+
 -- a word that has to be there
 abbrev pub word_rule : Text → Rule
 word_rule id = record (new_rule id) { value_names = 1; required = true; action = Some Set }
@@ -108,13 +114,13 @@ abbrev pub among : Bor (List (Bor Text)) → Rule → Rule
 among names rule = record rule { parser = Some (Names names) }
 
 abbrev pub run_line : App
-run_line = with_rule (new_app (codes "run")) file_rule
+run_line = with_rule (with_rule (new_app (codes "run")) file_rule) names_rule
 
 abbrev pub report_line : Listing report_names → App
 report_line names =
     with_rule
-    (with_rule (with_rule (new_app (codes "report")) (needed file_rule)) (among names.at (word_rule (codes "name"))))
-    (word_rule (codes "number"))
+    (with_rule (with_rule (with_rule (new_app (codes "report")) (needed file_rule)) names_rule)
+    (among names.at (word_rule (codes "name")))) (word_rule (codes "number"))
 
 abbrev pub export_line : Listing table_names → App
 export_line names =
@@ -130,14 +136,14 @@ kind_rule names = among names.at (option_rule (codes "kind"))
 abbrev pub import_line : Listing kind_names → App
 import_line names =
     with_rule
-    (with_rule (with_rule (with_rule (with_rule (new_app (codes "import")) (needed file_rule)) (kind_rule names))
-    (option_rule (codes "document"))) (option_rule (codes "day"))) (word_rule (codes "path"))
+    (with_rule (with_rule (with_rule (with_rule (with_rule (new_app (codes "import")) (needed file_rule)) names_rule)
+    (kind_rule names)) (option_rule (codes "document"))) (option_rule (codes "day"))) (word_rule (codes "path"))
 
 abbrev pub serve_line : App
 serve_line =
     with_rule
-    (with_rule (with_rule (with_rule (new_app (codes "serve")) file_rule) (option_rule (codes "port")))
-    (optional_rule (codes "count"))) (optional_rule (codes "token"))
+    (with_rule (with_rule (with_rule (with_rule (new_app (codes "serve")) file_rule) names_rule)
+    (option_rule (codes "port"))) (optional_rule (codes "count"))) (optional_rule (codes "token"))
 
 abbrev pub top_line : App
 top_line =
@@ -198,31 +204,56 @@ table_named name =
     else if bytes_eq name (codes "spent") then Some table.Spent
     else None
 
--- a task of a desk: a run, with the file if one is named; a report of a number; a table; that a file is brought along;
--- the rows at a path; so many connections to a port, or any number, with the file of a token if one is named
+-- what a report is of: the row of a number, or, where rows may be named, what a word says
+pub data Subject : Type 0 where
+  numbered : ℕ → Subject
+  worded : Text → Subject
+
+abbrev pub subject_of : ReportOf → Subject
+subject_of (Number number) = numbered number
+subject_of (Word word) = worded word.now
+
+-- a task of a desk: a run, with the file if one is named; a report of a row; a table; that a file is brought along;
+-- the rows at a path; so many connections to a port, or any number, with the file of a token if one is named. The last
+-- word of a run, an import and a serving is whether rows may be named
 pub data DeskTask : Type 0 where
-  run : Option Text → DeskTask
-  report : Text → ReportName → ℕ → DeskTask
+  run : Option Text → Bool → DeskTask
+  report : Text → ReportName → Subject → DeskTask
   export : Text → TableName → DeskTask
   migrate : Text → DeskTask
-  import : Text → ImportKind → Text → CivilDay → Text → DeskTask
-  serve : Option Text → ℕ → Option ℕ → Option Text → DeskTask
+  import : Text → ImportKind → Text → CivilDay → Text → Bool → DeskTask
+  serve : Option Text → ℕ → Option ℕ → Option Text → Bool → DeskTask
 
-abbrev pub report_with : Option Text → Option ReportName → Option ℕ → Option DeskTask
-report_with None name number = None
-report_with (Some file) None number = None
+abbrev pub report_with : Option Text → Option ReportName → Option Subject → Option DeskTask
+report_with None name of = None
+report_with (Some file) None of = None
 report_with (Some file) (Some name) None = None
-report_with (Some file) (Some name) (Some number) = Some (report file name number)
+report_with (Some file) (Some name) (Some of) = Some (report file name of)
 
 abbrev pub export_with : Option Text → Option TableName → Option DeskTask
 export_with None table = None
 export_with (Some file) None = None
 export_with (Some file) (Some table) = Some (export file table)
 
+-- a flag that was given has the value `true`
+abbrev pub is_given : Option Text → Bool
+is_given None = false
+is_given (Some text) = bytes_eq text (codes "true")
+
+-- by the matches of the subcommand: whether rows may be named
+abbrev pub names_in : List Row → Bool
+names_in rows = is_given (first_of (codes "names") rows)
+
+-- where rows may be named any word may say one, else a number alone
+abbrev pub subject_by : Bool → Option Text → Option Subject
+subject_by names None = None
+subject_by false (Some text) = option_map numbered (number_in text)
+subject_by true (Some text) = Some (worded text)
+
 -- by the matches of the subcommand
 unfoldable pub report_in : List Row → Option DeskTask
 report_in rows = report_with (first_of (codes "db") rows) (option_and_then report_named (first_of (codes "name") rows))
-    (option_and_then number_in (first_of (codes "number") rows))
+    (subject_by (names_in rows) (first_of (codes "number") rows))
 
 unfoldable pub export_in : List Row → Option DeskTask
 export_in rows = export_with (first_of (codes "db") rows) (option_and_then table_named (first_of (codes "table") rows))
@@ -242,7 +273,7 @@ import_in rows = do
   document ← option_and_then document_named (first_of (codes "document") rows)
   day ← option_and_then day_of (first_of (codes "day") rows)
   path ← first_of (codes "path") rows
-  Some (import file kind document day path)
+  Some (import file kind document day path (names_in rows))
 
 -- no count, or one that a serving may have
 abbrev pub count_in : Option Text → Option (Option ℕ)
@@ -253,7 +284,7 @@ unfoldable pub serve_in : List Row → Option DeskTask
 serve_in rows = do
   port ← option_and_then (number_up_to 65535) (first_of (codes "port") rows)
   count ← count_in (first_of (codes "count") rows)
-  Some (serve (first_of (codes "db") rows) port count (first_of (codes "token") rows))
+  Some (serve (first_of (codes "db") rows) port count (first_of (codes "token") rows) (names_in rows))
 
 abbrev pub rows_in : ArgMatches → List Row
 rows_in m = rows_of (found_of m)
@@ -264,14 +295,14 @@ given_in id m = first_of id (rows_in m)
 
 -- by the subcommand and its matches: no subcommand is a run in memory
 abbrev pub desk_task_met : Option (Text × List Row) → Option DeskTask
-desk_task_met None = Some (run None)
+desk_task_met None = Some (run None false)
 desk_task_met (Some met) =
     if bytes_eq met.0 (codes "report") then report_in met.1
     else if bytes_eq met.0 (codes "export") then export_in met.1
     else if bytes_eq met.0 (codes "migrate") then migrate_in met.1
     else if bytes_eq met.0 (codes "import") then import_in met.1
     else if bytes_eq met.0 (codes "serve") then serve_in met.1
-    else Some (run (first_of (codes "db") met.1))
+    else Some (run (first_of (codes "db") met.1) (names_in met.1))
 
 -- what the words ask of a desk, where nothing is found wrong
 unfoldable pub desk_task : Places → List Text → Option DeskTask
@@ -279,13 +310,13 @@ desk_task places words = desk_task_met (subcommand_of (command_line places) word
 
 -- the task of a desk, if it is one
 abbrev pub desk_task_of : Task → Option DeskTask
-desk_task_of (Run file) = Some (run (option_map (λ path. path.now) file))
-desk_task_of (Report file name number) = Some (report file.now name number)
+desk_task_of (Run file names) = Some (run (option_map (λ path. path.now) file) names)
+desk_task_of (Report file name of) = Some (report file.now name (subject_of of))
 desk_task_of (Export file table) = Some (export file.now table)
 desk_task_of (Migrate file) = Some (migrate file.now)
-desk_task_of (Import file kind document day path) = Some (import file.now kind document day path.now)
-desk_task_of (Serve file port count token) =
-    Some (serve (option_map (λ path. path.now) file) port count (option_map (λ path. path.now) token))
+desk_task_of (Import file kind document day path names) = Some (import file.now kind document day path.now names)
+desk_task_of (Serve file port count token names) =
+    Some (serve (option_map (λ path. path.now) file) port count (option_map (λ path. path.now) token) names)
 desk_task_of (Help e) = None
 desk_task_of (Wrong e) = None
 desk_task_of Unreadable = None
@@ -296,12 +327,12 @@ AsksFor desk_task task = option_map desk_task_of task ≡ option_map (λ w. Some
 
 -- the file of the desk that is asked for
 abbrev pub file_of : Task → Option (Bor Text)
-file_of (Run file) = file
-file_of (Report file name number) = Some file
+file_of (Run file names) = file
+file_of (Report file name of) = Some file
 file_of (Export file table) = Some file
 file_of (Migrate file) = Some file
-file_of (Import file kind document day path) = Some file
-file_of (Serve file port count token) = file
+file_of (Import file kind document day path names) = Some file
+file_of (Serve file port count token names) = file
 file_of (Help e) = None
 file_of (Wrong e) = None
 file_of Unreadable = None
@@ -309,12 +340,13 @@ file_of Memory = None
 
 -- the task of a desk is told as it is; where there is none, a value is wrong; unless memory ran out
 abbrev pub Tells : Option DeskTask → Task → Type 0
-Tells desk_task (Run file) = desk_task ≡ desk_task_of (Run file)
-Tells desk_task (Report file name number) = desk_task ≡ desk_task_of (Report file name number)
+Tells desk_task (Run file names) = desk_task ≡ desk_task_of (Run file names)
+Tells desk_task (Report file name of) = desk_task ≡ desk_task_of (Report file name of)
 Tells desk_task (Export file table) = desk_task ≡ desk_task_of (Export file table)
 Tells desk_task (Migrate file) = desk_task ≡ desk_task_of (Migrate file)
-Tells desk_task (Import file kind document day path) = desk_task ≡ desk_task_of (Import file kind document day path)
-Tells desk_task (Serve file port count token) = desk_task ≡ desk_task_of (Serve file port count token)
+Tells desk_task (Import file kind document day path names) = desk_task ≡ desk_task_of
+    (Import file kind document day path names)
+Tells desk_task (Serve file port count token names) = desk_task ≡ desk_task_of (Serve file port count token names)
 Tells desk_task (Help e) = ⊥
 Tells desk_task (Wrong e) = (desk_task ≡ None) × (kind_of e ≡ ValueValidation)
 Tells desk_task Unreadable = ⊥
@@ -331,17 +363,18 @@ abbrev pub IsShown : ErrorKind → Type 0
 IsShown kind = (kind ≡ DisplayHelp) ⊎ (kind ≡ DisplayVersion)
 
 abbrev pub AnswersAt : Places → List Text → Task → Type 0
-AnswersAt places words (Run file) = (faults places words ≡ []) × (desk_task places words ≡ desk_task_of (Run file))
-AnswersAt places words (Report file name number) =
-    (faults places words ≡ []) × (desk_task places words ≡ desk_task_of (Report file name number))
+AnswersAt places words (Run file names) = (faults places words ≡ []) ×
+    (desk_task places words ≡ desk_task_of (Run file names))
+AnswersAt places words (Report file name of) =
+    (faults places words ≡ []) × (desk_task places words ≡ desk_task_of (Report file name of))
 AnswersAt places words (Export file table) =
     (faults places words ≡ []) × (desk_task places words ≡ desk_task_of (Export file table))
 AnswersAt places words (Migrate file) =
     (faults places words ≡ []) × (desk_task places words ≡ desk_task_of (Migrate file))
-AnswersAt places words (Import file kind document day path) =
-    (faults places words ≡ []) × (desk_task places words ≡ desk_task_of (Import file kind document day path))
-AnswersAt places words (Serve file port count token) =
-    (faults places words ≡ []) × (desk_task places words ≡ desk_task_of (Serve file port count token))
+AnswersAt places words (Import file kind document day path names) =
+    (faults places words ≡ []) × (desk_task places words ≡ desk_task_of (Import file kind document day path names))
+AnswersAt places words (Serve file port count token names) =
+    (faults places words ≡ []) × (desk_task places words ≡ desk_task_of (Serve file port count token names))
 AnswersAt places words (Help e) = IsShown (kind_of e) × IsAmong (kind_of e) (faults places words)
 AnswersAt places words (Wrong e) =
     ((¬ IsShown (kind_of e)) × (kind_of e ≢ OutOfMemory) × IsAmong (kind_of e) (faults places words))
@@ -353,27 +386,27 @@ AnswersAt places words Memory = Unit {0}
 abbrev pub Answers : List Text → Task → Type 0
 Answers words task = (places : Places) × AnswersAt places words task
 
--- a run in memory, unless memory ran out
+-- a run in memory, in which no row may be named, unless memory ran out
 abbrev pub Runs : Task → Type 0
-Runs (Run file) = file ≡ None
-Runs (Report file name number) = ⊥
+Runs (Run file names) = (file ≡ None) × (names ≡ false)
+Runs (Report file name of) = ⊥
 Runs (Export file table) = ⊥
 Runs (Migrate file) = ⊥
-Runs (Import file kind document day path) = ⊥
-Runs (Serve file port count token) = ⊥
+Runs (Import file kind document day path names) = ⊥
+Runs (Serve file port count token names) = ⊥
 Runs (Help e) = ⊥
 Runs (Wrong e) = ⊥
 Runs Unreadable = ⊥
 Runs Memory = Unit {0}
 
--- a run of the desk in this file, unless memory ran out
+-- a run of the desk in this file, in which no row may be named, unless memory ran out
 abbrev pub RunsOn : Text → Task → Type 0
-RunsOn path (Run file) = option_map (λ given. given.now) file ≡ Some path
-RunsOn path (Report file name number) = ⊥
+RunsOn path (Run file names) = (option_map (λ given. given.now) file ≡ Some path) × (names ≡ false)
+RunsOn path (Report file name of) = ⊥
 RunsOn path (Export file table) = ⊥
 RunsOn path (Migrate file) = ⊥
-RunsOn path (Import file kind document day from) = ⊥
-RunsOn path (Serve file port count token) = ⊥
+RunsOn path (Import file kind document day from names) = ⊥
+RunsOn path (Serve file port count token names) = ⊥
 RunsOn path (Help e) = ⊥
 RunsOn path (Wrong e) = ⊥
 RunsOn path Unreadable = ⊥
@@ -381,12 +414,12 @@ RunsOn path Memory = Unit {0}
 
 -- help or the version, by its kind, unless memory ran out
 abbrev pub HelpsBy : ErrorKind → Task → Type 0
-HelpsBy kind (Run file) = ⊥
-HelpsBy kind (Report file name number) = ⊥
+HelpsBy kind (Run file names) = ⊥
+HelpsBy kind (Report file name of) = ⊥
 HelpsBy kind (Export file table) = ⊥
 HelpsBy kind (Migrate file) = ⊥
-HelpsBy kind (Import file of document day path) = ⊥
-HelpsBy kind (Serve file port count token) = ⊥
+HelpsBy kind (Import file of document day path names) = ⊥
+HelpsBy kind (Serve file port count token names) = ⊥
 HelpsBy kind (Help e) = kind_of e ≡ kind
 HelpsBy kind (Wrong e) = ⊥
 HelpsBy kind Unreadable = ⊥

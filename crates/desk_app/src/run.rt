@@ -5,24 +5,25 @@
 //! failed, the books are closed, nothing of the group's answers is written, and the tables are those before the group or,
 //! where the commit failed, maybe those after it.
 ghost use Rattle.std.specs.Prelude.{◌≡◌, ◌≢◌, ◌⊎◌, ◌<◌, ◌≤◌, ◌++◌, ℕ, List, [], Bool, None, false};
-ghost use Rattle.std.specs.Prelude.{length, true, IfOk, OnOk, IfErr, OnErr, Err, IsSome};
+ghost use Rattle.std.specs.Prelude.{length, true, IfOk, OnOk, IfErr, OnErr, Err, IsSome, option_map};
 ghost use Rattle.std.specs.String.{string_bytes};
 ghost use Rattle.std.specs.Io.KnownBytes.{Appends, Keeps};
 ghost use Rattle.sqlite.specs.Tree.{Trees};
 ghost use Rattle.desk_core.specs.Books.{AreInOrder};
 ghost use Rattle.desk_core.specs.Machine.{IsSoundState, step};
+ghost use Rattle.desk_core.specs.Naming.{naming_in};
 ghost use Rattle.desk_core.specs.ShopView.{state_of};
 ghost use Rattle.desk_store.specs.StateTables.{TablesAre};
 ghost use Rattle.desk_app.specs.declared.end.Stop.{Stop};
 ghost use Rattle.desk_app.specs.Answered.{AnsweredIsKept};
 ghost use Rattle.desk_app.specs.Cuts.{has_end, unread};
 ghost use Rattle.desk_app.specs.Ends.{end_of};
-ghost use Rattle.desk_app.specs.LineRequests.{LinesAreRequests};
+ghost use Rattle.desk_app.specs.LineRequests.{LinesAloneAsk, LinesAreRequests};
 ghost use Rattle.report_core.specs.Reports.{report_lines};
 ghost use Rattle.desk_app.specs.Runs.{by_outcome, by_report, is_blank, line_step, line_after};
 ghost use Rattle.desk_app.specs.Runs.{line_out, is_fine, CutLine, CutRequest, CutSettling};
 ghost use Rattle.desk_app.specs.Runs.{EndsOpen, Finished, Gathered, Halts, IsOfBooks, IsOfSettling};
-ghost use Rattle.desk_app.specs.Runs.{StaysOpen, Stopped};
+ghost use Rattle.desk_app.specs.Runs.{StaysOpen, Stopped, naming};
 
 use crate::books::Books;
 use crate::end::{RunEnd, Stop};
@@ -127,21 +128,47 @@ fn tell_of_books<B: Books>(
     }
 }
 
-/// Runs one line of a group, which isn't blank, and tells what is answered.
+/// The shop whose rows a line may name: none where lines name no rows, and then nothing is asked of the books.
+pub(crate) fn named_shop<B: Books>(books: &B, names: bool) -> Result<Option<&Shop>, Stop>
+    requires { B.are_grouping books.now }
+    ensures naming { IfOk result (λ named.
+        option_map (λ shop. naming_in (state_of shop.now)) named
+        ≡ naming names (B.state_in books.now)) }
+    ensures store { IfErr result (λ stop. stop ≡ Stop.Store) }
+    ensures closed { OnErr result (IsSome (B.failure_of books.now)) }
+{
+    if !names {
+        return Ok(None);
+    }
+    let Ok(shop) = books.shop() else {
+        return Err(Stop::Store);
+    };
+    Ok(Some(shop))
+}
+
+/// Runs one line of a group, which isn't blank, and tells what is answered. Names of rows are looked up as they are before
+/// the line.
 #[tactic(auto, unfolding(crate::specs::Runs::line_step))]
-fn tell<B: Books>(alloc: Global, books: &mut B, number: u64, line: &[u8]) -> Result<Told, Stop>
+fn tell<B: Books>(
+    alloc: Global,
+    books: &mut B,
+    number: u64,
+    line: &[u8],
+    names: bool,
+) -> Result<Told, Stop>
     requires filled { is_blank line.now ≡ false }
     requires grouping { B.are_grouping books.old }
-    ensures ok { IfOk result (λ told. line_step (B.state_in books.old) number line.now
+    ensures ok { IfOk result (λ told. line_step names (B.state_in books.old) number line.now
         ≡ (B.state_in books.new, string_bytes told.text, told.fine)) }
-    ensures cut { IfErr result (λ stop. CutLine stop (B.state_in books.old)
+    ensures cut { IfErr result (λ stop. CutLine names stop (B.state_in books.old)
         (B.state_in books.new) number line.now) }
     ensures grouping { B.are_grouping books.new }
     ensures stays_open { StaysOpen (B.failure_of books.old) (B.failure_of books.new) result }
     ensures was_open { B.failure_of books.new ≡ None → B.failure_of books.old ≡ None }
     ensures left { (trees : Trees) → B.may_leave books.new trees → B.may_leave books.old trees }
 {
-    match read_line(alloc, line, number) {
+    let named = named_shop(books, names)?;
+    match read_line(alloc, named, line, number) {
         Ok(Wish::Request(request)) => tell_outcome(alloc, books, &request),
         Ok(Wish::Report { name, of }) => tell_of_books(alloc, books, name, of),
         Err(ReadError::Wrong(fault)) => Ok(Told {
@@ -159,16 +186,17 @@ fn add_line<B: Books>(
     books: &mut B,
     number: u64,
     line: &[u8],
+    names: bool,
     text: &mut Vec<u8>,
 ) -> Result<bool, Stop>
     requires short { length line.now ≤ 65537 }
     requires grouping { B.are_grouping books.old }
-    ensures fine { IfOk result (λ fine. fine ≡ is_fine (B.state_in books.old) number line.now) }
+    ensures fine { IfOk result (λ fine. fine ≡ is_fine names (B.state_in books.old) number line.now) }
     ensures ok { OnOk result (B.state_in books.new
-        ≡ line_after (B.state_in books.old) number line.now) }
+        ≡ line_after names (B.state_in books.old) number line.now) }
     ensures text { OnOk result (text.new.items ≡ text.old.items
-        ++ line_out (B.state_in books.old) number line.now) }
-    ensures cut { IfErr result (λ stop. CutLine stop (B.state_in books.old)
+        ++ line_out names (B.state_in books.old) number line.now) }
+    ensures cut { IfErr result (λ stop. CutLine names stop (B.state_in books.old)
         (B.state_in books.new) number line.now) }
     ensures unanswered { OnErr result (text.new.items ≡ text.old.items) }
     ensures grouping { B.are_grouping books.new }
@@ -179,7 +207,7 @@ fn add_line<B: Books>(
     if is_blank(line) {
         return Ok(true);
     }
-    let told = tell(alloc, books, number, line)?;
+    let told = tell(alloc, books, number, line, names)?;
     text.extend_from_slice(told.text.as_bytes())?;
     Ok(told.fine)
 }
@@ -255,14 +283,15 @@ fn gather<B: Books, R: Read, W: Write>(
     reader: &mut R,
     writer: &mut W,
     books: &mut B,
+    names: bool,
     text: &mut Vec<u8>,
 ) -> Result<bool, Stop>
     requires kept { B.are_kept books.old }
     requires none { text.old.items ≡ [] }
-    ensures done { IfOk result (λ all. Gathered (R.remaining reader.old) (W.contents writer.old)
+    ensures done { IfOk result (λ all. Gathered names (R.remaining reader.old) (W.contents writer.old)
         (W.contents writer.new) (B.state_in books.old) (B.state_in books.new) all text.new.items
         (λ trees. (B.failure_of books.old ≡ None) × B.may_leave books.new trees)) }
-    ensures stopped { IfErr result (λ stop. Halts stop (R.remaining reader.old)
+    ensures stopped { IfErr result (λ stop. Halts names stop (R.remaining reader.old)
         (W.contents writer.old) (W.contents writer.new) (B.state_in books.old)
         (B.state_in books.new) text.new.items
         (λ trees. (B.failure_of books.old ≡ None) × B.may_leave books.new trees)) }
@@ -281,7 +310,7 @@ fn gather<B: Books, R: Read, W: Write>(
         if !lines.next_line(reader, &mut line)? {
             return Ok(all);
         }
-        let fine = add_line(alloc, books, number, &line, text)?;
+        let fine = add_line(alloc, books, number, &line, names, text)?;
         all = all && fine;
     }
     Err(Stop::ReadFailed)
@@ -293,19 +322,20 @@ fn answer_all<B: Books, R: Read, W: Write>(
     reader: &mut R,
     writer: &mut W,
     books: &mut B,
+    names: bool,
 ) -> Result<bool, Stop>
     requires { B.are_kept books.old }
-    ensures done { IfOk result (λ all. Finished (R.remaining reader.old) (W.contents writer.old)
+    ensures done { IfOk result (λ all. Finished names (R.remaining reader.old) (W.contents writer.old)
         (W.contents writer.new) (B.state_in books.old) (B.state_in books.new) all) }
     ensures stopped { IfErr result (λ stop.
-        Stopped stop (R.remaining reader.old) (W.contents writer.old)
+        Stopped names stop (R.remaining reader.old) (W.contents writer.old)
         (W.contents writer.new) (B.state_in books.old) (B.state_in books.new)
         (λ trees. (B.failure_of books.old ≡ None) × B.may_leave books.new trees)) }
     ensures kept { B.are_kept books.new }
     ensures ends_open { EndsOpen (B.failure_of books.old) (B.failure_of books.new) result }
 {
     let mut text = Vec::new(alloc);
-    match gather(alloc, reader, writer, books, &mut text) {
+    match gather(alloc, reader, writer, books, names, &mut text) {
         Ok(all) => {
             settle(writer, books, &mut text)?;
             Ok(all)
@@ -325,19 +355,21 @@ fn answer_all<B: Books, R: Read, W: Write>(
 
 /// Answers each line of the reader, one line each but for blank lines. However the run ends, what was answered is kept
 /// (`answered`): so it is where a run is stopped between two of its calls, since a writer may fail at any of them, and so
-/// may a disk, and then the run ends there.
+/// may a disk, and then the run ends there. With `names` a line may say what a row is called in the place of its number: a
+/// name is looked up as the line comes, so it may be one that a line before it gave.
 pub fn run_lines<B: Books, R: Read, W: Write>(
     alloc: Global,
     reader: &mut R,
     writer: &mut W,
     books: &mut B,
+    names: bool,
 ) -> RunEnd
     requires { B.are_kept books.old }
     ensures done { (all : Bool) → result ≡ RunEnd.Done all
-        → Finished (R.remaining reader.old) (W.contents writer.old)
+        → Finished names (R.remaining reader.old) (W.contents writer.old)
         (W.contents writer.new) (B.state_in books.old) (B.state_in books.new) all }
     ensures stopped { (stop : Stop) → result ≡ end_of stop
-        → Stopped stop (R.remaining reader.old) (W.contents writer.old)
+        → Stopped names stop (R.remaining reader.old) (W.contents writer.old)
         (W.contents writer.new) (B.state_in books.old) (B.state_in books.new)
         (λ trees. (B.failure_of books.old ≡ None) × B.may_leave books.new trees) }
     ensures kept { B.are_kept books.new }
@@ -347,18 +379,19 @@ pub fn run_lines<B: Books, R: Read, W: Write>(
     ensures closed { result ≡ RunEnd.Store → IsSome (B.failure_of books.new) }
     ensures left { result ≢ RunEnd.Store → (trees : Trees) → B.may_leave books.new trees
         → TablesAre (B.state_in books.new) trees }
-    ensures answered { AnsweredIsKept (R.remaining reader.old) (W.contents writer.old)
+    ensures answered { AnsweredIsKept names (R.remaining reader.old) (W.contents writer.old)
         (W.contents writer.new) (B.state_in books.old)
         (λ trees. (B.failure_of books.old ≡ None) × B.may_leave books.new trees) }
 {
-    match answer_all(alloc, reader, writer, books) {
+    match answer_all(alloc, reader, writer, books, names) {
         Ok(all) => RunEnd::Done(all),
         Err(stop) => stop.end(),
     }
 }
 
 /// The law that lines change the books by the requests alone that they ask for, in their order: a blank line, a report and
-/// a faulty line change nothing.
+/// a faulty line change nothing. Where no row may be named, what they ask for is the same in any state of the books.
 pub fn lines_are_requests()
-    ensures { LinesAreRequests }
+    ensures requests { LinesAreRequests }
+    ensures alone { LinesAloneAsk }
 {}

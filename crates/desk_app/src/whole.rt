@@ -1,6 +1,7 @@
 //! A file, read as far as it is wanted.
-ghost use Rattle.std.specs.Prelude.{◌≡◌, ℕ, List, IfOk, IfErr, IfSome};
+ghost use Rattle.std.specs.Prelude.{◌≡◌, ℕ, List, Option, IfOk, IfErr, IfSome};
 ghost use Rattle.part_core.specs.Day.{CivilDay};
+ghost use Rattle.desk_core.specs.Naming.{Naming};
 ghost use Rattle.desk_wire.specs.Imports.{import};
 ghost use Rattle.desk_wire.specs.declared.kind.ImportKind.{ImportKind};
 ghost use Rattle.desk_app.specs.Cuts.{ReadsFile};
@@ -16,8 +17,8 @@ use std::io::Read;
 pub fn read_file<R: Read>(alloc: Global, reader: &mut R) -> Result<Vec<u8>, Stop>
     ensures bytes { IfOk result (λ bytes. ReadsFile (R.remaining reader.old) bytes.items) }
     ensures imported { IfOk result (λ bytes. IfSome (R.remaining reader.old)
-        (λ file. (kind : ImportKind) (document : List ℕ) (day : CivilDay)
-        → import kind document day bytes.items ≡ import kind document day file)) }
+        (λ file. (names : Option Naming) (kind : ImportKind) (document : List ℕ) (day : CivilDay)
+        → import names kind document day bytes.items ≡ import names kind document day file)) }
     ensures failed { IfErr result IsOfReading }
 {
     let mut read = Lines::new(alloc)?;

@@ -1,16 +1,17 @@
 //! The words that the program is called with.
 ghost use Rattle.std.specs.Prelude.{◌≡◌, ◌≤◌, ℕ, List, map, option_map};
-ghost use Rattle.std.specs.Prelude.{option_and_then, codes, true, false, IfOk, IfSome};
+ghost use Rattle.std.specs.Prelude.{option_and_then, codes, true, false, IfOk, IfSome, Some};
 ghost use Rattle.clap.specs.Words.{app_of, kind_of, rule_of, subcommand_rows_of};
 ghost use Rattle.part_core.specs.Day.{day_of};
 ghost use Rattle.report_core.specs.Names.{report_named};
 ghost use Rattle.desk_wire.specs.Numbers.{number_in};
 ghost use Rattle.desk_wire.specs.Kinds.{import_kind_named};
-ghost use Rattle.desk_app.specs.Words.{file_rule, option_rule, optional_rule, word_rule, run_line};
-ghost use Rattle.desk_app.specs.Words.{migrate_line, serve_line, IsKindRule};
+ghost use Rattle.desk_app.specs.Words.{file_rule, names_rule, option_rule, optional_rule, word_rule};
+ghost use Rattle.desk_app.specs.Words.{migrate_line, run_line, serve_line, IsKindRule};
 ghost use Rattle.desk_app.specs.Words.{IsReportLine, IsExportLine, IsImportLine, IsCommandLine};
 ghost use Rattle.desk_app.specs.Words.{document_named, number_up_to, table_named, report_in};
 ghost use Rattle.desk_app.specs.Words.{export_in, migrate_in, import_in, count_in, serve_in, desk_task_met};
+ghost use Rattle.desk_app.specs.Words.{desk_task_of, names_in, run, subject_by, subject_of};
 ghost use Rattle.desk_app.specs.Words.{given_in, rows_in, AsksFor, Tells, Parses, file_of};
 ghost use Rattle.desk_app.specs.Words.{asks_run, asks_help, asks_version, run_on};
 ghost use Rattle.desk_app.specs.Words.{run_with, is_path, Answers, Runs, RunsOn, HelpsBy};
@@ -24,13 +25,30 @@ use std::alloc::{AllocError, Global};
 use std::convert::AsStr;
 use table_store::TableName;
 
+/// What a report is of.
+#[derive(Clone, Copy, Debug)]
+pub enum ReportOf<'a> {
+    /// The part, the item or the build of this number.
+    Number(u64),
+    /// What this word says, where rows may be named: it is looked up once the file is open.
+    Word(&'a str),
+}
+
 /// The task that the words ask for. A file is named by its path.
 #[derive(Drop)]
 pub enum Task<'a> {
-    /// Each line of the standard input is answered, by the desk in the file, or by a new one in memory.
-    Run(Option<&'a str>),
+    /// Each line of the standard input is answered, by the desk in the file, or by a new one in memory. Where `names` is
+    /// true, lines may name rows; so it is of an import's rows, and of what a server is sent.
+    Run {
+        file: Option<&'a str>,
+        names: bool,
+    },
     /// A report of the desk in the file is printed.
-    Report(&'a str, ReportName, u64),
+    Report {
+        file: &'a str,
+        name: ReportName,
+        of: ReportOf<'a>,
+    },
     /// A table of the desk in the file is printed.
     Export(&'a str, TableName),
     /// The file, if an earlier program wrote it, is brought along.
@@ -42,6 +60,7 @@ pub enum Task<'a> {
         document: Document,
         day: Day,
         path: &'a str,
+        names: bool,
     },
     /// So many connections to a port of the loopback are served, or one after another without an end, by the desk in the
     /// file, or by a new one in memory. Where a token is asked for, it stands in the file at the path.
@@ -50,6 +69,7 @@ pub enum Task<'a> {
         port: u16,
         count: Option<u64>,
         token: Option<&'a str>,
+        names: bool,
     },
     /// Help, or the version, is printed.
     Help(Error),
@@ -67,11 +87,9 @@ impl<'a> Task<'a> {
         ensures { result ≡ file_of self.now }
     {
         match self {
-            Task::Run(file) | Task::Serve { file, .. } => *file,
-            Task::Migrate(file) => Some(*file),
-            Task::Report(file, _, _) | Task::Export(file, _) | Task::Import { file, .. } => {
-                Some(*file)
-            }
+            Task::Run { file, .. } | Task::Serve { file, .. } => *file,
+            Task::Migrate(file) | Task::Export(file, _) => Some(*file),
+            Task::Report { file, .. } | Task::Import { file, .. } => Some(*file),
             _ => None,
         }
     }
@@ -136,6 +154,17 @@ fn file<'a>(alloc: Global) -> Arg<'a>
         .action(ArgAction::Set)
 }
 
+/// The flag that lets rows be named.
+fn names_flag<'a>(alloc: Global) -> Arg<'a>
+    ensures rule { rule_of result ≡ names_rule }
+    ensures local { result.global ≡ false }
+{
+    Arg::new(alloc, "names")
+        .long("names")
+        .help("Rows may be named in the place of their numbers")
+        .action(ArgAction::SetTrue)
+}
+
 /// A word that has to be there.
 fn word<'a>(alloc: Global, id: &'a str, name: &'a str) -> Arg<'a>
     ensures rule { rule_of result ≡ word_rule id.now }
@@ -172,7 +201,8 @@ fn run_command<'a>(alloc: Global) -> Result<Command<'a>, AllocError>
     Command::new(alloc, "run")
         .about("Answers each line of the standard input")
         .after_help(RUN_EXAMPLE)
-        .arg(file(alloc))
+        .arg(file(alloc))?
+        .arg(names_flag(alloc))
 }
 
 fn report_command<'a>(alloc: Global) -> Result<Command<'a>, AllocError>
@@ -182,12 +212,13 @@ fn report_command<'a>(alloc: Global) -> Result<Command<'a>, AllocError>
         .value_parser(REPORTS.as_slice())
         .help("Of a part; history and content are of an item, shortage is of a build");
     let number = word(alloc, "number", "NUMBER").help(
-        "The number of the part, the item or the build",
+        "The number of the part, the item or the build, or with --names what it is called",
     );
     Command::new(alloc, "report")
         .about("Prints a report")
         .after_help(REPORT_EXAMPLE)
         .arg(file(alloc).required(true))?
+        .arg(names_flag(alloc))?
         .arg(name)?
         .arg(number)
 }
@@ -237,6 +268,7 @@ fn import_command<'a>(alloc: Global) -> Result<Command<'a>, AllocError>
         .about("Runs each row of a file of comma-separated values")
         .after_help(IMPORT_EXAMPLE)
         .arg(file(alloc).required(true))?
+        .arg(names_flag(alloc))?
         .arg(kind_option(alloc))?
         .arg(document)?
         .arg(day)?
@@ -257,6 +289,7 @@ fn serve_command<'a>(alloc: Global) -> Result<Command<'a>, AllocError>
         .about("Answers requests over HTTP, one a connection")
         .after_help(SERVE_EXAMPLE)
         .arg(file(alloc))?
+        .arg(names_flag(alloc))?
         .arg(port)?
         .arg(count)?
         .arg(token)
@@ -326,10 +359,26 @@ fn report_name(matches: &ArgMatches<'_>) -> Option<ReportName>
     report_named(given(matches, "name")?)
 }
 
-fn report_number(matches: &ArgMatches<'_>) -> Option<u64>
-    ensures { result ≡ option_and_then number_in (given_in (codes "number") matches.now) }
+/// Whether rows may be named.
+fn names(matches: &ArgMatches<'_>) -> bool
+    ensures { result ≡ names_in (rows_in matches.now) }
 {
-    number_in(given(matches, "number")?)
+    match given(matches, "names") {
+        Some(text) => text == "true",
+        None => false,
+    }
+}
+
+/// What the report is of: where rows may be named any word, else a number alone.
+fn report_of<'a>(matches: &ArgMatches<'a>) -> Option<ReportOf<'a>>
+    ensures { option_map subject_of result
+        ≡ subject_by (names_in (rows_in matches.now)) (given_in (codes "number") matches.now) }
+{
+    let word = given(matches, "number")?;
+    if names(matches) {
+        return Some(ReportOf::Word(word));
+    }
+    Some(ReportOf::Number(number_in(word)?))
 }
 
 fn export_table(matches: &ArgMatches<'_>) -> Option<TableName>
@@ -380,6 +429,17 @@ fn serve_count(matches: &ArgMatches<'_>) -> Option<Option<u64>>
     }
 }
 
+/// The run that is asked for.
+fn run_task<'a>(matches: &ArgMatches<'a>) -> Task<'a>
+    ensures { desk_task_of result
+        ≡ Some (run (given_in (codes "db") matches.now) (names_in (rows_in matches.now))) }
+{
+    Task::Run {
+        file: given(matches, "db"),
+        names: names(matches),
+    }
+}
+
 /// The report that is asked for, if the words name one.
 #[tactic(auto, unfolding(crate::specs::Words::report_in))]
 fn report_task<'a>(matches: &ArgMatches<'a>) -> Option<Task<'a>>
@@ -387,8 +447,8 @@ fn report_task<'a>(matches: &ArgMatches<'a>) -> Option<Task<'a>>
 {
     let file = given(matches, "db")?;
     let name = report_name(matches)?;
-    let number = report_number(matches)?;
-    Some(Task::Report(file, name, number))
+    let of = report_of(matches)?;
+    Some(Task::Report { file, name, of })
 }
 
 /// The export that is asked for, if the words name one.
@@ -427,6 +487,7 @@ fn import_of<'a>(matches: &ArgMatches<'a>, document: Option<Document>) -> Option
         document,
         day,
         path,
+        names: names(matches),
     })
 }
 
@@ -451,6 +512,7 @@ fn serve_task<'a>(matches: &ArgMatches<'a>) -> Option<Task<'a>>
         port,
         count,
         token,
+        names: names(matches),
     })
 }
 
@@ -464,8 +526,11 @@ fn task_by<'a>(alloc: Global, matches: &ArgMatches<'a>) -> Result<Option<Task<'a
         Some(("migrate", matches)) => Ok(migrate_task(matches)),
         Some(("import", matches)) => import_task(alloc, matches),
         Some(("serve", matches)) => Ok(serve_task(matches)),
-        Some((_, matches)) => Ok(Some(Task::Run(given(matches, "db")))),
-        None => Ok(Some(Task::Run(None))),
+        Some((_, matches)) => Ok(Some(run_task(matches))),
+        None => Ok(Some(Task::Run {
+            file: None,
+            names: false,
+        })),
     }
 }
 

@@ -7,14 +7,15 @@ use Rattle.std.specs.Str.{bytes_eq}
 use Rattle.std.proofs.lemmas.Slice.Eq.{bytes_eq-Decides}
 use Rattle.part_core.specs.declared.answer.Answer.{Answer}
 use Rattle.part_core.specs.declared.refusal.Refusal.{Refusal}
+use Rattle.part_core.specs.declared.refusal.Refusal.TheVariants.{KeyTaken}
 use Rattle.part_core.proofs.RowLemmas.{get-insert_new, get-insert_other}
 use Rattle.desk_core.specs.declared.command.Request.{Request}
 use Rattle.desk_core.specs.declared.kept.Kept.{Kept}
 use Rattle.desk_core.specs.CommandText.{command_text}
 use Rattle.desk_core.specs.Machine.{State, Outcome, answer_of, answer_of_same, by_check, by_repeat, check}
 use Rattle.desk_core.specs.Machine.{effect, is_other, kept_for, repeated, run, step, step_anew, with_answer}
-use Rattle.desk_core.specs.Repeats.{AreAccepted, LaterRepeatsChangeNothing, RepeatsCanBeLeftOut, RepeatsChangeNothing}
-use Rattle.desk_core.specs.Repeats.{SendingAgainEndsAlike}
+use Rattle.desk_core.specs.Repeats.{AreAccepted, KeptKeysChangeNothing, LaterRepeatsChangeNothing, RepeatsCanBeLeftOut}
+use Rattle.desk_core.specs.Repeats.{RepeatsChangeNothing, SendingAgainEndsAlike}
 use Rattle.desk_core.proofs.Steps.{effect-answers, passes_key, step-repeated}
 
 -- ---- what is kept under a key
@@ -205,3 +206,13 @@ sending_again s done rest keyed ok =
     run-append there done rest
     ∙ (λ i. ((run (same i).0 rest).0, (same i).1 ++ (run (same i).0 rest).1))
     ∙ sym (run-append s done rest)
+
+-- ---- a key that is taken
+
+pub kept_key : KeptKeysChangeNothing
+kept_key s r kept is = go (bytes_eq kept.command (command_text r.command)) refl
+  where
+    go : (b : Bool) → bytes_eq kept.command (command_text r.command) ≡ b
+        → step s r ≡ (s, if b then Ok kept.answer else Err KeyTaken)
+    go true same = step-repeated s r kept is same
+    go false other = rw (is, other) refl

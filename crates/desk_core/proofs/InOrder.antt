@@ -21,7 +21,7 @@ use Rattle.build_core.specs.Builds.{BuildBooks, build_at}
 use Rattle.build_core.specs.Needs.{line_in, required}
 use Rattle.build_core.specs.Sound.{IsSoundFor}
 use Rattle.desk_core.specs.Books.{AreInOrder, HaveDrawnNumbers, RunsStaySound, StepsStaySound}
-use Rattle.desk_core.specs.Machine.{State, IsSoundState, by_check, by_repeat, check, effect, repeated, run, step}
+use Rattle.desk_core.specs.Machine.{State, IsSoundState, by_check, by_repeat, check, effect, repeated, step}
 use Rattle.desk_core.proofs.Steps.{step-sound}
 use Rattle.desk_core.specs.declared.command.Request.{Request}
 

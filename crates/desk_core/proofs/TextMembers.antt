@@ -5,7 +5,7 @@ use Rattle.std.specs.Borrow.{Bor}
 use Rattle.std.specs.Ordering.{match_ordering}
 use Rattle.std.specs.Cmp.Lexicographic.{slice_cmp}
 use Rattle.std.specs.BTreeMap.{insert_entry}
-use Rattle.serde_json.specs.Data.{Members, member, put}
+use Rattle.serde_json.specs.Data.{member, put}
 use Rattle.desk_core.specs.TextWriting.{value_data, in_order}
 use Rattle.desk_core.specs.declared.texts.MemberValue.{MemberValue}
 

@@ -1,9 +1,12 @@
 -- What comes of sending a request with a key again.
-use Rattle.std.specs.Prelude.{◌≡◌, List, [], ◌∷◌, ◌++◌, IsSome, Ok, Err}
+use Rattle.std.specs.Prelude.{◌≡◌, if◌then◌else◌, List, [], ◌∷◌, ◌++◌, Some, IsSome, Ok, Err}
+use Rattle.std.specs.Str.{bytes_eq}
 use Rattle.part_core.specs.declared.answer.Answer.{Answer}
+use Rattle.part_core.specs.declared.refusal.Refusal.TheVariants.{KeyTaken}
 use Rattle.desk_core.specs.declared.command.Request.{Request}
+use Rattle.desk_core.specs.declared.kept.Kept.{Kept}
 use Rattle.desk_core.specs.CommandText.{command_text}
-use Rattle.desk_core.specs.Machine.{State, Outcome, step, run}
+use Rattle.desk_core.specs.Machine.{State, Outcome, kept_for, step, run}
 
 -- each request has a key
 abbrev pub AreKeyed : List Request → Type 0
@@ -51,3 +54,13 @@ RepeatsChangeNothing =
 abbrev pub SendingAgainEndsAlike : Type 0
 SendingAgainEndsAlike = (s : State) (done rest : List Request) → AreKeyed done → AreAccepted (run s done).1
     → run (run s done).0 (done ++ rest) ≡ run s (done ++ rest)
+
+-- what is told where an answer is kept under the key: that answer where it is of this command, else that the key is
+-- taken
+abbrev pub told_of_key : Request → Kept → Outcome
+told_of_key r kept = if bytes_eq kept.command (command_text r.command) then Ok kept.answer else Err KeyTaken
+
+-- a request under whose key an answer is kept changes nothing, whatever its command
+abbrev pub KeptKeysChangeNothing : Type 0
+KeptKeysChangeNothing =
+    (s : State) (r : Request) (kept : Kept) → kept_for r s ≡ Some kept → step s r ≡ (s, told_of_key r kept)

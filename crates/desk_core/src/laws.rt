@@ -1,9 +1,10 @@
-//! What the books can be relied on for; and what a file may count on: which rows go, which numbers there are, and what
-//! stands under keys.
+//! What the books can be relied on for; what names of rows can be; and what a file may count on: which rows go, which
+//! numbers there are, and what stands under keys.
 //!
 //! These functions do nothing when they are run, and are called for their contracts alone.
 ghost use Rattle.desk_core.specs.Assembled.{AreKeys};
 ghost use Rattle.desk_core.specs.Books.{RefusalsChangeNothing, RunsStaySound, SoundBooksAreInOrder, StepsStaySound};
+ghost use Rattle.desk_core.specs.NamesStay.{LeftItemsAreNamed, NamesStay, NamesStayInRuns};
 ghost use Rattle.desk_core.specs.Small.{RowsAreSmall};
 ghost use Rattle.desk_core.specs.Staying.{RowsStay};
 
@@ -32,6 +33,21 @@ pub fn refusals_change_nothing()
 /// tables alone.
 pub fn rows_stay()
     ensures { RowsStay }
+{}
+
+/// The law that what is one row's name stays that row's, and so does the key of a request that made one row, in a step
+/// from a sound state and over a list of requests: so a line that names rows asks for the same command when it is sent
+/// again. The serial of an item that is gone may be another's later: a line that names an item may then be another
+/// command, and under its key it changes nothing (`kept_keys_change_nothing`).
+pub fn names_stay()
+    ensures step { NamesStay }
+    ensures run { NamesStayInRuns }
+{}
+
+/// The law that in a sound state an item that isn't gone is the one that its part and its serial name, whatever had the
+/// serial before.
+pub fn left_items_are_named()
+    ensures { LeftItemsAreNamed }
 {}
 
 /// The law that in a sound state each number of a row is below 2 to the 63, as the signed numbers of a file are.

@@ -8,6 +8,7 @@ mod command;
 mod kept;
 mod key;
 mod laws;
+mod names;
 mod repeats;
 mod shop;
 mod texts;
@@ -19,11 +20,13 @@ pub use command::{Command, Request};
 pub use kept::{CommandText, Kept};
 pub use key::{Key, is_key};
 pub use laws::{
-    refusals_change_nothing, rows_are_small, rows_stay, sound_books_are_in_order, steps_stay_sound,
+    left_items_are_named, names_stay, refusals_change_nothing, rows_are_small, rows_stay,
+    sound_books_are_in_order, steps_stay_sound,
 };
+pub use names::Names;
 pub use repeats::{
-    later_repeats_change_nothing, repeats_can_be_left_out, repeats_change_nothing,
-    sending_again_ends_alike,
+    kept_keys_change_nothing, later_repeats_change_nothing, repeats_can_be_left_out,
+    repeats_change_nothing, sending_again_ends_alike,
 };
 pub use shop::{AssembleFault, Shop, Tables};
 pub use texts::{command_text, texts_tell_commands};

@@ -2,7 +2,7 @@
 //!
 //! A clerk who lost an answer sends the request once more. These laws say what that does, over the machine's own steps
 //! and runs. Nothing is said of a request that was refused: sent again, it may be accepted.
-ghost use Rattle.desk_core.specs.Repeats.{LaterRepeatsChangeNothing, RepeatsCanBeLeftOut};
+ghost use Rattle.desk_core.specs.Repeats.{KeptKeysChangeNothing, LaterRepeatsChangeNothing, RepeatsCanBeLeftOut};
 ghost use Rattle.desk_core.specs.Repeats.{RepeatsChangeNothing, SendingAgainEndsAlike};
 
 /// The law that a later repeat of an accepted request gets its answer and changes nothing, wherever it stands in a
@@ -29,4 +29,11 @@ pub fn repeats_change_nothing()
 #[tactic(auto, using(crate::proofs::Again::sending_again))]
 pub fn sending_again_ends_alike()
     ensures { SendingAgainEndsAlike }
+{}
+
+/// The law that a request under a key for which an answer is kept changes nothing, whatever its command: it is told that
+/// answer where the command is the same, else KeyTaken.
+#[tactic(auto, using(crate::proofs::Again::kept_key))]
+pub fn kept_keys_change_nothing()
+    ensures { KeptKeysChangeNothing }
 {}

@@ -35,7 +35,7 @@ fn keyed(alloc: Global, number: usize, line: &str) -> Result<Request, Fail> {
         return Err(Fail::from("a line is no request"));
     };
     let line = format!(in alloc; "{{\"key\":\"k{number}\",{rest}")?;
-    match read_request(alloc, line.as_str().as_bytes(), 1) {
+    match read_request::<Shop>(alloc, None, line.as_str().as_bytes(), 1) {
         Ok(request) => Ok(request),
         Err(_) => Err(Fail::from("a line is no request")),
     }

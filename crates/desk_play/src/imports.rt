@@ -41,6 +41,7 @@ pub fn imports<B: Books, W: Write>(
         kind,
         &document(alloc)?,
         day(on)?,
+        false,
         writer,
         books,
     ))

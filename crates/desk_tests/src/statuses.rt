@@ -22,10 +22,15 @@ fn ends_before_a_task(rt: HostRuntime) {
     assert_eq!(rt; early_status(&Task::Memory), Some(4));
 }
 
+/// A run on that file.
+fn run(file: Option<&str>) -> Task<'_> {
+    Task::Run { file, names: false }
+}
+
 #[test]
 fn names_its_file(rt: HostRuntime) {
-    assert_eq!(rt; Task::Run(None).file(), None);
-    assert_eq!(rt; Task::Run(Some("w.db")).file(), Some("w.db"));
+    assert_eq!(rt; run(None).file(), None);
+    assert_eq!(rt; run(Some("w.db")).file(), Some("w.db"));
     assert_eq!(rt; Task::Export("w.db", TableName::Parts).file(), Some("w.db"));
     assert_eq!(rt; Task::Memory.file(), None);
 }

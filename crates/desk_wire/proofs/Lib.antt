@@ -9,3 +9,6 @@ pub mod Reading
 pub mod Rows
 pub mod ImportReports
 pub mod SerialLists
+pub mod Alike
+pub mod Words
+pub mod AlikeFiles

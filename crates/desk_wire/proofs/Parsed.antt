@@ -4,7 +4,7 @@ use Rattle.std.specs.Str.{IsUtf8, is_utf8}
 use Rattle.std.proofs.lemmas.Str.{IsUtf8-from_is_utf8, is_utf8-from_IsUtf8}
 use Rattle.serde_json.specs.Data.{Data}
 use Rattle.serde_json.specs.Read.{read}
-use Rattle.desk_wire.specs.Reading.{parsed}
+use Rattle.desk_wire.specs.Values.{parsed}
 
 pub parsed_ok : (t : List ℕ) (d : Data) → IsUtf8 t → read t ≡ Some d → parsed t ≡ Some d
 parsed_ok t d u e = rw (is_utf8-from_IsUtf8 t u) e

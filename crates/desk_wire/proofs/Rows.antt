@@ -21,6 +21,7 @@ use Rattle.desk_wire.specs.declared.fault.Unread.TheVariants.{Memory, Wrong}
 use Rattle.desk_wire.specs.declared.fault.What.{What}
 use Rattle.desk_wire.specs.declared.fault.What.TheVariants.{Csv, Header}
 use Rattle.part_core.specs.Day.{CivilDay}
+use Rattle.desk_core.specs.Naming.{Naming}
 use Rattle.desk_wire.specs.declared.row.ImportRow.{ImportRow}
 use Rattle.desk_wire.specs.declared.kind.ImportKind.{ImportKind}
 use Rattle.desk_wire.specs.declared.kind.ImportKind.TheVariants.{Receipts, Counts}
@@ -124,24 +125,24 @@ no-header kind fields h = elim (cases_Bool (pointwise bytes_eq (names_of kind) f
 ]
 
 -- a first record that isn't all text is no header
-pub untold_header : (kind : ImportKind) (document : List ℕ) (day : CivilDay) (all : List Fields) (bad : Fields)
+pub untold_header : (names : Option Naming) (kind : ImportKind) (document : List ℕ) (day : CivilDay) (all : List Fields) (bad : Fields)
     (rest : List Fields) → all ≡ bad ∷ rest → are_texts bad ≡ false
-    → rows_in kind document day all ≡ Err (record { line = 1; what = Header })
-untold_header kind document day all bad rest e h = rw (e, no-header kind bad h) refl
+    → rows_in names kind document day all ≡ Err (record { line = 1; what = Header })
+untold_header names kind document day all bad rest e h = rw (e, no-header kind bad h) refl
 
-pub import-untold : (kind : ImportKind) (document : List ℕ) (day : CivilDay) (bytes : List ℕ) (all : List Fields)
-    (bad : Fields) (rest : List Fields) → nat_le (length bytes) 16777216 ≡ true
+pub import-untold : (names : Option Naming) (kind : ImportKind) (document : List ℕ) (day : CivilDay) (bytes : List ℕ)
+    (all : List Fields) (bad : Fields) (rest : List Fields) → nat_le (length bytes) 16777216 ≡ true
     → all ≡ records default_config (strip_bom bytes) → all ≡ bad ∷ rest → are_texts bad ≡ false
-    → import kind document day bytes ≡ Err (record { line = 1; what = Header })
-import-untold kind document day bytes all bad rest fits are e h =
-    rw fits (untold_header kind document day (records default_config (strip_bom bytes)) bad rest (sym are ∙ e) h)
+    → import names kind document day bytes ≡ Err (record { line = 1; what = Header })
+import-untold names kind document day bytes all bad rest fits are e h =
+    rw fits (untold_header names kind document day (records default_config (strip_bom bytes)) bad rest (sym are ∙ e) h)
 
 -- ---- one row
 
-untold : (kind : ImportKind) (document : List ℕ) (day : CivilDay) (fields : Fields) → are_texts fields ≡ false
-    → row_of kind document day fields ≡ Err Csv
+untold : (names : Option Naming) (kind : ImportKind) (document : List ℕ) (day : CivilDay) (fields : Fields)
+    → are_texts fields ≡ false → row_of names kind document day fields ≡ Err Csv
 unfolding row_of
-untold kind document day fields h = elim (cases_Bool (length fields == length (names_of kind))) [
+untold names kind document day fields h = elim (cases_Bool (length fields == length (names_of kind))) [
   | inl t ↦ rw (t, h) refl
   | inr f ↦ rw f refl
 ]
@@ -152,10 +153,10 @@ wrong : (reading : Fields → Result ImportRow What) (a b : BytesReader) (fields
 wrong reading a b fields Memory h u = tt
 wrong reading a b fields (Wrong what) (bad, rest, e, n, is) u = (bad, rest, e, u bad n ∙ ap Err (sym is))
 
-pub row-wrong : (kind : ImportKind) (document : List ℕ) (day : CivilDay) (a b : BytesReader) (fields : Fields)
-    (bad : Unread) (r : Result (Option ImportRow) Unread) → IsErrAnd r (λ d. d ≡ bad)
-    → ReadsRecord a b fields (Err bad) → ReadsRow (row_of kind document day) (left a) (left b) r
-row-wrong kind document day a b fields bad (Ok x) is h = absurd is
-row-wrong kind document day a b fields bad (Err d) is h =
-    subst (λ v. ReadsRow (row_of kind document day) (left a) (left b) (Err v)) (sym is)
-    (wrong (row_of kind document day) a b fields bad h (untold kind document day))
+pub row-wrong : (names : Option Naming) (kind : ImportKind) (document : List ℕ) (day : CivilDay) (a b : BytesReader)
+    (fields : Fields) (bad : Unread) (r : Result (Option ImportRow) Unread) → IsErrAnd r (λ d. d ≡ bad)
+    → ReadsRecord a b fields (Err bad) → ReadsRow (row_of names kind document day) (left a) (left b) r
+row-wrong names kind document day a b fields bad (Ok x) is h = absurd is
+row-wrong names kind document day a b fields bad (Err d) is h =
+    subst (λ v. ReadsRow (row_of names kind document day) (left a) (left b) (Err v)) (sym is)
+    (wrong (row_of names kind document day) a b fields bad h (untold names kind document day))

@@ -1,9 +1,10 @@
--- The faults' names.
-use Rattle.std.specs.Prelude.{ℕ, List, codes}
+-- The faults' names, and the fields that they tell.
+use Rattle.std.specs.Prelude.{ℕ, List, codes, Option, Some, None}
 use Rattle.desk_wire.specs.declared.fault.What.{What}
 use Rattle.desk_wire.specs.declared.fault.What.TheVariants.{TooLong, NotJson, NotObject, NoField, WrongType}
 use Rattle.desk_wire.specs.declared.fault.What.TheVariants.{UnknownCommand, UnknownField, BadKey, BadDay}
-use Rattle.desk_wire.specs.declared.fault.What.TheVariants.{BadText, BadSerials, BadWord, Csv, Header}
+use Rattle.desk_wire.specs.declared.fault.What.TheVariants.{BadText, BadSerials, BadWord}
+use Rattle.desk_wire.specs.declared.fault.What.TheVariants.{NoName, Ambiguous, Csv, Header}
 
 abbrev pub fault_name : What → List ℕ
 fault_name TooLong = codes "TooLong"
@@ -18,5 +19,13 @@ fault_name BadDay = codes "BadDay"
 fault_name BadText = codes "BadText"
 fault_name BadSerials = codes "BadSerials"
 fault_name BadWord = codes "BadWord"
+fault_name (NoName field) = codes "NoName"
+fault_name (Ambiguous field) = codes "Ambiguous"
 fault_name Csv = codes "Csv"
 fault_name Header = codes "Header"
+
+-- the name of the field that is wrong, where the fault tells it
+abbrev pub fault_field : What → Option (List ℕ)
+fault_field (NoName field) = Some field
+fault_field (Ambiguous field) = Some field
+fault_field _ = None

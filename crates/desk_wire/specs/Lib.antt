@@ -1,6 +1,9 @@
 pub mod Faults
 pub mod Steps
 pub mod Texts
+pub mod Values
+pub mod RowNames
+pub mod RowWords
 pub mod Fields
 pub mod Members
 pub mod Reading

@@ -1,11 +1,12 @@
 //! What may be wrong with a line or with a file.
-ghost use Rattle.std.specs.Prelude.{◌≡◌};
-ghost use Rattle.desk_wire.specs.Faults.{fault_name};
+ghost use Rattle.std.specs.Prelude.{◌≡◌, option_map};
+ghost use Rattle.desk_wire.specs.Faults.{fault_name, fault_field};
 
+use crate::field_name::FieldName;
 use std::alloc::{AllocError, AllocFailed};
 
 /// Why a line, or a file, asks for nothing. The crate's page says which of several is told.
-#[derive(Clone, Copy, Debug, PartialEq, Eq)]
+#[derive(Debug, Drop)]
 pub enum What {
     /// A line has more than 65,536 bytes, or a file more than 16,777,216.
     TooLong,
@@ -33,6 +34,10 @@ pub enum What {
     BadSerials,
     /// A status, a flag or a report of no such name, or a flag that stands twice.
     BadWord,
+    /// No row has the name that stands for a row in that field.
+    NoName(FieldName),
+    /// Several rows have the name that stands in that field.
+    Ambiguous(FieldName),
     /// A record of a file isn't text in UTF-8, or has another number of fields than the header.
     Csv,
     /// The first record of a file isn't the header, or there is none.
@@ -41,8 +46,8 @@ pub enum What {
 
 impl What {
     /// The fault's name, as a fault line has it.
-    pub fn name(self) -> &'static str
-        ensures { result.now ≡ fault_name self }
+    pub fn name(&self) -> &'static str
+        ensures { result.now ≡ fault_name self.now }
     {
         match self {
             What::TooLong => "TooLong",
@@ -57,22 +62,35 @@ impl What {
             What::BadText => "BadText",
             What::BadSerials => "BadSerials",
             What::BadWord => "BadWord",
+            What::NoName(_) => "NoName",
+            What::Ambiguous(_) => "Ambiguous",
             What::Csv => "Csv",
             What::Header => "Header",
+        }
+    }
+
+    /// The name of the field that is wrong, where the fault tells it.
+    pub fn field(&self) -> Option<&'static str>
+        ensures { option_map (λ name. name.now) result ≡ fault_field self.now }
+    {
+        match self {
+            What::NoName(field) => Some(field.as_str()),
+            What::Ambiguous(field) => Some(field.as_str()),
+            _ => None,
         }
     }
 }
 
 /// What is wrong with a line and the line's number, or with a record of a file and the record's number.
 /// Of a whole file it is 0.
-#[derive(Clone, Copy, Debug, PartialEq, Eq)]
+#[derive(Debug, Drop)]
 pub struct WireFault {
     pub line: u64,
     pub what: What,
 }
 
 /// Why a line, or a file, wasn't read.
-#[derive(Clone, Copy, Debug, PartialEq, Eq)]
+#[derive(Debug, Drop)]
 pub enum ReadError {
     /// A growth was refused, as memory ran out.
     Memory,
@@ -81,7 +99,7 @@ pub enum ReadError {
 }
 
 /// Why a part of a line, or a record, wasn't read.
-#[derive(Clone, Copy, Debug, PartialEq, Eq)]
+#[derive(Debug, Drop)]
 pub enum Unread {
     /// A growth was refused, as memory ran out.
     Memory,

@@ -17,6 +17,10 @@
 //!
 //! Of a report it is `UnknownField`, and then those of `of` and of `report`.
 //!
+//! Where names are allowed, a field that is the number of a row, `of` too, may say what a clerk calls the row. Where
+//! no row is called so, or several are, the fault is `NoName` or `Ambiguous`, which alone tell their field. A line
+//! that is read without names is read so with them, and a fault other than `WrongType` stays the same.
+//!
 //! A file is receipts or counts of a document. Under its header each record is a row: a `receive` or
 //! a `count`, with a key of the document and of the row's number, so that the same file sent again is
 //! done once. The first of these faults is told, with the number of its record, of which the header
@@ -26,10 +30,15 @@
 //! 2. of the header: `Header`;
 //! 3. of each row, in order: `Csv`, and then of its fields from left to right `WrongType`, `BadText` or
 //!    `BadSerials`.
+//!
+//! Where names are allowed, the line of a receipt, its location and the item of a count may be words that say what the
+//! row is called, in the books as they are before the first row of the file; so may a word of the command line. Such
+//! a file too is read as it is without names, but for one with a value of a wrong type.
 #![tactic(auto)]
 
 mod document;
 mod fault;
+mod field_name;
 mod fields;
 mod import;
 mod kind;
@@ -40,17 +49,22 @@ mod records;
 mod report;
 mod row;
 mod row_command;
+mod row_names;
+mod row_words;
 mod serial_count;
 mod serial_list;
 mod texts;
+mod values;
 mod write;
 
 pub use document::Document;
 pub use fault::{ReadError, Unread, What, WireFault};
-pub use import::{import_counts, import_receipts, import_rows};
+pub use field_name::FieldName;
+pub use import::{import_counts, import_receipts, import_rows, names_change_files_little};
 pub use kind::{ImportKind, import_kind_named};
 pub use number::number_in;
-pub use read::{Wish, lines_are_commands, read_line, read_request};
+pub use read::{Wish, lines_are_commands, names_change_little, read_line, read_request, table_of};
 pub use report::{import_report, push_report_line};
 pub use row::ImportRow;
+pub use row_words::{row_at_word, words_are_numbers};
 pub use write::{answer_text, fault_text, refused_text, report_text};

@@ -1,17 +1,19 @@
 //! A line, as what it asks for: a wish.
-ghost use Rattle.std.specs.Prelude.{◌≡◌, Ok, Err, Some, MatchResult};
+ghost use Rattle.std.specs.Prelude.{◌≡◌, Ok, Err, MatchResult, option_map};
 ghost use Rattle.serde_json.specs.View.{view};
 ghost use Rattle.part_core.specs.Forms.{shown};
-ghost use Rattle.desk_wire.specs.Steps.{Gives, GivesAt, Fails, or_fault};
-ghost use Rattle.desk_wire.specs.Reading.{LinesAreCommands, parsed, object_of, form_in};
-ghost use Rattle.desk_wire.specs.Reading.{command_in, request_of, is_report, report_of, wish_of};
+ghost use Rattle.desk_wire.specs.Steps.{Gives, GivesAt, Fails};
+ghost use Rattle.desk_wire.specs.Reading.{LinesAreCommands, NamesChangeLittle, object_of, form_in};
+ghost use Rattle.desk_wire.specs.Reading.{command_in, request_of, is_report, of_in, report_of, report_table};
+ghost use Rattle.desk_wire.specs.Reading.{table_of, wish_of};
 ghost use Rattle.desk_wire.specs.Reading as reading;
 
 use crate::fault::{ReadError, Unread, What, WireFault};
-use crate::fields::{day, fields, key, member, number, text, text_of};
+use crate::fields::{day, fields, key, number, row};
 use crate::members::knows_all;
-use desk_core::{Command, Request};
-use part_core::{Form, Formed};
+use crate::values::{member, parsed, text, text_of};
+use desk_core::{Command, Names, Request};
+use part_core::{Form, Formed, Id, RowKind};
 use report_core::{ReportName, report_named};
 use serde_json::Value;
 use std::alloc::Global;
@@ -24,23 +26,6 @@ pub enum Wish {
     Report { name: ReportName, of: u64 },
 }
 
-#[tactic(auto, using(crate::proofs::Parsed::parsed_ok, crate::proofs::Parsed::parsed_none))]
-fn parsed(alloc: Global, bytes: &[u8]) -> Result<Value, Unread>
-    ensures { MatchResult result (λ value. parsed bytes.now ≡ Some (view value))
-        (λ unread. Fails unread (or_fault What.NotJson (parsed bytes.now))) }
-{
-    match Value::from_slice(alloc, bytes) {
-        Ok(value) => Ok(value),
-        Err(e) => {
-            if e.is_memory() {
-                Err(Unread::Memory)
-            } else {
-                Err(Unread::Wrong(What::NotJson))
-            }
-        }
-    }
-}
-
 /// The object that a line is.
 fn object(alloc: Global, bytes: &[u8]) -> Result<Value, Unread>
     ensures { MatchResult result (λ value. object_of bytes.now ≡ Ok (view value))
@@ -49,7 +34,7 @@ fn object(alloc: Global, bytes: &[u8]) -> Result<Value, Unread>
     if bytes.len() > 65_536 {
         return Err(Unread::Wrong(What::TooLong));
     }
-    let value = parsed(alloc, bytes)?;
+    let value = parsed(alloc, bytes, What::NotJson)?;
     if !value.is_object() {
         return Err(Unread::Wrong(What::NotObject));
     }
@@ -72,21 +57,27 @@ fn form<C: Formed>(object: &Value) -> Result<&'static Form, What>
 }
 
 /// The command of that form whose fields are the object's, or the first fault of a field.
-fn command<C: Formed>(alloc: Global, object: &Value, form: &Form) -> Result<C, Unread>
-    ensures { Gives result (command_in C.command_of (shown form.now) (view object.now)) }
+fn command<C: Formed, N: Names>(
+    alloc: Global,
+    names: Option<&N>,
+    object: &Value,
+    form: &Form,
+) -> Result<C, Unread>
+    ensures { Gives result (command_in (option_map (λ n. N.naming_of n.now) names.entry) C.command_of
+        (shown form.now) (view object.now)) }
 {
-    let fields = fields(alloc, object, form.fields)?;
+    let fields = fields(alloc, names, object, form.fields)?;
     let command = C::from_fields(form.verb, fields).ok_or(What::UnknownCommand)?;
     Ok(command)
 }
 
-fn request(alloc: Global, object: &Value) -> Result<Request, Unread>
-    ensures { Gives result (request_of (view object.now)) }
+fn request<N: Names>(alloc: Global, names: Option<&N>, object: &Value) -> Result<Request, Unread>
+    ensures { Gives result (request_of (option_map (λ n. N.naming_of n.now) names.entry) (view object.now)) }
 {
     let form = form::<Command>(object)?;
     let key = key(alloc, object)?;
     let day = day(object)?;
-    let command = command::<Command>(alloc, object, form)?;
+    let command = command::<Command, N>(alloc, names, object, form)?;
     Ok(Request { key, day, command })
 }
 
@@ -97,13 +88,48 @@ fn is_report(object: &Value) -> bool
     object.get("do").is_none() && object.get("report").is_some()
 }
 
-fn report(object: &Value) -> Result<Wish, What>
-    ensures { result ≡ report_of (view object.now) }
+/// What the report of a name is of.
+pub fn table_of(name: ReportName) -> RowKind
+    ensures { result ≡ table_of name }
+{
+    match name {
+        ReportName::Ledger => RowKind::Part,
+        ReportName::Stock => RowKind::Part,
+        ReportName::WhereUsed => RowKind::Part,
+        ReportName::History => RowKind::Item,
+        ReportName::Content => RowKind::Item,
+        ReportName::Shortage => RowKind::Build,
+    }
+}
+
+/// The table that the report is of, where there is one of its name.
+fn report_table(object: &Value) -> Option<RowKind>
+    ensures { result ≡ report_table (view object.now) }
+{
+    let value = object.get("report")?;
+    let text = value.as_str()?;
+    let name = report_named(text)?;
+    Some(table_of(name))
+}
+
+/// What the report is of: a row of its table, and a number alone where there is no such report.
+fn of<N: Names>(alloc: Global, names: Option<&N>, object: &Value) -> Result<Id, Unread>
+    ensures { Gives result (of_in (option_map (λ n. N.naming_of n.now) names.entry)
+        (report_table (view object.now)) (view object.now)) }
+{
+    match report_table(object) {
+        None => Ok(number(object, "of")?),
+        Some(table) => row(alloc, names, table, object, "of"),
+    }
+}
+
+fn report<N: Names>(alloc: Global, names: Option<&N>, object: &Value) -> Result<Wish, Unread>
+    ensures { Gives result (report_of (option_map (λ n. N.naming_of n.now) names.entry) (view object.now)) }
 {
     if !knows_all(&["of", "report"], &[], object) {
-        return Err(What::UnknownField);
+        return Err(Unread::Wrong(What::UnknownField));
     }
-    let of = number(object, "of")?;
+    let of = of(alloc, names, object)?;
     let text = text(object, "report")?;
     let name = report_named(text).ok_or(What::BadWord)?;
     Ok(Wish::Report { name, of })
@@ -111,14 +137,14 @@ fn report(object: &Value) -> Result<Wish, What>
 
 /// Most lines are requests, so a report is looked for only where no request stands.
 #[tactic(auto, using(crate::proofs::Wishes::requests_are_wishes))]
-fn wish_of(alloc: Global, object: &Value) -> Result<Wish, Unread>
-    ensures { Gives result (wish_of (view object.now)) }
+fn wish_of<N: Names>(alloc: Global, names: Option<&N>, object: &Value) -> Result<Wish, Unread>
+    ensures { Gives result (wish_of (option_map (λ n. N.naming_of n.now) names.entry) (view object.now)) }
 {
-    match request(alloc, object) {
+    match request(alloc, names, object) {
         Ok(request) => Ok(Wish::Request(request)),
         Err(unread) => {
             if is_report(object) {
-                Ok(report(object)?)
+                report(alloc, names, object)
             } else {
                 Err(unread)
             }
@@ -126,26 +152,32 @@ fn wish_of(alloc: Global, object: &Value) -> Result<Wish, Unread>
     }
 }
 
-fn line_wish(alloc: Global, bytes: &[u8]) -> Result<Wish, Unread>
-    ensures { Gives result (reading.line bytes.now) }
+fn line_wish<N: Names>(alloc: Global, names: Option<&N>, bytes: &[u8]) -> Result<Wish, Unread>
+    ensures { Gives result (reading.line (option_map (λ n. N.naming_of n.now) names.entry) bytes.now) }
 {
     let object = object(alloc, bytes)?;
-    wish_of(alloc, &object)
+    wish_of(alloc, names, &object)
 }
 
-fn line_request(alloc: Global, bytes: &[u8]) -> Result<Request, Unread>
-    ensures { Gives result (reading.request bytes.now) }
+fn line_request<N: Names>(alloc: Global, names: Option<&N>, bytes: &[u8]) -> Result<Request, Unread>
+    ensures { Gives result (reading.request (option_map (λ n. N.naming_of n.now) names.entry) bytes.now) }
 {
     let object = object(alloc, bytes)?;
-    request(alloc, &object)
+    request(alloc, names, &object)
 }
 
 /// What the line of this number asks for, or its first fault. Of a long line its first 65,537 bytes
-/// are enough.
-pub fn read_line(alloc: Global, bytes: &[u8], line: u64) -> Result<Wish, ReadError>
-    ensures { GivesAt line result (reading.line bytes.now) }
+/// are enough. Where the books are handed in, a field that is the number of a row may have its name.
+pub fn read_line<N: Names>(
+    alloc: Global,
+    names: Option<&N>,
+    bytes: &[u8],
+    line: u64,
+) -> Result<Wish, ReadError>
+    ensures { GivesAt line result (reading.line (option_map (λ n. N.naming_of n.now) names.entry)
+        bytes.now) }
 {
-    match line_wish(alloc, bytes) {
+    match line_wish(alloc, names, bytes) {
         Ok(wish) => Ok(wish),
         Err(Unread::Memory) => Err(ReadError::Memory),
         Err(Unread::Wrong(what)) => Err(ReadError::Wrong(WireFault { line, what })),
@@ -154,10 +186,16 @@ pub fn read_line(alloc: Global, bytes: &[u8], line: u64) -> Result<Wish, ReadErr
 
 /// The request of the line of this number, where only requests may stand, or its first fault. A
 /// line that asks for a report is `NoField`.
-pub fn read_request(alloc: Global, bytes: &[u8], line: u64) -> Result<Request, ReadError>
-    ensures { GivesAt line result (reading.request bytes.now) }
+pub fn read_request<N: Names>(
+    alloc: Global,
+    names: Option<&N>,
+    bytes: &[u8],
+    line: u64,
+) -> Result<Request, ReadError>
+    ensures { GivesAt line result (reading.request (option_map (λ n. N.naming_of n.now) names.entry)
+        bytes.now) }
 {
-    match line_request(alloc, bytes) {
+    match line_request(alloc, names, bytes) {
         Ok(request) => Ok(request),
         Err(Unread::Memory) => Err(ReadError::Memory),
         Err(Unread::Wrong(what)) => Err(ReadError::Wrong(WireFault { line, what })),
@@ -168,4 +206,9 @@ pub fn read_request(alloc: Global, bytes: &[u8], line: u64) -> Result<Request, R
 /// line with the fields of its verb is never `UnknownCommand`.
 pub fn lines_are_commands<C: Formed>()
     ensures { LinesAreCommands C.forms_of C.verb_of C.fields_of C.command_of }
+{}
+
+/// The law that with names a line is read as it is without, but for one with a value of a wrong type.
+pub fn names_change_little()
+    ensures { NamesChangeLittle }
 {}

@@ -1,5 +1,5 @@
 //! A record, as a row.
-ghost use Rattle.std.specs.Prelude.{◌≡◌, true, map, IfOk};
+ghost use Rattle.std.specs.Prelude.{◌≡◌, true, map, IfOk, option_map};
 ghost use Rattle.std.specs.Cmp.Lexicographic.{pointwise};
 ghost use Rattle.std.specs.Str.{bytes_eq};
 ghost use Rattle.std.specs.Str.Parse.{digits_value};
@@ -9,18 +9,20 @@ ghost use Rattle.desk_wire.specs.Numbers.{is_row_number};
 ghost use Rattle.desk_wire.specs.Records.{are_texts};
 ghost use Rattle.desk_wire.specs.Steps.{Gives, GivesBy};
 ghost use Rattle.desk_wire.specs.RowCommands.{command_by};
-ghost use Rattle.desk_wire.specs.Imports.{names_of, field, number_of, batch_of, serials_of, command_of, key_of, row_of};
+ghost use Rattle.desk_wire.specs.Imports.{names_of, field, batch_of, serials_of, command_of, key_of, row_of};
+ghost use Rattle.desk_wire.specs.RowWords.{number_of};
 
 use crate::document::Document;
 use crate::fault::{Unread, What};
 use crate::kind::ImportKind;
 use crate::number::{number_in, row_number_in};
 use crate::row_command::RowCommand;
+use crate::row_words::row_at_word;
 use crate::serial_list::SerialList;
 use crate::texts::row_text_from;
 use csv::StringRecord;
-use desk_core::{Key, Request};
-use part_core::{Batch, Day};
+use desk_core::{Key, Names, Request};
+use part_core::{Batch, Day, RowKind};
 use std::alloc::{AllocError, Global};
 use std::marker::Model;
 
@@ -67,7 +69,7 @@ impl ImportRow {
 }
 
 /// The header of a file.
-fn names(kind: ImportKind) -> &'static [&'static str]
+fn header(kind: ImportKind) -> &'static [&'static str]
     ensures { map (λ name. name.now) result.now ≡ names_of kind }
 {
     match kind {
@@ -102,7 +104,7 @@ fn are_names(names: &[&str], fields: &StringRecord) -> bool
 pub fn is_header(kind: ImportKind, fields: &StringRecord) -> bool
     ensures { result ≡ pointwise bytes_eq (names_of kind) (fields_of fields.now) }
 {
-    are_names(names(kind), fields)
+    are_names(header(kind), fields)
 }
 
 /// 1 to 19 digits: else `WrongType`.
@@ -135,11 +137,22 @@ fn serials(alloc: Global, text: &str) -> Result<Option<SerialList>, Unread>
     Ok(Some(serials))
 }
 
-fn receive(alloc: Global, fields: &StringRecord) -> Result<RowCommand, Unread>
-    ensures { GivesBy command_by result (command_of kinds.Receipts (fields_of fields.now)) }
+fn receive<N: Names>(
+    alloc: Global,
+    names: Option<&N>,
+    fields: &StringRecord,
+) -> Result<RowCommand, Unread>
+    ensures { GivesBy command_by result (command_of (option_map (λ n. N.naming_of n.now) names.entry)
+        kinds.Receipts (fields_of fields.now)) }
 {
-    let line = number(fields, 1)?;
-    let location = number(fields, 2)?;
+    let line = row_at_word(alloc, names, RowKind::OrderLine, "line", field(fields, 1))?;
+    let location = row_at_word(
+        alloc,
+        names,
+        RowKind::Location,
+        "location",
+        field(fields, 2),
+    )?;
     let quantity = number(fields, 3)?;
     let batch = batch(alloc, field(fields, 4))?;
     let serials = serials(alloc, field(fields, 5))?;
@@ -152,21 +165,32 @@ fn receive(alloc: Global, fields: &StringRecord) -> Result<RowCommand, Unread>
     })
 }
 
-fn count(fields: &StringRecord) -> Result<RowCommand, Unread>
-    ensures { GivesBy command_by result (command_of kinds.Counts (fields_of fields.now)) }
+fn count<N: Names>(
+    alloc: Global,
+    names: Option<&N>,
+    fields: &StringRecord,
+) -> Result<RowCommand, Unread>
+    ensures { GivesBy command_by result (command_of (option_map (λ n. N.naming_of n.now) names.entry)
+        kinds.Counts (fields_of fields.now)) }
 {
-    let item = number(fields, 1)?;
+    let item = row_at_word(alloc, names, RowKind::Item, "item", field(fields, 1))?;
     let quantity = number(fields, 2)?;
     Ok(RowCommand::Count { item, quantity })
 }
 
 /// The command of a row, or the first fault of its fields after the number.
-fn command(alloc: Global, kind: ImportKind, fields: &StringRecord) -> Result<RowCommand, Unread>
-    ensures { GivesBy command_by result (command_of kind (fields_of fields.now)) }
+fn command<N: Names>(
+    alloc: Global,
+    names: Option<&N>,
+    kind: ImportKind,
+    fields: &StringRecord,
+) -> Result<RowCommand, Unread>
+    ensures { GivesBy command_by result (command_of (option_map (λ n. N.naming_of n.now) names.entry)
+        kind (fields_of fields.now)) }
 {
     match kind {
-        ImportKind::Receipts => receive(alloc, fields),
-        ImportKind::Counts => count(fields),
+        ImportKind::Receipts => receive(alloc, names, fields),
+        ImportKind::Counts => count(alloc, names, fields),
     }
 }
 
@@ -191,23 +215,25 @@ fn row_key(
 /// The row that a record of texts is: `Csv` where it has another number of fields than the header, else
 /// the first fault of its fields, from left to right.
 #[tactic(auto, unfolding(crate::specs::Imports::row_of))]
-pub fn row(
+pub fn row<N: Names>(
     alloc: Global,
+    names: Option<&N>,
     kind: ImportKind,
     document: &Document,
     day: Day,
     fields: &StringRecord,
 ) -> Result<ImportRow, Unread>
     requires { are_texts (fields_of fields.now) ≡ true }
-    ensures { Gives result (row_of kind document.now day (fields_of fields.now)) }
+    ensures { Gives result (row_of (option_map (λ n. N.naming_of n.now) names.entry) kind document.now
+        day (fields_of fields.now)) }
 {
-    if fields.len() != names(kind).len() {
+    if fields.len() != header(kind).len() {
         return Err(Unread::Wrong(What::Csv));
     }
     let text = field(fields, 0);
     let number = row_number_in(text).ok_or(What::WrongType)?;
     let key = row_key(alloc, kind, document, text)?;
-    let command = command(alloc, kind, fields)?;
+    let command = command(alloc, names, kind, fields)?;
     Ok(ImportRow {
         number,
         key,

@@ -31,14 +31,21 @@ pub fn refused_text(alloc: Global, refusal: Refusal) -> Result<String, AllocErro
     Ok(text)
 }
 
-/// What a line is answered that asks for nothing.
+/// What a line is answered that asks for nothing. A field's name is written as it is, since no name of a form has
+/// a character that JSON escapes.
 pub fn fault_text(alloc: Global, fault: WireFault) -> Result<String, AllocError>
     ensures { IfOk result (λ text. string_bytes text ≡ fault_text fault) }
 {
     let number = fault.line;
     let mut text = String::from_str(alloc, "{\"fault\":\"")?;
     text.push_str(fault.what.name())?;
-    write!(text, "\",\"line\":{number}}}\n")?;
+    text.push_str("\"")?;
+    if let Some(name) = fault.what.field() {
+        text.push_str(",\"field\":\"")?;
+        text.push_str(name)?;
+        text.push_str("\"")?;
+    }
+    write!(text, ",\"line\":{number}}}\n")?;
     Ok(text)
 }
 

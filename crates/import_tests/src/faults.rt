@@ -1,6 +1,6 @@
 //! What is wrong with files.
 use crate::shown::{rows_of, show, under};
-use desk_wire::{ImportKind, ReadError, What, WireFault};
+use desk_wire::{ImportKind, ReadError};
 use std::test::Fail;
 
 const RECEIPTS: &str = "number,line,location,quantity,batch,serials";
@@ -24,7 +24,7 @@ fn finds_what_is_wrong_with_a_header(rt: HostRuntime) -> Result<(), Fail> {
         b"1,11,1,100,,\nnumber,line,location,quantity,batch,serials\n",
     ];
     for file in files {
-        let shown = show(alloc, ImportKind::Receipts, file)?;
+        let shown = show(alloc, None, ImportKind::Receipts, file)?;
         assert_eq!(rt; shown.as_str(), "Header 1");
     }
     Ok(())
@@ -64,7 +64,7 @@ fn finds_what_is_wrong_with_a_receipt(rt: HostRuntime) -> Result<(), Fail> {
     ];
     for (lines, want) in cases {
         let file = under(alloc, RECEIPTS, lines)?;
-        let shown = show(alloc, ImportKind::Receipts, file.as_slice())?;
+        let shown = show(alloc, None, ImportKind::Receipts, file.as_slice())?;
         assert_eq!(rt; shown.as_str(), want);
     }
     Ok(())
@@ -81,7 +81,7 @@ fn finds_what_is_wrong_with_a_count(rt: HostRuntime) -> Result<(), Fail> {
     ];
     for (lines, want) in cases {
         let file = under(alloc, COUNTS, lines)?;
-        let shown = show(alloc, ImportKind::Counts, file.as_slice())?;
+        let shown = show(alloc, None, ImportKind::Counts, file.as_slice())?;
         assert_eq!(rt; shown.as_str(), want);
     }
     Ok(())
@@ -93,14 +93,14 @@ fn reads_files_of_16_mebibytes(rt: HostRuntime) -> Result<(), Fail> {
     let mut bytes = Vec::with_capacity(alloc, 16_777_217)?;
     bytes.extend_from_slice(COUNTS.as_bytes())?;
     bytes.resize(16_777_216, b'\n')?;
-    let read = rows_of(alloc, ImportKind::Counts, "D1", bytes.as_slice())?;
+    let read = rows_of(alloc, None, ImportKind::Counts, "D1", bytes.as_slice())?;
     assert!(rt; read.is_ok());
     bytes.push(b'\n')?;
-    let read = rows_of(alloc, ImportKind::Counts, "D1", bytes.as_slice())?;
-    let fault = WireFault {
-        line: 0,
-        what: What::TooLong,
+    let read = rows_of(alloc, None, ImportKind::Counts, "D1", bytes.as_slice())?;
+    let told = match &read {
+        Err(ReadError::Wrong(fault)) => (fault.what.name(), fault.line),
+        _ => ("none", 1),
     };
-    assert_eq!(rt; read.err(), Some(ReadError::Wrong(fault)));
+    assert_eq!(rt; told, ("TooLong", 0));
     Ok(())
 }

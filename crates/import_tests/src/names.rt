@@ -22,6 +22,7 @@ fn tells_names_of_documents(rt: HostRuntime) -> Result<(), Fail> {
     }
     let rows = rows_of(
         alloc,
+        None,
         ImportKind::Counts,
         "._-",
         b"number,item,quantity\n1,2,3",

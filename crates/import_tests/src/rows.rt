@@ -28,7 +28,7 @@ fn reads_receipts(rt: HostRuntime) -> Result<(), Fail> {
         (b"number,line,location,quantity,batch,serials", ""),
     ];
     for (file, want) in cases {
-        let shown = show(alloc, ImportKind::Receipts, file)?;
+        let shown = show(alloc, None, ImportKind::Receipts, file)?;
         let want = want.replace(alloc, "DAY", MARCH)?;
         assert_eq!(rt; shown.as_str(), want.as_str());
     }
@@ -50,7 +50,7 @@ fn reads_counts(rt: HostRuntime) -> Result<(), Fail> {
         (b"number,item,quantity\n\n", ""),
     ];
     for (file, want) in cases {
-        let shown = show(alloc, ImportKind::Counts, file)?;
+        let shown = show(alloc, None, ImportKind::Counts, file)?;
         let want = want.replace(alloc, "DAY", MARCH)?;
         assert_eq!(rt; shown.as_str(), want.as_str());
     }

@@ -1,6 +1,8 @@
 //! What a file is, as a text.
-use desk_core::Command;
-use desk_wire::{Document, ImportKind, ImportRow, ReadError, import_counts, import_receipts};
+use desk_core::{Command, Shop};
+use desk_wire::{
+    Document, ImportKind, ImportRow, ReadError, WireFault, import_counts, import_receipts,
+};
 use order_core::OrderCommand;
 use part_core::{Day, Serials, Text};
 use std::alloc::{AllocError, Global};
@@ -71,9 +73,11 @@ fn show_rows(alloc: Global, rows: &[ImportRow]) -> Result<String, AllocError> {
     Ok(text)
 }
 
-/// The rows of a file of that document, of the first of March 2030, or its fault.
+/// The rows of a file of that document, of the first of March 2030, or its fault. With a shop its rows may be called
+/// by their names.
 pub fn rows_of(
     alloc: Global,
+    shop: Option<&Shop>,
     kind: ImportKind,
     document: &str,
     bytes: &[u8],
@@ -82,18 +86,31 @@ pub fn rows_of(
     let document = Document::new(name).ok_or("it is a document")?;
     let day = Day::parse("2030-03-01").ok_or("it is a day")?;
     Ok(match kind {
-        ImportKind::Receipts => import_receipts(alloc, bytes, &document, day),
-        ImportKind::Counts => import_counts(alloc, bytes, &document, day),
+        ImportKind::Receipts => import_receipts(alloc, shop, bytes, &document, day),
+        ImportKind::Counts => import_counts(alloc, shop, bytes, &document, day),
     })
 }
 
+/// The fault's name, the field that it tells, and the number of the record.
+fn show_fault(alloc: Global, fault: &WireFault) -> Result<String, AllocError> {
+    let (name, number) = (fault.what.name(), fault.line);
+    match fault.what.field() {
+        None => format!(in alloc; "{name} {number}"),
+        Some(field) => format!(in alloc; "{name} {field} {number}"),
+    }
+}
+
 /// Each row of a file of document D1, or its fault with its number.
-pub fn show(alloc: Global, kind: ImportKind, bytes: &[u8]) -> Result<String, Fail> {
-    let text = match rows_of(alloc, kind, "D1", bytes)? {
+pub fn show(
+    alloc: Global,
+    shop: Option<&Shop>,
+    kind: ImportKind,
+    bytes: &[u8],
+) -> Result<String, Fail> {
+    let read = rows_of(alloc, shop, kind, "D1", bytes)?;
+    let text = match &read {
         Ok(rows) => show_rows(alloc, rows.as_slice())?,
-        Err(ReadError::Wrong(fault)) => {
-            format!(in alloc; "{} {}", fault.what.name(), fault.line)?
-        }
+        Err(ReadError::Wrong(fault)) => show_fault(alloc, fault)?,
         Err(ReadError::Memory) => String::from_str(alloc, "no memory")?,
     };
     Ok(text)

@@ -22,16 +22,13 @@ use Rattle.desk_app.specs.declared.words.Task.TheVariants as task
 use Rattle.desk_app.proofs.Running.{stopped_by}
 use Rattle.invdesk.specs.Clients.{Asks, IsOfServing, ServesClients, most_of}
 use Rattle.invdesk.specs.Lines.{RunsLines}
-use Rattle.invdesk.specs.Memory.{DoesInMemory, RunsInMemory}
+use Rattle.invdesk.specs.Memory.{RunsInMemory}
 
 -- ---- a serving
 
 pub of_serving : (end : RunEnd) → (end ≡ ReadFailed) ⊎ (end ≡ Memory) → IsOfServing end
 of_serving end (inl e) = subst IsOfServing (sym e) tt
 of_serving end (inr e) = subst IsOfServing (sym e) tt
-
-pub of_done : (end : RunEnd) → end ≡ Done true → IsOfServing end
-of_done end e = subst IsOfServing (sym e) refl
 
 pub of_telling : (end : RunEnd) → (end ≡ WriteFailed) ⊎ (end ≡ Memory) → IsOfServing end
 of_telling end (inl e) = subst IsOfServing (sym e) tt
@@ -44,11 +41,13 @@ any_rules port false = (record { port = port; token = None }, record { port_is =
 
 -- no connection was served
 pub unserved : {B F : Type 0} (state_in : B → State) (failure_of : B → Option F) (may_leave : B → Trees → Type 0)
-    (port : ℕ) (has_token : Bool) (count : Option ℕ) (service : BooksService B) (end : RunEnd) → IsOfServing end
-    → ServesClients state_in failure_of may_leave port has_token count service service end
-unserved state_in failure_of may_leave port has_token count service end ends =
+    (names : Bool) (port : ℕ) (has_token : Bool) (count : Option ℕ) (service : BooksService B) (end : RunEnd)
+    → service.names ≡ names → IsOfServing end
+    → ServesClients state_in failure_of may_leave names port has_token count service service end
+unserved state_in failure_of may_leave names port has_token count service end named ends =
     let any = any_rules port has_token in
     record {
+      named = named;
       rules = any.0;
       asks = any.1;
       steps = (0, omega arith, refl);
@@ -84,10 +83,10 @@ stop_back stops.Store = refl
 one_stop : (a b : Stop) → end_of a ≡ end_of b → a ≡ b
 one_stop a b e = let both : Some a ≡ Some b = sym (stop_back a) ∙ ap stop_of e ∙ stop_back b in cc
 
-runs_done : (all : Bool) (s s' : State) → Finished None None None s s' all
-    → RunsLines {F = Failed} None None (λ _. ⊥) s s' (Done all)
-runs_done all s s' ran = record {
-  done = λ other e. let same : all ≡ other = cc in subst (Finished None None None s s') same ran;
+runs_done : (names : Bool) (all : Bool) (s s' : State) → Finished names None None None s s' all
+    → RunsLines {F = Failed} names None None (λ _. ⊥) s s' (Done all)
+runs_done names all s s' ran = record {
+  done = λ other e. let same : all ≡ other = cc in subst (Finished names None None None s s') same ran;
   stopped = λ stop e. absurd (no_stop all stop e);
   were_open = λ _. (refl, refl);
   closed = λ e. absurd (cc);
@@ -104,50 +103,52 @@ Nothing trees = (no_fault ≡ None) × ⊥
 no_tables : (trees : Trees) → Nothing trees → ⊥
 no_tables trees may = may.1
 
-runs_stopped : (stop : Stop) (s s' : State) → stop ≢ stops.Store → Stopped stop None None None s s' (λ _. ⊥)
-    → RunsLines {F = Failed} None None (λ _. ⊥) s s' (end_of stop)
-runs_stopped stop s s' apart ran = record {
+runs_stopped : (names : Bool) (stop : Stop) (s s' : State) → stop ≢ stops.Store
+    → Stopped names stop None None None s s' (λ _. ⊥)
+    → RunsLines {F = Failed} names None None (λ _. ⊥) s s' (end_of stop)
+runs_stopped names stop s s' apart ran = record {
   done = λ all e. absurd (no_stop all stop (sym e));
   stopped = λ other e.
-      subst (λ v. Stopped v None None None s s' Nothing) (one_stop stop other e)
-      (stopped_by stop None None None s s' (λ _. ⊥) Nothing no_tables ran);
+      subst (λ v. Stopped names v None None None s s' Nothing) (one_stop stop other e)
+      (stopped_by names stop None None None s s' (λ _. ⊥) Nothing no_tables ran);
   were_open = λ _. (refl, refl);
   closed = λ e. absurd (apart (one_stop stop stops.Store e));
   left = λ _ trees never. absurd never;
 }
 
-finished_in_memory : (all : Bool) → FromEmpty (λ s s'. Finished None None None s s' all) → RunsInMemory (Done all)
-finished_in_memory all (s, empty, s', order, ran) = record {
+finished_in_memory : (names : Bool) (all : Bool) → FromEmpty (λ s s'. Finished names None None None s s' all)
+    → RunsInMemory names (Done all)
+finished_in_memory names all (s, empty, s', order, ran) = record {
   before = s;
   after = s';
   empty = empty;
-  runs = runs_done all s s' ran;
+  runs = runs_done names all s s' ran;
   in_order = order;
 }
 
-stopped_in_memory : (stop : Stop) → stop ≢ stops.Store
-    → FromEmpty (λ s s'. Stopped stop None None None s s' (λ _. ⊥)) → RunsInMemory (end_of stop)
-stopped_in_memory stop apart (s, empty, s', order, ran) = record {
+stopped_in_memory : (names : Bool) (stop : Stop) → stop ≢ stops.Store
+    → FromEmpty (λ s s'. Stopped names stop None None None s s' (λ _. ⊥)) → RunsInMemory names (end_of stop)
+stopped_in_memory names stop apart (s, empty, s', order, ran) = record {
   before = s;
   after = s';
   empty = empty;
-  runs = runs_stopped stop s s' apart ran;
+  runs = runs_stopped names stop s s' apart ran;
   in_order = order;
 }
 
-pub runs_in_memory : (end : RunEnd)
-    → ((all : Bool) → end ≡ Done all → FromEmpty (λ s s'. Finished None None None s s' all))
-    → ((stop : Stop) → end ≡ end_of stop → FromEmpty (λ s s'. Stopped stop None None None s s' (λ _. ⊥)))
+pub runs_in_memory : (names : Bool) (end : RunEnd)
+    → ((all : Bool) → end ≡ Done all → FromEmpty (λ s s'. Finished names None None None s s' all))
+    → ((stop : Stop) → end ≡ end_of stop → FromEmpty (λ s s'. Stopped names stop None None None s s' (λ _. ⊥)))
     → end ≢ Store
-    → RunsInMemory end
-runs_in_memory (Done all) done stopped never = finished_in_memory all (done all refl)
-runs_in_memory ReadFailed done stopped never =
-    stopped_in_memory stops.ReadFailed (λ e. absurd (cc)) (stopped stops.ReadFailed refl)
-runs_in_memory WriteFailed done stopped never =
-    stopped_in_memory stops.WriteFailed (λ e. absurd (cc)) (stopped stops.WriteFailed refl)
-runs_in_memory Memory done stopped never =
-    stopped_in_memory stops.Memory (λ e. absurd (cc)) (stopped stops.Memory refl)
-runs_in_memory Store done stopped never = absurd (never refl)
+    → RunsInMemory names end
+runs_in_memory names (Done all) done stopped never = finished_in_memory names all (done all refl)
+runs_in_memory names ReadFailed done stopped never =
+    stopped_in_memory names stops.ReadFailed (λ e. absurd (cc)) (stopped stops.ReadFailed refl)
+runs_in_memory names WriteFailed done stopped never =
+    stopped_in_memory names stops.WriteFailed (λ e. absurd (cc)) (stopped stops.WriteFailed refl)
+runs_in_memory names Memory done stopped never =
+    stopped_in_memory names stops.Memory (λ e. absurd (cc)) (stopped stops.Memory refl)
+runs_in_memory names Store done stopped never = absurd (never refl)
 
 -- ---- the status
 
@@ -158,19 +159,3 @@ some_file file path e = subst IsSome (sym e) refl
 pub most_is : (count : Option ℕ) (n : ℕ) → n ≤ unwrap_or count (2 ^ 64 - 1) → n ≤ most_of count
 most_is (Some most) n h = h
 most_is None n h = h
-
--- what is asked of new books in memory
-pub runs_alone : (it : Task) (end : RunEnd) → early_status it ≡ None → file_of it ≡ None
-    → ((file : Option (Bor (List ℕ))) (port : ℕ) (count : Option ℕ) (token : Option (Bor (List ℕ)))
-    → it ≡ task.Serve file port count token → ⊥)
-    → RunsInMemory end → DoesInMemory it end
-runs_alone (task.Run file) end early none apart ran = ran
-runs_alone (task.Report file name number) end early none apart ran = absurd (cc)
-runs_alone (task.Export file table) end early none apart ran = absurd (cc)
-runs_alone (task.Migrate file) end early none apart ran = absurd (cc)
-runs_alone (task.Import file kind document day path) end early none apart ran = absurd (cc)
-runs_alone (task.Serve file port count token) end early none apart ran = absurd (apart file port count token refl)
-runs_alone (task.Help e) end early none apart ran = absurd (cc)
-runs_alone (task.Wrong e) end early none apart ran = absurd (cc)
-runs_alone task.Unreadable end early none apart ran = absurd (cc)
-runs_alone task.Memory end early none apart ran = absurd (cc)

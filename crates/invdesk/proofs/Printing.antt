@@ -1,20 +1,23 @@
 -- What is printed, by what the calls that print it say.
-use Rattle.std.proofs.Common.{◌≡◌, ◌⊎◌, inl, inr, ℕ, List, Bool, true, refl, sym, subst}
+use Rattle.std.proofs.Common.{◌≡◌, ◌⊎◌, inl, inr, ℕ, List, Bool, true, false, refl, sym, subst, arith}
 use Rattle.std.specs.Borrow.{Bor}
-use Rattle.std.specs.Prelude.{◌≢◌, Option, Some, None}
+use Rattle.std.specs.Prelude.{◌≢◌, Option, Some, None, Result, Ok, Err}
 use Rattle.std.specs.Io.KnownBytes.{Appends, Keeps}
+use Rattle.std.proofs.KnownBytes.{Appends-nil}
 use Rattle.table_store.specs.declared.name.TableName.{TableName}
 use Rattle.desk_core.specs.Machine.{State}
 use Rattle.desk_store.specs.Exports.{AppendsFront}
 use Rattle.report_core.specs.Reports.{report_lines}
 use Rattle.report_core.specs.declared.name.ReportName.{ReportName}
 use Rattle.report_core.specs.declared.name.ReportName.TheVariants.{Ledger, Stock, WhereUsed, History, Content, Shortage}
+use Rattle.desk_wire.specs.declared.fault.What.{What}
 use Rattle.desk_app.specs.Printed.{IsPrinted, migrated_text, printed}
 use Rattle.desk_app.specs.declared.end.RunEnd.{RunEnd}
 use Rattle.desk_app.specs.declared.end.RunEnd.TheVariants.{Done, ReadFailed, WriteFailed, Memory, Store}
+use Rattle.desk_app.specs.declared.words.ReportOf.{ReportOf}
 use Rattle.desk_app.specs.declared.words.Task.{Task}
 use Rattle.desk_app.specs.declared.words.Task.TheVariants as task
-use Rattle.invdesk.specs.Prints.{Prints, PrintsLines, PrintsReport, PrintsText}
+use Rattle.invdesk.specs.Prints.{Prints, PrintsLines, PrintsOfRow, PrintsReport, PrintsText}
 
 pub prints_text : (told : List ℕ × Bool) (w w' : Option (List ℕ)) (end : RunEnd)
     → ((fine : Bool) → end ≡ Done fine → (fine ≡ told.1) × Appends w w' told.0)
@@ -84,18 +87,62 @@ pub Keeps-refl : (w : Option (List ℕ)) → Keeps w w
 Keeps-refl None = tt
 Keeps-refl (Some x) = refl
 
+-- ---- the report of a row that may be said by a word
+
+-- the row was found
+pub prints_found : (name : ReportName) (row : Result ℕ What) (number : ℕ) (s : State) (w w' : Option (List ℕ))
+    (end : RunEnd) → row ≡ Ok number → PrintsReport name number s w w' end → PrintsOfRow name row s w w' end
+prints_found name row number s w w' end found h = subst (λ r. PrintsOfRow name r s w w' end) (sym found) h
+
+-- ... or the word says none
+pub prints_unfound : (name : ReportName) (row : Result ℕ What) (what : What) (s : State) (w : Option (List ℕ))
+    → row ≡ Err what → PrintsOfRow name row s w w (Done false)
+prints_unfound name row what s w none =
+    subst (λ r. PrintsOfRow name r s w w (Done false)) (sym none) (refl, Keeps-refl w)
+
+nothing_front : (w : Option (List ℕ)) (text : List ℕ) → AppendsFront w w text
+nothing_front w text = (0, omega arith, Appends-nil w)
+
+no_memory : (name : ReportName) (number : ℕ) (s : State) (w : Option (List ℕ)) → PrintsReport name number s w w Memory
+no_memory History number s w = nothing_front w (printed (report_lines History number s)).0
+no_memory Ledger number s w = Keeps-refl w
+no_memory Stock number s w = Keeps-refl w
+no_memory WhereUsed number s w = Keeps-refl w
+no_memory Content number s w = Keeps-refl w
+no_memory Shortage number s w = Keeps-refl w
+
+closed : (name : ReportName) (number : ℕ) (s : State) (w : Option (List ℕ)) → PrintsReport name number s w w Store
+closed History number s w = Keeps-refl w
+closed Ledger number s w = Keeps-refl w
+closed Stock number s w = Keeps-refl w
+closed WhereUsed number s w = Keeps-refl w
+closed Content number s w = Keeps-refl w
+closed Shortage number s w = Keeps-refl w
+
+-- there was no memory to look it up
+pub prints_no_memory : (name : ReportName) (row : Result ℕ What) (s : State) (w : Option (List ℕ))
+    → PrintsOfRow name row s w w Memory
+prints_no_memory name (Ok number) s w = no_memory name number s w
+prints_no_memory name (Err what) s w = Keeps-refl w
+
+-- the desk was closed
+pub prints_closed : (name : ReportName) (row : Result ℕ What) (s : State) (w : Option (List ℕ))
+    → PrintsOfRow name row s w w Store
+prints_closed name (Ok number) s w = closed name number s w
+prints_closed name (Err what) s w = Keeps-refl w
+
 -- of a task that isn't one of the three nothing is printed
 pub prints_nothing : (it : Task) (s : State) (w : Option (List ℕ))
-    → ((file : Bor (List ℕ)) (name : ReportName) (number : ℕ) → it ≡ task.Report file name number → ⊥)
+    → ((file : Bor (List ℕ)) (name : ReportName) (of : ReportOf) → it ≡ task.Report file name of → ⊥)
     → ((file : Bor (List ℕ)) (table : TableName) → it ≡ task.Export file table → ⊥)
     → ((file : Bor (List ℕ)) → it ≡ task.Migrate file → ⊥)
     → Prints it s w w (Done true)
-prints_nothing (task.Report file name number) s w report export migrate = absurd (report file name number refl)
+prints_nothing (task.Report file name of) s w report export migrate = absurd (report file name of refl)
 prints_nothing (task.Export file table) s w report export migrate = absurd (export file table refl)
 prints_nothing (task.Migrate file) s w report export migrate = absurd (migrate file refl)
-prints_nothing (task.Run file) s w report export migrate = (refl, Keeps-refl w)
-prints_nothing (task.Import file kind document day path) s w report export migrate = (refl, Keeps-refl w)
-prints_nothing (task.Serve file port count token) s w report export migrate = (refl, Keeps-refl w)
+prints_nothing (task.Run file names) s w report export migrate = (refl, Keeps-refl w)
+prints_nothing (task.Import file kind document day path names) s w report export migrate = (refl, Keeps-refl w)
+prints_nothing (task.Serve file port count token names) s w report export migrate = (refl, Keeps-refl w)
 prints_nothing (task.Help e) s w report export migrate = (refl, Keeps-refl w)
 prints_nothing (task.Wrong e) s w report export migrate = (refl, Keeps-refl w)
 prints_nothing task.Unreadable s w report export migrate = (refl, Keeps-refl w)

@@ -34,13 +34,16 @@ module _ {B F : Type 0} (state_in : B → State) (failure_of : B → Option F) (
   -- the books, as a service, did an operation
   abbrev pub DoesOperation : BooksService B → Operation → Result ReplyView NoReply → BooksService B → Type 0
   DoesOperation =
-      Performs (λ service. state_in service.books) desk_machine leaves
-      (λ old operation why new. Relates (failure_of old.books) (failure_of new.books) (may_leave new.books) (state_in old.books) (state_in new.books) operation why)
+      Performs (λ service. (state_in service.books, service.names)) desk_machine leaves
+      (λ old operation why new. Relates old.names (failure_of old.books) (failure_of new.books) (may_leave new.books)
+      (state_in old.books) (state_in new.books) operation why)
 
   -- So many connections at most were served by the books, one after another, by rules that ask for this port and, it may
   -- be, a token; and the serving ended so. What came by them, and what was answered, is known to no clause: so each did
-  -- what some bytes ask for, and that is an operation at most.
-  pub record ServesClients (port : ℕ) (has_token : Bool) (count : Option ℕ) (old new : BooksService B) (end : RunEnd) : Type 0 where
+  -- what some bytes ask for, and that is an operation at most. Rows might be named in what was sent, or not.
+  pub record ServesClients (names : Bool) (port : ℕ) (has_token : Bool) (count : Option ℕ) (old new : BooksService B)
+      (end : RunEnd) : Type 0 where
+    pub named : old.names ≡ names
     pub rules : AccessRules
     pub asks : Asks port has_token rules
     pub steps : (n : ℕ) × (n ≤ most_of count) × AreSteps (IsOneStep DoesOperation rules) n old new

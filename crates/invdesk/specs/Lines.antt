@@ -9,13 +9,14 @@ use Rattle.desk_app.specs.declared.end.Stop.{Stop}
 use Rattle.desk_app.specs.Ends.{end_of}
 use Rattle.desk_app.specs.Runs.{Finished, Stopped}
 
--- Lines were run on books that were in the state s and are in s', and the run ended so. Which lines came, and what was
--- written, is known to no clause: they are some lines. The books had been closed by the one fault, if by any, and are by
--- the other; these tables a crash may leave of them now.
-pub record RunsLines {F : Type 0} (old new : Option F) (leaves : Trees → Type 0) (s s' : State) (end : RunEnd) : Type 0 where
-  pub done : (all : Bool) → end ≡ Done all → Finished None None None s s' all
+-- Lines were run on books that were in the state s and are in s', and the run ended so. Rows might be named in them, or
+-- not. Which lines came, and what was written, is known to no clause: they are some lines. The books had been closed by
+-- the one fault, if by any, and are by the other; these tables a crash may leave of them now.
+pub record RunsLines {F : Type 0} (names : Bool) (old new : Option F) (leaves : Trees → Type 0) (s s' : State)
+    (end : RunEnd) : Type 0 where
+  pub done : (all : Bool) → end ≡ Done all → Finished names None None None s s' all
   pub stopped : (stop : Stop) → end ≡ end_of stop
-      → Stopped stop None None None s s' (λ trees. (old ≡ None) × leaves trees)
+      → Stopped names stop None None None s s' (λ trees. (old ≡ None) × leaves trees)
   pub were_open : end ≢ Store → (old ≡ None) × (new ≡ None)
   pub closed : end ≡ Store → IsSome new
   pub left : end ≢ Store → (trees : Trees) → leaves trees → TablesAre s' trees

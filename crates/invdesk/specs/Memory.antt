@@ -14,22 +14,22 @@ use Rattle.invdesk.specs.Clients.{ServesClients}
 use Rattle.invdesk.specs.Lines.{RunsLines}
 
 -- the lines of the standard input were run on them
-pub record RunsInMemory (end : RunEnd) : Type 0 where
+pub record RunsInMemory (names : Bool) (end : RunEnd) : Type 0 where
   pub before : State
   pub after : State
   pub empty : IsEmpty before
-  pub runs : RunsLines {F = Failed} None None (λ _. ⊥) before after end
+  pub runs : RunsLines {F = Failed} names None None (λ _. ⊥) before after end
   pub in_order : AreInOrder after
 
 -- clients were served with them
-pub record ServesInMemory (port : ℕ) (has_token : Bool) (count : Option ℕ) (end : RunEnd) : Type 0 where
+pub record ServesInMemory (names : Bool) (port : ℕ) (has_token : Bool) (count : Option ℕ) (end : RunEnd) : Type 0 where
   pub before : BooksService Shop
   pub after : BooksService Shop
   pub empty : IsEmpty (state_of before.books)
-  pub serves : ServesClients {F = Failed} state_of (λ _. None) (λ _ _. ⊥) port has_token count before after end
+  pub serves : ServesClients {F = Failed} state_of (λ _. None) (λ _ _. ⊥) names port has_token count before after end
 
 -- nothing else is asked of them
 abbrev pub DoesInMemory : Task → RunEnd → Type 0
-DoesInMemory (task.Run file) end = RunsInMemory end
-DoesInMemory (task.Serve file port count token) end = ServesInMemory port (is_some token) count end
+DoesInMemory (task.Run file names) end = RunsInMemory names end
+DoesInMemory (task.Serve file port count token names) end = ServesInMemory names port (is_some token) count end
 DoesInMemory _ end = ⊥

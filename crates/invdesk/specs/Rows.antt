@@ -11,6 +11,7 @@ use Rattle.desk_app.specs.declared.end.RunEnd.TheVariants.{Done, ReadFailed, Mem
 use Rattle.desk_app.specs.declared.end.Stop.{Stop}
 use Rattle.desk_app.specs.Ends.{end_of}
 use Rattle.desk_app.specs.ImportRuns.{ImportedWhole, ImportStopped, IsLeftByImport, Reading}
+use Rattle.desk_app.specs.Runs.{naming}
 
 -- a file can't be read, or there is no memory for it
 abbrev pub IsOfFile : RunEnd → Type 0
@@ -36,9 +37,9 @@ pub record RunsRows {F : Type 0} (reading : Reading) (old new : Option F) (leave
   pub closed : end ≡ Store → IsSome new
   pub left : old ≡ None → (trees : Trees) → leaves trees → IsLeftByImport reading s trees
 
--- A file was imported: which bytes it has is known to no clause, so some bytes.
-abbrev pub ImportsFile : {F : Type 0} → ImportKind → List ℕ → CivilDay → Option F → Option F → (Trees → Type 0) → State
-    → State → RunEnd → Type 0
-ImportsFile kind document day old new leaves s s' end =
+-- A file was imported: which bytes it has is known to no clause, so some bytes. Rows might be named in it, or not.
+abbrev pub ImportsFile : {F : Type 0} → Bool → ImportKind → List ℕ → CivilDay → Option F → Option F → (Trees → Type 0)
+    → State → State → RunEnd → Type 0
+ImportsFile names kind document day old new leaves s s' end =
     Unread old new leaves s s' end
-    ⊎ ((bytes : List ℕ) × RunsRows (import kind document day bytes) old new leaves s s' end)
+    ⊎ ((bytes : List ℕ) × RunsRows (import (naming names s) kind document day bytes) old new leaves s s' end)

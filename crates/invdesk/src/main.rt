@@ -11,10 +11,11 @@ ghost use Rattle.sqlite.specs.Files.{over_files};
 ghost use Rattle.desk_core.specs.ShopView.{state_of};
 ghost use Rattle.desk_store.specs.Desks.{IsDesk};
 ghost use Rattle.desk_app.specs.Statuses.{early_status};
+ghost use Rattle.desk_app.specs.Subjects.{row_of_report};
 ghost use Rattle.desk_app.specs.Words.{file_of};
 ghost use Rattle.invdesk.specs.Files.{ActsOnFile, Comes, IsClosedAfter, IsMoved, IsTaken};
 ghost use Rattle.invdesk.specs.Memory.{DoesInMemory};
-ghost use Rattle.invdesk.specs.Prints.{Prints};
+ghost use Rattle.invdesk.specs.Prints.{Prints, PrintsOfRow};
 ghost use Rattle.invdesk.specs.Rows.{ImportsFile, IsOfFile};
 ghost use Rattle.invdesk.specs.Statuses.{EndsWith, IsStatusAfter, IsStatusOf, IsStatusOnFile};
 ghost use Rattle.invdesk.specs.Statuses.{IsToldAtOnce};
@@ -22,22 +23,24 @@ ghost use Rattle.invdesk.specs.Works.{Does, RunsOnDesk, ServesDesk, may_leave};
 
 use crate::serve::serve;
 use desk_app::{
-    Books, BooksService, CountedBooks, DEVICE, FaultyFile, FileFault, MEMORY, RunEnd, Stop, Task,
-    WatchedDesk, connect, connect_to_old, early_status, end_of_work, escaped, import_file, let_go,
-    migrate_desk, print_export, print_migrated, print_report, read_file, read_words, run_in_memory,
-    run_lines, status_of, status_of_fault, take_desk, told_line,
+    Books, BooksService, CountedBooks, DEVICE, FaultyFile, FileFault, MEMORY, NoRow, ReportOf,
+    RunEnd, Stop, Task, WatchedDesk, connect, connect_to_old, early_status, end_of_work, escaped,
+    import_file, let_go, migrate_desk, no_row_text, print_export, print_migrated, print_report,
+    read_file, read_words, row_of_report, run_in_memory, run_lines, status_of, status_of_fault,
+    take_desk, told_line,
 };
 use desk_core::Shop;
 use desk_store::Desk;
 use desk_wire::{Document, ImportKind};
 use part_core::{Day, Limits};
+use report_core::ReportName;
 use sqlite::{Error, File, FileStore, Files};
 use sqlite_disk::Disk;
 use std::alloc::{AllocError, Global};
 use std::env::{self, Env};
 use std::fmt::Display;
 use std::fs;
-use std::io::{self, Input, IsTerminal, Stderr, Write};
+use std::io::{self, BufWriter, Input, IsTerminal, Stderr, Write};
 use std::process::ExitCode;
 
 /// The words that the program is called with, the first its name. Which these are is known to no clause.
@@ -135,11 +138,12 @@ fn import<B: Books>(
     kind: ImportKind,
     document: &Document,
     day: Day,
+    names: bool,
     books: &mut B,
 ) -> RunEnd
     requires { B.are_kept books.old }
     ensures kept { B.are_kept books.new }
-    ensures imports { ImportsFile kind document.now day (B.failure_of books.old)
+    ensures imports { ImportsFile names kind document.now day (B.failure_of books.old)
         (B.failure_of books.new) (B.may_leave books.new) (B.state_in books.old)
         (B.state_in books.new) result }
 {
@@ -151,6 +155,7 @@ fn import<B: Books>(
                 kind,
                 document,
                 day,
+                names,
                 &mut io::writer(rt),
                 books,
             )
@@ -168,9 +173,35 @@ fn terminal(rt: &HostRuntime) -> Option<Stderr> {
 /// What a line ends with that tells of a fault of the database, while clients are served.
 const SERVED: &str = "; all requests fail until the service is started again";
 
+/// Prints the report of that name, of the row that the words say. Where a word says none, it is told why.
+fn print_of_row<W: Write>(
+    rt: &HostRuntime,
+    name: ReportName,
+    of: ReportOf<'_>,
+    desk: &Desk<FileStore<File>>,
+    writer: &mut W,
+) -> RunEnd
+    requires { IsDesk over_files desk.now }
+    ensures { PrintsOfRow name (row_of_report name of.entry (state_of desk.now.shop))
+        (state_of desk.now.shop) (W.contents writer.old) (W.contents writer.new) result }
+{
+    match row_of_report(rt.alloc(), desk, name, of) {
+        Ok(number) => print_report(rt.alloc(), desk, name, number, writer),
+        Err(NoRow::Wrong(what)) => {
+            if let ReportOf::Word(word) = of {
+                let why = no_row_text(&what);
+                tell_line(rt, format_args!("{word}: {why}"));
+            }
+            RunEnd::Done(false)
+        }
+        Err(NoRow::Memory) => RunEnd::Memory,
+        Err(NoRow::Closed) => RunEnd::Store,
+    }
+}
+
 /// Prints what the words ask for, of the desk.
 fn print<W: Write>(
-    alloc: Global,
+    rt: &HostRuntime,
     task: &Task<'_>,
     desk: &Desk<FileStore<File>>,
     writer: &mut W,
@@ -180,10 +211,25 @@ fn print<W: Write>(
         (W.contents writer.new) result }
 {
     match task {
-        Task::Report(_, name, number) => print_report(alloc, desk, *name, *number, writer),
+        Task::Report { name, of, .. } => print_of_row(rt, *name, *of, desk, writer),
         Task::Export(_, table) => print_export(desk, *table, writer),
         Task::Migrate(_) => print_migrated(writer),
         _ => RunEnd::Done(true),
+    }
+}
+
+/// How many bytes of what is printed wait, so that lines aren't written one by one.
+const PRINTED_AT_ONCE: usize = 65_536;
+
+/// Prints what the words ask for, of the desk, on the standard output. Where there is no memory for a buffer, what is
+/// printed waits in none.
+fn print_out(rt: &HostRuntime, task: &Task<'_>, desk: &Desk<FileStore<File>>) -> RunEnd
+    requires { IsDesk over_files desk.now }
+    ensures { Prints task.now (state_of desk.now.shop) None None result }
+{
+    match BufWriter::with_capacity(rt.alloc(), PRINTED_AT_ONCE, io::writer(rt)) {
+        Ok(mut buffered) => print(rt, task, desk, &mut buffered),
+        Err(_) => print(rt, task, desk, &mut io::writer(rt)),
     }
 }
 
@@ -209,15 +255,15 @@ fn closed(rt: &HostRuntime, path: &str, desk: Desk<FileStore<File>>, end: RunEnd
 /// A desk after work on it, and how the work ended.
 type Worked = (Desk<FileStore<File>>, RunEnd);
 
-/// Answers the lines of the standard input with the desk, whose file is told by that name.
-fn run_on(rt: &HostRuntime, desk: Desk<FileStore<File>>, name: String) -> Worked
+/// Answers the lines of the standard input with the desk, whose file is told by that name. Lines may name rows or not.
+fn run_on(rt: &HostRuntime, names: bool, desk: Desk<FileStore<File>>, name: String) -> Worked
     requires { IsDesk over_files desk }
     ensures desk { IsDesk over_files result.0 }
-    ensures runs { RunsOnDesk over_files desk result.0 result.1 }
+    ensures runs { RunsOnDesk over_files names desk result.0 result.1 }
 {
     let mut watched = WatchedDesk::new(desk, name, "", rt.stderr());
     let (mut reader, mut writer) = (rt.reader(), io::writer(rt));
-    let end = run_lines(rt.alloc(), &mut reader, &mut writer, &mut watched);
+    let end = run_lines(rt.alloc(), &mut reader, &mut writer, &mut watched, names);
     (watched.into_desk(), end)
 }
 
@@ -227,16 +273,20 @@ fn serve_on(
     port: u16,
     count: Option<u64>,
     token: Option<&str>,
+    names: bool,
     desk: Desk<FileStore<File>>,
     name: String,
 ) -> Worked
     requires { IsDesk over_files desk }
     ensures desk { IsDesk over_files result.0 }
-    ensures serves { ServesDesk over_files port (is_some token.entry) count desk
+    ensures serves { ServesDesk over_files names port (is_some token.entry) count desk
         result.0 result.1 }
 {
     let watched = WatchedDesk::new(desk, name, SERVED, rt.stderr());
-    let mut service = BooksService { books: watched };
+    let mut service = BooksService {
+        books: watched,
+        names,
+    };
     let end = serve(rt, port, count, token, &mut service);
     (service.books.into_desk(), end)
 }
@@ -248,17 +298,18 @@ fn import_on(
     kind: ImportKind,
     document: &Document,
     day: Day,
+    names: bool,
     desk: Desk<FileStore<File>>,
     name: String,
 ) -> Worked
     requires { IsDesk over_files desk }
     ensures desk { IsDesk over_files result.0 }
-    ensures imports { ImportsFile kind document.now day desk.failed result.0.failed
+    ensures imports { ImportsFile names kind document.now day desk.failed result.0.failed
         (may_leave over_files result.0) (state_of desk.shop) (state_of result.0.shop) result.1 }
 {
     let watched = WatchedDesk::new(desk, name, "", rt.stderr());
     let mut counted = CountedBooks::new(watched, terminal(rt));
-    let end = import(rt, path, kind, document, day, &mut counted);
+    let end = import(rt, path, kind, document, day, names, &mut counted);
     (counted.into_books().into_desk(), end)
 }
 
@@ -269,22 +320,24 @@ fn done(rt: &HostRuntime, task: &Task<'_>, desk: Desk<FileStore<File>>, name: St
     ensures does { Does over_files task.now desk result.0 result.1 }
 {
     match task {
-        Task::Run(_) => run_on(rt, desk, name),
+        Task::Run { names, .. } => run_on(rt, *names, desk, name),
         Task::Serve {
             port,
             count,
             token,
+            names,
             ..
-        } => serve_on(rt, *port, *count, *token, desk, name),
+        } => serve_on(rt, *port, *count, *token, *names, desk, name),
         Task::Import {
             kind,
             document,
             day,
             path,
+            names,
             ..
-        } => import_on(rt, path, *kind, document, *day, desk, name),
+        } => import_on(rt, path, *kind, document, *day, *names, desk, name),
         _ => {
-            let end = print(rt.alloc(), task, &desk, &mut io::writer(rt));
+            let end = print_out(rt, task, &desk);
             (desk, end)
         }
     }
@@ -367,19 +420,25 @@ fn act_in_memory(rt: &HostRuntime, task: &Task<'_>) -> RunEnd
     ensures { DoesInMemory task.now result }
 {
     let alloc = rt.alloc();
-    if let Task::Serve {
-        port,
-        count,
-        token,
-        ..
-    } = task
-    {
-        let mut service = BooksService {
-            books: Shop::new(alloc, Limits::LARGEST),
-        };
-        return serve(rt, *port, *count, *token, &mut service);
+    match task {
+        Task::Serve {
+            port,
+            count,
+            token,
+            names,
+            ..
+        } => {
+            let mut service = BooksService {
+                books: Shop::new(alloc, Limits::LARGEST),
+                names: *names,
+            };
+            serve(rt, *port, *count, *token, &mut service)
+        }
+        Task::Run { names, .. } => {
+            run_in_memory(alloc, &mut rt.reader(), &mut io::writer(rt), *names)
+        }
+        _ => unreachable!(),
     }
-    run_in_memory(alloc, &mut rt.reader(), &mut io::writer(rt))
 }
 
 /// Does what the words ask for, with the desk of the file, or with new books in memory.

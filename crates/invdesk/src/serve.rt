@@ -65,7 +65,7 @@ pub fn serve<B: Books>(
 ) -> RunEnd
     requires { B.are_kept service.old.books }
     ensures kept { B.are_kept service.new.books }
-    ensures serves { ServesClients B.state_in B.failure_of B.may_leave port
+    ensures serves { ServesClients B.state_in B.failure_of B.may_leave service.old.names port
         (is_some token.entry) count service.old service.new result }
 {
     let access = match access(rt, port, token) {

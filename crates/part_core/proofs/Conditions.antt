@@ -17,6 +17,12 @@ first-before [] ds x e = cc
 first-before ((true, y) ∷ cs) ds x e = e
 first-before ((false, y) ∷ cs) ds x e = first-before cs ds x e
 
+-- where no refusal is given, none is where fewer conditions are asked
+pub none-before : (cs ds : List Check) → first (cs ++ ds) ≡ None → first cs ≡ None
+none-before [] ds e = refl
+none-before ((true, x) ∷ cs) ds e = e
+none-before ((false, x) ∷ cs) ds e = none-before cs ds e
+
 pub or_cases : (a b : Bool) → (a || b) ≡ true → (a ≡ true) ⊎ (b ≡ true)
 or_cases true b e = inl refl
 or_cases false b e = inr e

@@ -19,11 +19,6 @@ use Rattle.part_core.proofs.Scans.{of_rows}
 use Rattle.part_core.proofs.Selects.{passing, values-passing, none-passing}
 use Rattle.part_core.proofs.Selects.{AreAbove, AreAbove-passing, Rises, Rises-from}
 
--- one number rises
-pub Rise-one : (n : ℕ) → Rise (n ∷ [])
-unfolding IsStrictlySortedBy
-Rise-one n = (tt, tt)
-
 module _ {X : Type 0} (p : X → Bool) where
   pub filter-taken : (k : List ℕ) (x : X) (rs : List (List ℕ × X)) → p x ≡ true
       → filter p (of_rows (with_row k (Some x) rs)) ≡ x ∷ filter p (of_rows rs)

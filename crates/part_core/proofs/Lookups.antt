@@ -28,9 +28,6 @@ same_test : {K : Type 0} (digits : K → List ℕ) (eq : K → K → Bool)
     (exact : (a b : K) → IsTrue (eq a b) ↔ (digits a ≡ digits b)) (a b : K) → eq a b ≡ key_eq (digits a) (digits b)
 same_test digits eq exact a b = key_eq_is (eq a b) (digits a) (digits b) (exact a b).0 (exact a b).1
 
-pub same_held : {X : Type 0} (a b : Held X) → Some a ≡ Some b → a ≡ b
-same_held a b e = cc
-
 -- a key stands within the slots
 pub within-key : {X : Type 0} (es : List (List ℕ × X)) (i : ℕ) (k : List ℕ) → HasKeyAt es i k → i < length es
 within-key [] i k at = cc

@@ -14,7 +14,3 @@ is_index_key key keys = list_any (λ other. other == key) keys
 -- whatever passes the test has the key
 abbrev pub IsFiledUnder : {X : Type 0} → (X → List ℕ) → ℕ → (X → Bool) → Type 0
 IsFiledUnder {X} keys key p = (x : X) → p x ≡ true → is_index_key key (keys x) ≡ true
-
--- whatever passes the test has the number
-abbrev pub IsOfNumber : {X : Type 0} → (X → List ℕ) → ℕ → (X → Bool) → Type 0
-IsOfNumber {X} key_of number p = (x : X) → p x ≡ true → key_of x ≡ number ∷ []

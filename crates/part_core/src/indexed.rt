@@ -4,7 +4,7 @@ ghost use Rattle.std.specs.Prelude.{IfOk, IfSome, OnOk, OnErr, map, filter, nat_
 ghost use Rattle.std.specs.List.{list_any};
 ghost use Rattle.std.specs.FinMap as table;
 ghost use Rattle.part_core.specs.Filled.{filled, StandUnderKeys};
-ghost use Rattle.part_core.specs.Indexed.{IsFiledUnder, IsOfNumber, index_key_of};
+ghost use Rattle.part_core.specs.Indexed.{IsFiledUnder, index_key_of};
 ghost use Rattle.part_core.specs.Select.{IsMeasure, IsTest};
 ghost use Rattle.part_core.specs.Sheet.{now_of};
 
@@ -31,24 +31,6 @@ pub fn index_key_of<L: Hash + Drop>(lookup: L) -> u64
 {
     let hasher: BuildHasherDefault<FoldHasher> = BuildHasherDefault::new();
     hasher.hash_one(lookup)
-}
-
-// The row, where it passes the test. An error is one of memory.
-fn passing<'a, R: Indexed, F: Fn(&R) -> bool>(
-    alloc: Global,
-    row: &'a R,
-    test: F,
-) -> Result<Vec<&'a R>, AllocError>
-    requires { F.IsAlwaysCallable test }
-    ensures { IfOk result (λ rows. (p : R → Bool)
-        → IsTest F.Fn test p → map (λ r. r.now) rows.items ≡ filter p (row.now ∷ [])) }
-{
-    let mut found = Vec::new(alloc);
-    if test(row) {
-        found.push(row)?;
-        return Ok(found);
-    }
-    Ok(found)
 }
 
 /// A table in memory, as `Sheet`, with an index: the numbers of the rows that have an index key are found without a
@@ -147,32 +129,6 @@ impl<R: Indexed> IndexedSheet<R> {
             → result ≡ sum_by f (table.values (now_of self.now)) }
     {
         self.index.sum_rows::<R, F>(&self.sheet, key, measure)
-    }
-
-    /// Whether a row passes the test, which none does that has another number: one look-up, which takes no memory.
-    pub fn any_at<F: Fn(&R) -> bool>(&self, number: u64, test: F) -> bool
-        requires { F.IsAlwaysCallable test }
-        ensures { (p : R → Bool) → IsTest F.Fn test p → IsOfNumber R.key_of number p
-            → result ≡ list_any p (table.values (now_of self.now)) }
-    {
-        match self.sheet.get(&number) {
-            Some(row) => test(row),
-            None => false,
-        }
-    }
-
-    /// The rows that pass the test, of which there is one at most, where none does that has another number: one
-    /// look-up. An error is one of memory.
-    pub fn select_at<F: Fn(&R) -> bool>(&self, number: u64, test: F) -> Result<Vec<&R>, AllocError>
-        requires { F.IsAlwaysCallable test }
-        ensures { IfOk result (λ rows. (p : R → Bool)
-            → IsTest F.Fn test p → IsOfNumber R.key_of number p
-            → map (λ r. r.now) rows.items ≡ filter p (table.values (now_of self.now))) }
-    {
-        match self.sheet.get(&number) {
-            Some(row) => passing::<R, F>(self.alloc, row, test),
-            None => Ok(Vec::new(self.alloc)),
-        }
     }
 
     /// The rows that pass the test, in order of number, where none does that lacks the index key: a look at the rows

@@ -106,24 +106,69 @@ fn a_stocktake(rt: HostRuntime) -> Result<(), Fail> {
     counts(alloc, &mut shop)
 }
 
-/// A fault at the last row: none is run.
-#[test]
-fn a_faulty_file(rt: HostRuntime) -> Result<(), Fail> {
-    let alloc = rt.alloc();
+const HEADER: &str = "number,line,location,quantity,batch,serials\n";
+
+/// Rows of a delivery with LFs behind them, until the file has so many bytes, and whether its import is fine, with what is
+/// told. None of the rows is run, not even those that are right.
+const FAULTY: [(&str, usize, bool, &str); 5] = [
+    (
+        "1,5,1,100,L1,\n2,5,1,x,,\n",
+        0,
+        false,
+        "{\"fault\":\"WrongType\",\"line\":3}\n",
+    ),
+    (
+        "1,5,1,100,L1\n2,5,1,50,,\n",
+        0,
+        false,
+        "{\"fault\":\"Csv\",\"line\":2}\n",
+    ),
+    (
+        "01,5,1,100,L1,\n2,5,1,50,,\n",
+        0,
+        false,
+        "{\"fault\":\"WrongType\",\"line\":2}\n",
+    ),
+    ("", 0, true, ""),
+    (
+        "1,5,1,100,L1,\n",
+        16_777_217,
+        false,
+        "{\"fault\":\"TooLong\",\"line\":0}\n",
+    ),
+];
+
+/// Imports such a file: how that ends, and what is told. Then there is no stock.
+fn imports_none(alloc: Global, rows: &str, length: usize) -> Result<(RunEnd, Sink), Fail> {
+    let mut file = Vec::new(alloc);
+    file.extend_from_slice(HEADER.as_bytes())?;
+    file.extend_from_slice(rows.as_bytes())?;
+    file.resize(file.len().max(length), b'\n')?;
     let mut shop = ordered(alloc)?;
-    let faulty = "number,line,location,quantity,batch,serials\n1,5,1,100,L1,\n2,5,1,x,,\n";
-    let mut sink = Sink::new(alloc, 4096);
-    let end = imports(
+    let mut sink = Sink::new(alloc, 1);
+    let end = import_file(
         alloc,
-        &mut shop,
+        &file,
         ImportKind::Receipts,
-        "2030-03-01",
-        faulty,
+        &document(alloc)?,
+        day("2030-03-01")?,
+        false,
         &mut sink,
-    )?;
-    assert!(rt; end == RunEnd::Done(false));
-    assert!(rt; sink.bytes.as_slice() == "{\"fault\":\"WrongType\",\"line\":3}\n".as_bytes());
-    plays_on_shop(alloc, &mut shop, STOCK, "{\"report\":[]}\n")
+        &mut shop,
+    );
+    plays_on_shop(alloc, &mut shop, STOCK, "{\"report\":[]}\n")?;
+    Ok((end, sink))
+}
+
+#[test]
+fn faulty_files(rt: HostRuntime) -> Result<(), Fail> {
+    let alloc = rt.alloc();
+    for (rows, length, fine, told) in FAULTY {
+        let (end, sink) = imports_none(alloc, rows, length)?;
+        assert!(rt; end == RunEnd::Done(fine), "{told}");
+        assert!(rt; sink.bytes.as_slice() == told.as_bytes(), "{told}");
+    }
+    Ok(())
 }
 
 /// Where the report isn't written, the rows were run: the file is sent again, and its report is whole.
@@ -187,6 +232,7 @@ fn tells_how_many(alloc: Global, times: u64, told: &str) -> Result<(), Fail> {
         ImportKind::Counts,
         &document(alloc)?,
         day("2030-03-02")?,
+        false,
         &mut Sink::new(alloc, 4096),
         &mut books,
     );

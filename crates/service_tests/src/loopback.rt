@@ -1,5 +1,5 @@
 //! Clients on the loopback, over sockets: each has asked before the first is answered.
-use crate::requests::{LINES, NOTHING};
+use crate::requests::{FIRST, LINES, NOTHING};
 use desk_app::BooksService;
 use desk_core::Shop;
 use desk_http::{Access, Clients, serve_connections};
@@ -9,10 +9,6 @@ use std::alloc::Global;
 use std::io::{self, Read, Write};
 use std::net::{Ipv4Addr, Shutdown, TcpListener, TcpStream};
 use std::test::Fail;
-
-/// What is answered where a location is the first row of all.
-const FIRST: &str =
-    "HTTP/1.1 200 OK\r\nContent-Type: application/json\r\nContent-Length: 24\r\nConnection: close\r\n\r\n{\"entries\":0,\"ids\":[1]}\n";
 
 /// A client that has sent its request, and says no more.
 fn asked(rt: &HostRuntime, listener: &TcpListener, request: &str) -> io::Result<TcpStream> {
@@ -33,9 +29,12 @@ fn got(alloc: Global, mut client: TcpStream, answer: &str) -> Result<(), Fail> {
 fn serve_loopback(rt: HostRuntime) -> Result<(), Fail> {
     let alloc = rt.alloc();
     let books = Shop::new(alloc, Limits::LARGEST);
-    let mut service = BooksService { books };
+    let mut service = BooksService {
+        books,
+        names: false,
+    };
     let listener = TcpListener::bind(&rt, (Ipv4Addr::LOCALHOST, 0))?;
-    let first = asked(&rt, &listener, LINES[0][0])?;
+    let first = asked(&rt, &listener, FIRST[0])?;
     let second = asked(&rt, &listener, NOTHING[0][0])?;
     // One that drops its connection amid the request costs nothing but the connection.
     let third = asked(&rt, &listener, "GET /repo")?;
@@ -43,7 +42,7 @@ fn serve_loopback(rt: HostRuntime) -> Result<(), Fail> {
     let access = Access::new(alloc, listener.local_addr()?.port(), None)?;
     let mut clients = Clients::of(listener);
     serve_connections(&rt, alloc, &mut clients, 4, &mut service, &access)?;
-    got(alloc, first, FIRST)?;
+    got(alloc, first, FIRST[1])?;
     got(alloc, second, NOTHING[0][1])?;
     got(alloc, third, "")?;
     got(alloc, fourth, LINES[1][1])

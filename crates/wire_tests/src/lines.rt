@@ -1,7 +1,9 @@
 //! Lines that are read, and lines that are written.
 use crate::shown::{show, show_request};
+use desk_core::Shop;
 use desk_wire::{
-    ReadError, What, WireFault, answer_text, fault_text, read_line, read_request, refused_text,
+    FieldName, ReadError, What, WireFault, answer_text, fault_text, read_line, read_request,
+    refused_text,
 };
 use part_core::{Answer, Ids, Refusal};
 use std::test::Fail;
@@ -120,9 +122,11 @@ fn reads_each_command(rt: HostRuntime) -> Result<(), Fail> {
         ),
     ] {
         let want = format!(in alloc; "Day {{ year: 2030, month: 1, day: 2 }} {want}")?;
-        let wish = read_line(alloc, line.as_bytes(), 1).map_err(|_| "it is a line")?;
+        let wish = read_line::<Shop>(alloc, None, line.as_bytes(), 1).map_err(|_| "it is a line")?;
         assert_eq!(rt; show(alloc, &wish)?, want, "at {line}");
-        let request = read_request(alloc, line.as_bytes(), 1).map_err(|_| "it is a request")?;
+        let request = read_request::<Shop>(alloc, None, line.as_bytes(), 1).map_err(
+            |_| "it is a request",
+        )?;
         assert_eq!(rt; show_request(alloc, &request)?, want, "at {line}");
     }
     Ok(())
@@ -186,7 +190,9 @@ fn reads_commands_on_orders(rt: HostRuntime) -> Result<(), Fail> {
     let alloc = rt.alloc();
     for (line, want) in OF_ORDERS {
         let want = format!(in alloc; "Day {{ year: 2030, month: 1, day: 2 }} {want}")?;
-        let request = read_request(alloc, line.as_bytes(), 1).map_err(|_| "it is a request")?;
+        let request = read_request::<Shop>(alloc, None, line.as_bytes(), 1).map_err(
+            |_| "it is a request",
+        )?;
         assert_eq!(rt; show_request(alloc, &request)?, want, "at {line}");
     }
     Ok(())
@@ -277,7 +283,9 @@ fn reads_commands_on_builds(rt: HostRuntime) -> Result<(), Fail> {
     let alloc = rt.alloc();
     for (line, want) in OF_BUILDS {
         let want = format!(in alloc; "Day {{ year: 2030, month: 1, day: 2 }} {want}")?;
-        let request = read_request(alloc, line.as_bytes(), 1).map_err(|_| "it is a request")?;
+        let request = read_request::<Shop>(alloc, None, line.as_bytes(), 1).map_err(
+            |_| "it is a request",
+        )?;
         assert_eq!(rt; show_request(alloc, &request)?, want, "at {line}");
     }
     Ok(())
@@ -298,15 +306,15 @@ fn reads_keys_and_reports(rt: HostRuntime) -> Result<(), Fail> {
         (r#"{"report":"content","of":5}"#, "Content of 5"),
         (r#"{"of":6,"report":"shortage"}"#, "Shortage of 6"),
     ] {
-        let wish = read_line(alloc, line.as_bytes(), 1).map_err(|_| "it is a line")?;
+        let wish = read_line::<Shop>(alloc, None, line.as_bytes(), 1).map_err(|_| "it is a line")?;
         assert_eq!(rt; show(alloc, &wish)?.as_str(), want, "at {line}");
     }
-    let report = read_request(alloc, br#"{"of":2,"report":"ledger"}"#, 5).err();
-    let fault = WireFault {
-        line: 5,
-        what: What::NoField,
+    let read = read_request::<Shop>(alloc, None, br#"{"of":2,"report":"ledger"}"#, 5);
+    let told = match &read {
+        Err(ReadError::Wrong(fault)) => (fault.what.name(), fault.line),
+        _ => ("none", 0),
     };
-    assert_eq!(rt; report, Some(ReadError::Wrong(fault)));
+    assert_eq!(rt; told, ("NoField", 5));
     Ok(())
 }
 
@@ -329,5 +337,14 @@ fn writes_lines(rt: HostRuntime) -> Result<(), Fail> {
     };
     let text = fault_text(alloc, fault)?;
     assert_eq!(rt; text.as_str(), "{\"fault\":\"NotJson\",\"line\":12}\n");
+    let fault = WireFault {
+        line: 7,
+        what: What::NoName(FieldName::new("location")),
+    };
+    let text = fault_text(alloc, fault)?;
+    assert_eq!(rt;
+        text.as_str(),
+        "{\"fault\":\"NoName\",\"field\":\"location\",\"line\":7}\n"
+    );
     Ok(())
 }

@@ -1,15 +1,26 @@
 //! The words that the program is called with, and what they ask for.
-use desk_app::{Task, early_status, read_words};
+use desk_app::{ReportOf, Task, early_status, read_words};
 use std::alloc::{AllocError, Global};
 use std::fs;
 use std::test::Fail;
 
+/// Whether rows may be named.
+fn named(names: bool) -> &'static str {
+    if names { " named" } else { "" }
+}
+
 /// What is asked for, on one line.
 fn told(alloc: Global, task: &Task<'_>) -> Result<String, AllocError> {
     match task {
-        Task::Run(None) => format!(in alloc; "run"),
-        Task::Run(Some(file)) => format!(in alloc; "run {file}"),
-        Task::Report(file, name, number) => format!(in alloc; "report {file} {name:?} {number}"),
+        Task::Run { file: None, names } => format!(in alloc; "run{}", named(*names)),
+        Task::Run {
+            file: Some(file),
+            names,
+        } => format!(in alloc; "run{} {file}", named(*names)),
+        Task::Report { file, name, of } => match of {
+            ReportOf::Number(number) => format!(in alloc; "report {file} {name:?} {number}"),
+            ReportOf::Word(word) => format!(in alloc; "report {file} {name:?} called {word}"),
+        },
         Task::Export(file, table) => format!(in alloc; "export {file} {table:?}"),
         Task::Migrate(file) => format!(in alloc; "migrate {file}"),
         Task::Import {
@@ -18,16 +29,22 @@ fn told(alloc: Global, task: &Task<'_>) -> Result<String, AllocError> {
             document,
             day,
             path,
+            names,
         } => {
             let (document, day) = (document.as_str(), day.text(alloc)?);
-            format!(in alloc; "import {file} {kind:?} {document} {day} {path}")
+            let named = named(*names);
+            format!(in alloc; "import{named} {file} {kind:?} {document} {day} {path}")
         }
         Task::Serve {
             file,
             port,
             count,
             token,
-        } => format!(in alloc; "serve {file:?} {port} {count:?} {token:?}"),
+            names,
+        } => {
+            let named = named(*names);
+            format!(in alloc; "serve{named} {file:?} {port} {count:?} {token:?}")
+        }
         Task::Help(text) | Task::Wrong(text) => {
             let text = format!(in alloc; "{text}")?;
             format!(in alloc; "{text:?}")

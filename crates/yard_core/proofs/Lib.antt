@@ -29,3 +29,4 @@ pub mod Filed
 pub mod Quiet
 pub mod QuietMoves
 pub mod Marking
+pub mod NamesStay

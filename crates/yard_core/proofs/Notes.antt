@@ -5,19 +5,17 @@ use Rattle.std.specs.FinMap.Entries.{put}
 use Rattle.std.proofs.lemmas.List.{append_assoc, append-nil, map-append, length-map, length-append}
 use Rattle.std.specs.Cmp.{nat_cmp_is}
 use Rattle.std.specs.Ordering.{ordering_then}
-use Rattle.std.specs.declared.cmp.Ordering.TheVariants.{Less, Equal, Greater}
+use Rattle.std.specs.declared.cmp.Ordering.TheVariants.{Less, Equal}
 use Rattle.part_core.specs.Day.{CivilDay}
 use Rattle.part_core.specs.Sheet.{Table, key_cmp}
 use Rattle.part_core.proofs.Keys.{keys_total}
 use Rattle.part_core.proofs.Ends.{IsPast, put-last}
+use Rattle.part_core.proofs.Logs.{above}
 use Rattle.forest.specs.declared.entry.Entry.{Entry}
 use Rattle.forest.specs.declared.entry.Note.{Note}
 use Rattle.yard_core.specs.Stock.{Stock, notes, next_entry, numbered, put_all, recorded_in, keyed, IsRun, IsHistory}
 
--- a number above another, as keys
-pub above : (n m : ℕ) → m < n → key_cmp (n ∷ []) (m ∷ []) ≡ Greater
-above n m lt = ap (λ o. ordering_then o Equal) (sym (nat_cmp_is n m Greater lt))
-
+-- a number below another, as keys
 pub below : (n m : ℕ) → n < m → key_cmp (n ∷ []) (m ∷ []) ≡ Less
 below n m lt = ap (λ o. ordering_then o Equal) (sym (nat_cmp_is n m Less lt))
 

@@ -16,7 +16,8 @@ use Rattle.forest.specs.declared.item.Item.{Item}
 use Rattle.forest.specs.Forest.{insert_row}
 use Rattle.forest.specs.Rows.{row_at, set_row}
 use Rattle.yard_core.specs.Stock.{keyed}
-use Rattle.yard_core.proofs.Notes.{values-keyed, above, below}
+use Rattle.part_core.proofs.Logs.{above}
+use Rattle.yard_core.proofs.Notes.{values-keyed, below}
 
 greater : (k q : List ℕ) → key_eq k q ≡ false → (key_cmp k q ≢ Less) → key_cmp k q ≡ Greater
 greater k q other low = elim (key_cmp k q) as (λ r. key_cmp k q ≡ r → is_eq r ≡ false → r ≡ Greater) [

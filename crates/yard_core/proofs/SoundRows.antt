@@ -3,11 +3,10 @@ use Rattle.std.proofs.Common.{◌≡◌, ◌≤◌, ◌<◌, ◌+◌, ℕ, [], �
 use Rattle.std.specs.FinMap as table
 use Rattle.part_core.specs.Checks.{first}
 use Rattle.part_core.specs.NamedRows.{HasParent}
-use Rattle.part_core.specs.Rows.{IsThere}
 use Rattle.part_core.proofs.Conditions.{none-holds}
 use Rattle.part_core.proofs.NamedRows.{parents-new}
-use Rattle.part_core.proofs.RowLemmas.{each-insert, each-so, right-empty, right-later, right-new}
-use Rattle.part_core.proofs.RowLemmas.{row_there, same_digit, there, there-insert, each-empty}
+use Rattle.part_core.proofs.RowLemmas.{right-empty, right-later, right-new}
+use Rattle.part_core.proofs.RowLemmas.{there, each-empty}
 use Rattle.part_core.proofs.SoundRows.{named_there}
 use Rattle.yard_core.specs.AddLocation.{add_location, add_location_checks}
 use Rattle.yard_core.specs.StockBooks.{StockBooks}

@@ -14,3 +14,4 @@ pub mod YardForms
 pub mod YardMachine
 pub mod YardView
 pub mod EntryLines
+pub mod ItemNames

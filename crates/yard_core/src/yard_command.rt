@@ -2,7 +2,7 @@
 ghost use Rattle.std.specs.Prelude.{◌≡◌};
 ghost use Rattle.yard_core.specs.BooksView.{books_before, books_now};
 ghost use Rattle.yard_core.specs.StockBooks.{Does};
-ghost use Rattle.yard_core.specs.YardMachine.{ChecksAreInOrder, EffectsAreSound, RowsStay, checks, effect};
+ghost use Rattle.yard_core.specs.YardMachine.{ChecksAreInOrder, EffectsAreSound, NamesStay, RowsStay, checks, effect};
 
 use crate::yard_books::YardBooks;
 use part_core::{Answer, CoreFault, Id, Ids, Name};
@@ -45,4 +45,9 @@ pub fn effects_are_sound()
 /// The law that no command of the yard takes a row away.
 pub fn rows_stay()
     ensures { RowsStay }
+{}
+
+/// The law that what a location is called under its parent it is called for good.
+pub fn names_stay()
+    ensures { NamesStay }
 {}

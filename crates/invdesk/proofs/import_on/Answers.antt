@@ -15,7 +15,7 @@ returns-clause-desk c = rw (c.into_desk.ensures, c.into_books.ensures) c.import-
 pub returns-clause-imports : goal.returns-clause-imports
 returns-clause-imports c =
     along c.args.desk c.into_desk.result c.new-counted.result.books.desk c.import-end.new.books.books.desk
-    (λ old new. ImportsFile c.args.kind c.args.document.now c.args.day old.failed new.failed
+    (λ old new. ImportsFile c.args.names c.args.kind c.args.document.now c.args.day old.failed new.failed
     (may_leave over_files new) (state_of old.shop) (state_of new.shop) c.import-end.result)
     (ap (λ watched. watched.desk) c.new-counted.ensures.books ∙ c.new-watched.ensures)
     (c.into_desk.ensures ∙ ap (λ watched. watched.desk) c.into_books.ensures)

@@ -1,12 +1,9 @@
 use Rattle.desk_core.specs.ShopView.{state_of}
-use Rattle.invdesk.proofs.Printing.{prints_lines, prints_migrated, prints_nothing, prints_report}
+use Rattle.invdesk.proofs.Printing.{prints_lines, prints_migrated, prints_nothing}
 use Rattle.invdesk.proofs.print.Goals as goal
 
 pub returns-in-Report : goal.returns-in-Report
-returns-in-Report g c =
-    rw c.in-Report.is
-    (prints_report _ _ _ _ _ c.print_report.result c.print_report.ensures.whole c.print_report.ensures.front
-    c.print_report.ensures.none c.print_report.ensures.nothing c.print_report.ensures.never)
+returns-in-Report g c = rw c.in-Report.is c.print_of_row.ensures
 
 pub returns-in-Export : goal.returns-in-Export
 returns-in-Export g c =

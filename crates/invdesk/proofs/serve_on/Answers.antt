@@ -9,7 +9,7 @@ returns-clause-desk c = rw c.into_desk.ensures c.serve-end.ensures.kept
 
 pub returns-clause-serves : goal.returns-clause-serves
 returns-clause-serves c = record {
-  before = record { books = c.new-watched.result };
+  before = record { books = c.new-watched.result; names = c.args.names };
   after = c.serve-end.new.service;
   was = c.new-watched.ensures;
   is = sym c.into_desk.ensures;

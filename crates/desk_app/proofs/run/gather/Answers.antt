@@ -12,12 +12,13 @@ use Rattle.desk_app.proofs.run.gather.Goals.{then-all, else-all}
 pub returns-in_err-lines-clause-stopped : goal.returns-in_err-lines-clause-stopped
 returns-in_err-lines-clause-stopped g c =
     if_err (λ stop. stop ≡ Memory)
-    (λ stop. Halts stop (g.R.Read.remaining c.args.reader.now) (g.W.Write.contents c.args.writer.now)
+    (λ stop. Halts c.args.names stop (g.R.Read.remaining c.args.reader.now) (g.W.Write.contents c.args.writer.now)
     (g.W.Write.contents c.args.writer.now) (g.B.Books.state_in c.args.books.now) (g.B.Books.state_in c.args.books.now)
     c.args.text.now.items
     (λ trees. (g.B.Books.failure_of c.args.books.now ≡ None) × g.B.Books.may_leave c.args.books.now trees))
     c.from_residual.result
-    (λ stop e. halts_start stop (g.R.Read.remaining c.args.reader.now) (g.W.Write.contents c.args.writer.now)
+    (λ stop e. halts_start c.args.names stop (g.R.Read.remaining c.args.reader.now)
+    (g.W.Write.contents c.args.writer.now)
     (g.B.Books.state_in c.args.books.now) c.args.text.now.items _ e c.requires.none
     (λ trees may. g.met.B.Books.leave_their_tables c.args.books.now c.requires.kept may.0 trees may.1))
     c.from_residual.ensures.1
@@ -25,7 +26,7 @@ returns-in_err-lines-clause-stopped g c =
 pub loop-number-init : goal.loop-number-init
 loop-number-init g c = record {
   running =
-      running_start (g.R.Read.remaining c.args.reader.now) _ (g.W.Write.contents c.args.writer.now)
+      running_start c.args.names (g.R.Read.remaining c.args.reader.now) _ (g.W.Write.contents c.args.writer.now)
       (g.B.Books.state_in c.args.books.now) c.args.text.now.items _
       (kept_start (g.R.Read.remaining c.args.reader.now) _ c.in_ok-lines.ensures.empty) c.requires.none
       (λ trees may. g.met.B.Books.leave_their_tables c.args.books.now c.requires.kept may.0 trees may.1);
@@ -37,13 +38,13 @@ loop-number-init g c = record {
 pub returns-in_err-settle_if_due-clause-stopped : goal.returns-in_err-settle_if_due-clause-stopped
 returns-in_err-settle_if_due-clause-stopped g c =
     if_err_as
-    (λ stop. Halts stop (g.R.Read.remaining c.args.reader.now) (g.W.Write.contents c.args.writer.now)
+    (λ stop. Halts c.args.names stop (g.R.Read.remaining c.args.reader.now) (g.W.Write.contents c.args.writer.now)
     (g.W.Write.contents c.settle_if_due.new.writer) (g.B.Books.state_in c.args.books.now)
     (g.B.Books.state_in c.settle_if_due.new.books) c.settle_if_due.new.text.items
     (λ trees. (g.B.Books.failure_of c.args.books.now ≡ None) × g.B.Books.may_leave c.settle_if_due.new.books trees))
     c.from_residual-in_err-settle_if_due.result c.in_err-settle_if_due.field-0.0
     c.from_residual-in_err-settle_if_due.ensures.1
-    (halts_unsettled c.in_err-settle_if_due.field-0.0 (g.R.Read.remaining c.args.reader.now) _
+    (halts_unsettled c.args.names c.in_err-settle_if_due.field-0.0 (g.R.Read.remaining c.args.reader.now) _
     (g.W.Write.contents c.args.writer.now) (g.W.Write.contents c.loop-number.writer)
     (g.W.Write.contents c.settle_if_due.new.writer) (g.B.Books.state_in c.args.books.now)
     (g.B.Books.state_in c.loop-number.books) (g.B.Books.state_in c.settle_if_due.new.books)
@@ -63,16 +64,16 @@ returns-in_err-settle_if_due-clause-kept g c =
 pub returns-in_err-next_line-clause-stopped : goal.returns-in_err-next_line-clause-stopped
 returns-in_err-next_line-clause-stopped g c =
     if_err_as
-    (λ stop. Halts stop (g.R.Read.remaining c.args.reader.now) (g.W.Write.contents c.args.writer.now)
+    (λ stop. Halts c.args.names stop (g.R.Read.remaining c.args.reader.now) (g.W.Write.contents c.args.writer.now)
     (g.W.Write.contents c.settle_if_due.new.writer) (g.B.Books.state_in c.args.books.now)
     (g.B.Books.state_in c.settle_if_due.new.books) c.settle_if_due.new.text.items
     (λ trees. (g.B.Books.failure_of c.args.books.now ≡ None) × g.B.Books.may_leave c.settle_if_due.new.books trees))
     c.from_residual-in_err-next_line.result c.in_err-next_line.field-0.0 c.from_residual-in_err-next_line.ensures.1
-    (halts_reading c.in_err-next_line.field-0.0 (g.R.Read.remaining c.args.reader.now) _
+    (halts_reading c.args.names c.in_err-next_line.field-0.0 (g.R.Read.remaining c.args.reader.now) _
     (g.W.Write.contents c.args.writer.now) (g.W.Write.contents c.settle_if_due.new.writer)
     (g.B.Books.state_in c.args.books.now) (g.B.Books.state_in c.settle_if_due.new.books) c.loop-number.number
     c.loop-number.all c.settle_if_due.new.text.items _ c.in_err-next_line.ensures.reading
-    (running_due g.B.Books.state_in g.B.Books.are_kept g.B.Books.failure_of g.B.Books.may_leave
+    (running_due c.args.names g.B.Books.state_in g.B.Books.are_kept g.B.Books.failure_of g.B.Books.may_leave
     g.met.B.Books.leave_their_tables (g.B.Books.failure_of c.args.books.now) _ _ _ _ _ _ _ _ _ _ _ _
     c.loop-number.invariant.running c.in_ok-settle_if_due.ensures.ok
     (λ before. c.in_ok-settle_if_due.ensures.stays_open (c.loop-number.invariant.stays_open before))))
@@ -94,12 +95,12 @@ returns-in_err-next_line-clause-stays_open g c =
 pub returns-then-not-branch-clause-done : goal.returns-then-not-branch-clause-done
 returns-then-not-branch-clause-done g c =
     let takes = rw c.if-not-branch.true at c.in_ok-next_line.ensures.takes in
-    gathered (g.R.Read.remaining c.args.reader.now) _
+    gathered c.args.names (g.R.Read.remaining c.args.reader.now) _
     (left (g.R.Read.remaining c.next_line.new.reader) c.next_line.new.self)
     (g.W.Write.contents c.args.writer.now) (g.W.Write.contents c.settle_if_due.new.writer)
     (g.B.Books.state_in c.args.books.now) (g.B.Books.state_in c.settle_if_due.new.books) c.loop-number.number
     c.loop-number.all c.next_line.new.line.items c.settle_if_due.new.text.items _
-    (running_due g.B.Books.state_in g.B.Books.are_kept g.B.Books.failure_of g.B.Books.may_leave
+    (running_due c.args.names g.B.Books.state_in g.B.Books.are_kept g.B.Books.failure_of g.B.Books.may_leave
     g.met.B.Books.leave_their_tables (g.B.Books.failure_of c.args.books.now) _ _ _ _ _ _ _ _ _ _ _ _
     c.loop-number.invariant.running c.in_ok-settle_if_due.ensures.ok
     (λ before. c.in_ok-settle_if_due.ensures.stays_open (c.loop-number.invariant.stays_open before)))
@@ -110,18 +111,18 @@ returns-in_err-fine-clause-stopped g c =
     let takes = rw c.if-not-branch.false at c.in_ok-next_line.ensures.takes in
     let cut = rw c.deref.ensures.value at c.in_err-fine.ensures.cut in
     if_err_as
-    (λ stop. Halts stop (g.R.Read.remaining c.args.reader.now) (g.W.Write.contents c.args.writer.now)
+    (λ stop. Halts c.args.names stop (g.R.Read.remaining c.args.reader.now) (g.W.Write.contents c.args.writer.now)
     (g.W.Write.contents c.settle_if_due.new.writer) (g.B.Books.state_in c.args.books.now)
     (g.B.Books.state_in c.add_line.new.books) c.add_line.new.text.items
     (λ trees. (g.B.Books.failure_of c.args.books.now ≡ None) × g.B.Books.may_leave c.add_line.new.books trees))
     c.from_residual-in_err-fine.result c.in_err-fine.field-0.0 c.from_residual-in_err-fine.ensures.1
-    (halts_line c.in_err-fine.field-0.0 (g.R.Read.remaining c.args.reader.now) _
+    (halts_line c.args.names c.in_err-fine.field-0.0 (g.R.Read.remaining c.args.reader.now) _
     (left (g.R.Read.remaining c.next_line.new.reader) c.next_line.new.self)
     (g.W.Write.contents c.args.writer.now) (g.W.Write.contents c.settle_if_due.new.writer)
     (g.B.Books.state_in c.args.books.now) (g.B.Books.state_in c.settle_if_due.new.books)
     (g.B.Books.state_in c.add_line.new.books) c.loop-number.number c.loop-number.all c.next_line.new.line.items
     c.settle_if_due.new.text.items c.add_line.new.text.items _ _
-    (running_due g.B.Books.state_in g.B.Books.are_kept g.B.Books.failure_of g.B.Books.may_leave
+    (running_due c.args.names g.B.Books.state_in g.B.Books.are_kept g.B.Books.failure_of g.B.Books.may_leave
     g.met.B.Books.leave_their_tables (g.B.Books.failure_of c.args.books.now) _ _ _ _ _ _ _ _ _ _ _ _
     c.loop-number.invariant.running c.in_ok-settle_if_due.ensures.ok
     (λ before. c.in_ok-settle_if_due.ensures.stays_open (c.loop-number.invariant.stays_open before)))
@@ -133,7 +134,7 @@ returns-in_err-fine-clause-kept g c =
     let cut = rw c.deref.ensures.value at c.in_err-fine.ensures.cut in
     if_err_as (λ stop. IsOfSettling stop → g.B.Books.are_kept c.add_line.new.books)
     c.from_residual-in_err-fine.result c.in_err-fine.field-0.0 c.from_residual-in_err-fine.ensures.1
-    (line_settles c.in_err-fine.field-0.0 (g.B.Books.state_in c.settle_if_due.new.books)
+    (line_settles c.args.names c.in_err-fine.field-0.0 (g.B.Books.state_in c.settle_if_due.new.books)
     (g.B.Books.state_in c.add_line.new.books) c.loop-number.number c.next_line.new.line.items
     (g.B.Books.failure_of c.settle_if_due.new.books) (g.B.Books.failure_of c.add_line.new.books) cut
     c.in_err-fine.ensures.stays_open
@@ -146,20 +147,21 @@ loop-number-preserved g c =
     let out = rw c.deref.ensures.value at c.in_ok-fine.ensures.text in
     let fine = rw c.deref.ensures.value at c.in_ok-fine.ensures.fine in
     let both : c.if-all.all ≡ (c.loop-number.all
-    && is_fine (g.B.Books.state_in c.settle_if_due.new.books) c.loop-number.number c.next_line.new.line.items) =
+    && is_fine c.args.names
+    (g.B.Books.state_in c.settle_if_due.new.books) c.loop-number.number c.next_line.new.line.items) =
     elim c.if-all.branch [
       | then-all w ↦ rw w.if-all.true (w.all-is ∙ fine)
       | else-all w ↦ rw w.if-all.false (w.all-is ∙ w.if-all.false)
     ] in
     record {
       running =
-          running_line (g.R.Read.remaining c.args.reader.now) _
+          running_line c.args.names (g.R.Read.remaining c.args.reader.now) _
           (left (g.R.Read.remaining c.next_line.new.reader) c.next_line.new.self)
           (g.W.Write.contents c.args.writer.now) (g.W.Write.contents c.settle_if_due.new.writer)
           (g.B.Books.state_in c.args.books.now) (g.B.Books.state_in c.settle_if_due.new.books)
           (g.B.Books.state_in c.add_line.new.books) c.loop-number.number c.loop-number.all c.if-all.all
           c.next_line.new.line.items c.settle_if_due.new.text.items c.add_line.new.text.items _ _
-          (running_due g.B.Books.state_in g.B.Books.are_kept g.B.Books.failure_of g.B.Books.may_leave
+          (running_due c.args.names g.B.Books.state_in g.B.Books.are_kept g.B.Books.failure_of g.B.Books.may_leave
           g.met.B.Books.leave_their_tables (g.B.Books.failure_of c.args.books.now) _ _ _ _ _ _ _ _ _ _ _ _
           c.loop-number.invariant.running c.in_ok-settle_if_due.ensures.ok
           (λ before. c.in_ok-settle_if_due.ensures.stays_open (c.loop-number.invariant.stays_open before)))
@@ -175,7 +177,7 @@ loop-number-preserved g c =
     }
 
 pub returns-clause-stopped : goal.returns-clause-stopped
-returns-clause-stopped g c = halting _ _ _ _ _ _ _ _ _ _ c.loop-number.invariant.running
+returns-clause-stopped g c = halting c.args.names _ _ _ _ _ _ _ _ _ _ c.loop-number.invariant.running
 
 pub returns-clause-kept : goal.returns-clause-kept
 returns-clause-kept g c settles = absurd settles
@@ -203,7 +205,7 @@ returns-in_err-fine-clause-open g c =
     let cut = rw c.deref.ensures.value at c.in_err-fine.ensures.cut in
     if_err_as (λ stop. stop ≡ WriteFailed → g.B.Books.failure_of c.add_line.new.books ≡ None)
     c.from_residual-in_err-fine.result c.in_err-fine.field-0.0 c.from_residual-in_err-fine.ensures.1
-    (line_writes c.in_err-fine.field-0.0 (g.B.Books.state_in c.settle_if_due.new.books)
+    (line_writes c.args.names c.in_err-fine.field-0.0 (g.B.Books.state_in c.settle_if_due.new.books)
     (g.B.Books.state_in c.add_line.new.books) c.loop-number.number c.next_line.new.line.items cut)
 
 pub returns-clause-open : goal.returns-clause-open

@@ -3,7 +3,7 @@ use Rattle.std.proofs.lemmas.Result.{IfOk-weaker}
 use Rattle.clap.specs.Words.{App, app_of, new_app, rule_of, with_rule}
 use Rattle.clap.specs.Simple.{app_of_fields}
 use Rattle.clap.specs.declared.builder.arg.Arg.{Arg}
-use Rattle.desk_app.specs.Words.{file_rule, kind_rule, option_rule, word_rule, needed}
+use Rattle.desk_app.specs.Words.{file_rule, kind_rule, names_rule, option_rule, word_rule, needed}
 use Rattle.desk_app.proofs.CommandLines.{rule_added}
 use Rattle.desk_app.proofs.words.import_command.Goals as goal
 
@@ -29,23 +29,27 @@ returns c =
     let path_local : c.help-path.result.global ≡ false =
     ap (λ (a : Arg). a.global) c.help-path.ensures ∙ c.word.ensures.local in
     let one : App = with_rule (new_app (codes "import")) (needed file_rule) in
-    let two : App = with_rule one (kind_rule kind.0) in
+    let named : App = with_rule one names_rule in
+    let two : App = with_rule named (kind_rule kind.0) in
     let three : App = with_rule two (option_rule (codes "document")) in
     let four : App = with_rule three (option_rule (codes "day")) in
     let one_is =
     rule_added c.after_help.result c.required.result c.in_ok-arg.field-0 (new_app (codes "import")) (needed file_rule)
     c.in_ok-arg.ensures file_local line_is file_is in
+    let named_is =
+    rule_added c.in_ok-arg.field-0 c.names_flag.result c.in_ok-arg-2.field-0 one names_rule c.in_ok-arg-2.ensures
+    c.names_flag.ensures.local one_is c.names_flag.ensures.rule in
     let two_is =
-    rule_added c.in_ok-arg.field-0 c.kind_option.result c.in_ok-arg-2.field-0 one (kind_rule kind.0)
-    c.in_ok-arg-2.ensures c.kind_option.ensures.local one_is kind.1 in
+    rule_added c.in_ok-arg-2.field-0 c.kind_option.result c.in_ok-arg-3.field-0 named (kind_rule kind.0)
+    c.in_ok-arg-3.ensures c.kind_option.ensures.local named_is kind.1 in
     let three_is =
-    rule_added c.in_ok-arg-2.field-0 c.help-document.result c.in_ok-arg-3.field-0 two (option_rule (codes "document"))
-    c.in_ok-arg-3.ensures document_local two_is document_is in
+    rule_added c.in_ok-arg-3.field-0 c.help-document.result c.in_ok-arg-4.field-0 two (option_rule (codes "document"))
+    c.in_ok-arg-4.ensures document_local two_is document_is in
     let four_is =
-    rule_added c.in_ok-arg-3.field-0 c.help-day.result c.in_ok-arg-4.field-0 three (option_rule (codes "day"))
-    c.in_ok-arg-4.ensures day_local three_is day_is in
-    IfOk-weaker c.arg-5.result _ _ (λ r added. (
+    rule_added c.in_ok-arg-4.field-0 c.help-day.result c.in_ok-arg-5.field-0 three (option_rule (codes "day"))
+    c.in_ok-arg-5.ensures day_local three_is day_is in
+    IfOk-weaker c.arg-6.result _ _ (λ r added. (
       kind.0,
-      rule_added c.in_ok-arg-4.field-0 c.help-path.result r four (word_rule (codes "path")) added path_local
+      rule_added c.in_ok-arg-5.field-0 c.help-path.result r four (word_rule (codes "path")) added path_local
           four_is path_is,
-    )) c.arg-5.ensures
+    )) c.arg-6.ensures

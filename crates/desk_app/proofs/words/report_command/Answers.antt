@@ -1,9 +1,9 @@
 use Rattle.std.proofs.Common.{ap, codes, false, rules, ◌≡◌, ◌∙◌}
 use Rattle.std.proofs.lemmas.Result.{IfOk-weaker}
-use Rattle.clap.specs.Words.{app_of, new_app, rule_of, with_rule}
+use Rattle.clap.specs.Words.{App, app_of, new_app, rule_of, with_rule}
 use Rattle.clap.specs.Simple.{app_of_fields}
 use Rattle.clap.specs.declared.builder.arg.Arg.{Arg}
-use Rattle.desk_app.specs.Words.{Listing, report_names, file_rule, word_rule, needed, among}
+use Rattle.desk_app.specs.Words.{Listing, report_names, file_rule, names_rule, word_rule, needed, among}
 use Rattle.desk_app.proofs.CommandLines.{rule_added, rule_among}
 use Rattle.desk_app.proofs.words.report_command.Goals as goal
 
@@ -27,17 +27,20 @@ returns c =
     ap rule_of c.help-number.ensures ∙ c.word-2.ensures.rule in
     let number_local : c.help-number.result.global ≡ false =
     ap (λ (a : Arg). a.global) c.help-number.ensures ∙ c.word-2.ensures.local in
-    let one =
+    let one : App = with_rule (new_app (codes "report")) (needed file_rule) in
+    let two : App = with_rule one names_rule in
+    let three : App = with_rule two (among c.as_slice.result (word_rule (codes "name"))) in
+    let one_is =
     rule_added c.after_help.result c.required.result c.in_ok-arg.field-0 (new_app (codes "report")) (needed file_rule)
     c.in_ok-arg.ensures file_local line_is file_is in
-    let two =
-    rule_added c.in_ok-arg.field-0 c.help-name.result c.in_ok-arg-2.field-0
-    (with_rule (new_app (codes "report")) (needed file_rule)) (among c.as_slice.result (word_rule (codes "name")))
-    c.in_ok-arg-2.ensures name_local one name_is in
-    IfOk-weaker c.arg-3.result _ _ (λ r added. (
+    let two_is =
+    rule_added c.in_ok-arg.field-0 c.names_flag.result c.in_ok-arg-2.field-0 one names_rule c.in_ok-arg-2.ensures
+    c.names_flag.ensures.local one_is c.names_flag.ensures.rule in
+    let three_is =
+    rule_added c.in_ok-arg-2.field-0 c.help-name.result c.in_ok-arg-3.field-0 two
+    (among c.as_slice.result (word_rule (codes "name"))) c.in_ok-arg-3.ensures name_local two_is name_is in
+    IfOk-weaker c.arg-4.result _ _ (λ r added. (
       names,
-      rule_added c.in_ok-arg-2.field-0 c.help-number.result r
-          (with_rule (with_rule (new_app (codes "report")) (needed file_rule))
-          (among c.as_slice.result (word_rule (codes "name"))))
-          (word_rule (codes "number")) added number_local two number_is,
-    )) c.arg-3.ensures
+      rule_added c.in_ok-arg-3.field-0 c.help-number.result r three (word_rule (codes "number")) added number_local
+          three_is number_is,
+    )) c.arg-4.ensures

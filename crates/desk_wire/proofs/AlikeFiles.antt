@@ -1,0 +1,130 @@
+-- Names change how a file is read only where a value is of a wrong type.
+use Rattle.std.proofs.Common.{◌≡◌, inl, inr, ℕ, ◌+◌, ◌==◌, List, [], ◌∷◌, ◌++◌, length, refl, ap, sym, subst}
+use Rattle.std.specs.Prelude.{Option, Some, None, Result, Ok, Err, codes, nat_le}
+use Rattle.std.specs.Str.{bytes_eq}
+use Rattle.std.specs.Cmp.Lexicographic.{pointwise}
+use Rattle.csv.specs.Reading.{default_config, records, strip_bom}
+use Rattle.part_core.specs.Day.{CivilDay}
+use Rattle.part_core.specs.declared.field.RowKind.{RowKind}
+use Rattle.part_core.specs.declared.field.RowKind.TheVariants as table
+use Rattle.stock_core.specs.declared.stock_command.StockCommand.TheVariants.{Count}
+use Rattle.order_core.specs.declared.order_command.OrderCommand.TheVariants.{Receive}
+use Rattle.desk_core.specs.Naming.{Naming}
+use Rattle.desk_core.specs.declared.command.Command.{Command}
+use Rattle.desk_core.specs.declared.command.Command.TheVariants.{Order, Stock}
+use Rattle.desk_wire.specs.declared.fault.What.{What}
+use Rattle.desk_wire.specs.declared.fault.What.TheVariants.{TooLong, Csv, Header, WrongType}
+use Rattle.desk_wire.specs.declared.fault.WireFault.{WireFault}
+use Rattle.desk_wire.specs.declared.kind.ImportKind.{ImportKind}
+use Rattle.desk_wire.specs.declared.kind.ImportKind.TheVariants.{Receipts, Counts}
+use Rattle.desk_wire.specs.declared.row.ImportRow.{ImportRow}
+use Rattle.desk_wire.specs.Steps.{◌>>=◌, at, must, or_fault}
+use Rattle.desk_wire.specs.Numbers.{number_in, row_number_in}
+use Rattle.desk_wire.specs.Reading.{AreAlike}
+use Rattle.desk_wire.specs.Records.{Fields, are_texts}
+use Rattle.desk_wire.specs.RowWords.{number_of, row_at_word}
+use Rattle.desk_wire.specs.Imports.{AreAlikeFiles, NamesChangeFilesLittle, batch_of, command_of, field, import}
+use Rattle.desk_wire.specs.Imports.{key_of, names_of, row_of, rows_in, serials_of, with_rows}
+use Rattle.desk_wire.proofs.Alike.{both, later, same}
+
+-- ---- one row
+
+word_alike : (names : Naming) (table : RowKind) (field word : List ℕ)
+    → AreAlike (row_at_word None table field word) (row_at_word (Some names) table field word)
+word_alike names table field word = go (number_in word) refl
+  where
+    go : (o : Option ℕ) → number_in word ≡ o
+        → AreAlike (row_at_word None table field word) (row_at_word (Some names) table field word)
+    go None e = inl (rw e refl)
+    go (Some n) e = inr (rw e refl)
+
+abbrev received : Fields → ℕ → ℕ → Result Command What
+received fields line location = do
+  quantity ← number_of (field 3 fields)
+  batch ← batch_of (field 4 fields)
+  serials ← serials_of (field 5 fields)
+  Ok (Order (Receive line location (record { quantity = quantity; batch = batch; serials = serials })))
+
+abbrev counted : Fields → ℕ → Result Command What
+counted fields item = do
+  quantity ← number_of (field 2 fields)
+  Ok (Stock (Count item quantity))
+
+command_alike : (names : Naming) (kind : ImportKind) (fields : Fields)
+    → AreAlike (command_of None kind fields) (command_of (Some names) kind fields)
+command_alike names Receipts fields =
+    both (row_at_word None table.OrderLine (codes "line") (field 1 fields))
+    (row_at_word (Some names) table.OrderLine (codes "line") (field 1 fields))
+    (λ line. row_at_word None table.Location (codes "location") (field 2 fields) >>= received fields line)
+    (λ line. row_at_word (Some names) table.Location (codes "location") (field 2 fields) >>= received fields line)
+    (word_alike names table.OrderLine (codes "line") (field 1 fields))
+    (λ line. both (row_at_word None table.Location (codes "location") (field 2 fields))
+    (row_at_word (Some names) table.Location (codes "location") (field 2 fields)) (received fields line)
+    (received fields line) (word_alike names table.Location (codes "location") (field 2 fields))
+    (λ location. same (received fields line location)))
+command_alike names Counts fields =
+    both (row_at_word None table.Item (codes "item") (field 1 fields))
+    (row_at_word (Some names) table.Item (codes "item") (field 1 fields)) (counted fields) (counted fields)
+    (word_alike names table.Item (codes "item") (field 1 fields)) (λ item. same (counted fields item))
+
+abbrev keyed : ImportKind → List ℕ → CivilDay → ℕ → Command → Result ImportRow What
+keyed kind document day number command =
+    Ok (record {
+      number = number;
+      request = record { key = Some (key_of kind document number); day = day; command = command };
+    })
+
+row_alike : (names : Naming) (kind : ImportKind) (document : List ℕ) (day : CivilDay) (fields : Fields)
+    → AreAlike (row_of None kind document day fields) (row_of (Some names) kind document day fields)
+unfolding row_of
+row_alike names kind document day fields =
+    later (must Csv (length fields == length (names_of kind))) _ _
+    (λ whole. later (must Csv (are_texts fields)) _ _
+    (λ texts. later (or_fault WrongType (row_number_in (field 0 fields))) _ _
+    (λ number. both (command_of None kind fields) (command_of (Some names) kind fields) (keyed kind document day number)
+    (keyed kind document day number) (command_alike names kind fields)
+    (λ command. same (keyed kind document day number command)))))
+
+-- ---- all rows
+
+at_alike : {A : Type 0} (number : ℕ) (off on : Result A What) → AreAlike off on
+    → AreAlikeFiles (at number off) (at number on)
+at_alike number off on (inl wrong) = inl (number, ap (at number) wrong)
+at_alike number off on (inr e) = inr (ap (at number) e)
+
+later_row : {A B : Type 0} (r : Result A WireFault) (f g : A → Result B WireFault)
+    → ((x : A) → AreAlikeFiles (f x) (g x)) → AreAlikeFiles (r >>= f) (r >>= g)
+later_row (Ok x) f g h = h x
+later_row (Err fault) f g h = inr refl
+
+both_rows : {A B : Type 0} (off on : Result A WireFault) (f g : A → Result B WireFault) → AreAlikeFiles off on
+    → ((x : A) → AreAlikeFiles (f x) (g x)) → AreAlikeFiles (off >>= f) (on >>= g)
+both_rows off on f g (inl wrong) h = inl (wrong.0, ap (λ r. r >>= f) wrong.1)
+both_rows off on f g (inr e) h = subst (λ r. AreAlikeFiles (off >>= f) (r >>= g)) (sym e) (later_row off f g h)
+
+with_rows_alike : (names : Naming) (kind : ImportKind) (document : List ℕ) (day : CivilDay) (number : ℕ)
+    (rows : List ImportRow) (rs : List Fields)
+    → AreAlikeFiles (with_rows None kind document day number rows rs) (with_rows (Some names) kind document day number rows rs)
+with_rows_alike names kind document day number rows [] = inr refl
+with_rows_alike names kind document day number rows (r ∷ rs) =
+    both_rows (at number (row_of None kind document day r)) (at number (row_of (Some names) kind document day r))
+    (λ row. with_rows None kind document day (number + 1) (rows ++ row ∷ []) rs)
+    (λ row. with_rows (Some names) kind document day (number + 1) (rows ++ row ∷ []) rs)
+    (at_alike number (row_of None kind document day r) (row_of (Some names) kind document day r)
+    (row_alike names kind document day r))
+    (λ row. with_rows_alike names kind document day (number + 1) (rows ++ row ∷ []) rs)
+
+rows_alike : (names : Naming) (kind : ImportKind) (document : List ℕ) (day : CivilDay) (rs : List Fields)
+    → AreAlikeFiles (rows_in None kind document day rs) (rows_in (Some names) kind document day rs)
+rows_alike names kind document day [] = inr refl
+rows_alike names kind document day (r ∷ rs) =
+    later_row (at 1 (must Header (pointwise bytes_eq (names_of kind) r)))
+    (λ header. with_rows None kind document day 2 [] rs) (λ header. with_rows (Some names) kind document day 2 [] rs)
+    (λ header. with_rows_alike names kind document day 2 [] rs)
+
+pub names_change_files_little : NamesChangeFilesLittle
+names_change_files_little names kind document day bytes =
+    later_row (at 0 (must TooLong (nat_le (length bytes) 16777216)))
+    (λ fits. rows_in None kind document day (records default_config (strip_bom bytes)))
+    (λ fits. rows_in (Some names) kind document day (records default_config (strip_bom bytes)))
+    (λ fits. rows_alike names kind document day (records default_config (strip_bom bytes)))

@@ -1,7 +1,0 @@
-use Rattle.std.proofs.Common.{◌≡◌, drop}
-use Rattle.serde_json.specs.View.{items_view}
-use Rattle.desk_wire.specs.Fields.{are_texts}
-use Rattle.desk_wire.proofs.fields.are_texts.Given as goal
-
-abbrev pub invariant-loop-value : goal.invariant-loop-value
-invariant-loop-value l = are_texts (items_view l.values) ≡ are_texts (items_view (drop l.value-index l.values))
