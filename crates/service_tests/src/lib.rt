@@ -1,12 +1,17 @@
-//! Deliveries and stocktakes, imported from a file or sent by HTTP, and other requests of HTTP, on a shop and on a desk.
+//! Deliveries and stocktakes, imported from a file or sent by HTTP, other requests of HTTP, and rows that are said by what
+//! they are called, on a shop and on a desk.
 #![tactic(auto)]
 
 #[cfg(test)]
 mod delivery;
 #[cfg(test)]
+mod ends;
+#[cfg(test)]
 mod imports;
 #[cfg(test)]
 mod loopback;
+#[cfg(test)]
+mod names;
 #[cfg(test)]
 mod requests;
 #[cfg(test)]

@@ -6,8 +6,9 @@ ghost use Rattle.sqlite.specs.State.{HasCleanDisk};
 use crate::delivery::{ORDERED, ORDERED_OUT};
 use desk_app::{Books, BooksService};
 use desk_core::Shop;
-use desk_http::{Access, Served, serve_one};
-use desk_play::devices::Sink;
+use desk_http::Served;
+use desk_play::ask::ask;
+use desk_play::devices::{Sink, Source};
 use desk_play::outcomes::holds;
 use desk_play::play::{created, plays_on};
 use part_core::Limits;
@@ -15,12 +16,44 @@ use sqlite::{Alter, Connection};
 use std::alloc::Global;
 use std::test::Fail;
 
-/// A delivery, the same on another day, and with another quantity in its first row.
-const FILES: [[&str; 2]; 3] = [
+/// Requests that change nothing on books with nothing in them: lines without a length, too long, or with two lengths, and
+/// reports of nothing that is there.
+const BAD: [[&str; 2]; 6] = [
     [
-        "POST /import/receipts/D1/2030-03-01 HTTP/1.1\r\nContent-Length: 86\r\n\r\nnumber,line,location,quantity,batch,serials\n1,5,1,100,L1,\n2,5,1,50,,\n3,6,1,2,,\"M1,M2\"\n",
-        "HTTP/1.1 200 OK\r\nContent-Type: text/plain; charset=utf-8\r\nContent-Length: 81\r\nConnection: close\r\n\r\n1\t{\"entries\":1,\"ids\":[7]}\n2\t{\"entries\":1,\"ids\":[8]}\n3\t{\"entries\":2,\"ids\":[9,10]}\n",
+        "POST /run HTTP/1.1\r\n\r\n",
+        "HTTP/1.1 411 Length Required\r\nContent-Type: application/json\r\nContent-Length: 13\r\nConnection: close\r\n\r\n{\"http\":411}\n",
     ],
+    [
+        "POST /run HTTP/1.1\r\nContent-Length: 1048577\r\n\r\n",
+        "HTTP/1.1 413 Payload Too Large\r\nContent-Type: application/json\r\nContent-Length: 13\r\nConnection: close\r\n\r\n{\"http\":413}\n",
+    ],
+    [
+        "POST /run HTTP/1.1\r\nContent-Length: 51\r\nContent-Length: 51\r\n\r\n{\"day\":\"2030-01-02\",\"do\":\"add_location\",\"name\":\"A\"}",
+        "HTTP/1.1 400 Bad Request\r\nContent-Type: application/json\r\nContent-Length: 13\r\nConnection: close\r\n\r\n{\"http\":400}\n",
+    ],
+    [
+        "POST /run HTTP/1.1\r\nContent-Length: 51\r\nTransfer-Encoding: chunked\r\n\r\n{\"day\":\"2030-01-02\",\"do\":\"add_location\",\"name\":\"A\"}",
+        "HTTP/1.1 400 Bad Request\r\nContent-Type: application/json\r\nContent-Length: 13\r\nConnection: close\r\n\r\n{\"http\":400}\n",
+    ],
+    [
+        "GET /report/ledger/99 HTTP/1.1\r\n\r\n",
+        "HTTP/1.1 409 Conflict\r\nContent-Type: application/json\r\nContent-Length: 21\r\nConnection: close\r\n\r\n{\"refused\":\"NoSuch\"}\n",
+    ],
+    [
+        "GET /report/price/1 HTTP/1.1\r\n\r\n",
+        "HTTP/1.1 404 Not Found\r\nContent-Type: application/json\r\nContent-Length: 13\r\nConnection: close\r\n\r\n{\"http\":404}\n",
+    ],
+];
+
+/// A delivery.
+pub const DELIVERED: [&str; 2] = [
+    "POST /import/receipts/D1/2030-03-01 HTTP/1.1\r\nContent-Length: 86\r\n\r\nnumber,line,location,quantity,batch,serials\n1,5,1,100,L1,\n2,5,1,50,,\n3,6,1,2,,\"M1,M2\"\n",
+    "HTTP/1.1 200 OK\r\nContent-Type: text/plain; charset=utf-8\r\nContent-Length: 81\r\nConnection: close\r\n\r\n1\t{\"entries\":1,\"ids\":[7]}\n2\t{\"entries\":1,\"ids\":[8]}\n3\t{\"entries\":2,\"ids\":[9,10]}\n",
+];
+
+/// The delivery, the same on another day, and with another quantity in its first row.
+const FILES: [[&str; 2]; 3] = [
+    DELIVERED,
     [
         "POST /import/receipts/D1/2030-03-02 HTTP/1.1\r\nContent-Length: 86\r\n\r\nnumber,line,location,quantity,batch,serials\n1,5,1,100,L1,\n2,5,1,50,,\n3,6,1,2,,\"M1,M2\"\n",
         "HTTP/1.1 200 OK\r\nContent-Type: text/plain; charset=utf-8\r\nContent-Length: 81\r\nConnection: close\r\n\r\n1\t{\"entries\":1,\"ids\":[7]}\n2\t{\"entries\":1,\"ids\":[8]}\n3\t{\"entries\":2,\"ids\":[9,10]}\n",
@@ -31,14 +64,23 @@ const FILES: [[&str; 2]; 3] = [
     ],
 ];
 
+const ADD_LOCATION: &str =
+    "POST /run HTTP/1.1\r\nContent-Length: 51\r\n\r\n{\"day\":\"2030-01-02\",\"do\":\"add_location\",\"name\":\"C\"}";
+
+/// The request where the location is the first row of all.
+pub const FIRST: [&str; 2] = [
+    ADD_LOCATION,
+    "HTTP/1.1 200 OK\r\nContent-Type: application/json\r\nContent-Length: 24\r\nConnection: close\r\n\r\n{\"entries\":0,\"ids\":[1]}\n",
+];
+
 /// A request, and the same again, which is refused; and bodies that are none.
 pub const LINES: [[&str; 2]; 5] = [
     [
-        "POST /run HTTP/1.1\r\nContent-Length: 51\r\n\r\n{\"day\":\"2030-01-02\",\"do\":\"add_location\",\"name\":\"C\"}",
+        ADD_LOCATION,
         "HTTP/1.1 200 OK\r\nContent-Type: application/json\r\nContent-Length: 25\r\nConnection: close\r\n\r\n{\"entries\":0,\"ids\":[11]}\n",
     ],
     [
-        "POST /run HTTP/1.1\r\nContent-Length: 51\r\n\r\n{\"day\":\"2030-01-02\",\"do\":\"add_location\",\"name\":\"C\"}",
+        ADD_LOCATION,
         "HTTP/1.1 409 Conflict\r\nContent-Type: application/json\r\nContent-Length: 24\r\nConnection: close\r\n\r\n{\"refused\":\"NameTaken\"}\n",
     ],
     [
@@ -124,70 +166,83 @@ const FOREIGN: [[&str; 2]; 3] = [
 const SHORT: &str =
     "POST /run HTTP/1.1\r\nContent-Length: 51\r\n\r\n{\"day\":\"2030-01-02\",\"do\":\"add_location\",\"name\":\"D\"";
 
-/// Sends the bytes, and fails where they are answered otherwise.
+/// Sends the bytes, at most `step` at a time to a writer that takes as many, and fails where they are answered otherwise.
 fn asks<B: Books>(
     alloc: Global,
     service: &mut BooksService<B>,
-    bytes: &str,
-    answer: &str,
+    step: usize,
+    exchange: [&str; 2],
 ) -> Result<Served, Fail>
     requires { B.are_kept service.old.books }
     ensures { B.are_kept service.new.books }
 {
-    let mut reader = bytes.as_bytes();
-    let mut sink = Sink::new(alloc, 4096);
-    let access = Access::new(alloc, 8080, None)?;
-    let served = serve_one(alloc, &mut reader, &mut sink, service, &access);
+    let [bytes, answer] = exchange;
+    let mut reader = Source::new(bytes.as_bytes(), step);
+    let mut sink = Sink::new(alloc, step);
+    let served = ask(alloc, &mut reader, &mut sink, service);
     holds(sink.bytes.as_slice() == answer.as_bytes(), "another answer")?;
     Ok(served)
 }
 
 /// Sends each, which is answered.
-fn asks_all<B: Books>(
+pub fn asks_all<B: Books>(
     alloc: Global,
     service: &mut BooksService<B>,
+    step: usize,
     exchanges: &[[&str; 2]],
 ) -> Result<(), Fail>
     requires { B.are_kept service.old.books }
     ensures { B.are_kept service.new.books }
 {
     for exchange in exchanges {
-        let served = asks(alloc, service, exchange[0], exchange[1])?;
+        let served = asks(alloc, service, step, *exchange)?;
         holds(matches!(served, Served::Answered(_)), "it is not answered")?;
     }
     Ok(())
 }
 
-/// A delivery and other requests, and one that doesn't come whole, on books with nothing in them.
-fn is_served<B: Books>(alloc: Global, service: &mut BooksService<B>) -> Result<(), Fail>
+/// Bad requests, a delivery and other requests, and one that doesn't come whole, on books with nothing in them, by a reader
+/// and a writer of so many bytes.
+fn is_served<B: Books>(
+    alloc: Global,
+    service: &mut BooksService<B>,
+    step: usize,
+) -> Result<(), Fail>
     requires { B.are_kept service.old.books }
     ensures { B.are_kept service.new.books }
 {
+    asks_all(alloc, service, step, BAD.as_slice())?;
     plays_on(alloc, &mut service.books, ORDERED, ORDERED_OUT)?;
-    asks_all(alloc, service, FILES.as_slice())?;
-    asks_all(alloc, service, LINES.as_slice())?;
-    asks_all(alloc, service, REPORTS.as_slice())?;
-    asks_all(alloc, service, NOTHING.as_slice())?;
-    asks_all(alloc, service, FOREIGN.as_slice())?;
-    let served = asks(alloc, service, SHORT, "")?;
+    asks_all(alloc, service, step, FILES.as_slice())?;
+    asks_all(alloc, service, step, LINES.as_slice())?;
+    asks_all(alloc, service, step, REPORTS.as_slice())?;
+    asks_all(alloc, service, step, NOTHING.as_slice())?;
+    asks_all(alloc, service, step, FOREIGN.as_slice())?;
+    let served = asks(alloc, service, step, [SHORT, ""])?;
     holds(served == Served::Ended, "a short body is run")
 }
 
-/// The same on a desk in a database.
+/// The same on a desk in a database, one byte at a time.
 fn is_served_by_desk<S: Alter + Drop>(alloc: Global, conn: Connection<S>) -> Result<(), Fail>
     requires { HasCleanDisk (state S.Store conn) → (state S.Store conn).in_transaction ≡ false }
 {
     let books = created(alloc, conn)?;
-    let mut service = BooksService { books };
-    is_served(alloc, &mut service)
+    let mut service = BooksService {
+        books,
+        names: false,
+    };
+    is_served(alloc, &mut service, 1)
 }
 
 #[test]
 fn a_shop_is_asked(rt: HostRuntime) -> Result<(), Fail> {
     let alloc = rt.alloc();
     let books = Shop::new(alloc, Limits::LARGEST);
-    let mut service = BooksService { books };
-    is_served(alloc, &mut service)
+    let mut service = BooksService {
+        books,
+        names: false,
+    };
+    is_served(alloc, &mut service, 4096)
 }
 
 #[test]
