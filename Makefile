@@ -24,8 +24,8 @@ install: build
 
 # Lines per second and peak memory over 20,000 and 40,000 lines of each kind, in memory and with a file; files beside
 # Python's sqlite3, a C program and the kit's sqlite alone; imports beside lines; requests over HTTP beside Python's
-# http.server; and how calls of the libraries grow. 'make bench WHAT=file' times files alone; 'tools/bench.py --help'
-# tells the words.
+# http.server; lines with names beside lines with numbers; and how calls of the libraries grow. 'make bench WHAT=file'
+# times files alone; 'tools/bench.py --help' tells the words.
 bench: build
 	python3 tools/bench.py $(PROGRAM) $(WHAT)
 
@@ -41,9 +41,10 @@ file: build
 http: build
 	python3 tools/check_http.py $(PROGRAM)
 
-# The program beside the rules written once more in Python: answers, reports and tables of requests that are made up,
-# and which changed files it opens.
+# The program on the worked examples with names, and beside the rules written once more in Python: answers, reports and
+# tables of requests that are made up, and which changed files it opens.
 machine: build
+	python3 tools/check_examples.py $(PROGRAM)
 	python3 tools/check_machine.py $(PROGRAM)
 	python3 tools/check_opening.py $(PROGRAM)
 
@@ -51,13 +52,9 @@ machine: build
 memory: build
 	python3 tools/check_memory.py $(PROGRAM)
 
-# Tests of hostile input that aren't proved yet, run by 'rt try' in a copy of the repository.
-hostile:
-	python3 tools/check_hostile.py
-
 # The wrong bodies that the gate leaves out: each has to be refused. It takes hours; 'make refuse CRATES=forest' tries
 # those of one crate, and 'make refuse RANDOM=20' twenty, chosen anew each time.
 refuse:
 	python3 tools/refuse.py $(if $(RANDOM),--random $(RANDOM)) $(CRATES)
 
-.PHONY: try run test build install bench file http machine memory hostile refuse
+.PHONY: try run test build install bench file http machine memory refuse

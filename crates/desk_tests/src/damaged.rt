@@ -294,26 +294,24 @@ const HARMLESS: [&str; 11] = [
     "DELETE FROM allocations",
 ];
 
+/// A table that no desk has.
+const OTHER: &str = "CREATE TABLE more (id INTEGER PRIMARY KEY) STRICT";
+
 /// Each leaves tables that are no desk's of today.
-const FOREIGN: [&str; 3] = [
-    "UPDATE meta SET version = 3",
-    "DROP TABLE builds",
-    "CREATE TABLE more (id INTEGER PRIMARY KEY) STRICT",
-];
+const FOREIGN: [&str; 3] = ["UPDATE meta SET version = 3", "DROP TABLE builds", OTHER];
 
-/// The tables of a small workshop.
-fn workshop(alloc: Global) -> Result<Connection<MemStore>, Fail> {
+/// Lines, and their answers.
+type Workshop = (&'static str, &'static str);
+
+const SMALL: Workshop = (LINES, ANSWERS);
+
+const BUILDING: Workshop = (BUILD_LINES, BUILD_ANSWERS);
+
+/// The tables of the workshop.
+fn tables_of(alloc: Global, (lines, answers): Workshop) -> Result<Connection<MemStore>, Fail> {
     let conn = Connection::open_in_memory(alloc)?;
     let mut desk = created(alloc, conn)?;
-    plays_on(alloc, &mut desk, LINES, ANSWERS)?;
-    Ok(desk.close())
-}
-
-/// The tables of the workshop that builds.
-fn build_workshop(alloc: Global) -> Result<Connection<MemStore>, Fail> {
-    let conn = Connection::open_in_memory(alloc)?;
-    let mut desk = created(alloc, conn)?;
-    plays_on(alloc, &mut desk, BUILD_LINES, BUILD_ANSWERS)?;
+    plays_on(alloc, &mut desk, lines, answers)?;
     Ok(desk.close())
 }
 
@@ -330,44 +328,23 @@ fn refused_after(
     }
 }
 
-/// Why the small workshop's tables are refused after the change.
-fn refused(alloc: Global, change: &str) -> Result<Option<OpenFault>, Fail> {
-    let conn = workshop(alloc)?;
-    refused_after(alloc, conn, change)
-}
-
-/// Why the tables of the workshop that builds are refused after the change.
-fn refused_builds(alloc: Global, change: &str) -> Result<Option<OpenFault>, Fail> {
-    let conn = build_workshop(alloc)?;
-    refused_after(alloc, conn, change)
+/// Why the workshop's tables are refused after the change.
+fn refused(alloc: Global, workshop: Workshop, change: &str) -> Result<Option<OpenFault>, Fail> {
+    refused_after(alloc, tables_of(alloc, workshop)?, change)
 }
 
 #[test]
 fn damaged_tables_are_refused(rt: HostRuntime) -> Result<(), Fail> {
     let alloc = rt.alloc();
-    for change in DAMAGES {
-        let fault = refused(alloc, change)?;
-        assert!(rt; matches!(fault, Some(OpenFault::Damaged(_))), "{change}");
-    }
-    Ok(())
-}
-
-#[test]
-fn damaged_orders_are_refused(rt: HostRuntime) -> Result<(), Fail> {
-    let alloc = rt.alloc();
-    for change in DAMAGED_ORDERS {
-        let fault = refused(alloc, change)?;
-        assert!(rt; matches!(fault, Some(OpenFault::Damaged(_))), "{change}");
-    }
-    Ok(())
-}
-
-#[test]
-fn damaged_builds_are_refused(rt: HostRuntime) -> Result<(), Fail> {
-    let alloc = rt.alloc();
-    for change in DAMAGED_BUILDS {
-        let fault = refused_builds(alloc, change)?;
-        assert!(rt; matches!(fault, Some(OpenFault::Damaged(_))), "{change}");
+    for (workshop, changes) in [
+        (SMALL, DAMAGES.as_slice()),
+        (SMALL, DAMAGED_ORDERS.as_slice()),
+        (BUILDING, DAMAGED_BUILDS.as_slice()),
+    ] {
+        for change in changes {
+            let fault = refused(alloc, workshop, change)?;
+            assert!(rt; matches!(fault, Some(OpenFault::Damaged(_))), "{change}");
+        }
     }
     Ok(())
 }
@@ -376,8 +353,13 @@ fn damaged_builds_are_refused(rt: HostRuntime) -> Result<(), Fail> {
 fn tables_of_others_are_foreign(rt: HostRuntime) -> Result<(), Fail> {
     let alloc = rt.alloc();
     for change in FOREIGN {
-        let fault = refused(alloc, change)?;
+        let fault = refused(alloc, SMALL, change)?;
         assert!(rt; matches!(fault, Some(OpenFault::Foreign)), "{change}");
+    }
+    for change in ["", OTHER] {
+        let conn = Connection::open_in_memory(alloc)?;
+        let fault = refused_after(alloc, conn, change)?;
+        assert!(rt; matches!(fault, Some(OpenFault::Foreign)), "{change} alone");
     }
     Ok(())
 }
@@ -385,28 +367,20 @@ fn tables_of_others_are_foreign(rt: HostRuntime) -> Result<(), Fail> {
 #[test]
 fn changes_that_harm_nothing(rt: HostRuntime) -> Result<(), Fail> {
     let alloc = rt.alloc();
-    for change in HARMLESS {
-        let fault = refused(alloc, change)?;
-        assert!(rt; fault.is_none(), "{change}");
+    for (workshop, changes) in [
+        (SMALL, HARMLESS.as_slice()),
+        (BUILDING, HARMLESS_BUILDS.as_slice()),
+    ] {
+        for change in changes {
+            let fault = refused(alloc, workshop, change)?;
+            assert!(rt; fault.is_none(), "{change}");
+        }
     }
     Ok(())
 }
 
-#[test]
-fn changes_that_harm_no_build(rt: HostRuntime) -> Result<(), Fail> {
-    let alloc = rt.alloc();
-    for change in HARMLESS_BUILDS {
-        let fault = refused_builds(alloc, change)?;
-        assert!(rt; fault.is_none(), "{change}");
-    }
-    Ok(())
-}
-
-/// A desk is made in a database that has nothing, and in no other.
-#[test]
-fn made_once(rt: HostRuntime) -> Result<(), Fail> {
-    let alloc = rt.alloc();
-    let conn = workshop(alloc)?;
+/// Fails where a desk is made in the database, which has something.
+fn isnt_made_in(alloc: Global, conn: Connection<MemStore>) -> Result<(), Fail> {
     if !conn.is_autocommit() {
         return Err(Fail::from("a transaction is open"));
     }
@@ -415,4 +389,14 @@ fn made_once(rt: HostRuntime) -> Result<(), Fail> {
         matches!(made, Err((OpenFault::Foreign, _))),
         "a second desk",
     )
+}
+
+/// A desk is made in a database that has nothing, and in no other.
+#[test]
+fn made_once(rt: HostRuntime) -> Result<(), Fail> {
+    let alloc = rt.alloc();
+    isnt_made_in(alloc, tables_of(alloc, SMALL)?)?;
+    let mut conn = Connection::open_in_memory(alloc)?;
+    conn.execute(OTHER, &[])?;
+    isnt_made_in(alloc, conn)
 }

@@ -1,5 +1,7 @@
-//! Tables as text, whole and through writers that fail.
+//! Tables and histories as text, whole and through writers that fail, and of a closed desk.
+use desk_app::run_lines;
 use desk_play::devices::Sink;
+use desk_play::each_stop::{fresh, fused, opened};
 use desk_play::outcomes::holds;
 use desk_play::play::{created, plays_on};
 use desk_store::{Desk, ExportFault};
@@ -122,6 +124,42 @@ fn exports<S: Alter>(
     Ok(())
 }
 
+/// The history of item 3, and of item 11.
+const HISTORIES: [(u64, &str); 2] = [
+    (
+        3,
+        "1\t2030-01-02\tfound\t100\tat 1\n2\t2030-01-03\twritten\t30\toff removed\n",
+    ),
+    (11, "3\t2030-01-03\tbuilt\t1\tat 1\n"),
+];
+
+/// The item's history is written as this text, and as a front of it through a writer that fails.
+fn tells_history<S: Alter>(
+    alloc: Global,
+    desk: &Desk<S>,
+    item: u64,
+    wanted: &str,
+) -> Result<(), Fail> {
+    let mut sink = Sink::new(alloc, 4096);
+    holds(desk.history(item, &mut sink).is_ok(), "no history")?;
+    holds(
+        sink.bytes.as_slice() == wanted.as_bytes(),
+        "another history",
+    )?;
+    for fails in 1..40u64 {
+        let mut sink = Sink::new(alloc, 10);
+        sink.fails = fails;
+        let done = desk.history(item, &mut sink);
+        let front = wanted.as_bytes().starts_with(sink.bytes.as_slice());
+        holds(front, "no front of the history")?;
+        match done {
+            Ok(()) => holds(sink.bytes.len() == wanted.len(), "a history cut short")?,
+            Err(fault) => holds(fault == ExportFault::WriteFailed, "another fault")?,
+        }
+    }
+    Ok(())
+}
+
 #[test]
 fn tables_as_text(rt: HostRuntime) -> Result<(), Fail> {
     let alloc = rt.alloc();
@@ -132,4 +170,55 @@ fn tables_as_text(rt: HostRuntime) -> Result<(), Fail> {
         exports(alloc, &desk, table, wanted)?;
     }
     Ok(())
+}
+
+#[test]
+fn histories_as_text(rt: HostRuntime) -> Result<(), Fail> {
+    let alloc = rt.alloc();
+    let conn = Connection::open_in_memory(alloc)?;
+    let mut desk = created(alloc, conn)?;
+    plays_on(alloc, &mut desk, LINES, ANSWERS)?;
+    for (item, wanted) in HISTORIES {
+        tells_history(alloc, &desk, item, wanted)?;
+    }
+    // Number 2 is a part's.
+    let mut sink = Sink::new(alloc, 4096);
+    holds(
+        desk.history(2, &mut sink) == Err(ExportFault::NoSuch),
+        "a part has a history",
+    )?;
+    holds(sink.calls == 0, "something is written")
+}
+
+/// The desk of a file whose log fails after so many calls, while it runs the lines: whether that closed it. A closed desk
+/// writes nothing.
+fn closes(alloc: Global, calls: u64) -> Result<bool, Fail> {
+    let files = fused(alloc, &fresh(alloc)?, calls, true)?;
+    let Ok(mut desk) = opened(alloc, files, 8) else {
+        return Ok(false);
+    };
+    let mut sink = Sink::new(alloc, 4096);
+    let mut lines = LINES.as_bytes();
+    let _end = run_lines(alloc, &mut lines, &mut sink, &mut desk, false);
+    if desk.failed().is_none() {
+        return Ok(false);
+    }
+    let mut sink = Sink::new(alloc, 4096);
+    let exported = desk.export(TableName::Parts, &mut sink);
+    holds(exported == Err(ExportFault::Closed), "an export")?;
+    let told = desk.history(3, &mut sink);
+    holds(told == Err(ExportFault::Closed), "a history")?;
+    holds(sink.calls == 0, "something is written")?;
+    Ok(true)
+}
+
+#[test]
+fn a_closed_desk_writes_nothing(rt: HostRuntime) -> Result<(), Fail> {
+    let alloc = rt.alloc();
+    for calls in 0..40u64 {
+        if closes(alloc, calls)? {
+            return Ok(());
+        }
+    }
+    Err(Fail::from("no fault closes a desk"))
 }

@@ -29,7 +29,7 @@ const FIRST_OUT: &str = r#"{"entries":0,"ids":[1]}
 fn runs(alloc: Global, source: &mut Source, sink: &mut Sink) -> Result<RunEnd, Fail> {
     let conn = Connection::open_in_memory(alloc)?;
     let mut desk = created(alloc, conn)?;
-    Ok(run_lines(alloc, source, sink, &mut desk))
+    Ok(run_lines(alloc, source, sink, &mut desk, false))
 }
 
 #[test]
@@ -143,32 +143,23 @@ fn faults(rt: HostRuntime) -> Result<(), Fail> {
     Ok(())
 }
 
-/// A line of 65,537 bytes is too long; one of 65,536 is read. The line after it is answered.
+/// A line of 65,537 bytes is too long; one of 65,536 is read. The request after it is done.
 #[test]
 fn long_lines(rt: HostRuntime) -> Result<(), Fail> {
     let alloc = rt.alloc();
-    let next = "\n{\"of\":1,\"report\":\"ledger\"}\n";
-    for (length, wanted) in [
-        (
-            65_536,
-            "{\"fault\":\"NotJson\",\"line\":1}\n{\"refused\":\"NoSuch\"}\n",
-        ),
-        (
-            65_537,
-            "{\"fault\":\"TooLong\",\"line\":1}\n{\"refused\":\"NoSuch\"}\n",
-        ),
-        (
-            200_000,
-            "{\"fault\":\"TooLong\",\"line\":1}\n{\"refused\":\"NoSuch\"}\n",
-        ),
-    ] {
-        let mut text = vec![in alloc; b' '; length]?;
-        text.extend_from_slice(next.as_bytes())?;
-        let mut source = Source::new(text.as_slice(), 5000);
-        let mut sink = Sink::new(alloc, 4096);
-        let end = runs(alloc, &mut source, &mut sink)?;
-        assert!(rt; end == RunEnd::Done(false));
-        assert!(rt; sink.bytes.as_slice() == wanted.as_bytes());
+    let next = "\n{\"day\":\"2030-01-02\",\"do\":\"add_location\",\"name\":\"A\"}\n";
+    let long = "{\"fault\":\"TooLong\",\"line\":1}\n{\"entries\":0,\"ids\":[1]}\n";
+    let not_json = "{\"fault\":\"NotJson\",\"line\":1}\n{\"entries\":0,\"ids\":[1]}\n";
+    for (length, wanted) in [(65_536, not_json), (65_537, long), (200_000, long)] {
+        for step in [5_000, 1] {
+            let mut text = vec![in alloc; b'x'; length]?;
+            text.extend_from_slice(next.as_bytes())?;
+            let mut source = Source::new(text.as_slice(), step);
+            let mut sink = Sink::new(alloc, step);
+            let end = runs(alloc, &mut source, &mut sink)?;
+            assert!(rt; end == RunEnd::Done(false));
+            assert!(rt; sink.bytes.as_slice() == wanted.as_bytes());
+        }
     }
     Ok(())
 }

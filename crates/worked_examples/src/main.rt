@@ -3,12 +3,15 @@
 //! A worked example is two files, `NAME.in` and `NAME.out`: lines that a clerk sends to books with nothing in them, and
 //! what answers them. The standard input lists the examples, each as `NAME: what it shows`, and the line is printed once
 //! the example was played on a desk and on a shop. Between the name and the colon may stand how many numbers and how many
-//! entries the books take. Then come the words that the program is called with, calls that no line makes, stops of the disk,
-//! and examples that are too long or too many for files. The first that is answered otherwise ends the run.
+//! entries the books take. Then come the words that the program is called with, changed tables, calls that no line makes, stops
+//! of the disk, a writer that fails, and examples that are too long or too many for files. The first that is answered otherwise
+//! ends the run.
 #![tactic(auto)]
 
 mod calls;
+mod changed;
 mod example;
+mod exports;
 mod limits;
 mod many_allocations;
 mod many_lines;
@@ -111,11 +114,15 @@ fn main(rt: HostRuntime) -> Result<(), Fail> {
         tell(&rt, line, play(&rt, line))?;
     }
     tell(&rt, "words: what they ask for", words::play(&rt))?;
+    tell(&rt, "changes: tables that are refused", changed::play(&rt))?;
     ask(&rt)?;
     // `cell-shipped` begins as `robot-build` does.
     for name in ["cell-shipped", "consume-tracked"] {
         tell(&rt, name, stop(&rt, name))?;
     }
+    let cell = Example::read(&rt, "cell-shipped")?;
+    let exported = exports::play(alloc, &cell, "{\"entries\":0,\"ids\":[25]}\n");
+    tell(&rt, "exports: a writer that fails", exported)?;
     limit(&rt, alloc)?;
     make(&rt, alloc)
 }
