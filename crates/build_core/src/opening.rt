@@ -11,7 +11,7 @@ ghost use Rattle.yard_core.specs.YardView.{stock_of};
 ghost use Rattle.build_core.specs.AllocateBuild.{is_other_output};
 ghost use Rattle.build_core.specs.BuildBooks.{build_books};
 ghost use Rattle.build_core.specs.BuildsView.{builds_now, spent_now};
-ghost use Rattle.build_core.specs.RowTests.{is_right_meant, is_right_placed, is_sound_build, is_sound_for};
+ghost use Rattle.build_core.specs.RowTests.{is_right_meant, is_right_placed, is_sound_build};
 ghost use Rattle.build_core.specs.RowTests.{is_sound_spent, is_spent_once};
 ghost use Rattle.build_core.specs.Sound.{AreSoundBuilds, IsSoundBuild, IsSoundSpending};
 
@@ -133,43 +133,8 @@ impl Builds {
         self.are_right_placed(catalogue, boms, items.as_slice())
     }
 
-    /// Whether the build is open, an output that is named is one of it, and the line is there, fits the item for
-    /// the build, and needs what is allocated for it.
-    fn is_sound_for(
-        &self,
-        catalogue: &Catalogue,
-        boms: &Boms,
-        allocations: &Allocations,
-        yard: &Yard,
-        item: Id,
-        build: Id,
-        line: Id,
-        output: Option<Id>,
-    ) -> bool
-        ensures { result ≡ is_sound_for (parts_of catalogue.now) (bills_of boms.now)
-            (builds_now self.now) (spent_now self.now) (allocations_now allocations.now)
-            (stock_of yard.now) item build line output }
-    {
-        let Some(row) = self.build(build) else {
-            return false;
-        };
-        let Some(bill_line) = boms.line(line) else {
-            return false;
-        };
-        row.state.is_open()
-            && is_own_output(yard, build, output)
-            && is_suited(
-                catalogue,
-                boms,
-                row.part,
-                output,
-                part_at(yard, item),
-                bill_line,
-            )
-            && allocations.allocated_for_line(build, line, output)
-                <= needed(self, yard, bill_line, row, output)
-    }
-
+    /// Whether a row for a build is of one that is open, an output that is named is one of it, and the line is there,
+    /// fits the item for the build, and needs what is allocated for it.
     fn is_right_meant(
         &self,
         catalogue: &Catalogue,
@@ -182,26 +147,27 @@ impl Builds {
             (builds_now self.now) (spent_now self.now) (allocations_now allocations.now)
             (stock_of yard.now) row.now }
     {
-        match &row.purpose {
-            Purpose::Sale { .. } => true,
-            Purpose::Build {
-                build,
-                line,
-                output,
-            } => {
-                let output = number_of(output);
-                self.is_sound_for(
-                    catalogue,
-                    boms,
-                    allocations,
-                    yard,
-                    row.item,
-                    *build,
-                    *line,
-                    output,
-                )
-            }
-        }
+        let Purpose::Build {
+            build,
+            line,
+            output,
+        } = &row.purpose
+        else {
+            return true;
+        };
+        let (build, line, output) = (*build, *line, number_of(output));
+        let Some(target) = self.build(build) else {
+            return false;
+        };
+        let Some(bill_line) = boms.line(line) else {
+            return false;
+        };
+        let part = part_at(yard, row.item);
+        target.state.is_open()
+            && is_own_output(yard, build, output)
+            && is_suited(catalogue, boms, target.part, output, part, bill_line)
+            && allocations.allocated_for_line(build, line, output)
+                <= needed(self, yard, bill_line, target, output)
     }
 
     fn are_right_meant(

@@ -10,7 +10,7 @@ ghost use Rattle.alloc_core.specs.Allotting.{new_allocation};
 ghost use Rattle.alloc_core.specs.declared.purpose.Purpose.TheVariants as purpose;
 ghost use Rattle.yard_core.specs.YardView.{stock_of};
 ghost use Rattle.build_core.specs.AllocateBuild.{allocate_build, allocate_build_checks};
-ghost use Rattle.build_core.specs.AllocateBuild.{is_no_named, is_other_output, wanted};
+ghost use Rattle.build_core.specs.AllocateBuild.{is_no_named, is_other_output};
 ghost use Rattle.build_core.specs.BuildBooks.{AreSoundSomehow, Does, build_books, build_books_before};
 
 use crate::build_books::finish;
@@ -23,6 +23,17 @@ use part_core::{Answer, Catalogue, CoreFault, Counter, Id, Quantity, Refusal, is
 use std::alloc::AllocError;
 use stock_core::{Floor, is_available, is_loose, is_no_item, part_at};
 use yard_core::Yard;
+
+/// What is asked for: that an amount of an item is meant for a line of a build, and for which of its outputs where the
+/// line is tracked.
+#[derive(Clone, Copy)]
+pub struct Wanted {
+    pub build: Id,
+    pub line: Id,
+    pub item: Id,
+    pub quantity: Quantity,
+    pub output: Option<Id>,
+}
 
 /// Whether an output is named that isn't there.
 fn is_no_named(yard: &Yard, output: Option<Id>) -> bool
@@ -57,16 +68,18 @@ fn allocate_build_refusal(
     boms: &Boms,
     builds: &Builds,
     floor: &Floor,
-    build: Id,
-    line: Id,
-    item: Id,
-    quantity: Quantity,
-    output: Option<Id>,
+    wanted: Wanted,
 ) -> Option<Refusal>
-    ensures { result ≡ first (allocate_build_checks (wanted build line item quantity output)
-        (parts_of catalogue.now) (bills_of boms.now)
-        (build_books builds.now floor.now)) }
+    ensures { result ≡ first (allocate_build_checks wanted (parts_of catalogue.now)
+        (bills_of boms.now) (build_books builds.now floor.now)) }
 {
+    let Wanted {
+        build,
+        line,
+        item,
+        quantity,
+        output,
+    } = wanted;
     let yard = &floor.stock.yard;
     let Some(row) = builds.build(build) else {
         return Some(Refusal::NoSuch);
@@ -131,17 +144,14 @@ fn output_number(output: Option<Id>) -> Option<OutputNumber>
 fn put_meant(
     allocations: &mut Allocations,
     counter: &mut Counter,
-    build: Id,
-    line: Id,
-    item: Id,
-    quantity: Quantity,
-    output: Option<Id>,
+    wanted: Wanted,
 ) -> Result<(), AllocError>
     requires room { lacks 1 (numbering_of counter.old) ≡ false }
-    requires named { IfSome output (λ number. 1 ≤ number) }
+    requires named { IfSome wanted.output (λ number. 1 ≤ number) }
     ensures allocations { let n = counter.old.next in OnOk result (allocations_now allocations.new
         ≡ table.insert (allocations_now allocations.old) (n ∷ [])
-        (new_allocation n (purpose.Build build line output) item quantity)) }
+        (new_allocation n (purpose.Build wanted.build wanted.line wanted.output)
+        wanted.item wanted.quantity)) }
     ensures counter { OnOk result (numbering_of counter.new ≡ drawn 1 (numbering_of counter.old)) }
     ensures allocations_before { allocations_before allocations.new
         ≡ allocations_before allocations.old }
@@ -149,12 +159,12 @@ fn put_meant(
 {
     let row = Allocation {
         number: counter.next(),
-        item,
-        quantity,
+        item: wanted.item,
+        quantity: wanted.quantity,
         purpose: Purpose::Build {
-            build,
-            line,
-            output: output_number(output),
+            build: wanted.build,
+            line: wanted.line,
+            output: output_number(wanted.output),
         },
     };
     allocations.allocate(row)?;
@@ -174,37 +184,22 @@ pub fn allocate_build(
     boms: &Boms,
     builds: &mut Builds,
     floor: &mut Floor,
-    build: Id,
-    line: Id,
-    item: Id,
-    quantity: Quantity,
-    output: Option<Id>,
+    wanted: Wanted,
 ) -> Result<Answer, CoreFault>
     requires nothing_pending { build_books_before builds.old floor.old
         ≡ build_books builds.old floor.old }
     requires sound { AreSoundSomehow (build_books builds.old floor.old) }
     ensures does { let b = build_books builds.old floor.old in
-        Does (allocate_build_checks (wanted build line item quantity output)
-        (parts_of catalogue.now) (bills_of boms.now) b)
-        (allocate_build (wanted build line item quantity output) b) b result
+        Does (allocate_build_checks wanted (parts_of catalogue.now) (bills_of boms.now) b)
+        (allocate_build wanted b) b result
         (build_books builds.new floor.new) }
     ensures before { build_books_before builds.new floor.new
         ≡ build_books_before builds.old floor.old }
 {
-    let refusal = allocate_build_refusal(
-        catalogue, boms, builds, floor, build, line, item, quantity, output,
-    );
+    let refusal = allocate_build_refusal(catalogue, boms, builds, floor, wanted);
     if let Some(refusal) = refusal {
         return Err(CoreFault::Refused(refusal));
     }
-    let made = put_meant(
-        &mut floor.allocations,
-        &mut floor.stock.counter,
-        build,
-        line,
-        item,
-        quantity,
-        output,
-    );
+    let made = put_meant(&mut floor.allocations, &mut floor.stock.counter, wanted);
     finish(builds, floor, made)
 }

@@ -9,9 +9,9 @@ use Rattle.build_core.proofs.commands.auto_allocate.serve_each.Goals as goal
 pub returns-in-Err-clause-full : goal.returns-in-Err-clause-full
 returns-in-Err-clause-full c = λ e.
     let sound = c.requires.sound.1.3 in
-    served-past c.args.with_substitutes (parts_of c.args.catalogue.now) (bills_of c.args.boms.now)
-    (stock_of c.args.yard.now) sound.stock.items.stock c.args.counter.now.next sound.stock.items.rows
-    c.requires.bill c.args.build c.args.lacks.now c.requires.lines c.loop-lack.lack-index
+    served-past c.args.serving.now.with_substitutes (parts_of c.args.serving.now.catalogue.now) (bills_of c.args.serving.now.boms.now)
+    (stock_of c.args.serving.now.yard.now) sound.stock.items.stock c.args.counter.now.next sound.stock.items.rows
+    c.requires.bill c.args.serving.now.build c.args.lacks.now c.requires.lines c.loop-lack.lack-index
     (allotments_of c.loop-lack.allocations c.loop-lack.counter) _ c.loop-lack.invariant.drawn
     c.loop-lack.invariant.left _ _ c.loop-lack-test.true refl (c.serve_line-served.ensures.full (c.in-Err.is ∙ e))
 
@@ -22,15 +22,15 @@ loop-lack-preserved c =
     let new = allotments_of c.serve_line-served.new.allocations c.serve_line-served.new.counter in
     record {
       left =
-          served-more c.args.with_substitutes (parts_of c.args.catalogue.now) (bills_of c.args.boms.now)
-          (stock_of c.args.yard.now) sound.stock.items.stock c.args.counter.now.next sound.stock.items.rows
-          c.requires.bill c.args.build c.args.lacks.now c.requires.lines c.loop-lack.lack-index old _
+          served-more c.args.serving.now.with_substitutes (parts_of c.args.serving.now.catalogue.now) (bills_of c.args.serving.now.boms.now)
+          (stock_of c.args.serving.now.yard.now) sound.stock.items.stock c.args.counter.now.next sound.stock.items.rows
+          c.requires.bill c.args.serving.now.build c.args.lacks.now c.requires.lines c.loop-lack.lack-index old _
           c.loop-lack.invariant.drawn
           c.loop-lack.invariant.left _ _ c.loop-lack-test.true refl new c.in_default.ensures.ok;
       drawn =
-          served-drawn c.args.with_substitutes (parts_of c.args.catalogue.now) (bills_of c.args.boms.now)
-          (stock_of c.args.yard.now) sound.stock.items.stock c.args.counter.now.next sound.stock.items.rows
-          c.requires.bill c.args.build c.args.lacks.now c.requires.lines c.loop-lack.lack-index old _
+          served-drawn c.args.serving.now.with_substitutes (parts_of c.args.serving.now.catalogue.now) (bills_of c.args.serving.now.boms.now)
+          (stock_of c.args.serving.now.yard.now) sound.stock.items.stock c.args.counter.now.next sound.stock.items.rows
+          c.requires.bill c.args.serving.now.build c.args.lacks.now c.requires.lines c.loop-lack.lack-index old _
           c.loop-lack.invariant.drawn
           c.loop-lack.invariant.left _ _ c.loop-lack-test.true refl new c.in_default.ensures.ok;
       before = c.serve_line-served.ensures.before ∙ c.loop-lack.invariant.before;

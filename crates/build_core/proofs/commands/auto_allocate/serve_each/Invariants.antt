@@ -15,9 +15,9 @@ abbrev pub invariant-loop-lack : goal.invariant-loop-lack
 invariant-loop-lack l =
     record {
       left :
-          allot_lines l.with_substitutes (parts_of l.catalogue) (bills_of l.boms) (stock_of l.yard) l.build
+          allot_lines l.serving.with_substitutes (parts_of l.serving.catalogue.now) (bills_of l.serving.boms.now) (stock_of l.serving.yard.now) l.serving.build
           (needs_of (drop l.lack-index l.lacks)) (allotments_of l.allocations l.counter)
-          ≡ allot_lines l.with_substitutes (parts_of l.catalogue) (bills_of l.boms) (stock_of l.yard) l.build
+          ≡ allot_lines l.serving.with_substitutes (parts_of l.serving.catalogue.now) (bills_of l.serving.boms.now) (stock_of l.serving.yard.now) l.serving.build
           (needs_of l.lacks) (allotments_of l.initial.allocations l.initial.counter);
       drawn : AreDrawn (allotments_of l.allocations l.counter);
       before : allocations_before l.allocations ≡ allocations_before l.initial.allocations;
