@@ -41,10 +41,11 @@ file: build
 http: build
 	python3 tools/check_http.py $(PROGRAM)
 
-# The program on the worked examples with names, and beside the rules written once more in Python: answers, reports and
-# tables of requests that are made up, and which changed files it opens.
+# The program on the worked examples with names and on the tutorial, and beside the rules written once more in Python:
+# answers, reports and tables of requests that are made up, and which changed files it opens.
 machine: build
 	python3 tools/check_examples.py $(PROGRAM)
+	python3 tools/check_tutorial.py $(PROGRAM)
 	python3 tools/check_machine.py $(PROGRAM)
 	python3 tools/check_opening.py $(PROGRAM)
 

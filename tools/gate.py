@@ -4,9 +4,9 @@
 First it looks whether each wrong body still applies, whether each name that the documents cite stands where they say,
 and whether the worked examples with names ask for what those with numbers do. Then 'rt ci' proves every crate from
 nothing, tries the must-fail edits, and runs the tests and the program. The program that this built is then tried as its
-owner would: with the examples with names, with files, imports, clients of HTTP and kills, and beside the rules written
-once more. Where a step fails, those behind it are not run. The last line is 'N passed, M failed': what 'rt ci' counts,
-and one for each script. It takes two to three hours, of which the scripts take five minutes.
+owner would: with the examples with names and the tutorial, with files, imports, clients of HTTP and kills, and beside
+the rules written once more. Where a step fails, those behind it are not run. The last line is 'N passed, M failed':
+what 'rt ci' counts, and one for each script. It takes two to three hours, of which the scripts take five minutes.
 
 usage: tools/gate.py [--jobs N]     N proofs side by side; without it one for each processor that has 7 GB"""
 import argparse
@@ -23,6 +23,7 @@ MEMORY = 7_000_000
 BEFORE = ["check_edits.py", "check_names.py", "name_lines.py --check"]
 AFTER = [
     f"check_examples.py {PROGRAM}",
+    f"check_tutorial.py {PROGRAM}",
     f"check_file.py {PROGRAM}",
     f"check_import.py {PROGRAM}",
     f"check_http.py {PROGRAM}",
