@@ -11,7 +11,7 @@ run:
 	cd crates/invdesk && rt run < stdin
 
 # The gate: every proof from nothing, the must-fail edits, the tests, and the program that this built, beside Python's
-# libraries, curl, and the rules written once more. 'make test JOBS=2' runs two proofs side by side.
+# libraries, curl, and the rules written once more. 'make test JOBS=2' runs two proofs side by side, on a processor each.
 test:
 	python3 tools/gate.py $(if $(JOBS),--jobs $(JOBS))
 

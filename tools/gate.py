@@ -8,7 +8,7 @@ owner would: with the examples with names and the tutorial, with files, imports,
 the rules written once more. Where a step fails, those behind it are not run. The last line is 'N passed, M failed':
 what 'rt ci' counts, and one for each script. It takes two to three hours, of which the scripts take five minutes.
 
-usage: tools/gate.py [--jobs N]     N proofs side by side; without it one for each processor that has 7 GB"""
+usage: tools/gate.py [--jobs N]     N proofs side by side, one processor each; without it 'rt ci' shares them out"""
 import argparse
 import os
 import re
@@ -18,8 +18,6 @@ import sys
 from shared import TOP
 
 PROGRAM = "crates/invdesk/out/invdesk"
-# What a proof takes of memory, in KiB: most take 2 to 4 GB, but those of tests of the whole desk take up to 7.
-MEMORY = 7_000_000
 BEFORE = ["check_edits.py", "check_names.py", "name_lines.py --check"]
 AFTER = [
     f"check_examples.py {PROGRAM}",
@@ -33,13 +31,6 @@ AFTER = [
 ]
 
 
-def jobs_here():
-    """How many proofs this machine can run side by side. By itself 'rt ci' reckons with more memory than they take."""
-    with open("/proc/meminfo", encoding="ascii") as told:
-        available = int(re.search(r"MemAvailable: +(\d+)", told.read())[1])
-    return max(1, min(os.cpu_count(), available // MEMORY))
-
-
 def count_scripts(scripts):
     """Runs these scripts of this folder: how many passed, and how many failed."""
     failed = 0
@@ -51,9 +42,9 @@ def count_scripts(scripts):
 
 
 def count_proofs(jobs):
-    """Runs 'rt ci', so many proofs side by side: how many passed, and how many failed, by its last line."""
+    """Runs 'rt ci': how many passed, and how many failed, by its last line."""
     last = ""
-    environment = {**os.environ, "RT_JOBS": str(jobs)}
+    environment = {**os.environ, "RT_JOBS": str(jobs)} if jobs else None
     how = {"stdout": subprocess.PIPE, "text": True, "errors": "replace"}
     with subprocess.Popen(["rt", "ci"], cwd=TOP, env=environment, **how) as ran:
         for last in ran.stdout:
@@ -66,7 +57,7 @@ def count_proofs(jobs):
 def main():
     plain = argparse.RawDescriptionHelpFormatter
     words = argparse.ArgumentParser(description=__doc__, formatter_class=plain)
-    words.add_argument("--jobs", type=int, default=jobs_here())
+    words.add_argument("--jobs", type=int, metavar="N")
     jobs = words.parse_args().jobs
     passed = failed = 0
     for step in (lambda: count_scripts(BEFORE), lambda: count_proofs(jobs), lambda: count_scripts(AFTER)):
