@@ -2,22 +2,17 @@
 use Rattle.std.proofs.Common.{◌≡◌, ◌∙◌, ℕ, Bool, List, ap, sym, refl, subst, ◌⊎◌, inl, inr}
 use Rattle.std.specs.Prelude.{Option, None, Result, Ok, Err, IfErr}
 use Rattle.sqlite.specs.Tree.{Trees}
-use Rattle.part_core.specs.Day.{CivilDay}
 use Rattle.desk_core.specs.Machine.{State, Outcome, step}
 use Rattle.desk_core.specs.declared.command.Request.{Request}
 use Rattle.desk_store.specs.StateTables.{TablesAre}
-use Rattle.desk_wire.specs.Imports.{import}
 use Rattle.desk_wire.specs.Reading as reading
-use Rattle.desk_wire.specs.declared.row.ImportRow.{ImportRow}
-use Rattle.desk_http.specs.Services.{ImportFile, ReplyView, RunLine, Stops, why_none}
-use Rattle.desk_http.specs.declared.target.ImportKind.{ImportKind}
+use Rattle.desk_http.specs.Services.{RunLine, Stops, why_none}
 use Rattle.desk_http.specs.declared.service.Failure.TheVariants.{Memory, Store}
 use Rattle.desk_http.specs.declared.service.NoReply.{NoReply}
 use Rattle.desk_http.specs.declared.service.NoReply.TheVariants.{Failed, Untold}
 use Rattle.desk_http.specs.declared.service.Reply.{Reply}
-use Rattle.desk_app.specs.ImportRuns.{RanFront, RanSome, Reading}
 use Rattle.desk_app.specs.Runs.{naming}
-use Rattle.desk_app.specs.Services.{beside, by_outcome, by_request, desk_machine, import_kind, IsFailed}
+use Rattle.desk_app.specs.Services.{by_outcome, by_request, desk_machine}
 use Rattle.desk_app.specs.Services.{IsFailedRequest, StaysOpenBy, leaves, run_line}
 
 outcome_state : (p : State × Outcome) → (by_outcome p).0 ≡ p.0
@@ -56,17 +51,3 @@ stops_by_request (Failed e) names s s' line r is h = (h, refl)
 stops_by_request Untold names s s' line r is h =
     let after = h ∙ sym (state_after names s line r is) in
     inr (inl (λ i. (after i, names)))
-
--- rows that weren't answered leave what their file does
-pub stops_by_rows : (why : NoReply) (names : Bool) (s s' : State) (kind : ImportKind) (document : List ℕ)
-    (day : CivilDay) (bytes : List ℕ) (rows : List ImportRow)
-    → import (naming names s) (import_kind kind) document day bytes ≡ Ok rows → IsFailed why × RanFront rows s s'
-    → Stops desk_machine leaves why (s, names) (ImportFile kind document day bytes) (s', names)
-stops_by_rows (Failed e) names s s' kind document day bytes rows is h =
-    (subst (λ (r : Reading). RanSome r s s') (sym is) h.1, refl)
-stops_by_rows Untold names s s' kind document day bytes rows is h = absurd h.0
-
--- the state and the reply of an operation, where the service has a flag beside its state
-pub told_beside : (names : Bool) (s : State) (reply : ReplyView) (done : State × ReplyView) → (s, reply) ≡ done
-    → ((s, names), reply) ≡ beside names done
-told_beside names s reply done told = λ i. (((told i).0, names), (told i).1)

@@ -262,8 +262,3 @@ import_written reading w w' s s' text f k told wrote =
 pub left_alone : (reading : Reading) (s : State) (trees : Trees) → TablesAre s trees → IsLeftByImport reading s trees
 left_alone (Ok rows) s trees h = left_none rows s trees h
 left_alone (Err fault) s trees h = h
-
--- nothing was run
-pub ran_none : (reading : Reading) (s : State) → RanSome reading s s
-ran_none (Ok rows) s = record { done = []; rest = rows; split = refl; state = refl }
-ran_none (Err fault) s = refl

@@ -14,7 +14,7 @@ use Rattle.desk_store.specs.Saving.{Goes, IsUnderWay}
 use Rattle.desk_store.specs.Desks.{IsDesk}
 use Rattle.desk_store.specs.Groups.{IsGrouping, ShowsBooks}
 use Rattle.desk_store.specs.declared.desk.Desk.{Desk}
-use Rattle.desk_store.proofs.Midway.{all_but_last, keeps_then, new_so_far, none_yet, so_far}
+use Rattle.desk_store.proofs.Midway.{all_but_last, keeps_then, none_yet, so_far}
 use Rattle.table_store.specs.Transactions.{IsOfMemoryOrStore}
 use Rattle.table_store.specs.declared.fault.TableFault.{TableFault}
 

@@ -102,18 +102,6 @@ all_but_last old s trees h = record {
   left = λ t above. last_one s old t (trees (tree_number t)) above (h t);
 }
 
-by_turn : (old new : State) (trees : Trees) → IsMidway old new 13 trees → (t : TableName)
-    → IsTableSoFar new t (trees (tree_number t))
-by_turn old new trees way t =
-    elim (cases_lt (turn_of t) 13) [
-      | inl low ↦ so_far_one new t (trees (tree_number t)) (way.written t low)
-      | inr high ↦ last_one old new t (trees (tree_number t)) high (way.left t high)
-    ]
-
--- where all but the last are written, the tables hold the new state so far
-pub new_so_far : (old new : State) (trees : Trees) → IsMidway old new 13 trees → TablesAreSoFar new trees
-new_so_far old new trees way table = by_turn old new trees way table
-
 -- ---- one table
 
 module _ (old new : State) (table : TableName) (d e : sqlite.State) (way : IsUnderWay old new (turn_of table) d)
