@@ -11,7 +11,7 @@ import sqlite3
 import sys
 import tempfile
 
-from name_lines import DATA, NAMED, examples
+from name_lines import NAMED, named_examples
 from shared import TOP, expect, reader_of_words, run
 
 
@@ -42,10 +42,7 @@ def difference(program, lines, wanted, limits):
 
 def main():
     program = reader_of_words(__doc__).parse_args().program
-    played = [(name, DATA / f"{name}.out", limits) for name, limits in examples()]
-    written = {name for name, _, _ in played}
-    own = [path.stem for path in sorted(NAMED.glob("*.in")) if path.stem not in written]
-    played += [(name, NAMED / f"{name}.out", []) for name in own]
+    played = list(named_examples())
     differ = 0
     for name, wanted, limits in played:
         found = difference(program, (NAMED / f"{name}.in").read_bytes(), wanted.read_bytes(), limits)

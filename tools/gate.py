@@ -2,11 +2,12 @@
 """The gate: passes every proof and every test, and says how many passed.
 
 First it looks whether each wrong body still applies, whether each name that the documents cite stands where they say,
-and whether the worked examples with names ask for what those with numbers do. Then 'rt ci' proves every crate from
-nothing, tries the must-fail edits, and runs the tests and the program. The program that this built is then tried as its
-owner would: with the examples with names and the tutorial, with files, imports, clients of HTTP and kills, and beside
-the rules written once more. Where a step fails, those behind it are not run. The last line is 'N passed, M failed':
-what 'rt ci' counts, and one for each script. It takes two to three hours, of which the scripts take five minutes.
+and whether the worked examples with names ask for what those with numbers do, and say each field in each form. Then
+'rt ci' proves every crate from nothing, tries the must-fail edits, and runs the tests and the program. The program that
+this built is then tried as its owner would: with the examples with names and the tutorial, with files, imports, clients
+of HTTP and kills, and beside the rules written once more. Where a step fails, those behind it are not run. The last
+line is 'N passed, M failed': what 'rt ci' counts, and one for each script. It takes two to three hours, of which the
+scripts take five minutes.
 
 usage: tools/gate.py [--jobs N]     N proofs side by side, one processor each; without it 'rt ci' shares them out"""
 import argparse
