@@ -215,7 +215,7 @@ fn closes(alloc: Global, calls: u64) -> Result<bool, Fail> {
 #[test]
 fn a_closed_desk_writes_nothing(rt: HostRuntime) -> Result<(), Fail> {
     let alloc = rt.alloc();
-    for calls in 0..40u64 {
+    for calls in 0..2_000u64 {
         if closes(alloc, calls)? {
             return Ok(());
         }
