@@ -79,14 +79,28 @@ impl<R: Indexed> IndexedSheet<R> {
         }
     }
 
+    /// A sheet with no rows that has room for so many. An error is one of memory.
+    fn with_room(alloc: Global, count: usize) -> Result<Self, AllocError>
+        ensures rows { IfOk result (λ sheet. now_of sheet ≡ table.empty) }
+        ensures before { IfOk result (λ sheet. sheet.before ≡ table.empty) }
+    {
+        let sheet = Sheet::with_room(alloc, count)?;
+        Ok(IndexedSheet {
+            sheet,
+            index: Index::new(alloc),
+            alloc,
+        })
+    }
+
     /// A sheet of these rows, put in their order, now and before. An error is one of memory.
     ///
-    /// Each is kept at once, so that no list of changes grows with the rows.
+    /// The room is made at once, so that there is none to spare. Each row is kept at once, so that no list of changes
+    /// grows with the rows.
     pub fn filled(alloc: Global, rows: Vec<R>) -> Result<Self, AllocError>
         ensures rows { IfOk result (λ sheet. now_of sheet ≡ filled R.key_of rows.items) }
         ensures before { IfOk result (λ sheet. sheet.before ≡ filled R.key_of rows.items) }
     {
-        let mut sheet = IndexedSheet::new(alloc);
+        let mut sheet = IndexedSheet::with_room(alloc, rows.len())?;
         for row in rows {
             sheet.put(row)?;
             sheet.keep();

@@ -101,14 +101,30 @@ impl<R: Row> Sheet<R> {
         }
     }
 
+    /// A sheet with no rows that has room for so many. An error is one of memory.
+    pub(crate) fn with_room(alloc: Global, count: usize) -> Result<Self, AllocError>
+        ensures rows { IfOk result (λ sheet. now_of sheet ≡ table.empty) }
+        ensures before { IfOk result (λ sheet. sheet.before ≡ table.empty) }
+    {
+        let slots = IndexMap::with_capacity(alloc, count)?;
+        Ok(Sheet {
+            slots,
+            changed: Vec::new(alloc),
+            len: 0,
+            length_before: 0,
+            alloc,
+        })
+    }
+
     /// A sheet of these rows, put in their order, now and before. An error is one of memory.
     ///
-    /// Each is kept at once, so that no list of changes grows with the rows.
+    /// The room is made at once, so that there is none to spare. Each row is kept at once, so that no list of changes
+    /// grows with the rows.
     pub fn filled(alloc: Global, rows: Vec<R>) -> Result<Self, AllocError>
         ensures rows { IfOk result (λ sheet. now_of sheet ≡ filled R.key_of rows.items) }
         ensures before { IfOk result (λ sheet. sheet.before ≡ filled R.key_of rows.items) }
     {
-        let mut sheet = Sheet::new(alloc);
+        let mut sheet = Sheet::with_room(alloc, rows.len())?;
         for row in rows {
             sheet.put(row)?;
             sheet.keep();
