@@ -1,11 +1,11 @@
 -- What connections do to a service.
 use Rattle.std.proofs.Common.{◌≡◌, ◌+◌, ℕ, zero, suc, List, inl, inr, arith, subst}
 use Rattle.std.specs.Prelude.{Option, Some, None, Result, Ok, Err}
-use Rattle.desk_http.specs.AccessRules.{AccessRules}
+use Rattle.desk_http.specs.Sites.{SiteRules}
 use Rattle.desk_http.specs.Responses.{Response}
 use Rattle.desk_http.specs.Services.{Operation, ReplyView}
-use Rattle.desk_http.specs.Serving.{AreSteps, IsOneStep, IsOneOperation, Answers, Received, Incomplete, Rejected, Complete}
-use Rattle.desk_http.specs.Serving.{Responds, Serves, IsReceived}
+use Rattle.desk_http.specs.Serving.{AreSteps, IsOneStep, IsOneOperation, Answers, Received, Incomplete, Rejected}
+use Rattle.desk_http.specs.Serving.{ForPage, Complete, Responds, Serves, IsReceived}
 use Rattle.desk_http.specs.declared.service.NoReply.{NoReply}
 use Rattle.desk_http.specs.declared.service.NoReply.TheVariants.{Failed}
 use Rattle.desk_http.specs.declared.served.Stop.{Stop}
@@ -18,21 +18,22 @@ one_more is_step n d d' d'' steps step =
     let e : suc n ≡ n + 1 = omega arith in
     subst (λ k. AreSteps is_step k d d'') e (d', steps, step)
 
-module _ {D : Type 0} (performs : D → Operation → Result ReplyView NoReply → D → Type 0) where
-  responds : (d d' : D) (r : Received) (p : Response) → Responds performs d r d' p → IsOneOperation performs d d'
+module _ {D : Type 0} (performs : D → Operation → Result ReplyView NoReply → D → Type 0) (site : SiteRules) where
+  responds : (d d' : D) (r : Received) (p : Response) → Responds performs site d r d' p → IsOneOperation performs d d'
   responds d d' Incomplete p h = absurd h
   responds d d' (Rejected rejection) p h = inl h.0
+  responds d d' (ForPage page) p h = inl h.0
   responds d d' (Complete o) p h = elim h [
     | inl replied ↦ inr (o, Ok replied.0, replied.1)
     | inr failed ↦ inr (o, Err (Failed failed.0), failed.1)
   ]
 
-  answers : (are : Received → Type 0) (d d' : D) (p : Response) → Answers performs are d d' p → IsOneOperation performs d d'
+  answers : (are : Received → Type 0) (d d' : D) (p : Response) → Answers performs site are d d' p → IsOneOperation performs d d'
   answers are d d' p h = responds d d' h.0 p h.2
 
   -- a connection does one operation at most
   one_operation : (are : Received → Type 0) (d d' : D) (w w' : Option (List ℕ)) (r : Result ℕ Stop)
-      → Serves performs are d d' w w' r → IsOneOperation performs d d'
+      → Serves performs site are d d' w w' r → IsOneOperation performs d d'
   one_operation are d d' w w' (Ok status) h = answers are d d' h.0 h.1
   one_operation are d d' w w' (Err Ended) h = inl h.1
   one_operation are d d' w w' (Err ReadFailed) h = inl h.0
@@ -43,11 +44,11 @@ module _ {D : Type 0} (performs : D → Operation → Result ReplyView NoReply �
   ]
 
   -- and so many connections so many
-  pub operations : (rules : AccessRules) (n : ℕ) (d d' : D) → AreSteps (IsOneStep performs rules) n d d'
+  pub operations : (n : ℕ) (d d' : D) → AreSteps (IsOneStep performs site) n d d'
       → AreSteps (IsOneOperation performs) n d d'
-  operations rules zero d d' h = h
-  operations rules (suc n) d d' (middle, steps, (xs, r, serves)) = (
+  operations zero d d' h = h
+  operations (suc n) d d' (middle, steps, (xs, r, serves)) = (
     middle,
-    operations rules n d middle steps,
-    one_operation (IsReceived rules (Some xs)) middle d' None None r serves,
+    operations n d middle steps,
+    one_operation (IsReceived site (Some xs)) middle d' None None r serves,
   )

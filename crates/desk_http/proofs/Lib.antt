@@ -11,3 +11,5 @@ pub mod Days
 pub mod Documents
 pub mod Finding
 pub mod Routing
+pub mod Plain
+pub mod Readings

@@ -60,14 +60,25 @@ abbrev pub shows : Option (List ℕ) → Said → Bool
 shows None authorization = true
 shows (Some token) authorization = has_to_say (is_bearer token) authorization
 
--- the first rule that the fields of a head break, if they break one
-abbrev pub access_fault : AccessRules → List (List ℕ × List ℕ) → Option Rejection
-access_fault rules fields =
+-- the first rule that the fields of a head break which asks for a page, if they break one: it has to name this service,
+-- and to be sent for no other origin. A page is no secret, and may be come to from anywhere
+abbrev pub page_fault : AccessRules → List (List ℕ × List ℕ) → Option Rejection
+page_fault rules fields =
     if not (may_say (is_own_name rules.port) (said (codes "host") fields)) then Some Misdirected
     else (if not (may_say (is_own_origin rules.port) (said (codes "origin") fields)) then Some Forbidden
-    else (if not (may_say is_own_site (said (codes "sec-fetch-site") fields)) then Some Forbidden
+    else None)
+
+abbrev pub or_else : Option Rejection → Option Rejection → Option Rejection
+or_else (Some rejection) other = Some rejection
+or_else None other = other
+
+-- the same of a head that asks for anything else: it has to be sent for no other site, too, and to show the token
+abbrev pub access_fault : AccessRules → List (List ℕ × List ℕ) → Option Rejection
+access_fault rules fields =
+    or_else (page_fault rules fields)
+    (if not (may_say is_own_site (said (codes "sec-fetch-site") fields)) then Some Forbidden
     else (if not (shows rules.token (said (codes "authorization") fields)) then Some Unauthorized
-    else None)))
+    else None))
 
 -- the fields tell nothing of where the head comes from
 pub record TellNoOrigin (fields : List (List ℕ × List ℕ)) : Type 0 where

@@ -3,6 +3,7 @@ pub mod Heads
 pub mod Spans
 pub mod Fields
 pub mod AccessRules
+pub mod Sites
 pub mod Targets
 pub mod Routes
 pub mod Plans

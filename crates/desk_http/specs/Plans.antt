@@ -2,14 +2,23 @@
 use Rattle.std.specs.Prelude.{nat_lt, ℕ, List, Option, Some, None, Result, Ok, Err, if◌then◌else◌, codes}
 use Rattle.std.specs.List.{list_any}
 use Rattle.std.specs.Str.{bytes_eq}
-use Rattle.desk_http.specs.AccessRules.{AccessRules, access_fault}
+use Rattle.desk_http.specs.AccessRules.{access_fault, page_fault}
 use Rattle.desk_http.specs.Fields.{Said, Nothing, One, Several, said, is_named}
-use Rattle.desk_http.specs.Heads.{Class, WellFormed, TooManyFields, Malformed}
-use Rattle.desk_http.specs.Targets.{Resource, Run, Import, Report, resource, resource_of, number_of}
-use Rattle.desk_http.specs.declared.target.Target.{Target}
+use Rattle.desk_http.specs.Heads.{HeadParts, Class, WellFormed, TooManyFields, Malformed}
+use Rattle.desk_http.specs.Sites.{PageView, SiteRules, page_view}
+use Rattle.desk_http.specs.Targets.{Resource, Run, Import, Report, Export, Books, HistoryFrom, resource, resource_at}
+use Rattle.desk_http.specs.Targets.{page_at, number_of, some_text, IsProper}
+use Rattle.desk_http.specs.declared.plan.Work.{Work}
+use Rattle.desk_http.specs.declared.plan.Work.TheVariants as work
 use Rattle.desk_http.specs.declared.rejection.Rejection.{Rejection}
 use Rattle.desk_http.specs.declared.rejection.Rejection.TheVariants.{HeadTooLarge, BadRequest, NotFound, OnlyPost}
 use Rattle.desk_http.specs.declared.rejection.Rejection.TheVariants.{OnlyGet, LengthRequired, BodyTooLarge}
+
+-- what is to be done: the page is shown; or a resource does something, with what the field If-None-Match says, where it
+-- stands once, and a body of so many bytes
+pub data Plan : Type 0 where
+  ShowPage : PageView → Plan
+  Ask : Resource → Option (List ℕ) → ℕ → Plan
 
 abbrev pub length_within : Option ℕ → Result ℕ Rejection
 length_within None = Err BadRequest
@@ -27,16 +36,28 @@ body_length fields =
     if list_any (is_named (codes "transfer-encoding")) fields then Err BadRequest
     else one_length (said (codes "content-length") fields)
 
-abbrev pub method_fault : List ℕ → Resource → Option Rejection
-method_fault method (Report name number) = if bytes_eq method (codes "GET") then None else Some OnlyGet
-method_fault method Run = if bytes_eq method (codes "POST") then None else Some OnlyPost
-method_fault method (Import kind document day) = if bytes_eq method (codes "POST") then None else Some OnlyPost
+abbrev pub unless_get : List ℕ → Option Rejection
+unless_get method = if bytes_eq method (codes "GET") then None else Some OnlyGet
 
--- how many bytes of body are read for a resource: for a report none
+abbrev pub unless_post : List ℕ → Option Rejection
+unless_post method = if bytes_eq method (codes "POST") then None else Some OnlyPost
+
+abbrev pub method_fault : List ℕ → Resource → Option Rejection
+method_fault method Run = unless_post method
+method_fault method (Import kind document day) = unless_post method
+method_fault method (Report name number) = unless_get method
+method_fault method (Export table) = unless_get method
+method_fault method Books = unless_get method
+method_fault method (HistoryFrom number) = unless_get method
+
+-- how many bytes of body are read for a resource: for what is only read none
 abbrev pub length_for : Resource → List (List ℕ × List ℕ) → Result ℕ Rejection
-length_for (Report name number) fields = Ok 0
 length_for Run fields = body_length fields
 length_for (Import kind document day) fields = body_length fields
+length_for (Report name number) fields = Ok 0
+length_for (Export table) fields = Ok 0
+length_for Books fields = Ok 0
+length_for (HistoryFrom number) fields = Ok 0
 
 abbrev pub unless : {A : Type 0} → Option Rejection → Result A Rejection → Result A Rejection
 unless (Some rejection) result = Err rejection
@@ -46,30 +67,73 @@ unless None result = result
 abbrev pub checked : Option Rejection → List ℕ → Resource → List (List ℕ × List ℕ) → Result ℕ Rejection
 checked fault method resource fields = unless (method_fault method resource) (unless fault (length_for resource fields))
 
-abbrev pub with_length : Resource → Result ℕ Rejection → Result (Resource × ℕ) Rejection
-with_length resource (Ok n) = Ok (resource, n)
-with_length resource (Err rejection) = Err rejection
+abbrev pub said_once : Said → Option (List ℕ)
+said_once Nothing = None
+said_once (One text) = Some text
+said_once Several = None
 
-abbrev pub planned : Option Rejection → List ℕ → Option Resource → List (List ℕ × List ℕ)
-    → Result (Resource × ℕ) Rejection
+-- the tag of the books that is known to whoever asks
+abbrev pub known_tag : List (List ℕ × List ℕ) → Option (List ℕ)
+known_tag fields = said_once (said (codes "if-none-match") fields)
+
+abbrev pub with_length : Resource → Option (List ℕ) → Result ℕ Rejection → Result Plan Rejection
+with_length resource known (Ok n) = Ok (Ask resource known n)
+with_length resource known (Err rejection) = Err rejection
+
+abbrev pub planned : Option Rejection → List ℕ → Option Resource → List (List ℕ × List ℕ) → Result Plan Rejection
 planned fault method None fields = Err NotFound
-planned fault method (Some resource) fields = with_length resource (checked fault method resource fields)
+planned fault method (Some resource) fields =
+    with_length resource (known_tag fields) (checked fault method resource fields)
 
--- the resource and the length of the body, or the first check that fails
-abbrev pub plan_of : AccessRules → Class → Result (Resource × ℕ) Rejection
-plan_of rules TooManyFields = Err HeadTooLarge
-plan_of rules Malformed = Err BadRequest
-plan_of rules (WellFormed parts) =
-    planned (access_fault rules parts.fields) parts.method (resource_of parts.target) parts.fields
+-- the page, or the first check that fails: of the method, and of who may ask for it
+abbrev pub planned_page : Option Rejection → List ℕ → PageView → Result Plan Rejection
+planned_page fault method page = unless (unless_get method) (unless fault (Ok (ShowPage page)))
 
--- the same of a service that anyone may ask
-abbrev pub open_plan_of : Class → Result (Resource × ℕ) Rejection
-open_plan_of TooManyFields = Err HeadTooLarge
-open_plan_of Malformed = Err BadRequest
-open_plan_of (WellFormed parts) = planned None parts.method (resource_of parts.target) parts.fields
+-- of the faults of who asks for the page, and for all else: the page, if that is named, or what the target names
+abbrev pub plan_by : Option Rejection → Option Rejection → Option PageView → HeadParts → Option PageView
+    → Result Plan Rejection
+plan_by of_page of_else page parts (Some shown) = planned_page of_page parts.method shown
+plan_by of_page of_else page parts None = planned of_else parts.method (resource_at page parts.target) parts.fields
+
+-- what is to be done, or the first check that fails
+abbrev pub plan_of : SiteRules → Class → Result Plan Rejection
+plan_of site TooManyFields = Err HeadTooLarge
+plan_of site Malformed = Err BadRequest
+plan_of site (WellFormed parts) =
+    plan_by (page_fault site.access parts.fields) (access_fault site.access parts.fields) site.page parts
+    (page_at site.page parts.target)
+
+-- the same of a service with this page, or with none, that anyone may ask
+abbrev pub open_plan_of : Option PageView → Class → Result Plan Rejection
+open_plan_of page TooManyFields = Err HeadTooLarge
+open_plan_of page Malformed = Err BadRequest
+open_plan_of page (WellFormed parts) = plan_by None None page parts (page_at page parts.target)
+
+-- what is done without a page: a line, an import or a report
+abbrev pub IsOfProgram : Resource → Type 0
+IsOfProgram Run = Unit {0}
+IsOfProgram (Import kind document day) = Unit {0}
+IsOfProgram (Report name number) = Unit {0}
+IsOfProgram (Export table) = ⊥
+IsOfProgram Books = ⊥
+IsOfProgram (HistoryFrom number) = ⊥
+
+abbrev pub ShowsNoPage : Result Plan Rejection → Type 0
+ShowsNoPage (Ok (ShowPage page)) = ⊥
+ShowsNoPage (Ok (Ask resource known n)) = IsOfProgram resource
+ShowsNoPage (Err rejection) = Unit {0}
 
 -- ---- the same as code has it
 
-abbrev pub plan : Result (Target × ℕ) Rejection → Result (Resource × ℕ) Rejection
-plan (Ok p) = Ok (resource p.0, p.1)
+abbrev pub work_plan : Work → Plan
+work_plan (work.ShowPage page) = ShowPage (page_view page)
+work_plan (work.Ask target known n) = Ask (resource target) (some_text known) n
+
+abbrev pub plan : Result Work Rejection → Result Plan Rejection
+plan (Ok w) = Ok (work_plan w)
 plan (Err rejection) = Err rejection
+
+-- a target that is asked names a document of its form, if it names one
+abbrev pub AsksProperly : Work → Type 0
+AsksProperly (work.ShowPage page) = Unit {0}
+AsksProperly (work.Ask target known n) = IsProper target

@@ -2,13 +2,12 @@
 use Rattle.std.specs.Prelude.{◌≡◌, ◌≤◌, ◌⊎◌, nat_lt, ℕ, zero, suc, List, length, take, drop}
 use Rattle.std.specs.Prelude.{Option, Some, None, Result, Ok, Err, if◌then◌else◌}
 use Rattle.std.specs.Io.KnownBytes.{Appends, Keeps}
-use Rattle.desk_http.specs.AccessRules.{AccessRules}
+use Rattle.desk_http.specs.Sites.{PageView, SiteRules}
 use Rattle.desk_http.specs.Heads.{Class, IsHead}
-use Rattle.desk_http.specs.Targets.{Resource}
-use Rattle.desk_http.specs.Plans.{plan_of}
+use Rattle.desk_http.specs.Plans.{Plan, ShowPage, Ask, plan_of}
 use Rattle.desk_http.specs.Services.{Operation, operation, ReplyView}
 use Rattle.desk_http.specs.HeadEnds.{arrival}
-use Rattle.desk_http.specs.Responses.{Response, rejection_response, reply_response, failure_response}
+use Rattle.desk_http.specs.Responses.{Response, rejection_response, page_response, reply_response, failure_response}
 use Rattle.desk_http.specs.declared.receive.HeadArrival.{HeadArrival}
 use Rattle.desk_http.specs.declared.receive.HeadArrival.TheVariants as arrival
 use Rattle.desk_http.specs.declared.rejection.Rejection.{Rejection}
@@ -27,32 +26,35 @@ pub data Received : Type 0 where
   -- they end before the request does
   Incomplete : Received
   Rejected : Rejection → Received
+  ForPage : PageView → Received
   Complete : Operation → Received
 
 -- of a plan and the bytes behind the head: what follows the body doesn't count
-abbrev pub received_of : Result (Resource × ℕ) Rejection → List ℕ → Received
+abbrev pub received_of : Result Plan Rejection → List ℕ → Received
 received_of (Err rejection) rest = Rejected rejection
-received_of (Ok p) rest = if nat_lt (length rest) p.1 then Incomplete else Complete (operation p.0 (take p.1 rest))
+received_of (Ok (ShowPage page)) rest = ForPage page
+received_of (Ok (Ask resource known n)) rest =
+    if nat_lt (length rest) n then Incomplete else Complete (operation resource known (take n rest))
 
-abbrev pub IsReceivedAt : AccessRules → HeadArrival → List ℕ → Received → Type 0
-IsReceivedAt rules arrival.Incomplete xs r = r ≡ Incomplete
-IsReceivedAt rules arrival.TooLong xs r = r ≡ Rejected HeadTooLarge
-IsReceivedAt rules (arrival.Head n) xs r =
-    (class : Class) × IsHead (take n xs) class × (r ≡ received_of (plan_of rules class) (drop n xs))
+abbrev pub IsReceivedAt : SiteRules → HeadArrival → List ℕ → Received → Type 0
+IsReceivedAt site arrival.Incomplete xs r = r ≡ Incomplete
+IsReceivedAt site arrival.TooLong xs r = r ≡ Rejected HeadTooLarge
+IsReceivedAt site (arrival.Head n) xs r =
+    (class : Class) × IsHead (take n xs) class × (r ≡ received_of (plan_of site class) (drop n xs))
 
--- the bytes are that to a service with these rules, as far as they are known
-abbrev pub IsReceived : AccessRules → Option (List ℕ) → Received → Type 0
-IsReceived rules None r = Unit {0}
-IsReceived rules (Some xs) r = IsReceivedAt rules (arrival xs) xs r
+-- the bytes are that to a service of this site, as far as they are known
+abbrev pub IsReceived : SiteRules → Option (List ℕ) → Received → Type 0
+IsReceived site None r = Unit {0}
+IsReceived site (Some xs) r = IsReceivedAt site (arrival xs) xs r
 
 -- the same, where it is known how far the head goes
-abbrev pub IsReceivedFrom : AccessRules → HeadArrival → Option (List ℕ) → Received → Type 0
-IsReceivedFrom rules a None r = Unit {0}
-IsReceivedFrom rules a (Some xs) r = IsReceivedAt rules a xs r
+abbrev pub IsReceivedFrom : SiteRules → HeadArrival → Option (List ℕ) → Received → Type 0
+IsReceivedFrom site a None r = Unit {0}
+IsReceivedFrom site a (Some xs) r = IsReceivedAt site a xs r
 
 -- all bytes are that, as far as they are known, and so are those that were read
-abbrev pub AreReceived : AccessRules → HeadArrival → Option (List ℕ) → List ℕ → Received → Type 0
-AreReceived rules a known read r = IsReceivedFrom rules a known r × IsReceived rules (Some read) r
+abbrev pub AreReceived : SiteRules → HeadArrival → Option (List ℕ) → List ℕ → Received → Type 0
+AreReceived site a known read r = IsReceivedFrom site a known r × IsReceived site (Some read) r
 
 -- ---- what comes of it
 
@@ -75,18 +77,19 @@ Sends p w w' (Err Memory) = Keeps w w'
 Sends p w w' (Err Ended) = ⊥
 Sends p w w' (Err ReadFailed) = ⊥
 
--- What becomes of a service that `performs` says what it may do, where `are` says what the bytes may be.
-module _ {D : Type 0} (performs : D → Operation → Result ReplyView NoReply → D → Type 0) where
+-- What becomes of a service of this site that `performs` says what it may do, where `are` says what the bytes may be.
+module _ {D : Type 0} (performs : D → Operation → Result ReplyView NoReply → D → Type 0) (site : SiteRules) where
   -- the service did the operation, and this is the response to it: its reply, or that it failed
   abbrev pub Replies : D → Operation → D → Response → Type 0
   Replies d o d' p =
-      ((reply : ReplyView) × performs d o (Ok reply) d' × (p ≡ reply_response reply))
-      ⊎ ((e : Failure) × performs d o (Err (Failed e)) d' × (p ≡ failure_response e))
+      ((reply : ReplyView) × performs d o (Ok reply) d' × (p ≡ reply_response site.page reply))
+      ⊎ ((e : Failure) × performs d o (Err (Failed e)) d' × (p ≡ failure_response site.page e))
 
   -- this is the response to what was received, and this becomes of the service
   abbrev pub Responds : D → Received → D → Response → Type 0
   Responds d Incomplete d' p = ⊥
-  Responds d (Rejected rejection) d' p = (d' ≡ d) × (p ≡ rejection_response rejection)
+  Responds d (Rejected rejection) d' p = (d' ≡ d) × (p ≡ rejection_response site.page rejection)
+  Responds d (ForPage page) d' p = (d' ≡ d) × (p ≡ page_response page)
   Responds d (Complete o) d' p = Replies d o d' p
 
   -- the response to these bytes
@@ -107,19 +110,19 @@ module _ {D : Type 0} (performs : D → Operation → Result ReplyView NoReply �
   Serves are d d' w w' (Err WriteFailed) = (p : Response) × Answers are d d' p × AppendsFront w w' p.bytes
   Serves are d d' w w' (Err Memory) = ((d' ≡ d) ⊎ Does are d d') × Keeps w w'
 
-  -- an operation was answered, and how that was sent; or there was no memory for its reply
+  -- an operation was answered, and how that was sent; or there was no memory to ask for it, or for its reply
   abbrev pub PerformsAndSends : D → Operation → D → Option (List ℕ) → Option (List ℕ) → Result ℕ Stop → Type 0
   PerformsAndSends d o d' w w' r =
       ((p : Response) × Replies d o d' p × Sends p w w' r)
-      ⊎ ((r ≡ Err Memory) × ((outcome : Result ReplyView NoReply) × performs d o outcome d') × Keeps w w')
+      ⊎ ((r ≡ Err Memory) × ((d' ≡ d) ⊎ ((outcome : Result ReplyView NoReply) × performs d o outcome d')) × Keeps w w')
 
-  -- What a connection did to a service with these rules: what some bytes ask for, as a call does that reads them. Of what
-  -- it wrote nothing is known.
-  abbrev pub IsOneStep : AccessRules → D → D → Type 0
-  IsOneStep rules d d' =
-      (xs : List ℕ) × (r : Result ℕ Stop) × Serves (IsReceived rules (Some xs)) d d' None None r
+  -- What a connection did to a service of this site: what some bytes ask for, as a call does that reads them. Of what it
+  -- wrote nothing is known.
+  abbrev pub IsOneStep : D → D → Type 0
+  IsOneStep d d' = (xs : List ℕ) × (r : Result ℕ Stop) × Serves (IsReceived site (Some xs)) d d' None None r
 
-  -- nothing was done to it, or one operation, whatever came of it
+-- nothing was done to a service, or one operation, whatever came of it
+module _ {D : Type 0} (performs : D → Operation → Result ReplyView NoReply → D → Type 0) where
   abbrev pub IsOneOperation : D → D → Type 0
   IsOneOperation d d' =
       (d' ≡ d) ⊎ ((o : Operation) × (outcome : Result ReplyView NoReply) × performs d o outcome d')

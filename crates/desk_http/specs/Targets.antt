@@ -5,8 +5,9 @@ use Rattle.std.specs.Borrow.{Bor}
 use Rattle.std.specs.List.{list_all, starts_with}
 use Rattle.std.specs.Str.{bytes_eq}
 use Rattle.std.specs.Str.Parse.{digits_value}
-use Rattle.std.specs.Char.{is_ascii_digit, is_ascii_alphanumeric}
+use Rattle.std.specs.Char.{is_ascii_digit, is_ascii_alphanumeric, is_ascii_lowercase}
 use Rattle.part_core.specs.Day.{CivilDay, day_of}
+use Rattle.desk_http.specs.Sites.{PageView}
 use Rattle.desk_http.specs.declared.target.ImportKind.{ImportKind}
 use Rattle.desk_http.specs.declared.target.ImportKind.TheVariants.{Receipts, Counts}
 use Rattle.desk_http.specs.declared.target.ReportName.{ReportName}
@@ -14,11 +15,15 @@ use Rattle.desk_http.specs.declared.target.ReportName.TheVariants.{Ledger, Stock
 use Rattle.desk_http.specs.declared.target.Target.{Target}
 use Rattle.desk_http.specs.declared.target.Target.TheVariants as target
 
--- what a target names: the service that runs a line, an import of a document on a day, or a report
+-- what a target names: the service that runs a line, an import of a document on a day, a report; and what a page reads:
+-- a table as it is exported, the books whole, and the history from a number on
 pub data Resource : Type 0 where
   Run : Resource
   Import : ImportKind → List ℕ → CivilDay → Resource
   Report : ReportName → ℕ → Resource
+  Export : List ℕ → Resource
+  Books : Resource
+  HistoryFrom : ℕ → Resource
 
 infixl 10 ◌then◌
 abbrev pub ◌then◌ : {A B : Type 0} → Option A → (A → Option B) → Option B
@@ -87,6 +92,31 @@ abbrev pub run_resource : List ℕ → Option Resource
 run_resource [] = Some Run
 run_resource (b ∷ bs) = None
 
+-- a small letter, or a _
+abbrev pub is_table_byte : ℕ → Bool
+is_table_byte b = is_ascii_lowercase b || b == 95
+
+-- one such byte or more
+abbrev pub is_table : List ℕ → Bool
+is_table bytes = nat_lt 0 (length bytes) && list_all is_table_byte bytes
+
+abbrev pub export_resource : List ℕ → Option Resource
+export_resource bytes = where_it is_table bytes then λ table. Some (Export table)
+
+abbrev pub history_resource : List ℕ → Option Resource
+history_resource bytes = number_of bytes then λ number. Some (HistoryFrom number)
+
+abbrev pub history_at : List ℕ → Option Resource
+history_at target = if starts_with nat_eq target (codes "/history/") then history_resource (drop 9 target) else None
+
+abbrev pub part_at : List ℕ → Option Resource
+part_at target =
+    if starts_with nat_eq target (codes "/export/") then export_resource (drop 8 target) else history_at target
+
+-- what a whole target names that a page reads
+abbrev pub reading_of : List ℕ → Option Resource
+reading_of target = if bytes_eq target (codes "/books") then Some Books else part_at target
+
 -- what a whole target names, byte by byte: nothing is decoded, and nothing may stand behind it
 abbrev pub resource_of : List ℕ → Option Resource
 resource_of target =
@@ -94,18 +124,37 @@ resource_of target =
     else (if starts_with nat_eq target (codes "/report/") then report_resource (drop 8 target)
     else (if starts_with nat_eq target (codes "/run") then run_resource (drop 4 target) else None))
 
+abbrev pub first_of : {A : Type 0} → Option A → Option A → Option A
+first_of (Some x) other = Some x
+first_of None other = other
+
+-- what it names of a service with this page, or with none: what a page reads is there with a page alone
+abbrev pub resource_at : Option PageView → List ℕ → Option Resource
+resource_at None target = resource_of target
+resource_at (Some page) target = first_of (reading_of target) (resource_of target)
+
+-- the page, where the target names it and there is one
+abbrev pub page_at : Option PageView → List ℕ → Option PageView
+page_at page target = page then where_it (λ p. bytes_eq target (codes "/"))
+
 -- ---- the same as code has it, with the document's name where it lies in the target
 
 abbrev pub resource : Target → Resource
 resource target.Run = Run
 resource (target.Import kind document day) = Import kind document.now day
 resource (target.Report name number) = Report name number
+resource (target.Export table) = Export table.now
+resource target.Books = Books
+resource (target.HistoryFrom number) = HistoryFrom number
 
 -- a document that is named has a name of its form
 abbrev pub IsProper : Target → Type 0
 IsProper target.Run = Unit {0}
 IsProper (target.Import kind document day) = is_document document.now ≡ true
 IsProper (target.Report name number) = Unit {0}
+IsProper (target.Export table) = Unit {0}
+IsProper target.Books = Unit {0}
+IsProper (target.HistoryFrom number) = Unit {0}
 
 abbrev pub some_resource : Option Target → Option Resource
 some_resource None = None

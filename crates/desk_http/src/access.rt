@@ -7,7 +7,7 @@ ghost use Rattle.std.specs.String.{string_bytes};
 ghost use Rattle.httparse.specs.Spans.{IsHeaderWithin, header_bytes};
 ghost use Rattle.desk_http.specs.Fields.{said_in};
 ghost use Rattle.desk_http.specs.AccessRules.{is_host, is_own_name, is_own_origin, is_own_site, may_say, shows};
-ghost use Rattle.desk_http.specs.AccessRules.{access_fault, is_port_part, port_part};
+ghost use Rattle.desk_http.specs.AccessRules.{access_fault, page_fault, is_port_part, port_part};
 
 use crate::field::{FieldValue, find_field};
 use crate::rejection::Rejection;
@@ -137,11 +137,11 @@ impl Access {
         }
     }
 
-    /// Checks that a head with these fields may ask, else tells which rule it breaks first.
-    pub fn check(&self, head: &[u8], spans: &[HeaderSpan]) -> Result<(), Rejection>
+    /// Checks that a head with these fields may ask for a page, else tells which rule it breaks first.
+    pub fn check_for_page(&self, head: &[u8], spans: &[HeaderSpan]) -> Result<(), Rejection>
         requires { All (IsHeaderWithin (length head.now)) spans.now }
         ensures { result_err result
-            ≡ access_fault self.now (map (header_bytes head.now) spans.now) }
+            ≡ page_fault self.now (map (header_bytes head.now) spans.now) }
     {
         if !self.may_be_host(find_field(head, spans, b"host")) {
             return Err(Rejection::Misdirected);
@@ -149,6 +149,16 @@ impl Access {
         if !self.may_be_origin(find_field(head, spans, b"origin")) {
             return Err(Rejection::Forbidden);
         }
+        Ok(())
+    }
+
+    /// Checks that a head with these fields may ask, else tells which rule it breaks first.
+    pub fn check(&self, head: &[u8], spans: &[HeaderSpan]) -> Result<(), Rejection>
+        requires { All (IsHeaderWithin (length head.now)) spans.now }
+        ensures { result_err result
+            ≡ access_fault self.now (map (header_bytes head.now) spans.now) }
+    {
+        self.check_for_page(head, spans)?;
         if !may_be_site(find_field(head, spans, b"sec-fetch-site")) {
             return Err(Rejection::Forbidden);
         }

@@ -19,17 +19,22 @@ mod send;
 mod serve;
 mod served;
 mod service;
+mod site;
 mod target;
 mod token;
 
 pub use access::Access;
 pub use head::one_class;
 pub use loopback::{Clients, serve_connections};
-pub use plan::untold_requests_pass;
+pub use plan::{nothing_is_read_without_a_page, untold_requests_pass};
 pub use rejection::Rejection;
 pub use response::statuses_are_named;
 pub use serve::serve_one;
 pub use served::Served;
-pub use service::{Failure, NoReply, Outcome, Reply, Service};
+pub use service::{
+    Failure, NoReply, Outcome, Reply, Service, Tag, readings_change_nothing,
+    unchanged_books_are_known,
+};
+pub use site::{Page, Site};
 pub use target::{ImportKind, ReportName};
 pub use token::{Token, first_line};

@@ -3,11 +3,11 @@ ghost use Rattle.std.specs.Prelude.{◌≡◌, ◌+◌, ◌<◌, ◌≤◌, ◌^
 ghost use Rattle.desk_http.specs.Services.{Performs};
 ghost use Rattle.desk_http.specs.Serving.{AreSteps, IsOneOperation, IsOneStep};
 
-use crate::access::Access;
 use crate::pace::{PacedReader, PacedWriter, read_off};
 use crate::serve::serve_one;
 use crate::served::Served;
 use crate::service::Service;
+use crate::site::Site;
 use std::alloc::Global;
 use std::io::{self, ErrorKind};
 use std::net::{OpenListener, Shutdown, TcpStream};
@@ -41,16 +41,16 @@ fn answer<C: Clock, S: Service>(
     alloc: Global,
     stream: &TcpStream,
     service: &mut S,
-    access: &Access,
+    site: &Site,
 ) -> io::Result<()>
     requires { S.is_kept service.old }
     ensures kept { S.is_kept service.new }
-    ensures step { IsOneStep (Performs S.state S.machine S.left S.relates) access.now
+    ensures step { IsOneStep (Performs S.state S.machine S.left S.relates) site.now
         service.old service.new }
 {
     let mut reader = PacedReader::new(clock, stream);
     let mut writer = PacedWriter::new(clock, stream);
-    let served = serve_one(alloc, &mut reader, &mut writer, service, access);
+    let served = serve_one(alloc, &mut reader, &mut writer, service, site);
     end(clock, stream, served)
 }
 
@@ -125,13 +125,13 @@ pub fn serve_connections<C: Clock, L: OpenListener<Stream = TcpStream> + Drop, S
     clients: &mut Clients<L>,
     count: u64,
     service: &mut S,
-    access: &Access,
+    site: &Site,
 ) -> io::Result<()>
     requires kept { S.is_kept service.old }
     requires room { clients.old.accepted + count < 2 ^ 64 }
     ensures kept { S.is_kept service.new }
     ensures steps { (n : ℕ) × (n ≤ count)
-        × AreSteps (IsOneStep (Performs S.state S.machine S.left S.relates) access.now) n
+        × AreSteps (IsOneStep (Performs S.state S.machine S.left S.relates) site.now) n
         service.old service.new }
     ensures operations { (n : ℕ) × (n ≤ count)
         × AreSteps (IsOneOperation (Performs S.state S.machine S.left S.relates)) n
@@ -140,7 +140,7 @@ pub fn serve_connections<C: Clock, L: OpenListener<Stream = TcpStream> + Drop, S
 {
     for done in 0..count {
         let stream = clients.accept_patiently(clock)?;
-        let _ = answer(clock, alloc, &stream, service, access);
+        let _ = answer(clock, alloc, &stream, service, site);
     }
     Ok(())
 }

@@ -1,43 +1,66 @@
 //! What a head asks for, by the checks in their order.
-ghost use Rattle.std.specs.Prelude.{◌≡◌, None, IfOk, length, map, All};
+ghost use Rattle.std.specs.Prelude.{◌≡◌, [], None, IfOk, length, map, All};
 ghost use Rattle.std.specs.Result.{result_err};
 ghost use Rattle.httparse.specs.Spans.{IsHeaderWithin, header_bytes};
-ghost use Rattle.desk_http.specs.AccessRules.{access_fault, TellNoOrigin, AccessRules};
-ghost use Rattle.desk_http.specs.Heads.{HeadParts, WellFormed};
-ghost use Rattle.desk_http.specs.Plans.{checked, length_for, method_fault, open_plan_of};
-ghost use Rattle.desk_http.specs.Plans.{plan, plan_of};
+ghost use Rattle.desk_http.specs.AccessRules.{access_fault, page_fault, TellNoOrigin, AccessRules};
+ghost use Rattle.desk_http.specs.Heads.{Class, HeadParts, WellFormed};
+ghost use Rattle.desk_http.specs.Plans.{checked, known_tag, length_for, method_fault, open_plan_of};
+ghost use Rattle.desk_http.specs.Plans.{plan, plan_of, planned_page, unless_get, unless_post};
+ghost use Rattle.desk_http.specs.Plans.{AsksProperly, ShowsNoPage};
+ghost use Rattle.desk_http.specs.Responses.{guards};
 ghost use Rattle.desk_http.specs.Routes.{all_routes};
+ghost use Rattle.desk_http.specs.Sites.{SiteRules, page_view};
 ghost use Rattle.desk_http.specs.Spans.{class_of, LiesWithin};
-ghost use Rattle.desk_http.specs.Targets.{resource, IsProper};
+ghost use Rattle.desk_http.specs.Targets.{resource, some_text};
 
 use crate::access::Access;
 use crate::body_length::read_body_length;
+use crate::field::{FieldValue, find_field};
 use crate::head::Head;
 use crate::rejection::Rejection;
-use crate::route::{Route, find_target};
+use crate::route::{Route, find_page, find_target};
+use crate::site::{Page, Site};
 use crate::target::Target;
 use http::Method;
 use httparse::spans::HeaderSpan;
 use matchit::Router;
 
-/// Checks that a target has the method: a report has GET alone, all others POST.
+/// What is to be done for a request that isn't rejected.
+#[derive(Clone, Copy)]
+pub enum Work<'b> {
+    ShowPage(Page),
+    /// The service does what a target names, with the tag that is known to whoever asks and a body of so many bytes.
+    Ask(Target<'b>, Option<&'b [u8]>, usize),
+}
+
+fn check_get(method: &[u8]) -> Result<(), Rejection>
+    ensures { result_err result ≡ unless_get method.now }
+{
+    if method == Method::GET.as_str().as_bytes() {
+        Ok(())
+    } else {
+        Err(Rejection::OnlyGet)
+    }
+}
+
+fn check_post(method: &[u8]) -> Result<(), Rejection>
+    ensures { result_err result ≡ unless_post method.now }
+{
+    if method == Method::POST.as_str().as_bytes() {
+        Ok(())
+    } else {
+        Err(Rejection::OnlyPost)
+    }
+}
+
+/// Checks that a target has the method: what is run has POST alone, and what is read GET alone.
 fn check_method(method: &[u8], target: &Target<'_>) -> Result<(), Rejection>
     ensures { result_err result ≡ method_fault method.now (resource target.now) }
 {
     match target {
-        Target::Report(_, _) => {
-            if method == Method::GET.as_str().as_bytes() {
-                Ok(())
-            } else {
-                Err(Rejection::OnlyGet)
-            }
-        }
-        Target::Run | Target::Import(_, _, _) => {
-            if method == Method::POST.as_str().as_bytes() {
-                Ok(())
-            } else {
-                Err(Rejection::OnlyPost)
-            }
+        Target::Run | Target::Import(_, _, _) => check_post(method),
+        Target::Report(_, _) | Target::Export(_) | Target::Books | Target::HistoryFrom(_) => {
+            check_get(method)
         }
     }
 }
@@ -48,9 +71,8 @@ fn length_for(head: &[u8], target: &Target<'_>, spans: &[HeaderSpan]) -> Result<
     ensures { result ≡ length_for (resource target.now) (map (header_bytes head.now) spans.now) }
 {
     match target {
-        Target::Report(_, _) => Ok(0),
-        Target::Run => read_body_length(head, spans),
-        Target::Import(_, _, _) => read_body_length(head, spans),
+        Target::Run | Target::Import(_, _, _) => read_body_length(head, spans),
+        Target::Report(_, _) | Target::Export(_) | Target::Books | Target::HistoryFrom(_) => Ok(0),
     }
 }
 
@@ -71,34 +93,65 @@ fn check(
     length_for(head, target, spans)
 }
 
-/// What a head asks for and the length of its body, or the first check that fails.
-pub fn make_plan<'b>(
+/// The page, or the first check that fails.
+fn plan_page<'b>(
     access: &Access,
+    head: &'b [u8],
+    method: &[u8],
+    page: Page,
+    spans: &[HeaderSpan],
+) -> Result<Work<'b>, Rejection>
+    requires { All (IsHeaderWithin (length head.now)) spans.now }
+    ensures value { plan result ≡ planned_page
+        (page_fault access.now (map (header_bytes head.now) spans.now)) method.now
+        (page_view page) }
+    ensures proper { IfOk result AsksProperly }
+{
+    check_get(method)?;
+    access.check_for_page(head, spans)?;
+    Ok(Work::ShowPage(page))
+}
+
+/// The tag of the books that is known to whoever asks.
+fn find_known_tag<'b>(head: &'b [u8], spans: &[HeaderSpan]) -> Option<&'b [u8]>
+    requires { All (IsHeaderWithin (length head.now)) spans.now }
+    ensures { some_text result ≡ known_tag (map (header_bytes head.now) spans.now) }
+{
+    match find_field(head, spans, b"if-none-match") {
+        FieldValue::One(text) => Some(text),
+        FieldValue::Missing | FieldValue::Several => None,
+    }
+}
+
+/// What a head asks for, or the first check that fails.
+pub fn make_plan<'b>(
+    site: &Site,
     router: &Router<Route>,
     bytes: &'b [u8],
     head: Head,
     spans: &[HeaderSpan],
-) -> Result<(Target<'b>, usize), Rejection>
+) -> Result<Work<'b>, Rejection>
     requires router { router.now ≡ all_routes }
     requires within { LiesWithin bytes.now spans.now head }
-    ensures value { plan result ≡ plan_of access.now (class_of bytes.now spans.now head) }
-    ensures proper { IfOk result (λ p. IsProper p.0) }
+    ensures value { plan result ≡ plan_of site.now (class_of bytes.now spans.now head) }
+    ensures proper { IfOk result AsksProperly }
 {
-    match head {
-        Head::TooManyFields => Err(Rejection::HeadTooLarge),
-        Head::Malformed => Err(Rejection::BadRequest),
-        Head::WellFormed(found) => match find_target(router, found.path.of(bytes)) {
-            None => Err(Rejection::NotFound),
-            Some(target) => match check(
-                access,
-                bytes,
-                found.method.of(bytes),
-                &target,
-                &spans[..found.headers],
-            ) {
-                Ok(len) => Ok((target, len)),
-                Err(rejection) => Err(rejection),
-            },
+    let found = match head {
+        Head::TooManyFields => return Err(Rejection::HeadTooLarge),
+        Head::Malformed => return Err(Rejection::BadRequest),
+        Head::WellFormed(found) => found,
+    };
+    let target = found.path.of(bytes);
+    let method = found.method.of(bytes);
+    let spans = &spans[..found.headers];
+    if let Some(page) = find_page(&site.page, target) {
+        return plan_page(&site.access, bytes, method, page, spans);
+    }
+    match find_target(router, &site.page, target) {
+        None => Err(Rejection::NotFound),
+        Some(target) => match check(&site.access, bytes, method, &target, spans) {
+            Ok(len) => Ok(Work::Ask(target, find_known_tag(bytes, spans), len)),
+            Err(rejection) => Err(rejection),
         },
     }
 }
@@ -106,7 +159,15 @@ pub fn make_plan<'b>(
 /// Requests that tell nothing of where they come from are planned as by a service that anyone may ask, where no token is
 /// asked for: with no `Host`, no `Origin` and no `Sec-Fetch-Site`, nothing of who may ask is looked at.
 pub fn untold_requests_pass()
-    ensures { (rules : AccessRules) (parts : HeadParts) → rules.token ≡ None
+    ensures { (site : SiteRules) (parts : HeadParts) → site.access.token ≡ None
         → TellNoOrigin parts.fields
-        → plan_of rules (WellFormed parts) ≡ open_plan_of (WellFormed parts) }
+        → plan_of site (WellFormed parts) ≡ open_plan_of site.page (WellFormed parts) }
+{}
+
+/// Where there is no page, none is shown, nor is anything asked for that a page reads: what is asked for is a line, an
+/// import or a report. Nor has a response a field more.
+pub fn nothing_is_read_without_a_page()
+    ensures planned { (access : AccessRules) (class : Class)
+        → ShowsNoPage (plan_of (record { access = access; page = None }) class) }
+    ensures guarded { guards None ≡ [] }
 {}

@@ -1,10 +1,14 @@
 //! Responses, byte by byte.
 ghost use Rattle.std.specs.Prelude.{◌≡◌, ◌++◌, decimal, length, IfOk, OnOk, string_bytes};
-ghost use Rattle.desk_http.specs.Responses.{AreNamed, line, status_words, response_bytes, error_body, error_response};
+ghost use Rattle.desk_http.specs.Responses.{AreNamed, guards, head_bytes, line, page_fields, status_words};
+ghost use Rattle.desk_http.specs.Responses.{error_body, tag_line, tag_of, unchanged_response};
 ghost use Rattle.desk_http.specs.Responses.{rejection_status, further_of, outcome_status, media_of, failure_status};
+ghost use Rattle.desk_http.specs.Services.{tag_text};
+ghost use Rattle.desk_http.specs.Sites.{page_view, some_page};
 
 use crate::rejection::Rejection;
-use crate::service::{Failure, Outcome};
+use crate::service::{Failure, Outcome, Tag};
+use crate::site::Page;
 use http::StatusCode;
 use std::alloc::{AllocError, Global};
 
@@ -31,42 +35,104 @@ fn length_text(alloc: Global, length: usize) -> Result<String, AllocError>
     format!(in alloc; "{length}")
 }
 
-/// A whole response, with the line of one field more, or nothing in its place.
-pub fn response_text(
+/// The lines of the fields that each response of a service with a page has besides.
+fn push_guards(text: &mut String, page: &Option<Page>) -> Result<(), AllocError>
+    ensures { OnOk result (string_bytes text.new
+        ≡ string_bytes text.old ++ guards (some_page page.now)) }
+{
+    if page.is_none() {
+        return Ok(());
+    }
+    push_line(text, "X-Content-Type-Options: ", "nosniff")?;
+    push_line(text, "Cache-Control: ", "no-store")?;
+    push_line(text, "Cross-Origin-Resource-Policy: ", "same-origin")?;
+    Ok(())
+}
+
+/// The head of a response with a body of that length, and with the lines of fields more, or nothing in their place.
+pub fn head_text(
     alloc: Global,
+    page: &Option<Page>,
     status: StatusCode,
     media: &str,
+    length: usize,
     further: &str,
-    body: &str,
 ) -> Result<String, AllocError>
     ensures { IfOk result (λ text. string_bytes text
-        ≡ response_bytes status media.now further.now body.now) }
+        ≡ head_bytes (some_page page.now) status media.now length further.now) }
 {
     let status_words = status_text(alloc, status)?;
-    let length = length_text(alloc, body.len())?;
+    let length = length_text(alloc, length)?;
     let mut text = String::new(alloc);
     push_line(&mut text, "HTTP/1.1 ", status_words.as_str())?;
     push_line(&mut text, "Content-Type: ", media)?;
     push_line(&mut text, "Content-Length: ", length.as_str())?;
     text.push_str(further)?;
+    push_guards(&mut text, page)?;
     push_line(&mut text, "Connection: close", "")?;
     text.push_str("\r\n")?;
-    text.push_str(body)?;
     Ok(text)
 }
 
-fn error_body(alloc: Global, status: u16) -> Result<String, AllocError>
+/// The text of a tag, its quotes too.
+pub fn tag_text(alloc: Global, tag: Tag) -> Result<String, AllocError>
+    ensures { IfOk result (λ text. string_bytes text ≡ tag_text tag) }
+{
+    let (began, accepted) = (tag.began, tag.accepted);
+    format!(in alloc; "\"{began}-{accepted}\"")
+}
+
+fn tag_line(alloc: Global, tag: Tag) -> Result<String, AllocError>
+    ensures { IfOk result (λ text. string_bytes text ≡ tag_line tag) }
+{
+    let tag = tag_text(alloc, tag)?;
+    let mut text = String::new(alloc);
+    push_line(&mut text, "ETag: ", tag.as_str())?;
+    Ok(text)
+}
+
+/// The line of the tag of what is shown, or nothing where it has none.
+pub fn tag_of(alloc: Global, outcome: Outcome) -> Result<String, AllocError>
+    ensures { IfOk result (λ text. string_bytes text ≡ tag_of outcome) }
+{
+    match outcome {
+        Outcome::Shown(Some(tag)) => tag_line(alloc, tag),
+        _ => Ok(String::new(alloc)),
+    }
+}
+
+/// The response that nothing has changed, which has no body.
+pub fn unchanged_text(alloc: Global, page: &Option<Page>, tag: Tag) -> Result<String, AllocError>
+    ensures { IfOk result (λ text. string_bytes text
+        ≡ (unchanged_response (some_page page.now) tag).bytes) }
+{
+    let status_words = status_text(alloc, StatusCode::NOT_MODIFIED)?;
+    let tag = tag_line(alloc, tag)?;
+    let mut text = String::new(alloc);
+    push_line(&mut text, "HTTP/1.1 ", status_words.as_str())?;
+    text.push_str(tag.as_str())?;
+    push_guards(&mut text, page)?;
+    push_line(&mut text, "Connection: close", "")?;
+    text.push_str("\r\n")?;
+    Ok(text)
+}
+
+/// The lines of what a page tells its browser.
+pub fn page_lines(alloc: Global, page: &Page) -> Result<String, AllocError>
+    ensures { IfOk result (λ text. string_bytes text ≡ page_fields (page_view page.now)) }
+{
+    let mut text = String::new(alloc);
+    push_line(&mut text, "Referrer-Policy: ", "same-origin")?;
+    push_line(&mut text, "Cross-Origin-Opener-Policy: ", "same-origin")?;
+    push_line(&mut text, "Content-Security-Policy: ", page.policy)?;
+    Ok(text)
+}
+
+/// The body of an error: it has the status alone.
+pub fn error_body(alloc: Global, status: u16) -> Result<String, AllocError>
     ensures { IfOk result (λ text. string_bytes text ≡ error_body status) }
 {
     format!(in alloc; "{{\"http\":{status}}}\n")
-}
-
-/// The response of an error: its body has the status alone.
-pub fn error_text(alloc: Global, status: StatusCode, further: &str) -> Result<String, AllocError>
-    ensures { IfOk result (λ text. string_bytes text ≡ (error_response status further.now).bytes) }
-{
-    let body = error_body(alloc, status.as_u16())?;
-    response_text(alloc, status, "application/json", further, body.as_str())
 }
 
 pub fn rejection_status(rejection: Rejection) -> StatusCode
@@ -106,6 +172,10 @@ pub fn outcome_status(outcome: Outcome) -> StatusCode
         Outcome::Refused => StatusCode::CONFLICT,
         Outcome::Faulty => StatusCode::BAD_REQUEST,
         Outcome::Reported => StatusCode::OK,
+        Outcome::Exported => StatusCode::OK,
+        Outcome::Shown(_) => StatusCode::OK,
+        Outcome::Unchanged(_) => StatusCode::NOT_MODIFIED,
+        Outcome::Unknown => StatusCode::NOT_FOUND,
     }
 }
 
@@ -114,6 +184,7 @@ pub fn media_type(outcome: Outcome) -> &'static str
 {
     match outcome {
         Outcome::Reported => "text/plain; charset=utf-8",
+        Outcome::Exported => "text/csv; charset=utf-8",
         _ => "application/json",
     }
 }

@@ -2,9 +2,11 @@
 ghost use Rattle.std.specs.Prelude.{◌≡◌, ◌≤◌, IfOk, IfSome, length, drop};
 ghost use Rattle.std.specs.Str.{IsUtf8};
 ghost use Rattle.desk_http.specs.Routes.{all_routes, route_of};
-ghost use Rattle.desk_http.specs.Targets.{resource_of, some_resource, IsProper};
+ghost use Rattle.desk_http.specs.Sites.{some_page};
+ghost use Rattle.desk_http.specs.Targets.{page_at, resource_at, resource_of, some_resource, IsProper};
 
-use crate::target::{Target, read_import, read_report};
+use crate::site::Page;
+use crate::target::{Target, read_import, read_reading, read_report};
 use matchit::{InsertError, Router};
 use std::alloc::Global;
 
@@ -16,7 +18,7 @@ pub enum Route {
     RunRoute,
 }
 
-/// A router of the three routes.
+/// A router of the three routes that are there without a page.
 pub fn make_router(alloc: Global) -> Result<Router<Route>, InsertError>
     ensures { IfOk result (λ r. r ≡ all_routes) }
 {
@@ -46,8 +48,8 @@ fn behind_first(target: &[u8]) -> &[u8]
     &target[8..]
 }
 
-/// What a whole target names.
-pub fn find_target<'b>(router: &Router<Route>, target: &'b [u8]) -> Option<Target<'b>>
+/// What a whole target names that is there without a page.
+fn find_routed<'b>(router: &Router<Route>, target: &'b [u8]) -> Option<Target<'b>>
     requires router { router.now ≡ all_routes }
     requires text { IsUtf8 target.now }
     ensures value { some_resource result ≡ resource_of target.now }
@@ -61,5 +63,34 @@ pub fn find_target<'b>(router: &Router<Route>, target: &'b [u8]) -> Option<Targe
             Some(Route::ImportRoute) => read_import(behind_first(target)),
             Some(Route::ReportRoute) => read_report(behind_first(target)),
         },
+    }
+}
+
+/// What a whole target names of a service with this page, or with none.
+pub fn find_target<'b>(
+    router: &Router<Route>,
+    page: &Option<Page>,
+    target: &'b [u8],
+) -> Option<Target<'b>>
+    requires router { router.now ≡ all_routes }
+    requires text { IsUtf8 target.now }
+    ensures value { some_resource result ≡ resource_at (some_page page.now) target.now }
+    ensures proper { IfSome result IsProper }
+{
+    if page.is_some() {
+        if let Some(reading) = read_reading(target) {
+            return Some(reading);
+        }
+    }
+    find_routed(router, target)
+}
+
+/// The page, where the target names it and there is one.
+pub fn find_page(page: &Option<Page>, target: &[u8]) -> Option<Page>
+    ensures { some_page result ≡ page_at (some_page page.now) target.now }
+{
+    match page {
+        Some(page) if target == b"/".as_slice() => Some(*page),
+        _ => None,
     }
 }

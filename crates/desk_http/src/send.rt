@@ -8,7 +8,7 @@ use crate::served::Stop;
 use http::StatusCode;
 use std::io::Write;
 
-/// Writes all the bytes and flushes; else a front of them.
+/// Writes all the bytes; else a front of them.
 fn send<W: Write>(writer: &mut W, text: &[u8]) -> Result<(), Stop>
     ensures { MatchResult result
         (λ _. Appends (W.contents writer.old) (W.contents writer.new) text.now)
@@ -23,19 +23,25 @@ fn send<W: Write>(writer: &mut W, text: &[u8]) -> Result<(), Stop>
             Err(_) => return Err(Stop::WriteFailed),
         }
     }
-    match writer.flush() {
-        Ok(()) => Ok(()),
-        Err(_) => Err(Stop::WriteFailed),
-    }
+    Ok(())
 }
 
-/// Sends a response of this status.
-pub fn send_response<W: Write>(writer: &mut W, status: StatusCode, text: &str) -> Result<u16, Stop>
-    ensures { Sends (response status text.now)
+/// Sends a response of this status, its head and then its body.
+pub fn send_response<W: Write>(
+    writer: &mut W,
+    status: StatusCode,
+    head: &str,
+    body: &[u8],
+) -> Result<u16, Stop>
+    ensures { Sends (response status (head.now ++ body.now))
         (W.contents writer.old) (W.contents writer.new) result }
 {
-    match send(writer, text.as_bytes()) {
-        Ok(()) => Ok(status.as_u16()),
+    send(writer, head.as_bytes())?;
+    match send(writer, body) {
+        Ok(()) => match writer.flush() {
+            Ok(()) => Ok(status.as_u16()),
+            Err(_) => Err(Stop::WriteFailed),
+        },
         Err(_) => Err(Stop::WriteFailed),
     }
 }

@@ -5,15 +5,15 @@ ghost use Rattle.desk_http.specs.Routes.{all_routes};
 ghost use Rattle.desk_http.specs.Services.{Performs};
 ghost use Rattle.desk_http.specs.Serving.{AreReceived, IsReceived, Serves, result_of};
 
-use crate::access::Access;
 use crate::head::read_head;
-use crate::plan::make_plan;
+use crate::plan::{Work, make_plan};
 use crate::receive::{HeadArrival, Input};
 use crate::rejection::Rejection;
-use crate::respond::{reject, respond};
+use crate::respond::{reject, respond, show_page};
 use crate::route::{Route, make_router};
 use crate::served::{Served, Stop};
 use crate::service::Service;
+use crate::site::Site;
 use httparse::spans::EMPTY_HEADER_SPAN;
 use matchit::Router;
 use std::alloc::{AllocError, Global};
@@ -33,7 +33,7 @@ fn serve_head<R: Read, W: Write, S: Service>(
     reader: &mut R,
     writer: &mut W,
     service: &mut S,
-    access: &Access,
+    site: &Site,
     router: &Router<Route>,
     input: &mut Input,
     n: usize,
@@ -43,22 +43,26 @@ fn serve_head<R: Read, W: Write, S: Service>(
     requires router { router.now ≡ all_routes }
     requires kept { S.is_kept service.old }
     ensures kept { S.is_kept service.new }
-    ensures serves { Serves (Performs S.state S.machine S.left S.relates)
-        (AreReceived access.now (HeadArrival.Head n)
+    ensures serves { Serves (Performs S.state S.machine S.left S.relates) site.now
+        (AreReceived site.now (HeadArrival.Head n)
         (all_of (R.remaining reader.old) input.old.bytes.items) input.new.bytes.items)
         service.old service.new (W.contents writer.old) (W.contents writer.new) result }
 {
     let head = copy(alloc, &input.bytes[..n])?;
     let mut spans = [EMPTY_HEADER_SPAN; 64];
     let class = read_head(&head, &mut spans);
-    match make_plan(access, router, &head, class, &spans) {
-        Err(rejection) => reject(alloc, writer, rejection),
-        Ok((target, len)) => {
+    let work = match make_plan(site, router, &head, class, &spans) {
+        Ok(work) => work,
+        Err(rejection) => return reject(alloc, writer, &site.page, rejection),
+    };
+    match work {
+        Work::ShowPage(page) => show_page(alloc, writer, page),
+        Work::Ask(target, known, len) => {
             if !input.receive_body(reader, n, len)? {
                 return Err(Stop::Ended);
             }
             let body = &input.bytes[n..n + len];
-            respond(alloc, writer, service, &target, body)
+            respond(alloc, writer, service, site, &target, known, body)
         }
     }
 }
@@ -69,17 +73,17 @@ fn answer_one<R: Read, W: Write, S: Service>(
     reader: &mut R,
     writer: &mut W,
     service: &mut S,
-    access: &Access,
+    site: &Site,
     input: &mut Input,
 ) -> Result<u16, Stop>
     requires fresh { input.old.bytes.items ≡ [] }
     requires kept { S.is_kept service.old }
     ensures kept { S.is_kept service.new }
-    ensures serves { Serves (Performs S.state S.machine S.left S.relates)
-        (IsReceived access.now (R.remaining reader.old))
+    ensures serves { Serves (Performs S.state S.machine S.left S.relates) site.now
+        (IsReceived site.now (R.remaining reader.old))
         service.old service.new (W.contents writer.old) (W.contents writer.new) result }
-    ensures read { Serves (Performs S.state S.machine S.left S.relates)
-        (IsReceived access.now (Some input.new.bytes.items))
+    ensures read { Serves (Performs S.state S.machine S.left S.relates) site.now
+        (IsReceived site.now (Some input.new.bytes.items))
         service.old service.new (W.contents writer.old) (W.contents writer.new) result }
 {
     let Ok(router) = make_router(alloc) else {
@@ -87,9 +91,9 @@ fn answer_one<R: Read, W: Write, S: Service>(
     };
     match input.receive_head(reader)? {
         HeadArrival::Incomplete => Err(Stop::Ended),
-        HeadArrival::TooLong => reject(alloc, writer, Rejection::HeadTooLarge),
+        HeadArrival::TooLong => reject(alloc, writer, &site.page, Rejection::HeadTooLarge),
         HeadArrival::Head(n) => {
-            serve_head(alloc, reader, writer, service, access, &router, input, n)
+            serve_head(alloc, reader, writer, service, site, &router, input, n)
         }
     }
 }
@@ -108,7 +112,8 @@ fn served_of(end: Result<u16, Stop>) -> Served
 
 /// Reads one request, has the service do what it asks, and answers it.
 ///
-/// Who may ask is said by `access`; a request of anyone else is refused, and nothing of it is done.
+/// Who may ask is said by the site, and whether there is a page; a request of anyone else is refused, and nothing of it is
+/// done.
 ///
 /// A request is read as far as its body goes, and nothing behind it; of a GET no body is read. There is one answer, and
 /// the connection is the caller's to close. There are at most 2,000,000 reads.
@@ -119,19 +124,19 @@ pub fn serve_one<R: Read, W: Write, S: Service>(
     reader: &mut R,
     writer: &mut W,
     service: &mut S,
-    access: &Access,
+    site: &Site,
 ) -> Served
     requires { S.is_kept service.old }
     ensures kept { S.is_kept service.new }
-    ensures serves { Serves (Performs S.state S.machine S.left S.relates)
-        (IsReceived access.now (R.remaining reader.old))
+    ensures serves { Serves (Performs S.state S.machine S.left S.relates) site.now
+        (IsReceived site.now (R.remaining reader.old))
         service.old service.new (W.contents writer.old) (W.contents writer.new)
         (result_of result) }
-    ensures read { (xs : List ℕ) × Serves (Performs S.state S.machine S.left S.relates)
-        (IsReceived access.now (Some xs))
+    ensures read { (xs : List ℕ) × Serves (Performs S.state S.machine S.left S.relates) site.now
+        (IsReceived site.now (Some xs))
         service.old service.new (W.contents writer.old) (W.contents writer.new)
         (result_of result) }
 {
     let mut input = Input::new(alloc);
-    served_of(answer_one(alloc, reader, writer, service, access, &mut input))
+    served_of(answer_one(alloc, reader, writer, service, site, &mut input))
 }

@@ -1,12 +1,21 @@
 //! The service that requests are handed to.
-ghost use Rattle.std.specs.Prelude.{◌≡◌, ℕ, List, Option, true, IfOk, IfErr};
+ghost use Rattle.std.specs.Prelude.{◌≡◌, ℕ, List, Option, Some, None, true, IfOk, IfErr};
 ghost use Rattle.desk_http.specs.Targets.{is_document};
 ghost use Rattle.desk_http.specs.Services.{Machine, Operation, RunLine, ImportFile, ShowReport};
-ghost use Rattle.desk_http.specs.Services.{Stops, heard, reply_view, step, why_none};
+ghost use Rattle.desk_http.specs.Services.{ShowTable, ShowBooks, ShowHistory};
+ghost use Rattle.desk_http.specs.Services.{IsReading, Stops, reply_view, step, tag_text, why_none};
 
 use crate::target::{ImportKind, ReportName};
 use part_core::Day;
 use std::alloc::Global;
+
+/// What tells the books of a service from what they were, and will be: when the service began, in nanoseconds since 1970,
+/// and how many requests it has accepted since.
+#[derive(Clone, Copy, Debug)]
+pub struct Tag {
+    pub began: u64,
+    pub accepted: u64,
+}
 
 /// Of what kind a reply is.
 #[derive(Clone, Copy, Debug)]
@@ -19,13 +28,21 @@ pub enum Outcome {
     Faulty,
     /// A report, or the report of an import: 200, as plain text.
     Reported,
+    /// A table: 200, as CSV.
+    Exported,
+    /// What the books hold: 200, as JSON, with the tag of it, where there is one.
+    Shown(Option<Tag>),
+    /// The books are still those of this tag: 304, and no body is told.
+    Unchanged(Tag),
+    /// There is no table of the name: 404, and no body is told.
+    Unknown,
 }
 
 /// What the service replies, the LF at its end too.
 #[derive(Drop)]
 pub struct Reply {
     pub outcome: Outcome,
-    pub text: String,
+    pub body: Vec<u8>,
 }
 
 /// Why an operation failed.
@@ -45,7 +62,7 @@ pub enum NoReply {
     Untold,
 }
 
-/// A service that runs lines, takes files in and shows reports.
+/// A service that runs lines, takes files in, shows reports, and tells a page what the books hold.
 ///
 /// It is a state, and a machine on states that says of each operation what it does to the state and what is replied.
 pub trait Service {
@@ -103,4 +120,48 @@ pub trait Service {
         ensures ok { IfOk result (λ reply. (state self.now, reply_view reply)
             ≡ step machine (state self.now) (ShowReport name number)) }
         ensures relates { relates self.now (ShowReport name number) (why_none result) self.now };
+
+    /// The tag of the books as they are, where they can be told from what they were. It tells, too, that they may be shown.
+    fn tag(&self) -> Result<Option<Tag>, NoReply>
+        requires { is_kept self.now }
+        ensures ok { IfOk result (λ tag. tag ≡ machine.tag (state self.now)) }
+        ensures relates { (known : Option (List ℕ))
+            → relates self.now (ShowBooks known) (why_none result) self.now };
+
+    /// Exports the table of a name, or replies that it is unknown.
+    fn export(&self, alloc: Global, table: &[u8]) -> Result<Reply, NoReply>
+        requires { is_kept self.now }
+        ensures ok { IfOk result (λ reply. (state self.now, reply_view reply)
+            ≡ step machine (state self.now) (ShowTable table.now)) }
+        ensures relates { relates self.now (ShowTable table.now) (why_none result) self.now };
+
+    /// Shows the books whole.
+    fn books(&self, alloc: Global) -> Result<Reply, NoReply>
+        requires { is_kept self.now }
+        ensures ok { IfOk result (λ reply. (state self.now, reply_view reply)
+            ≡ step machine (state self.now) (ShowBooks None)) }
+        ensures relates { (known : Option (List ℕ))
+            → relates self.now (ShowBooks known) (why_none result) self.now };
+
+    /// Shows entries of the history, from a number on.
+    fn history(&self, alloc: Global, from: u64) -> Result<Reply, NoReply>
+        requires { is_kept self.now }
+        ensures ok { IfOk result (λ reply. (state self.now, reply_view reply)
+            ≡ step machine (state self.now) (ShowHistory from)) }
+        ensures relates { relates self.now (ShowHistory from) (why_none result) self.now };
 }
+
+/// What only reads leaves a service in the state that it was in, whether it is replied to or not.
+pub fn readings_change_nothing<S: Service>()
+    ensures replied { (s : S.State) (o : Operation) → IsReading o
+        → (step S.machine s o).0 ≡ s }
+    ensures stopped { (why : NoReply) (s s' : S.State) (o : Operation) → IsReading o
+        → Stops S.machine S.left why s o s' → s' ≡ s }
+{}
+
+/// Whoever asks for the books is told that they haven't changed only where their tag is the one that is known.
+pub fn unchanged_books_are_known<S: Service>()
+    ensures { (s : S.State) (known : Option (List ℕ)) (tag : Tag) (body : List ℕ)
+        → (step S.machine s (ShowBooks known)).1 ≡ (Outcome.Unchanged tag, body)
+        → (known ≡ Some (tag_text tag)) × (S.machine.tag s ≡ Some tag) }
+{}

@@ -5,6 +5,8 @@ ghost use Rattle.part_core.specs.Day.{day_of};
 ghost use Rattle.desk_http.specs.Targets.{number_of, cut, kind_of, name_of, slash_in, is_document_byte};
 ghost use Rattle.desk_http.specs.Targets.{is_document, where_it, file_resource, import_resource};
 ghost use Rattle.desk_http.specs.Targets.{report_resource, some_parts, some_resource, some_text, IsProper};
+ghost use Rattle.desk_http.specs.Targets.{is_table, is_table_byte, export_resource, history_at, history_resource};
+ghost use Rattle.desk_http.specs.Targets.{part_at, reading_of};
 
 use part_core::Day;
 
@@ -34,6 +36,12 @@ pub enum Target<'b> {
     Import(ImportKind, &'b str, Day),
     /// A report, and the number of what it is of.
     Report(ReportName, u64),
+    /// The table of that name, as it is exported.
+    Export(&'b [u8]),
+    /// The books whole.
+    Books,
+    /// The history, from that number on.
+    HistoryFrom(u64),
 }
 
 /// A number of 1 to 19 digits.
@@ -181,4 +189,77 @@ pub fn read_report(bytes: &[u8]) -> Option<Target>
     let name = read_name(name_part)?;
     let number = read_number(rest)?;
     Some(Target::Report(name, number))
+}
+
+fn is_table_byte(b: u8) -> bool
+    ensures { result ≡ is_table_byte b }
+{
+    b.is_ascii_lowercase() || b == b'_'
+}
+
+fn are_table(bytes: &[u8]) -> bool
+    ensures { result ≡ list_all is_table_byte bytes.now }
+{
+    bytes.iter().all(|b| is_table_byte(*b))
+}
+
+fn is_table(bytes: &[u8]) -> bool
+    ensures { result ≡ is_table bytes.now }
+{
+    0 < bytes.len() && are_table(bytes)
+}
+
+/// What stands behind `/export/`.
+fn read_export(bytes: &[u8]) -> Option<Target>
+    ensures value { some_resource result ≡ export_resource bytes.now }
+    ensures proper { IfSome result IsProper }
+{
+    if is_table(bytes) {
+        Some(Target::Export(bytes))
+    } else {
+        None
+    }
+}
+
+/// What stands behind `/history/`.
+fn read_history(bytes: &[u8]) -> Option<Target>
+    ensures value { some_resource result ≡ history_resource bytes.now }
+    ensures proper { IfSome result IsProper }
+{
+    let number = read_number(bytes)?;
+    Some(Target::HistoryFrom(number))
+}
+
+/// What a whole target names that begins with `/history/`.
+fn read_history_target(target: &[u8]) -> Option<Target>
+    ensures value { some_resource result ≡ history_at target.now }
+    ensures proper { IfSome result IsProper }
+{
+    match target.strip_prefix(b"/history/".as_slice()) {
+        Some(number) => read_history(number),
+        None => None,
+    }
+}
+
+/// What a whole target names that begins with `/export/` or `/history/`.
+fn read_part(target: &[u8]) -> Option<Target>
+    ensures value { some_resource result ≡ part_at target.now }
+    ensures proper { IfSome result IsProper }
+{
+    match target.strip_prefix(b"/export/".as_slice()) {
+        Some(table) => read_export(table),
+        None => read_history_target(target),
+    }
+}
+
+/// What a whole target names that a page reads.
+pub fn read_reading(target: &[u8]) -> Option<Target>
+    ensures value { some_resource result ≡ reading_of target.now }
+    ensures proper { IfSome result IsProper }
+{
+    if target == b"/books".as_slice() {
+        Some(Target::Books)
+    } else {
+        read_part(target)
+    }
 }

@@ -1,8 +1,11 @@
 -- A service that counts the bytes that it is sent.
 use Rattle.std.specs.Prelude.{◌≡◌, ℕ, ◌+◌, ◌%◌, ◌==◌, ◌++◌, List, [], ◌∷◌, length, decimal, codes, if◌then◌else◌}
+use Rattle.std.specs.Prelude.{Option, Some, None, replicate}
 use Rattle.std.specs.Str.{bytes_eq}
 use Rattle.desk_http.specs.Services.{Machine, Operation, ReplyView}
 use Rattle.desk_http.specs.declared.service.Outcome.TheVariants.{Answered, Refused, Faulty, Reported}
+use Rattle.desk_http.specs.declared.service.Outcome.TheVariants.{Exported, Unknown}
+use Rattle.desk_http.specs.declared.service.Tag.{Tag}
 use Rattle.desk_http.specs.declared.service.Failure.{Failure}
 
 abbrev pub number_line : ℕ → List ℕ
@@ -17,6 +20,16 @@ report_said number =
     if number == 0 then (Refused, number_line 0)
     else (if number == 9 then (Reported, []) else (Reported, number_line number))
 
+-- what is counted has a tag, unless that is 7
+abbrev pub total_tag : ℕ → Option Tag
+total_tag total = if total == 7 then None else Some (record { began = 5; accepted = total })
+
+-- the count is exported as `parts`, and as `items` so many bytes
+abbrev pub table_said : ℕ → List ℕ → ReplyView
+table_said total name =
+    if bytes_eq name (codes "parts") then (Exported, number_line total)
+    else (if bytes_eq name (codes "items") then (Exported, replicate total 97) else (Unknown, []))
+
 abbrev pub counting : Machine ℕ
 counting = record {
   run_line = λ total body.
@@ -27,6 +40,10 @@ counting = record {
       if bytes_eq rows (codes "faulty") then (total, (Faulty, number_line total))
       else (more total rows, (Reported, document ++ 10 ∷ []));
   show_report = λ total name number. report_said number;
+  tag = total_tag;
+  show_table = table_said;
+  show_books = number_line;
+  show_history = λ total from. number_line from;
 }
 
 -- a failure leaves the count as it was

@@ -11,6 +11,8 @@ mod ends;
 #[cfg(test)]
 mod loopback;
 #[cfg(test)]
+mod pages;
+#[cfg(test)]
 mod play;
 #[cfg(test)]
 mod requests;

@@ -1,10 +1,10 @@
 //! One connection, from the bytes that it is sent to those that answer it.
 use crate::counting::Counting;
 use crate::devices::{Sink, Source};
-use desk_http::{Access, Served, Token, serve_one};
+use desk_http::{Access, Page, Served, Site, Token, serve_one};
 use std::alloc::{AllocError, Global};
 
-/// A response as the rules have it: `allow` is the line of that field, with its CR LF, or nothing.
+/// A response as the rules have it: `allow` is the lines of further fields, each with its CR LF, or nothing.
 pub fn response(
     alloc: Global,
     (status, name): (u16, &str),
@@ -34,38 +34,79 @@ pub fn error(
     )
 }
 
-/// What is asked where the service is at port 8080, and asks for no token.
-pub fn open(alloc: Global) -> Result<Access, AllocError> {
-    Access::new(alloc, 8080, None)
+/// A service at port 8080 that asks for no token, and has no page.
+pub fn open(alloc: Global) -> Result<Site, AllocError> {
+    open_at(alloc, 8080)
 }
 
-/// The same at another port, with this token, where it may be one.
-pub fn guarded(alloc: Global, port: u16, token: &str) -> Result<Access, AllocError> {
+/// The same at another port.
+pub fn open_at(alloc: Global, port: u16) -> Result<Site, AllocError> {
+    Ok(Site {
+        access: Access::new(alloc, port, None)?,
+        page: None,
+    })
+}
+
+/// A service at port 8080 that asks for this token, if it may be one, and has this page, if any.
+pub fn guarded(alloc: Global, token: &str, page: Option<Page>) -> Result<Site, AllocError> {
     let mut bytes = Vec::new(alloc);
     bytes.extend_from_slice(token.as_bytes())?;
-    Access::new(alloc, port, Token::new(bytes))
+    Ok(Site {
+        access: Access::new(alloc, 8080, Token::new(bytes))?,
+        page,
+    })
+}
+
+/// A page.
+pub const PAGE: Page = Page {
+    text: "<!DOCTYPE html>\n<title>\u{e9}</title>\n",
+    policy: "default-src 'none'; connect-src 'self'",
+};
+
+/// A service at port 8080 that asks for no token, and has that page.
+pub fn with_page(alloc: Global) -> Result<Site, AllocError> {
+    Ok(Site {
+        access: Access::new(alloc, 8080, None)?,
+        page: Some(PAGE),
+    })
 }
 
 /// The status that answers a request, 0 where none does, and how much is counted.
-pub fn status_of(alloc: Global, access: &Access, request: &str) -> (u16, u64) {
+pub fn status_of(alloc: Global, site: &Site, request: &str) -> (u16, u64) {
     let mut source = Source::new(request.as_bytes(), 4096);
     let mut sink = Sink::new(alloc, 4096);
     let mut service = Counting { total: 0 };
-    match serve_one(alloc, &mut source, &mut sink, &mut service, access) {
+    match serve_one(alloc, &mut source, &mut sink, &mut service, site) {
         Served::Answered(status) => (status, service.total),
         _ => (0, service.total),
     }
 }
 
 /// The status that answers a request, 0 where none does, and what is written.
-pub fn answer_of(alloc: Global, access: &Access, request: &str) -> (u16, Vec<u8>) {
+pub fn answer_of(alloc: Global, site: &Site, request: &str) -> (u16, Vec<u8>) {
     let mut source = Source::new(request.as_bytes(), 4096);
     let mut sink = Sink::new(alloc, 4096);
     let mut service = Counting { total: 0 };
-    match serve_one(alloc, &mut source, &mut sink, &mut service, access) {
+    match serve_one(alloc, &mut source, &mut sink, &mut service, site) {
         Served::Answered(status) => (status, sink.bytes),
         _ => (0, sink.bytes),
     }
+}
+
+/// Whether a service of this site, where so many bytes were counted, answers the request with this status and so, and
+/// counts no more.
+pub fn is_read(
+    alloc: Global,
+    site: &Site,
+    total: u64,
+    request: &str,
+    (status, wanted): (u16, &[u8]),
+) -> bool {
+    let mut source = Source::new(request.as_bytes(), 4096);
+    let mut sink = Sink::new(alloc, 65_536);
+    let mut service = Counting { total };
+    let served = serve_one(alloc, &mut source, &mut sink, &mut service, site);
+    served == Served::Answered(status) && sink.bytes.as_slice() == wanted && service.total == total
 }
 
 /// Whether the request is answered so, with this status, where its bytes come `step` at a time and as many are taken,

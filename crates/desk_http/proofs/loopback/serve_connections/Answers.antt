@@ -13,7 +13,7 @@ loop-done-preserved g c = record {
   steps =
       one_more
       (IsOneStep (Performs g.S.Service.state g.S.Service.machine g.S.Service.left g.S.Service.relates)
-      c.args.access.now) c.loop-done.done c.args.service.now c.loop-done.service c.answer.new.service
+      c.args.site.now) c.loop-done.done c.args.service.now c.loop-done.service c.answer.new.service
       c.loop-done.invariant.steps c.answer.ensures.step;
   accepted = grind arith;
 }
@@ -22,7 +22,7 @@ pub returns-in_err-stream-clause-operations : goal.returns-in_err-stream-clause-
 returns-in_err-stream-clause-operations g c = (
   c.loop-done.done,
   omega arith,
-  operations (Performs g.S.Service.state g.S.Service.machine g.S.Service.left g.S.Service.relates) c.args.access.now
+  operations (Performs g.S.Service.state g.S.Service.machine g.S.Service.left g.S.Service.relates) c.args.site.now
       c.loop-done.done c.args.service.now c.loop-done.service c.loop-done.invariant.steps,
 )
 
@@ -30,6 +30,6 @@ pub returns-clause-operations : goal.returns-clause-operations
 returns-clause-operations g c = (
   c.loop-done.done,
   omega arith,
-  operations (Performs g.S.Service.state g.S.Service.machine g.S.Service.left g.S.Service.relates) c.args.access.now
+  operations (Performs g.S.Service.state g.S.Service.machine g.S.Service.left g.S.Service.relates) c.args.site.now
       c.loop-done.done c.args.service.now c.loop-done.service c.loop-done.invariant.steps,
 )

@@ -8,7 +8,7 @@ invariant-loop-done g l = record {
   kept : g.S.Service.is_kept l.service;
   steps :
       AreSteps
-      (IsOneStep (Performs g.S.Service.state g.S.Service.machine g.S.Service.left g.S.Service.relates) l.access) l.done
+      (IsOneStep (Performs g.S.Service.state g.S.Service.machine g.S.Service.left g.S.Service.relates) l.site) l.done
       l.initial.service l.service;
   accepted : l.clients.accepted ≡ l.initial.clients.accepted + l.done;
 }

@@ -6,6 +6,7 @@ pub returns : goal.returns
 unfolding digits
 returns c = record {
   ok = refl;
+  not_modified = refl;
   bad_request = refl;
   unauthorized = refl;
   forbidden = refl;
