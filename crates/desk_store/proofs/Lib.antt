@@ -15,3 +15,4 @@ pub mod Exporting
 pub mod Sent
 pub mod Breaking
 pub mod Grouping
+pub mod Showing

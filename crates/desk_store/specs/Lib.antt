@@ -8,3 +8,4 @@ pub mod Opening
 pub mod Migrating
 pub mod Loading
 pub mod Exports
+pub mod Shown

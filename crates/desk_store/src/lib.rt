@@ -16,9 +16,11 @@ mod old;
 mod open;
 mod save;
 mod sending;
+mod shown;
 
 pub use desk::Desk;
-pub use export::ExportFault;
+pub use export::{ExportFault, table_text};
 pub use fault::{Fault, OpenFault};
 pub use meta::MetaRow;
 pub use sending::{WriteFailed, send};
+pub use shown::{books_text, history_text};

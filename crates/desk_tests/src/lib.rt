@@ -17,6 +17,8 @@ mod lines;
 #[cfg(test)]
 mod old;
 #[cfg(test)]
+mod shown;
+#[cfg(test)]
 mod statuses;
 #[cfg(test)]
 mod stops;

@@ -1,0 +1,13 @@
+use Rattle.std.proofs.Common.{◌≡◌, ◌++◌, map, drop}
+use Rattle.json.specs.Tree.{items_tokens}
+use Rattle.serde_json.specs.View.{items_of}
+use Rattle.serde_json.specs.Written.{items_outline}
+use Rattle.desk_store.specs.Shown.{row_data}
+use Rattle.desk_store.proofs.shown.write_rows.Given as goal
+
+abbrev pub invariant-loop-row : goal.invariant-loop-row
+invariant-loop-row g l =
+    let columns = g.R.Stored.columns_of in
+    (l.out.tokens ++ items_tokens (items_outline (items_of (map row_data (map columns (drop l.row-index l.rows)))))
+    ≡ l.initial.out.tokens ++ items_tokens (items_outline (items_of (map row_data (map columns l.rows)))))
+    × (l.out.before ≡ l.initial.out.before)
