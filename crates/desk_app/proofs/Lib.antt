@@ -18,3 +18,5 @@ pub mod Closing
 pub mod Taking
 pub mod Leaving
 pub mod Escaping
+pub mod TableWords
+pub mod Tags

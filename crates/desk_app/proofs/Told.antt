@@ -16,7 +16,7 @@ told_answers places words w (Report file name of) free same t = (free, sym same 
 told_answers places words w (Export file table) free same t = (free, sym same ∙ t)
 told_answers places words w (Migrate file) free same t = (free, sym same ∙ t)
 told_answers places words w (Import file kind document day path names) free same t = (free, sym same ∙ t)
-told_answers places words w (Serve file port count token names) free same t = (free, sym same ∙ t)
+told_answers places words w (Serve file port count token names page) free same t = (free, sym same ∙ t)
 told_answers places words w (Help e) free same t = absurd t
 told_answers places words w (Wrong e) free same t = inr (free, sym same ∙ t.0, t.1)
 told_answers places words w Unreadable free same t = absurd t
@@ -38,9 +38,9 @@ told_runs w (Export file table) e t = let f : Some (run None false) ≡ Some (ex
 told_runs w (Migrate file) e t = let f : Some (run None false) ≡ Some (migrate file.now) = sym e ∙ t in absurd (cc)
 told_runs w (Import file kind document day path names) e t =
     let f : Some (run None false) ≡ Some (import file.now kind document day path.now names) = sym e ∙ t in absurd (cc)
-told_runs w (Serve file port count token names) e t =
+told_runs w (Serve file port count token names page) e t =
     let f : Some (run None false)
-    ≡ Some (serve (option_map (λ path. path.now) file) port count (option_map (λ path. path.now) token) names) = sym e
+    ≡ Some (serve (option_map (λ path. path.now) file) port count (option_map (λ path. path.now) token) names page) = sym e
     ∙ t in
     absurd (cc)
 told_runs w (Help error) e t = absurd t
@@ -62,9 +62,9 @@ told_runs_on path w (Migrate file) e t =
 told_runs_on path w (Import file kind document day from names) e t =
     let f : Some (run (Some path) false) ≡ Some (import file.now kind document day from.now names) = sym e
     ∙ t in absurd (cc)
-told_runs_on path w (Serve file port count token names) e t =
+told_runs_on path w (Serve file port count token names page) e t =
     let f : Some (run (Some path) false)
-    ≡ Some (serve (option_map (λ given. given.now) file) port count (option_map (λ given. given.now) token) names) =
+    ≡ Some (serve (option_map (λ given. given.now) file) port count (option_map (λ given. given.now) token) names page) =
     sym e ∙ t in
     absurd (cc)
 told_runs_on path w (Help error) e t = absurd t

@@ -1,5 +1,6 @@
 -- The books as a service of HTTP: what each operation does to a state, and what is replied.
-use Rattle.std.specs.Prelude.{◌≡◌, ◌⊎◌, ℕ, List, Bool, true, false, Option, Some, None, IsSome, Result, Ok, Err}
+use Rattle.std.specs.Prelude.{◌≡◌, ◌⊎◌, ◌+◌, ◌^◌, ◌<◌, nat_lt, ℕ, List, [], Bool, true, false, Option, Some, None, IsSome}
+use Rattle.std.specs.Prelude.{Result, Ok, Err, option_map, if◌then◌else◌}
 use Rattle.sqlite.specs.Tree.{Trees}
 use Rattle.part_core.specs.Day.{CivilDay}
 use Rattle.desk_core.specs.Machine.{State, Outcome, step}
@@ -7,6 +8,9 @@ use Rattle.desk_core.specs.declared.command.Request.{Request}
 use Rattle.report_core.specs.Reports.{report_lines}
 use Rattle.report_core.specs.declared.name.ReportName as report
 use Rattle.report_core.specs.declared.name.ReportName.TheVariants as reports
+use Rattle.table_store.specs.declared.name.TableName.{TableName}
+use Rattle.desk_store.specs.Exports.{table_text}
+use Rattle.desk_store.specs.Shown.{books_text, history_text}
 use Rattle.desk_store.specs.StateTables.{TablesAre}
 use Rattle.desk_wire.specs.declared.fault.What.{What}
 use Rattle.desk_wire.specs.declared.kind.ImportKind as wire_kind
@@ -14,12 +18,16 @@ use Rattle.desk_wire.specs.declared.kind.ImportKind.TheVariants as wire_kinds
 use Rattle.desk_wire.specs.Imports.{import}
 use Rattle.desk_wire.specs.Reading as reading
 use Rattle.desk_wire.specs.Writing.{answer_text, refused_text, fault_text}
-use Rattle.desk_http.specs.Services.{Machine, Operation, RunLine, ImportFile, ShowReport, ReplyView}
+use Rattle.desk_http.specs.Services.{Machine, Operation, RunLine, ImportFile, ShowReport, ShowTable, ShowBooks, ShowHistory}
+use Rattle.desk_http.specs.Services.{ReplyView, Stops}
+use Rattle.desk_http.specs.Services as service
 use Rattle.desk_http.specs.declared.target.ImportKind.{ImportKind}
 use Rattle.desk_http.specs.declared.target.ImportKind.TheVariants.{Receipts, Counts}
 use Rattle.desk_http.specs.declared.target.ReportName.{ReportName}
 use Rattle.desk_http.specs.declared.target.ReportName.TheVariants.{Ledger, Stock, Content, WhereUsed, Shortage, History}
-use Rattle.desk_http.specs.declared.service.Outcome.TheVariants.{Answered, Refused, Faulty, Reported}
+use Rattle.desk_http.specs.declared.service.Outcome.TheVariants.{Answered, Refused, Faulty, Reported, Exported, Unknown}
+use Rattle.desk_http.specs.declared.service.Outcome as kind
+use Rattle.desk_http.specs.declared.service.Tag.{Tag}
 use Rattle.desk_http.specs.declared.service.Failure.{Failure}
 use Rattle.desk_http.specs.declared.service.Failure.TheVariants.{Store, Memory}
 use Rattle.desk_http.specs.declared.service.NoReply.{NoReply}
@@ -27,6 +35,7 @@ use Rattle.desk_http.specs.declared.service.NoReply.TheVariants.{Failed, Untold}
 use Rattle.desk_app.specs.ImportRuns.{Reading, rows_after, rows_out, RanSome, IsLeftByImport}
 use Rattle.desk_app.specs.Printed.{printed}
 use Rattle.desk_app.specs.Runs.{naming}
+use Rattle.desk_app.specs.Words.{table_named}
 
 -- a kind and a name, as the lines and the reports have them
 abbrev pub import_kind : ImportKind → wire_kind.ImportKind
@@ -71,18 +80,46 @@ by_printed (text, false) = (Refused, text)
 unfoldable pub show_report : State → ReportName → ℕ → ReplyView
 show_report s name number = by_printed (printed (report_lines (report_name name) number s))
 
--- what a service is a state of: the books' state, and whether rows may be named, which no operation changes
-abbrev pub ServiceState : Type 0
-ServiceState = State × Bool
+-- a table as it is exported, where there is one of the name
+abbrev pub exported : State → Option TableName → ReplyView
+exported s None = (Unknown, [])
+exported s (Some table) = (Exported, table_text table s)
 
-abbrev pub beside : Bool → State × ReplyView → ServiceState × ReplyView
-beside names done = ((done.0, names), done.1)
+unfoldable pub show_table : State → List ℕ → ReplyView
+show_table s name = exported s (table_named name)
+
+-- ---- the tag of the books: what tells this run of the service from every other, and how many lines were answered and files
+-- taken since it began
+
+-- once one more was: none where it can't be counted any more
+abbrev pub raised : Option Tag → Option Tag
+raised None = None
+raised (Some tag) =
+    if nat_lt (tag.accepted + 1) (2 ^ 64) then Some (record tag { accepted = tag.accepted + 1 }) else None
+
+-- by what is replied to a line or a file
+abbrev pub tag_after : Option Tag → kind.Outcome → Option Tag
+tag_after tag Answered = raised tag
+tag_after tag Reported = raised tag
+tag_after tag _ = tag
+
+-- what a service is a state of: the books' state; whether rows may be named, which no operation changes; and the tag of the
+-- books, if they have one
+abbrev pub ServiceState : Type 0
+ServiceState = State × Bool × Option Tag
+
+abbrev pub counted : Bool → Option Tag → State × ReplyView → ServiceState × ReplyView
+counted names tag done = ((done.0, names, tag_after tag done.1.0), done.1)
 
 abbrev pub desk_machine : Machine ServiceState
 desk_machine = record {
-  run_line = λ d line. beside d.1 (run_line d.1 d.0 line);
-  import_file = λ d kind document day rows. beside d.1 (import_file d.1 d.0 kind document day rows);
+  run_line = λ d line. counted d.1 d.2 (run_line d.1 d.0 line);
+  import_file = λ d kind document day rows. counted d.1 d.2 (import_file d.1 d.0 kind document day rows);
   show_report = λ d name number. show_report d.0 name number;
+  tag = λ d. d.2;
+  show_table = λ d name. show_table d.0 name;
+  show_books = λ d. books_text (option_map (λ tag. tag.accepted) d.2) d.0;
+  show_history = λ d from. history_text from d.0;
 }
 
 -- ---- what is left where there was no reply
@@ -93,9 +130,23 @@ leaves_of names s (RunLine line) s' = s' ≡ s
 leaves_of names s (ImportFile kind document day rows) s' =
     RanSome (import (naming names s) (import_kind kind) document day rows) s s'
 leaves_of names s (ShowReport name number) s' = s' ≡ s
+leaves_of names s (ShowTable name) s' = s' ≡ s
+leaves_of names s (ShowBooks known) s' = s' ≡ s
+leaves_of names s (ShowHistory from) s' = s' ≡ s
 
+-- the tag is another then, since something may have been done
 abbrev pub leaves : Failure → ServiceState → Operation → ServiceState → Type 0
-leaves e d o d' = leaves_of d.1 d.0 o d'.0 × (d'.1 ≡ d.1)
+leaves e d o d' = leaves_of d.1 d.0 o d'.0 × (d'.1 ≡ d.1) × (d'.2 ≡ raised d.2)
+
+-- a line without a reply was not run; where its reply was not told, it was or was not
+abbrev pub IsFailedLine : NoReply → Bool → State → List ℕ → State → Type 0
+IsFailedLine (Failed e) names s line s' = s' ≡ s
+IsFailedLine Untold names s line s' = (s' ≡ s) ⊎ (s' ≡ (run_line names s line).0)
+
+-- of a file without a reply the first rows were run; where its reply was not told, none
+abbrev pub IsFailedFile : NoReply → Reading → State → State → Type 0
+IsFailedFile (Failed e) file s s' = RanSome file s s'
+IsFailedFile Untold file s s' = s' ≡ s
 
 -- a request that failed was not run; where its reply was not told, it was
 abbrev pub IsFailedRequest : NoReply → State → State → Request → Type 0
@@ -115,14 +166,20 @@ StaysOpenBy old new (Some (Failed Memory)) = (old ≡ None) × (new ≡ None)
 StaysOpenBy old new (Some (Failed Store)) = IsSome new
 StaysOpenBy old new (Some Untold) = old ≡ None → new ≡ None
 
--- a report is made of open books alone: of others it is told that the database failed
+-- open books alone are shown: of others it is told that the database failed
+abbrev pub IsToldOfOpen : {F : Type 0} → Option F → Option NoReply → Type 0
+IsToldOfOpen old None = old ≡ None
+IsToldOfOpen old (Some (Failed Memory)) = old ≡ None
+IsToldOfOpen old (Some (Failed Store)) = IsSome old
+IsToldOfOpen old (Some Untold) = old ≡ None
+
 abbrev pub IsShownOfOpen : {F : Type 0} → Option F → Operation → Option NoReply → Type 0
 IsShownOfOpen old (RunLine line) why = Unit {0}
 IsShownOfOpen old (ImportFile kind document day rows) why = Unit {0}
-IsShownOfOpen old (ShowReport name number) None = old ≡ None
-IsShownOfOpen old (ShowReport name number) (Some (Failed Memory)) = old ≡ None
-IsShownOfOpen old (ShowReport name number) (Some (Failed Store)) = IsSome old
-IsShownOfOpen old (ShowReport name number) (Some Untold) = old ≡ None
+IsShownOfOpen old (ShowReport name number) why = IsToldOfOpen old why
+IsShownOfOpen old (ShowTable name) why = IsToldOfOpen old why
+IsShownOfOpen old (ShowBooks known) why = IsToldOfOpen old why
+IsShownOfOpen old (ShowHistory from) why = IsToldOfOpen old why
 
 -- what a crash leaves of books that come from the one state to the other: the tables of this or, where the database
 -- failed, those after the request that failed; of a file those after the first of its rows
@@ -131,6 +188,9 @@ IsLeftByOperation names (RunLine line) s s' trees = TablesAre s' trees ⊎ Table
 IsLeftByOperation names (ImportFile kind document day rows) s s' trees =
     IsLeftByImport (import (naming names s) (import_kind kind) document day rows) s trees
 IsLeftByOperation names (ShowReport name number) s s' trees = TablesAre s' trees
+IsLeftByOperation names (ShowTable name) s s' trees = TablesAre s' trees
+IsLeftByOperation names (ShowBooks known) s s' trees = TablesAre s' trees
+IsLeftByOperation names (ShowHistory from) s s' trees = TablesAre s' trees
 
 -- of books with these faults of the database before and after, of which a crash may leave these tables
 abbrev pub Relates : {F : Type 0} → Bool → Option F → Option F → (Trees → Type 0) → State → State → Operation
@@ -138,3 +198,28 @@ abbrev pub Relates : {F : Type 0} → Bool → Option F → Option F → (Trees 
 Relates names old new may_leave s s' o why =
     StaysOpenBy old new why × IsShownOfOpen old o why × (old ≡ None → (trees : Trees) → may_leave trees
     → IsLeftByOperation names o s s' trees)
+
+-- ---- what a tag tells
+
+-- an operation was done, whatever came of it
+abbrev pub WasDone : ServiceState → Operation → Result ReplyView NoReply → ServiceState → Type 0
+WasDone d o (Ok reply) d' = (d', reply) ≡ service.step desk_machine d o
+WasDone d o (Err why) d' = Stops desk_machine leaves why d o d'
+
+-- a tag that was given later by the same run of a service, or none
+abbrev pub IsLater : Option Tag → Option Tag → Type 0
+IsLater tag None = Unit {0}
+IsLater None (Some later) = ⊥
+IsLater (Some tag) (Some later) = (later.began ≡ tag.began) × (tag.accepted < later.accepted)
+
+-- the books are as they were and have the tag that they had, or they have a later one
+abbrev pub Follows : ServiceState → ServiceState → Type 0
+Follows d d' = ((d'.0 ≡ d.0) × (d'.2 ≡ d.2)) ⊎ IsLater d.2 d'.2
+
+-- so it is after each operation, and so after several, of which the books with the same tag are the same
+pub record TagsTellBooks : Type 0 where
+  pub one : (d d' : ServiceState) (o : Operation) (result : Result ReplyView NoReply) → WasDone d o result d'
+      → Follows d d'
+  pub none : (d : ServiceState) → Follows d d
+  pub more : (d d' d'' : ServiceState) → Follows d d' → Follows d' d'' → Follows d d''
+  pub same : (d d' : ServiceState) (tag : Tag) → Follows d d' → d.2 ≡ Some tag → d'.2 ≡ Some tag → d'.0 ≡ d.0

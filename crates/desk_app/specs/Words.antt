@@ -91,9 +91,12 @@ pub record Places : Type 0 where
 abbrev pub file_rule : Rule
 file_rule = record (new_rule (codes "db")) { long = Some (codes "db"); value_names = 1; action = Some Set }
 
--- `--names`
+-- a flag, as `--names`
+abbrev pub flag_rule : Text → Rule
+flag_rule id = record (new_rule id) { long = Some id; action = Some SetTrue }
+
 abbrev pub names_rule : Rule
-names_rule = record (new_rule (codes "names")) { long = Some (codes "names"); action = Some SetTrue }
+names_rule = flag_rule (codes "names")
 
 -- a word that has to be there
 abbrev pub word_rule : Text → Rule
@@ -142,8 +145,9 @@ import_line names =
 abbrev pub serve_line : App
 serve_line =
     with_rule
-    (with_rule (with_rule (with_rule (with_rule (new_app (codes "serve")) file_rule) names_rule)
-    (option_rule (codes "port"))) (optional_rule (codes "count"))) (optional_rule (codes "token"))
+    (with_rule (with_rule (with_rule (with_rule (with_rule (new_app (codes "serve")) file_rule) names_rule)
+    (flag_rule (codes "page"))) (option_rule (codes "port"))) (optional_rule (codes "count")))
+    (optional_rule (codes "token"))
 
 abbrev pub top_line : App
 top_line =
@@ -215,14 +219,15 @@ subject_of (Word word) = worded word.now
 
 -- a task of a desk: a run, with the file if one is named; a report of a row; a table; that a file is brought along;
 -- the rows at a path; so many connections to a port, or any number, with the file of a token if one is named. The last
--- word of a run, an import and a serving is whether rows may be named
+-- word of a run and of an import is whether rows may be named, and so is the last but one of a serving, whose last is
+-- whether the page is served
 pub data DeskTask : Type 0 where
   run : Option Text → Bool → DeskTask
   report : Text → ReportName → Subject → DeskTask
   export : Text → TableName → DeskTask
   migrate : Text → DeskTask
   import : Text → ImportKind → Text → CivilDay → Text → Bool → DeskTask
-  serve : Option Text → ℕ → Option ℕ → Option Text → Bool → DeskTask
+  serve : Option Text → ℕ → Option ℕ → Option Text → Bool → Bool → DeskTask
 
 abbrev pub report_with : Option Text → Option ReportName → Option Subject → Option DeskTask
 report_with None name of = None
@@ -243,6 +248,10 @@ is_given (Some text) = bytes_eq text (codes "true")
 -- by the matches of the subcommand: whether rows may be named
 abbrev pub names_in : List Row → Bool
 names_in rows = is_given (first_of (codes "names") rows)
+
+-- the same: whether the page is served
+abbrev pub page_in : List Row → Bool
+page_in rows = is_given (first_of (codes "page") rows)
 
 -- where rows may be named any word may say one, else a number alone
 abbrev pub subject_by : Bool → Option Text → Option Subject
@@ -284,7 +293,7 @@ unfoldable pub serve_in : List Row → Option DeskTask
 serve_in rows = do
   port ← option_and_then (number_up_to 65535) (first_of (codes "port") rows)
   count ← count_in (first_of (codes "count") rows)
-  Some (serve (first_of (codes "db") rows) port count (first_of (codes "token") rows) (names_in rows))
+  Some (serve (first_of (codes "db") rows) port count (first_of (codes "token") rows) (names_in rows) (page_in rows))
 
 abbrev pub rows_in : ArgMatches → List Row
 rows_in m = rows_of (found_of m)
@@ -315,8 +324,8 @@ desk_task_of (Report file name of) = Some (report file.now name (subject_of of))
 desk_task_of (Export file table) = Some (export file.now table)
 desk_task_of (Migrate file) = Some (migrate file.now)
 desk_task_of (Import file kind document day path names) = Some (import file.now kind document day path.now names)
-desk_task_of (Serve file port count token names) =
-    Some (serve (option_map (λ path. path.now) file) port count (option_map (λ path. path.now) token) names)
+desk_task_of (Serve file port count token names page) =
+    Some (serve (option_map (λ path. path.now) file) port count (option_map (λ path. path.now) token) names page)
 desk_task_of (Help e) = None
 desk_task_of (Wrong e) = None
 desk_task_of Unreadable = None
@@ -332,7 +341,7 @@ file_of (Report file name of) = Some file
 file_of (Export file table) = Some file
 file_of (Migrate file) = Some file
 file_of (Import file kind document day path names) = Some file
-file_of (Serve file port count token names) = file
+file_of (Serve file port count token names page) = file
 file_of (Help e) = None
 file_of (Wrong e) = None
 file_of Unreadable = None
@@ -346,7 +355,8 @@ Tells desk_task (Export file table) = desk_task ≡ desk_task_of (Export file ta
 Tells desk_task (Migrate file) = desk_task ≡ desk_task_of (Migrate file)
 Tells desk_task (Import file kind document day path names) = desk_task ≡ desk_task_of
     (Import file kind document day path names)
-Tells desk_task (Serve file port count token names) = desk_task ≡ desk_task_of (Serve file port count token names)
+Tells desk_task (Serve file port count token names page) =
+    desk_task ≡ desk_task_of (Serve file port count token names page)
 Tells desk_task (Help e) = ⊥
 Tells desk_task (Wrong e) = (desk_task ≡ None) × (kind_of e ≡ ValueValidation)
 Tells desk_task Unreadable = ⊥
@@ -373,8 +383,8 @@ AnswersAt places words (Migrate file) =
     (faults places words ≡ []) × (desk_task places words ≡ desk_task_of (Migrate file))
 AnswersAt places words (Import file kind document day path names) =
     (faults places words ≡ []) × (desk_task places words ≡ desk_task_of (Import file kind document day path names))
-AnswersAt places words (Serve file port count token names) =
-    (faults places words ≡ []) × (desk_task places words ≡ desk_task_of (Serve file port count token names))
+AnswersAt places words (Serve file port count token names page) =
+    (faults places words ≡ []) × (desk_task places words ≡ desk_task_of (Serve file port count token names page))
 AnswersAt places words (Help e) = IsShown (kind_of e) × IsAmong (kind_of e) (faults places words)
 AnswersAt places words (Wrong e) =
     ((¬ IsShown (kind_of e)) × (kind_of e ≢ OutOfMemory) × IsAmong (kind_of e) (faults places words))
@@ -393,7 +403,7 @@ Runs (Report file name of) = ⊥
 Runs (Export file table) = ⊥
 Runs (Migrate file) = ⊥
 Runs (Import file kind document day path names) = ⊥
-Runs (Serve file port count token names) = ⊥
+Runs (Serve file port count token names page) = ⊥
 Runs (Help e) = ⊥
 Runs (Wrong e) = ⊥
 Runs Unreadable = ⊥
@@ -406,7 +416,7 @@ RunsOn path (Report file name of) = ⊥
 RunsOn path (Export file table) = ⊥
 RunsOn path (Migrate file) = ⊥
 RunsOn path (Import file kind document day from names) = ⊥
-RunsOn path (Serve file port count token names) = ⊥
+RunsOn path (Serve file port count token names page) = ⊥
 RunsOn path (Help e) = ⊥
 RunsOn path (Wrong e) = ⊥
 RunsOn path Unreadable = ⊥
@@ -419,7 +429,7 @@ HelpsBy kind (Report file name of) = ⊥
 HelpsBy kind (Export file table) = ⊥
 HelpsBy kind (Migrate file) = ⊥
 HelpsBy kind (Import file of document day path names) = ⊥
-HelpsBy kind (Serve file port count token names) = ⊥
+HelpsBy kind (Serve file port count token names page) = ⊥
 HelpsBy kind (Help e) = kind_of e ≡ kind
 HelpsBy kind (Wrong e) = ⊥
 HelpsBy kind Unreadable = ⊥

@@ -34,7 +34,7 @@ pub use file::{migrate_desk, print_export, print_migrated, print_report, take_de
 pub use import::import_file;
 pub use memory::run_in_memory;
 pub use run::{lines_are_requests, run_lines};
-pub use service::BooksService;
+pub use service::{BooksService, tags_tell_books};
 pub use status::{DEVICE, MEMORY, NOT_ALL, WRONG_WORDS, early_status, status_of, status_of_fault};
 pub use subject::{NoRow, no_row_text, row_of_report};
 pub use watched::WatchedDesk;

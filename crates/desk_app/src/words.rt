@@ -6,7 +6,8 @@ ghost use Rattle.part_core.specs.Day.{day_of};
 ghost use Rattle.report_core.specs.Names.{report_named};
 ghost use Rattle.desk_wire.specs.Numbers.{number_in};
 ghost use Rattle.desk_wire.specs.Kinds.{import_kind_named};
-ghost use Rattle.desk_app.specs.Words.{file_rule, names_rule, option_rule, optional_rule, word_rule};
+ghost use Rattle.desk_app.specs.Words.{file_rule, flag_rule, names_rule, option_rule};
+ghost use Rattle.desk_app.specs.Words.{is_given, optional_rule, word_rule};
 ghost use Rattle.desk_app.specs.Words.{migrate_line, run_line, serve_line, IsKindRule};
 ghost use Rattle.desk_app.specs.Words.{IsReportLine, IsExportLine, IsImportLine, IsCommandLine};
 ghost use Rattle.desk_app.specs.Words.{document_named, number_up_to, table_named, report_in};
@@ -63,13 +64,15 @@ pub enum Task<'a> {
         names: bool,
     },
     /// So many connections to a port of the loopback are served, or one after another without an end, by the desk in the
-    /// file, or by a new one in memory. Where a token is asked for, it stands in the file at the path.
+    /// file, or by a new one in memory. Where a token is asked for, it stands in the file at the path. Where `page` is
+    /// set, the page is served too.
     Serve {
         file: Option<&'a str>,
         port: u16,
         count: Option<u64>,
         token: Option<&'a str>,
         names: bool,
+        page: bool,
     },
     /// Help, or the version, is printed.
     Help(Error),
@@ -154,15 +157,27 @@ fn file<'a>(alloc: Global) -> Arg<'a>
         .action(ArgAction::Set)
 }
 
+/// A flag.
+fn flag<'a>(alloc: Global, id: &'a str, help: &'a str) -> Arg<'a>
+    ensures rule { rule_of result ≡ flag_rule id.now }
+    ensures local { result.global ≡ false }
+{
+    Arg::new(alloc, id)
+        .long(id)
+        .help(help)
+        .action(ArgAction::SetTrue)
+}
+
 /// The flag that lets rows be named.
 fn names_flag<'a>(alloc: Global) -> Arg<'a>
     ensures rule { rule_of result ≡ names_rule }
     ensures local { result.global ≡ false }
 {
-    Arg::new(alloc, "names")
-        .long("names")
-        .help("Rows may be named in the place of their numbers")
-        .action(ArgAction::SetTrue)
+    flag(
+        alloc,
+        "names",
+        "Rows may be named in the place of their numbers",
+    )
 }
 
 /// A word that has to be there.
@@ -290,6 +305,7 @@ fn serve_command<'a>(alloc: Global) -> Result<Command<'a>, AllocError>
         .after_help(SERVE_EXAMPLE)
         .arg(file(alloc))?
         .arg(names_flag(alloc))?
+        .arg(flag(alloc, "page", "A page to look at is served too"))?
         .arg(port)?
         .arg(count)?
         .arg(token)
@@ -324,7 +340,7 @@ fn number_up_to(most: u64, text: &str) -> Option<u64>
 }
 
 /// The table of that name.
-fn table_named(name: &str) -> Option<TableName>
+pub(crate) fn table_named(name: &str) -> Option<TableName>
     ensures { result ≡ table_named name.now }
 {
     match name {
@@ -359,14 +375,21 @@ fn report_name(matches: &ArgMatches<'_>) -> Option<ReportName>
     report_named(given(matches, "name")?)
 }
 
+/// Whether the flag was given.
+fn has_flag(matches: &ArgMatches<'_>, id: &str) -> bool
+    ensures { result ≡ is_given (given_in id.now matches.now) }
+{
+    match given(matches, id) {
+        Some(text) => text == "true",
+        None => false,
+    }
+}
+
 /// Whether rows may be named.
 fn names(matches: &ArgMatches<'_>) -> bool
     ensures { result ≡ names_in (rows_in matches.now) }
 {
-    match given(matches, "names") {
-        Some(text) => text == "true",
-        None => false,
-    }
+    has_flag(matches, "names")
 }
 
 /// What the report is of: where rows may be named any word, else a number alone.
@@ -513,6 +536,7 @@ fn serve_task<'a>(matches: &ArgMatches<'a>) -> Option<Task<'a>>
         count,
         token,
         names: names(matches),
+        page: has_flag(matches, "page"),
     })
 }
 

@@ -142,10 +142,7 @@ fn comes_in<R: Read, B: Books + Drop>(
     requires { B.are_kept books }
 {
     if way == Way::Request {
-        let mut service = BooksService {
-            books,
-            names: false,
-        };
+        let mut service = BooksService::new(books, false, None);
         let served = ask(alloc, reader, sink, &mut service);
         return Ok((end_of_connection(served), service.books));
     }

@@ -1,5 +1,5 @@
-//! Deliveries and stocktakes, imported from a file or sent by HTTP, other requests of HTTP, and rows that are said by what
-//! they are called, on a shop and on a desk.
+//! Deliveries and stocktakes, imported from a file or sent by HTTP, other requests of HTTP, what a page reads, and rows that
+//! are said by what they are called, on a shop and on a desk.
 #![tactic(auto)]
 
 #[cfg(test)]
@@ -12,6 +12,8 @@ mod imports;
 mod loopback;
 #[cfg(test)]
 mod names;
+#[cfg(test)]
+mod readings;
 #[cfg(test)]
 mod requests;
 #[cfg(test)]

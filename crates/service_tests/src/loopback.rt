@@ -2,7 +2,7 @@
 use crate::requests::{FIRST, LINES, NOTHING};
 use desk_app::BooksService;
 use desk_core::Shop;
-use desk_http::{Access, Clients, serve_connections};
+use desk_http::{Access, Clients, Site, serve_connections};
 use desk_play::outcomes::holds;
 use part_core::Limits;
 use std::alloc::Global;
@@ -32,6 +32,7 @@ fn serve_loopback(rt: HostRuntime) -> Result<(), Fail> {
     let mut service = BooksService {
         books,
         names: false,
+        tag: None,
     };
     let listener = TcpListener::bind(&rt, (Ipv4Addr::LOCALHOST, 0))?;
     let first = asked(&rt, &listener, FIRST[0])?;
@@ -39,9 +40,12 @@ fn serve_loopback(rt: HostRuntime) -> Result<(), Fail> {
     // One that drops its connection amid the request costs nothing but the connection.
     let third = asked(&rt, &listener, "GET /repo")?;
     let fourth = asked(&rt, &listener, LINES[1][0])?;
-    let access = Access::new(alloc, listener.local_addr()?.port(), None)?;
+    let site = Site {
+        access: Access::new(alloc, listener.local_addr()?.port(), None)?,
+        page: None,
+    };
     let mut clients = Clients::of(listener);
-    serve_connections(&rt, alloc, &mut clients, 4, &mut service, &access)?;
+    serve_connections(&rt, alloc, &mut clients, 4, &mut service, &site)?;
     got(alloc, first, FIRST[1])?;
     got(alloc, second, NOTHING[0][1])?;
     got(alloc, third, "")?;

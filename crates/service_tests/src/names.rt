@@ -133,6 +133,6 @@ fn requests_with_names(rt: HostRuntime) -> Result<(), Fail> {
     let alloc = rt.alloc();
     let mut books = Shop::new(alloc, Limits::LARGEST);
     plays_on(alloc, &mut books, ORDERED, ORDERED_OUT)?;
-    let mut service = BooksService { books, names: true };
+    let mut service = BooksService::new(books, true, None);
     asks_all(alloc, &mut service, 1, REQUESTS.as_slice())
 }

@@ -230,6 +230,7 @@ fn is_served_by_desk<S: Alter + Drop>(alloc: Global, conn: Connection<S>) -> Res
     let mut service = BooksService {
         books,
         names: false,
+        tag: None,
     };
     is_served(alloc, &mut service, 1)
 }
@@ -238,10 +239,7 @@ fn is_served_by_desk<S: Alter + Drop>(alloc: Global, conn: Connection<S>) -> Res
 fn a_shop_is_asked(rt: HostRuntime) -> Result<(), Fail> {
     let alloc = rt.alloc();
     let books = Shop::new(alloc, Limits::LARGEST);
-    let mut service = BooksService {
-        books,
-        names: false,
-    };
+    let mut service = BooksService::new(books, false, None);
     is_served(alloc, &mut service, 4096)
 }
 

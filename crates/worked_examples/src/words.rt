@@ -41,9 +41,11 @@ fn told(alloc: Global, task: &Task<'_>) -> Result<String, AllocError> {
             count,
             token,
             names,
+            page,
         } => {
             let named = named(*names);
-            format!(in alloc; "serve{named} {file:?} {port} {count:?} {token:?}")
+            let paged = if *page { " with a page" } else { "" };
+            format!(in alloc; "serve{named}{paged} {file:?} {port} {count:?} {token:?}")
         }
         Task::Help(text) | Task::Wrong(text) => {
             let text = format!(in alloc; "{text}")?;
