@@ -1,10 +1,10 @@
 -- How work ends, and the status of it.
 use Rattle.std.proofs.Common.{◌≡◌, ◌∙◌, ◌⊎◌, inl, inr, ℕ, Bool, true, false, [], ap, arith, refl, sym, subst}
 use Rattle.std.specs.Borrow.{Bor}
-use Rattle.std.specs.Prelude.{◌≢◌, ◌≤◌, ◌^◌, ◌-◌, List, Option, Some, None, IsSome, unwrap_or}
+use Rattle.std.specs.Prelude.{◌≢◌, ◌≤◌, ◌^◌, ◌-◌, List, Option, Some, None, IsSome, is_some, unwrap_or}
 use Rattle.table_store.specs.declared.fault.Failed.{Failed}
 use Rattle.sqlite.specs.Tree.{Trees}
-use Rattle.desk_http.specs.AccessRules.{AccessRules}
+use Rattle.desk_http.specs.Sites.{PageView, SiteRules}
 use Rattle.desk_app.specs.declared.service.BooksService.{BooksService}
 use Rattle.desk_core.specs.Books.{AreInOrder}
 use Rattle.desk_core.specs.Machine.{State}
@@ -20,7 +20,7 @@ use Rattle.desk_app.specs.declared.end.Stop.TheVariants as stops
 use Rattle.desk_app.specs.declared.words.Task.{Task}
 use Rattle.desk_app.specs.declared.words.Task.TheVariants as task
 use Rattle.desk_app.proofs.Running.{stopped_by}
-use Rattle.invdesk.specs.Clients.{Asks, IsOfServing, ServesClients, most_of}
+use Rattle.invdesk.specs.Clients.{Offers, IsOfServing, ServesClients, most_of}
 use Rattle.invdesk.specs.Lines.{RunsLines}
 use Rattle.invdesk.specs.Memory.{RunsInMemory}
 
@@ -34,22 +34,30 @@ pub of_telling : (end : RunEnd) → (end ≡ WriteFailed) ⊎ (end ≡ Memory) �
 of_telling end (inl e) = subst IsOfServing (sym e) tt
 of_telling end (inr e) = subst IsOfServing (sym e) tt
 
--- some rules ask so, though nothing was served by them
-pub any_rules : (port : ℕ) (has_token : Bool) → (rules : AccessRules) × Asks port has_token rules
-any_rules port true = (record { port = port; token = Some [] }, record { port_is = refl; token_is = refl })
-any_rules port false = (record { port = port; token = None }, record { port_is = refl; token_is = refl })
+some_if : {A : Type 0} → A → (given : Bool) → (x : Option A) × (is_some x ≡ given)
+some_if x true = (Some x, refl)
+some_if x false = (None, refl)
+
+-- some site offers so much, though nothing was served by it
+pub any_site : (port : ℕ) (has_token has_page : Bool) → (site : SiteRules) × Offers port has_token has_page site
+any_site port has_token has_page =
+    let token = some_if {A = List ℕ} [] has_token in
+    let page = some_if {A = PageView} (record { text = []; policy = [] }) has_page in (
+      record { access = record { port = port; token = token.0 }; page = page.0 },
+      record { port_is = refl; token_is = token.1; page_is = page.1 },
+    )
 
 -- no connection was served
 pub unserved : {B F : Type 0} (state_in : B → State) (failure_of : B → Option F) (may_leave : B → Trees → Type 0)
-    (names : Bool) (port : ℕ) (has_token : Bool) (count : Option ℕ) (service : BooksService B) (end : RunEnd)
+    (names : Bool) (port : ℕ) (has_token has_page : Bool) (count : Option ℕ) (service : BooksService B) (end : RunEnd)
     → service.names ≡ names → IsOfServing end
-    → ServesClients state_in failure_of may_leave names port has_token count service service end
-unserved state_in failure_of may_leave names port has_token count service end named ends =
-    let any = any_rules port has_token in
+    → ServesClients state_in failure_of may_leave names port has_token has_page count service service end
+unserved state_in failure_of may_leave names port has_token has_page count service end named ends =
+    let any = any_site port has_token has_page in
     record {
       named = named;
-      rules = any.0;
-      asks = any.1;
+      site = any.0;
+      offers = any.1;
       steps = (0, omega arith, refl);
       operations = (0, omega arith, refl);
       ends = ends;

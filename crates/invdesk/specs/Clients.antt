@@ -2,19 +2,20 @@
 use Rattle.std.specs.Prelude.{◌≡◌, ◌≤◌, ◌^◌, ◌-◌, ℕ, Bool, true, Option, Some, None, Result, is_some}
 use Rattle.sqlite.specs.Tree.{Trees}
 use Rattle.desk_core.specs.Machine.{State}
-use Rattle.desk_http.specs.AccessRules.{AccessRules}
 use Rattle.desk_http.specs.Services.{Operation, Performs, ReplyView}
 use Rattle.desk_http.specs.Serving.{AreSteps, IsOneOperation, IsOneStep}
+use Rattle.desk_http.specs.Sites.{SiteRules}
 use Rattle.desk_http.specs.declared.service.NoReply.{NoReply}
 use Rattle.desk_app.specs.Services.{desk_machine, leaves, Relates}
 use Rattle.desk_app.specs.declared.service.BooksService.{BooksService}
 use Rattle.desk_app.specs.declared.end.RunEnd.{RunEnd}
 use Rattle.desk_app.specs.declared.end.RunEnd.TheVariants.{Done, ReadFailed, WriteFailed, Memory, Store}
 
--- requests are to come to this port, and to show a token where one is asked for
-pub record Asks (port : ℕ) (has_token : Bool) (rules : AccessRules) : Type 0 where
-  pub port_is : rules.port ≡ port
-  pub token_is : is_some rules.token ≡ has_token
+-- requests are to come to this port, and to show a token where one is asked for; a page is shown, or none
+pub record Offers (port : ℕ) (has_token has_page : Bool) (site : SiteRules) : Type 0 where
+  pub port_is : site.access.port ≡ port
+  pub token_is : is_some site.access.token ≡ has_token
+  pub page_is : is_some site.page ≡ has_page
 
 -- how many connections are served at most
 abbrev pub most_of : Option ℕ → ℕ
@@ -34,18 +35,19 @@ module _ {B F : Type 0} (state_in : B → State) (failure_of : B → Option F) (
   -- the books, as a service, did an operation
   abbrev pub DoesOperation : BooksService B → Operation → Result ReplyView NoReply → BooksService B → Type 0
   DoesOperation =
-      Performs (λ service. (state_in service.books, service.names)) desk_machine leaves
+      Performs (λ service. (state_in service.books, service.names, service.tag)) desk_machine leaves
       (λ old operation why new. Relates old.names (failure_of old.books) (failure_of new.books) (may_leave new.books)
       (state_in old.books) (state_in new.books) operation why)
 
-  -- So many connections at most were served by the books, one after another, by rules that ask for this port and, it may
-  -- be, a token; and the serving ended so. What came by them, and what was answered, is known to no clause: so each did
-  -- what some bytes ask for, and that is an operation at most. Rows might be named in what was sent, or not.
-  pub record ServesClients (names : Bool) (port : ℕ) (has_token : Bool) (count : Option ℕ) (old new : BooksService B)
-      (end : RunEnd) : Type 0 where
+  -- So many connections at most were served by the books, one after another, of a site that asks for this port and, it may
+  -- be, a token, and shows a page or none; and the serving ended so. What came by them, and what was answered, is known to
+  -- no clause: so each did what some bytes ask for, and that is an operation at most. Rows might be named in what was sent,
+  -- or not.
+  pub record ServesClients (names : Bool) (port : ℕ) (has_token has_page : Bool) (count : Option ℕ)
+      (old new : BooksService B) (end : RunEnd) : Type 0 where
     pub named : old.names ≡ names
-    pub rules : AccessRules
-    pub asks : Asks port has_token rules
-    pub steps : (n : ℕ) × (n ≤ most_of count) × AreSteps (IsOneStep DoesOperation rules) n old new
+    pub site : SiteRules
+    pub offers : Offers port has_token has_page site
+    pub steps : (n : ℕ) × (n ≤ most_of count) × AreSteps (IsOneStep DoesOperation site) n old new
     pub operations : (n : ℕ) × (n ≤ most_of count) × AreSteps (IsOneOperation DoesOperation) n old new
     pub ends : IsOfServing end

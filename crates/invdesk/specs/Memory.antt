@@ -22,14 +22,17 @@ pub record RunsInMemory (names : Bool) (end : RunEnd) : Type 0 where
   pub in_order : AreInOrder after
 
 -- clients were served with them
-pub record ServesInMemory (names : Bool) (port : ℕ) (has_token : Bool) (count : Option ℕ) (end : RunEnd) : Type 0 where
+pub record ServesInMemory (names : Bool) (port : ℕ) (has_token has_page : Bool) (count : Option ℕ)
+    (end : RunEnd) : Type 0 where
   pub before : BooksService Shop
   pub after : BooksService Shop
   pub empty : IsEmpty (state_of before.books)
-  pub serves : ServesClients {F = Failed} state_of (λ _. None) (λ _ _. ⊥) names port has_token count before after end
+  pub serves : ServesClients {F = Failed} state_of (λ _. None) (λ _ _. ⊥) names port has_token has_page count before
+      after end
 
 -- nothing else is asked of them
 abbrev pub DoesInMemory : Task → RunEnd → Type 0
 DoesInMemory (task.Run file names) end = RunsInMemory names end
-DoesInMemory (task.Serve file port count token names) end = ServesInMemory names port (is_some token) count end
+DoesInMemory (task.Serve file port count token names page) end =
+    ServesInMemory names port (is_some token) page count end
 DoesInMemory _ end = ⊥

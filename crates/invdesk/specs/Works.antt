@@ -28,14 +28,14 @@ module _ {S : Type 0} (g : Ghosts S) where
       RunsLines names old.failed new.failed (may_leave new) (state_of old.shop) (state_of new.shop) end
 
   -- clients were served with it, while its faults were told on the standard error
-  pub record ServesDesk (names : Bool) (port : ℕ) (has_token : Bool) (count : Option ℕ) (old new : Desk S)
+  pub record ServesDesk (names : Bool) (port : ℕ) (has_token has_page : Bool) (count : Option ℕ) (old new : Desk S)
       (end : RunEnd) : Type 0 where
     pub before : BooksService (WatchedDesk S Stderr)
     pub after : BooksService (WatchedDesk S Stderr)
     pub was : before.books.desk ≡ old
     pub is : after.books.desk ≡ new
     pub serves : ServesClients (λ watched. state_of watched.desk.shop) (λ watched. watched.desk.failed)
-        (λ watched. may_leave watched.desk) names port has_token count before after end
+        (λ watched. may_leave watched.desk) names port has_token has_page count before after end
 
   -- what the words ask for was done with it, and ended so
   abbrev pub Does : Task → Desk S → Desk S → RunEnd → Type 0
@@ -43,5 +43,6 @@ module _ {S : Type 0} (g : Ghosts S) where
   Does (task.Import file kind document day path names) old new end =
       ImportsFile names kind document day old.failed new.failed (may_leave new) (state_of old.shop)
       (state_of new.shop) end
-  Does (task.Serve file port count token names) old new end = ServesDesk names port (is_some token) count old new end
+  Does (task.Serve file port count token names page) old new end =
+      ServesDesk names port (is_some token) page count old new end
   Does it old new end = (new ≡ old) × Prints it (state_of old.shop) None None end

@@ -3,6 +3,7 @@
 //! stocktakes are read as files of comma-separated values. Requests over HTTP are answered on the loopback.
 #![tactic(auto)]
 
+mod page;
 mod serve;
 mod token;
 
@@ -21,7 +22,7 @@ ghost use Rattle.invdesk.specs.Statuses.{EndsWith, IsStatusAfter, IsStatusOf, Is
 ghost use Rattle.invdesk.specs.Statuses.{IsToldAtOnce};
 ghost use Rattle.invdesk.specs.Works.{Does, RunsOnDesk, ServesDesk, may_leave};
 
-use crate::serve::serve;
+use crate::serve::{began, serve};
 use desk_app::{
     Books, BooksService, CountedBooks, DEVICE, FaultyFile, FileFault, MEMORY, NoRow, ReportOf,
     RunEnd, Stop, Task, WatchedDesk, connect, connect_to_old, early_status, end_of_work, escaped,
@@ -274,20 +275,18 @@ fn serve_on(
     count: Option<u64>,
     token: Option<&str>,
     names: bool,
+    page: bool,
     desk: Desk<FileStore<File>>,
     name: String,
 ) -> Worked
     requires { IsDesk over_files desk }
     ensures desk { IsDesk over_files result.0 }
-    ensures serves { ServesDesk over_files names port (is_some token.entry) count desk
+    ensures serves { ServesDesk over_files names port (is_some token.entry) page count desk
         result.0 result.1 }
 {
     let watched = WatchedDesk::new(desk, name, SERVED, rt.stderr());
-    let mut service = BooksService {
-        books: watched,
-        names,
-    };
-    let end = serve(rt, port, count, token, &mut service);
+    let mut service = BooksService::new(watched, names, began(rt));
+    let end = serve(rt, port, count, token, page, &mut service);
     (service.books.into_desk(), end)
 }
 
@@ -326,8 +325,9 @@ fn done(rt: &HostRuntime, task: &Task<'_>, desk: Desk<FileStore<File>>, name: St
             count,
             token,
             names,
+            page,
             ..
-        } => serve_on(rt, *port, *count, *token, *names, desk, name),
+        } => serve_on(rt, *port, *count, *token, *names, *page, desk, name),
         Task::Import {
             kind,
             document,
@@ -426,13 +426,12 @@ fn act_in_memory(rt: &HostRuntime, task: &Task<'_>) -> RunEnd
             count,
             token,
             names,
+            page,
             ..
         } => {
-            let mut service = BooksService {
-                books: Shop::new(alloc, Limits::LARGEST),
-                names: *names,
-            };
-            serve(rt, *port, *count, *token, &mut service)
+            let books = Shop::new(alloc, Limits::LARGEST);
+            let mut service = BooksService::new(books, *names, began(rt));
+            serve(rt, *port, *count, *token, *page, &mut service)
         }
         Task::Run { names, .. } => {
             run_in_memory(alloc, &mut rt.reader(), &mut io::writer(rt), *names)

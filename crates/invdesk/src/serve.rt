@@ -1,13 +1,15 @@
 //! Serves clients on the loopback.
 ghost use Rattle.std.specs.Prelude.{◌≡◌, ◌⊎◌, IfErr, IfOk, is_some};
-ghost use Rattle.invdesk.specs.Clients.{Asks, IsOfServing, ServesClients};
+ghost use Rattle.invdesk.specs.Clients.{Offers, ServesClients};
 
+use crate::page::{PAGE, POLICY};
 use crate::tell_line;
 use crate::token::{TokenFault, token_at};
 use desk_app::{Books, BooksService, RunEnd};
-use desk_http::{Access, Clients, serve_connections};
+use desk_http::{Access, Clients, Page, Site, Token, serve_connections};
 use std::io::{self, ErrorKind};
 use std::net::{Ipv4Addr, TcpListener};
+use std::time::{SystemTime, UNIX_EPOCH};
 
 /// Says what failed, and tells how the run ends by it.
 fn failed(rt: &HostRuntime, what: &str, error: &io::Error, end: RunEnd) -> RunEnd
@@ -31,26 +33,70 @@ fn port_failed(rt: &HostRuntime, port: u16, error: &io::Error) -> RunEnd
     }
 }
 
-/// What is asked of whoever asks at that port: to show the token in the file at the path, if one is named.
-fn access(rt: &HostRuntime, port: u16, token: Option<&str>) -> Result<Access, RunEnd>
-    ensures asks { IfOk result (Asks port (is_some token.entry)) }
+/// The token in the file at the path, if one is named.
+fn token_to_show(rt: &HostRuntime, path: Option<&str>) -> Result<Option<Token>, RunEnd>
+    ensures there { IfOk result (λ token. is_some token ≡ is_some path.entry) }
     ensures why { IfErr result (λ end.
         (end ≡ RunEnd.ReadFailed) ⊎ (end ≡ RunEnd.Memory)) }
 {
-    let token = match token {
-        None => None,
-        Some(path) => match token_at(rt, path) {
-            Ok(token) => Some(token),
-            Err(TokenFault::Device(error)) => {
-                return Err(failed(rt, path, &error, RunEnd::ReadFailed));
-            }
-            Err(fault) => {
-                tell_line(rt, format_args!("{path}: {fault}"));
-                return Err(RunEnd::ReadFailed);
-            }
-        },
+    let Some(path) = path else {
+        return Ok(None);
     };
-    Access::new(rt.alloc(), port, token).map_err(|_| RunEnd::Memory)
+    match token_at(rt, path) {
+        Ok(token) => Ok(Some(token)),
+        Err(TokenFault::Device(error)) => Err(failed(rt, path, &error, RunEnd::ReadFailed)),
+        Err(fault) => {
+            tell_line(rt, format_args!("{path}: {fault}"));
+            Err(RunEnd::ReadFailed)
+        }
+    }
+}
+
+/// The page, where it is to be shown.
+fn page_to_show(shown: bool) -> Option<Page>
+    ensures { is_some result ≡ shown }
+{
+    if shown {
+        Some(Page {
+            text: PAGE,
+            policy: POLICY,
+        })
+    } else {
+        None
+    }
+}
+
+/// What is offered at that port: to whoever shows the token in the file at the path, if one is named, and with the page or
+/// without it.
+fn site(rt: &HostRuntime, port: u16, token: Option<&str>, page: bool) -> Result<Site, RunEnd>
+    ensures offers { IfOk result (Offers port (is_some token.entry) page) }
+    ensures why { IfErr result (λ end.
+        (end ≡ RunEnd.ReadFailed) ⊎ (end ≡ RunEnd.Memory)) }
+{
+    let token = token_to_show(rt, token)?;
+    match Access::new(rt.alloc(), port, token) {
+        Ok(access) => Ok(Site {
+            access,
+            page: page_to_show(page),
+        }),
+        Err(_) => Err(RunEnd::Memory),
+    }
+}
+
+/// What tells this run of the program from every other: the nanoseconds since 1970, none where the clock can't say.
+pub fn began(rt: &HostRuntime) -> Option<u64> {
+    let now = SystemTime::now(rt).ok()?;
+    let since = now.duration_since(UNIX_EPOCH).ok()?;
+    u64::try_from(since.as_nanos()).ok()
+}
+
+/// Says at which address the service, and its page, can be asked for.
+fn say_where(rt: &HostRuntime, port: u16, page: bool) -> io::Result<()> {
+    println!(rt; "listening on 127.0.0.1:{port}")?;
+    if page {
+        println!(rt; "its page is http://127.0.0.1:{port}/")?;
+    }
+    Ok(())
 }
 
 /// Serves so many connections, whatever each gives, or one after another until the program is stopped. It ends otherwise
@@ -61,27 +107,28 @@ pub fn serve<B: Books>(
     port: u16,
     count: Option<u64>,
     token: Option<&str>,
+    page: bool,
     service: &mut BooksService<B>,
 ) -> RunEnd
     requires { B.are_kept service.old.books }
     ensures kept { B.are_kept service.new.books }
     ensures serves { ServesClients B.state_in B.failure_of B.may_leave service.old.names port
-        (is_some token.entry) count service.old service.new result }
+        (is_some token.entry) page count service.old service.new result }
 {
-    let access = match access(rt, port, token) {
-        Ok(access) => access,
+    let site = match site(rt, port, token, page) {
+        Ok(site) => site,
         Err(end) => return end,
     };
     let listener = match TcpListener::bind(rt, (Ipv4Addr::LOCALHOST, port)) {
         Ok(listener) => listener,
         Err(error) => return port_failed(rt, port, &error),
     };
-    if let Err(error) = println!(rt; "listening on 127.0.0.1:{port}") {
+    if let Err(error) = say_where(rt, port, page) {
         return failed(rt, "standard output", &error, RunEnd::WriteFailed);
     }
     let count = count.unwrap_or(u64::MAX);
     let mut clients = Clients::of(listener);
-    match serve_connections(rt, rt.alloc(), &mut clients, count, service, &access) {
+    match serve_connections(rt, rt.alloc(), &mut clients, count, service, &site) {
         Ok(()) => RunEnd::Done(true),
         Err(error) => port_failed(rt, port, &error),
     }

@@ -1,15 +1,27 @@
-use Rattle.std.proofs.Common.{refl}
+use Rattle.std.proofs.Common.{ap, refl, subst, sym, ◌∙◌}
+use Rattle.std.specs.Prelude.{None, is_some}
+use Rattle.table_store.specs.declared.fault.Failed.{Failed}
+use Rattle.desk_core.specs.Machine.{IsSoundState}
+use Rattle.desk_core.specs.ShopView.{state_of}
 use Rattle.desk_app.proofs.Taking.{empty_with}
+use Rattle.invdesk.specs.Clients.{ServesClients}
 use Rattle.invdesk.proofs.Ending.{runs_in_memory}
 use Rattle.invdesk.proofs.act_in_memory.Goals as goal
+
+pub serve-requires : goal.serve-requires
+serve-requires c =
+    subst (λ shop. IsSoundState (state_of shop)) (sym c.new-service.ensures.books) c.new-books.ensures.sound
 
 pub returns-in-Serve : goal.returns-in-Serve
 returns-in-Serve c =
     rw c.in-Serve.is (record {
-      before = record { books = c.new.result; names = c.in-Serve.names };
+      before = c.new-service.result;
       after = c.serve.new.service;
-      empty = empty_with _ _ c.new.ensures.state (refl, refl);
-      serves = c.serve.ensures.serves;
+      empty = empty_with _ _ (ap state_of c.new-service.ensures.books ∙ c.new-books.ensures.state) (refl, refl);
+      serves =
+          subst (λ names. ServesClients {F = Failed} state_of (λ _. None) (λ _ _. ⊥) names c.in-Serve.port
+          (is_some c.in-Serve.token) c.in-Serve.page c.in-Serve.count c.new-service.result c.serve.new.service
+          c.serve.result) c.new-service.ensures.names c.serve.ensures.serves;
     })
 
 pub returns-in-Run : goal.returns-in-Run

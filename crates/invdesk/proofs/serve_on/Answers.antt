@@ -1,17 +1,27 @@
-use Rattle.std.proofs.Common.{sym}
+use Rattle.std.proofs.Common.{ap, subst, sym, ◌∙◌}
+use Rattle.std.specs.Prelude.{is_some}
+use Rattle.table_store.specs.declared.fault.Failed.{Failed}
+use Rattle.sqlite.specs.Files.{over_files}
+use Rattle.desk_core.specs.ShopView.{state_of}
+use Rattle.invdesk.specs.Clients.{ServesClients}
+use Rattle.invdesk.specs.Works.{may_leave}
 use Rattle.invdesk.proofs.serve_on.Goals as goal
 
 pub serve-end-requires : goal.serve-end-requires
-serve-end-requires c = rw c.new-watched.ensures c.requires
+serve-end-requires c = rw (c.new-service.ensures.books, c.new-watched.ensures) c.requires
 
 pub returns-clause-desk : goal.returns-clause-desk
 returns-clause-desk c = rw c.into_desk.ensures c.serve-end.ensures.kept
 
 pub returns-clause-serves : goal.returns-clause-serves
 returns-clause-serves c = record {
-  before = record { books = c.new-watched.result; names = c.args.names };
+  before = c.new-service.result;
   after = c.serve-end.new.service;
-  was = c.new-watched.ensures;
+  was = ap (λ books. books.desk) c.new-service.ensures.books ∙ c.new-watched.ensures;
   is = sym c.into_desk.ensures;
-  serves = c.serve-end.ensures.serves;
+  serves =
+      subst (λ names. ServesClients {F = Failed} (λ watched. state_of watched.desk.shop)
+      (λ watched. watched.desk.failed) (λ watched. may_leave over_files watched.desk) names c.args.port
+      (is_some c.args.token) c.args.page c.args.count c.new-service.result c.serve-end.new.service
+      c.serve-end.result) c.new-service.ensures.names c.serve-end.ensures.serves;
 }
