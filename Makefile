@@ -37,9 +37,16 @@ file: build
 	python3 tools/check_kills.py $(PROGRAM)
 	python3 tools/check_import.py $(PROGRAM)
 
-# The program as a server, asked by Python's http.client, by curl and by bare sockets, and killed.
+# The program as a server, asked by Python's http.client, by curl and by bare sockets, and killed; and with its page,
+# asked for all that the page reads.
 http: build
 	python3 tools/check_http.py $(PROGRAM)
+	python3 tools/check_site.py $(PROGRAM)
+
+# The page of 'serve --page' in Chromium, which has to be here, and in Firefox where that is. 'tools/make_page.py' writes
+# the page into the program.
+page: build
+	python3 tools/check_page.py $(PROGRAM)
 
 # The program on the worked examples with names and on the tutorial, and beside the rules written once more in Python:
 # answers, reports and tables of requests that are made up, and which changed files it opens.
@@ -58,4 +65,4 @@ memory: build
 refuse:
 	python3 tools/refuse.py $(if $(RANDOM),--random $(RANDOM)) $(CRATES)
 
-.PHONY: try run test build install bench file http machine memory refuse
+.PHONY: try run test build install bench file http page machine memory refuse
