@@ -47,7 +47,7 @@ pub fn act(
 {
     match command {
         BomCommand::AddLine(new) => {
-            let ids = Ids::one(alloc, counter.next())?;
+            let ids = Ids::one(alloc, counter.next());
             boms.add_line(catalogue, counter, open_parts, *new)?;
             Ok(Answer { ids, entries: 0 })
         }
@@ -59,7 +59,7 @@ pub fn act(
             })
         }
         BomCommand::AddSubstitute { line, part } => {
-            let ids = Ids::one(alloc, counter.next())?;
+            let ids = Ids::one(alloc, counter.next());
             boms.add_substitute(catalogue, counter, open_parts, *line, *part)?;
             Ok(Answer { ids, entries: 0 })
         }

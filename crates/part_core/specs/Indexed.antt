@@ -1,5 +1,5 @@
 -- Rows that are found by what stands in them: under the keys of an index.
-use Rattle.std.specs.Prelude.{◌≡◌, ℕ, Bool, true, ◌==◌, List, [], ◌∷◌, fold}
+use Rattle.std.specs.Prelude.{◌≡◌, ℕ, Bool, true, ◌==◌, List, fold}
 use Rattle.std.specs.List.{list_any}
 use Rattle.std.specs.Hash.FoldHasher as folding
 

@@ -118,8 +118,8 @@ impl<R: Row> Sheet<R> {
 
     /// A sheet of these rows, put in their order, now and before. An error is one of memory.
     ///
-    /// The room is made at once, so that there is none to spare. Each row is kept at once, so that no list of changes
-    /// grows with the rows.
+    /// The room is made at once, so that no row is moved again, and what a map makes to spare is given back at the end.
+    /// Each row is kept at once, so that no list of changes grows with the rows.
     pub fn filled(alloc: Global, rows: Vec<R>) -> Result<Self, AllocError>
         ensures rows { IfOk result (λ sheet. now_of sheet ≡ filled R.key_of rows.items) }
         ensures before { IfOk result (λ sheet. sheet.before ≡ filled R.key_of rows.items) }
@@ -129,7 +129,15 @@ impl<R: Row> Sheet<R> {
             sheet.put(row)?;
             sheet.keep();
         }
+        sheet.give_back();
         Ok(sheet)
+    }
+
+    /// Gives back the room that no row needs.
+    pub(crate) fn give_back(&mut self)
+        ensures { self.new ≡ self.old }
+    {
+        self.slots.shrink_to_fit();
     }
 
     /// How many rows there are.

@@ -25,7 +25,7 @@ pub fn act(books: &mut YardBooks, command: &YardCommand) -> Result<Answer, CoreF
 {
     match command {
         YardCommand::AddLocation { name, parent } => {
-            let ids = Ids::one(books.alloc, books.counter.next())?;
+            let ids = Ids::one(books.alloc, books.counter.next());
             books.yard.add_location(&mut books.counter, name, *parent)?;
             Ok(Answer { ids, entries: 0 })
         }
