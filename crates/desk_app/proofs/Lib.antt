@@ -1,8 +1,10 @@
 pub mod Cutting
 pub mod Partway
 pub mod Stepping
+pub mod Stopping
 pub mod Running
 pub mod Answered
+pub mod Checking
 pub mod Rows
 pub mod Replies
 pub mod SentAgain

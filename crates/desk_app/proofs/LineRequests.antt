@@ -1,7 +1,7 @@
 -- Lines change the state by the requests that they ask for.
 use Rattle.std.proofs.Common.{◌≡◌, ◌+◌, ◌++◌, ◌∷◌, [], ℕ, List, Bool, true, false, ap, refl, sym, ◌∙◌}
 use Rattle.std.specs.Prelude.{Option, Some, None, Result, Ok, Err, if◌then◌else◌}
-use Rattle.desk_core.specs.Machine.{State, Outcome, run, step}
+use Rattle.desk_core.specs.Machine.{State, run, step}
 use Rattle.desk_core.specs.declared.command.Request.{Request as Req}
 use Rattle.desk_wire.specs.Reading.{line}
 use Rattle.desk_wire.specs.declared.fault.What.{What}
@@ -11,7 +11,7 @@ use Rattle.report_core.specs.Lines.{Lines}
 use Rattle.report_core.specs.Reports.{report_lines}
 use Rattle.desk_app.specs.LineRequests.{asked_by, asked_in, requests_in, LinesAloneAsk, LinesAreRequests}
 use Rattle.desk_app.specs.Runs.{by_report, by_wish, is_blank, line_after, line_step, naming, run_after}
-use Rattle.desk_app.proofs.Stepping.{blank_step, outcome_state}
+use Rattle.desk_app.proofs.Stepping.{outcome_state}
 
 one_by_one : (s : State) (xs ys : List Req) → (run s (xs ++ ys)).0 ≡ (run (run s xs).0 ys).0
 one_by_one s [] ys = refl

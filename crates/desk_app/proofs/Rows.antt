@@ -15,7 +15,7 @@ use Rattle.desk_app.specs.declared.end.Stop.TheVariants.{ReadFailed, WriteFailed
 use Rattle.desk_app.specs.declared.run.Told.{Told}
 use Rattle.desk_app.specs.Runs.{by_outcome, CutRequest, IsOfBooks, StaysOpen}
 use Rattle.desk_app.specs.ImportRuns.{are_answers, import_told, rows_after, rows_out, rows_outcomes, rows_told}
-use Rattle.desk_app.specs.ImportRuns.{AreLeftByRows, ImportStopped, IsLeftByImport, RanFront, RanSome, Reading}
+use Rattle.desk_app.specs.ImportRuns.{AreLeftByRows, ImportStopped, IsLeftByImport, RanFront, Reading}
 
 -- the first `at` rows were run from s to s', and this is the text of theirs
 pub record RowsRunning (rows : List ImportRow) (at : ℕ) (s s' : State) (text : List ℕ) (fine : Bool) : Type 0 where

@@ -11,12 +11,12 @@ named_free : (places : Places) (name file : Text) → faults places (run_on name
 unfolding faults clap_on_literals
 named_free places name file = refl
 
-named_task : (places : Places) (name file : Text) → desk_task places (run_on name file) ≡ Some (run (Some file) false)
+named_task : (places : Places) (name file : Text) → desk_task places (run_on name file) ≡ Some (run (Some file) false false false)
 unfolding desk_task clap_on_literals
 named_task places name file = refl
 
 pub run_on_task : (places : Places) (words : List Text) (name file : Text) → words ≡ run_on name file
-    → desk_task places words ≡ Some (run (Some file) false)
+    → desk_task places words ≡ Some (run (Some file) false false false)
 run_on_task places words name file e = ap (desk_task places) e ∙ named_task places name file
 
 pub no_run_on : (places : Places) (words : List Text) (k : ErrorKind) → IsAmong k (faults places words)
@@ -31,7 +31,7 @@ unfolding faults clap_on_literals
 begun_free places name first rest h = simp h
 
 begun_task : (places : Places) (name : Text) (first : ℕ) (rest : Text) → (first == 45) ≡ false
-    → desk_task places (run_with name (first ∷ rest)) ≡ Some (run (Some (first ∷ rest)) false)
+    → desk_task places (run_with name (first ∷ rest)) ≡ Some (run (Some (first ∷ rest)) false false false)
 unfolding desk_task clap_on_literals
 begun_task places name first rest h = simp h
 
@@ -44,12 +44,12 @@ path_free places name [] h = absurd (cc)
 path_free places name (first ∷ rest) h = begun_free places name first rest (no_hyphen (first == 45) h)
 
 path_task : (places : Places) (name file : Text) → is_path file ≡ true
-    → desk_task places (run_with name file) ≡ Some (run (Some file) false)
+    → desk_task places (run_with name file) ≡ Some (run (Some file) false false false)
 path_task places name [] h = absurd (cc)
 path_task places name (first ∷ rest) h = begun_task places name first rest (no_hyphen (first == 45) h)
 
 pub run_with_task : (places : Places) (words : List Text) (name file : Text) → is_path file ≡ true
-    → words ≡ run_with name file → desk_task places words ≡ Some (run (Some file) false)
+    → words ≡ run_with name file → desk_task places words ≡ Some (run (Some file) false false false)
 run_with_task places words name file h e = ap (desk_task places) e ∙ path_task places name file h
 
 pub no_run_with : (places : Places) (words : List Text) (k : ErrorKind) → IsAmong k (faults places words)

@@ -1,6 +1,6 @@
 -- A line, of which as much is here as is held.
 use Rattle.std.proofs.Common.{◌≡◌, ◌+◌, ◌≤◌, ℕ, Bool, true, false, List, [], ◌∷◌, length, nat_le}
-use Rattle.std.proofs.Common.{arith, ap, sym, subst, refl, ◌∙◌, length-take, take, ◌⊎◌, inl, inr}
+use Rattle.std.proofs.Common.{arith, ap, sym, refl, ◌∙◌, length-take, take, inl, inr}
 use Rattle.std.specs.Prelude.{Option, Ok, Err}
 use Rattle.desk_core.specs.Machine.{State, Outcome, step}
 use Rattle.desk_core.specs.Naming.{Naming}

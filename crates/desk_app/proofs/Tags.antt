@@ -1,5 +1,5 @@
 -- The tag of the books tells them.
-use Rattle.std.proofs.Common.{◌≡◌, ◌∙◌, ◌⊎◌, inl, inr, ◌+◌, ◌<◌, ◌^◌, ℕ, Bool, true, false, List, ap, sym, refl, subst}
+use Rattle.std.proofs.Common.{◌≡◌, ◌∙◌, ◌⊎◌, inl, inr, ◌+◌, ◌^◌, ℕ, Bool, true, false, List, ap, sym, refl, subst}
 use Rattle.std.proofs.Common.{cond, arith}
 use Rattle.std.specs.Prelude.{Option, Some, None, Result, Ok, Err, nat_lt}
 use Rattle.part_core.specs.Day.{CivilDay}

@@ -11,7 +11,7 @@ use Rattle.desk_app.specs.Words.{desk_task, faults, subject_of, Tells, AnswersAt
 pub told_answers : (places : Places) (words : List Text) (w : Option DeskTask) (task : Task) → faults places words ≡ []
     → w ≡ desk_task places words
     → Tells w task → AnswersAt places words task
-told_answers places words w (Run file names) free same t = (free, sym same ∙ t)
+told_answers places words w (Run file names stop check) free same t = (free, sym same ∙ t)
 told_answers places words w (Report file name of) free same t = (free, sym same ∙ t)
 told_answers places words w (Export file table) free same t = (free, sym same ∙ t)
 told_answers places words w (Migrate file) free same t = (free, sym same ∙ t)
@@ -26,20 +26,24 @@ no_file : {X Y : Type 0} (f : X → Y) (file : Option X) → option_map f file �
 no_file f None e = refl
 no_file f (Some x) e = absurd (cc)
 
-pub told_runs : (w : Option DeskTask) (task : Task) → w ≡ Some (run None false) → Tells w task → Runs task
-told_runs w (Run file names) e t =
-    let f : Some (run None false) ≡ Some (run (option_map (λ path. path.now) file) names) = sym e ∙ t in
-    (no_file (λ path. path.now) file (cc), cc)
+-- a run of each line as it comes, without names
+abbrev plain_run : Option Text → DeskTask
+plain_run file = run file false false false
+
+pub told_runs : (w : Option DeskTask) (task : Task) → w ≡ Some (plain_run None) → Tells w task → Runs task
+told_runs w (Run file names stop check) e t =
+    let f : Some (plain_run None) ≡ Some (run (option_map (λ path. path.now) file) names stop check) = sym e ∙ t in
+    (no_file (λ path. path.now) file (cc), cc, cc, cc)
 told_runs w (Report file name of) e t =
-    let f : Some (run None false) ≡ Some (report file.now name (subject_of of)) = sym e ∙ t in
+    let f : Some (plain_run None) ≡ Some (report file.now name (subject_of of)) = sym e ∙ t in
     absurd (cc)
-told_runs w (Export file table) e t = let f : Some (run None false) ≡ Some (export file.now table) = sym e
+told_runs w (Export file table) e t = let f : Some (plain_run None) ≡ Some (export file.now table) = sym e
     ∙ t in absurd (cc)
-told_runs w (Migrate file) e t = let f : Some (run None false) ≡ Some (migrate file.now) = sym e ∙ t in absurd (cc)
+told_runs w (Migrate file) e t = let f : Some (plain_run None) ≡ Some (migrate file.now) = sym e ∙ t in absurd (cc)
 told_runs w (Import file kind document day path names) e t =
-    let f : Some (run None false) ≡ Some (import file.now kind document day path.now names) = sym e ∙ t in absurd (cc)
+    let f : Some (plain_run None) ≡ Some (import file.now kind document day path.now names) = sym e ∙ t in absurd (cc)
 told_runs w (Serve file port count token names page) e t =
-    let f : Some (run None false)
+    let f : Some (plain_run None)
     ≡ Some (serve (option_map (λ path. path.now) file) port count (option_map (λ path. path.now) token) names page) = sym e
     ∙ t in
     absurd (cc)
@@ -48,22 +52,22 @@ told_runs w (Wrong error) e t = let f = t.0 in absurd (cc)
 told_runs w Unreadable e t = absurd t
 told_runs w Memory e t = tt
 
-pub told_runs_on : (path : Text) (w : Option DeskTask) (task : Task) → w ≡ Some (run (Some path) false) → Tells w task
+pub told_runs_on : (path : Text) (w : Option DeskTask) (task : Task) → w ≡ Some (plain_run (Some path)) → Tells w task
     → RunsOn path task
-told_runs_on path w (Run file names) e t =
-    let f : Some (run (Some path) false) ≡ Some (run (option_map (λ given. given.now) file) names) = sym e ∙ t in
-    (cc, cc)
+told_runs_on path w (Run file names stop check) e t =
+    let f : Some (plain_run (Some path)) ≡ Some (run (option_map (λ given. given.now) file) names stop check) = sym e ∙ t in
+    (cc, cc, cc, cc)
 told_runs_on path w (Report file name of) e t =
-    let f : Some (run (Some path) false) ≡ Some (report file.now name (subject_of of)) = sym e ∙ t in absurd (cc)
+    let f : Some (plain_run (Some path)) ≡ Some (report file.now name (subject_of of)) = sym e ∙ t in absurd (cc)
 told_runs_on path w (Export file table) e t =
-    let f : Some (run (Some path) false) ≡ Some (export file.now table) = sym e ∙ t in absurd (cc)
+    let f : Some (plain_run (Some path)) ≡ Some (export file.now table) = sym e ∙ t in absurd (cc)
 told_runs_on path w (Migrate file) e t =
-    let f : Some (run (Some path) false) ≡ Some (migrate file.now) = sym e ∙ t in absurd (cc)
+    let f : Some (plain_run (Some path)) ≡ Some (migrate file.now) = sym e ∙ t in absurd (cc)
 told_runs_on path w (Import file kind document day from names) e t =
-    let f : Some (run (Some path) false) ≡ Some (import file.now kind document day from.now names) = sym e
+    let f : Some (plain_run (Some path)) ≡ Some (import file.now kind document day from.now names) = sym e
     ∙ t in absurd (cc)
 told_runs_on path w (Serve file port count token names page) e t =
-    let f : Some (run (Some path) false)
+    let f : Some (plain_run (Some path))
     ≡ Some (serve (option_map (λ given. given.now) file) port count (option_map (λ given. given.now) token) names page) =
     sym e ∙ t in
     absurd (cc)

@@ -2,6 +2,7 @@ pub mod Cuts
 pub mod Ends
 pub mod Runs
 pub mod Answered
+pub mod Checked
 pub mod ImportRuns
 pub mod SentAgain
 pub mod LineRequests

@@ -87,6 +87,22 @@ all_fine names s number [] = true
 all_fine names s number (l ∷ ls) = is_fine names s number l && all_fine names (line_after names s number l)
     (number + 1) ls
 
+-- ---- the lines that a run takes
+
+-- the lines up to the first that is refused or faulty, with that one
+abbrev pub up_to_first : Bool → State → ℕ → List (List ℕ) → List (List ℕ)
+up_to_first names s number [] = []
+up_to_first names s number (l ∷ ls) =
+    if is_fine names s number l then l ∷ up_to_first names (line_after names s number l) (number + 1) ls else l ∷ []
+
+-- the lines that a run takes of these: all, or, where it stops there, those up to the first that is refused or faulty
+abbrev pub taken : Bool → Bool → State → List (List ℕ) → List (List ℕ)
+taken names stop s lines = if stop then up_to_first names s 1 lines else lines
+
+-- a run takes these lines all: where it stops at the first that is refused or faulty, none but the last is
+abbrev pub AreTaken : Bool → Bool → State → List (List ℕ) → Type 0
+AreTaken names stop s lines = taken names stop s lines ≡ lines
+
 -- ---- how a run ends
 
 -- these lines were run, and all their answers written
@@ -96,11 +112,12 @@ pub record RanLines (names : Bool) (lines : List (List ℕ)) (w w' : Option (Lis
   pub written : Appends w w' (run_out names s 1 lines)
   pub fine : all ≡ all_fine names s 1 lines
 
--- all lines of the text were; of unknown bytes, some lines
-abbrev pub Finished : Bool → Option (List ℕ) → Option (List ℕ) → Option (List ℕ) → State → State → Bool
+-- all lines that the run takes of the text were; of unknown bytes, those of some lines
+abbrev pub Finished : Bool → Bool → Option (List ℕ) → Option (List ℕ) → Option (List ℕ) → State → State → Bool
     → Type 0
-Finished names None w w' s s' all = (lines : List (List ℕ)) × RanLines names lines w w' s s' all
-Finished names (Some text) w w' s s' all = RanLines names (lines_of text) w w' s s' all
+Finished names stop None w w' s s' all =
+    (lines : List (List ℕ)) × RanLines names (taken names stop s lines) w w' s s' all
+Finished names stop (Some text) w w' s s' all = RanLines names (taken names stop s (lines_of text)) w w' s s' all
 
 -- the lines of a text begin with these; those of unknown bytes may be any
 abbrev pub BeginWith : Option (List ℕ) → List (List ℕ) → Type 0
@@ -108,29 +125,32 @@ BeginWith None lines = Unit {0}
 BeginWith (Some text) lines = (rest : List (List ℕ)) × (lines_of text ≡ lines ++ rest)
 
 -- the first of the lines were run, and their answers written whole; the others were not run
-pub record StoppedBetween (names : Bool) (text w w' : Option (List ℕ)) (s s' : State) : Type 0 where
+pub record StoppedBetween (names stop : Bool) (text w w' : Option (List ℕ)) (s s' : State) : Type 0 where
   pub done : List (List ℕ)
   pub first : BeginWith text done
+  pub all_taken : AreTaken names stop s done
   pub state : s' ≡ run_after names s 1 done
   pub written : Appends w w' (run_out names s 1 done)
 
 -- of the lines that were run the last were one group, of whose answers a front is written; the others have theirs whole
-pub record StoppedWriting (names : Bool) (text w w' : Option (List ℕ)) (s s' : State) : Type 0 where
+pub record StoppedWriting (names stop : Bool) (text w w' : Option (List ℕ)) (s s' : State) : Type 0 where
   pub told : List (List ℕ)
   pub group : List (List ℕ)
   pub front : List ℕ
   pub more : List ℕ
   pub first : BeginWith text (told ++ group)
+  pub all_taken : AreTaken names stop s (told ++ group)
   pub state : s' ≡ run_after names s 1 (told ++ group)
   pub answers : run_out names (run_after names s 1 told) (1 + length told) group ≡ front ++ more
   pub written : Appends w w' (run_out names s 1 told ++ front)
 
 -- of the lines that were run the last may have nothing of its answer written, the others have theirs
 -- whole
-pub record StoppedForMemory (names : Bool) (text w w' : Option (List ℕ)) (s s' : State) : Type 0 where
+pub record StoppedForMemory (names stop : Bool) (text w w' : Option (List ℕ)) (s s' : State) : Type 0 where
   pub told : List (List ℕ)
   pub untold : List (List ℕ)
   pub first : BeginWith text (told ++ untold)
+  pub all_taken : AreTaken names stop s (told ++ untold)
   pub one : length untold ≤ 1
   pub state : s' ≡ run_after names s 1 (told ++ untold)
   pub written : Appends w w' (run_out names s 1 told)
@@ -138,23 +158,24 @@ pub record StoppedForMemory (names : Bool) (text w w' : Option (List ℕ)) (s s'
 -- The database failed in a group, or as it was committed, and the books are closed. The lines before the group have
 -- their answers written whole, and those of the group nothing of theirs. A crash leaves the tables before the group, or,
 -- where the commit failed, those after it.
-pub record StoppedInGroup (names : Bool) (text w w' : Option (List ℕ)) (s s' : State)
+pub record StoppedInGroup (names stop : Bool) (text w w' : Option (List ℕ)) (s s' : State)
     (leaves : Trees → Type 0) : Type 0 where
   pub told : List (List ℕ)
   pub group : List (List ℕ)
   pub first : BeginWith text (told ++ group)
+  pub all_taken : AreTaken names stop s (told ++ group)
   pub state : s' ≡ run_after names s 1 (told ++ group)
   pub written : Appends w w' (run_out names s 1 told)
   pub left : (trees : Trees) → leaves trees
       → TablesAre (run_after names s 1 told) trees ⊎ TablesAre (run_after names s 1 (told ++ group)) trees
 
 -- some of the lines were run, by what it was that failed; these tables a crash may leave of the books
-abbrev pub Stopped : Bool → Stop → Option (List ℕ) → Option (List ℕ) → Option (List ℕ) → State → State
+abbrev pub Stopped : Bool → Bool → Stop → Option (List ℕ) → Option (List ℕ) → Option (List ℕ) → State → State
     → (Trees → Type 0) → Type 0
-Stopped names ReadFailed text w w' s s' leaves = StoppedBetween names text w w' s s'
-Stopped names WriteFailed text w w' s s' leaves = StoppedWriting names text w w' s s'
-Stopped names Memory text w w' s s' leaves = StoppedForMemory names text w w' s s'
-Stopped names Store text w w' s s' leaves = StoppedInGroup names text w w' s s' leaves
+Stopped names stop ReadFailed text w w' s s' leaves = StoppedBetween names stop text w w' s s'
+Stopped names stop WriteFailed text w w' s s' leaves = StoppedWriting names stop text w w' s s'
+Stopped names stop Memory text w w' s s' leaves = StoppedForMemory names stop text w w' s s'
+Stopped names stop Store text w w' s s' leaves = StoppedInGroup names stop text w w' s s' leaves
 
 -- a request that the books did not answer, or whose answer was not told: where memory ran out it was run or not; where
 -- the database failed it was not
@@ -214,12 +235,13 @@ IsOfSettling _ = ⊥
 
 -- the first lines have their answers written, and those of the group wait with theirs; one line more may have been run,
 -- which has none; these tables a crash may leave, and they are those before the group
-pub record Halting (names : Bool) (text w w' : Option (List ℕ)) (s s' : State) (waits : List ℕ)
+pub record Halting (names stop : Bool) (text w w' : Option (List ℕ)) (s s' : State) (waits : List ℕ)
     (leaves : Trees → Type 0) : Type 0 where
   pub told : List (List ℕ)
   pub group : List (List ℕ)
   pub untold : List (List ℕ)
   pub first : BeginWith text ((told ++ group) ++ untold)
+  pub all_taken : AreTaken names stop s ((told ++ group) ++ untold)
   pub one : length untold ≤ 1
   pub state : s' ≡ run_after names s 1 ((told ++ group) ++ untold)
   pub written : Appends w w' (run_out names s 1 told)
@@ -227,26 +249,27 @@ pub record Halting (names : Bool) (text w w' : Option (List ℕ)) (s s' : State)
   pub left : (trees : Trees) → leaves trees → TablesAre (run_after names s 1 told) trees
 
 -- the group ends behind its last answer
-abbrev pub HaltsWhole : Bool → Option (List ℕ) → Option (List ℕ) → Option (List ℕ) → State → State → List ℕ
+abbrev pub HaltsWhole : Bool → Bool → Option (List ℕ) → Option (List ℕ) → Option (List ℕ) → State → State → List ℕ
     → (Trees → Type 0) → Type 0
-HaltsWhole names text w w' s s' waits leaves = (h : Halting names text w w' s s' waits leaves) × (h.untold ≡ [])
+HaltsWhole names stop text w w' s s' waits leaves =
+    (h : Halting names stop text w w' s s' waits leaves) × (h.untold ≡ [])
 
--- these are all lines of the text
-abbrev pub AreAll : Option (List ℕ) → List (List ℕ) → Type 0
-AreAll None lines = Unit {0}
-AreAll (Some text) lines = lines_of text ≡ lines
+-- these are all lines that the run takes of the text
+abbrev pub AreAll : Bool → Bool → State → Option (List ℕ) → List (List ℕ) → Type 0
+AreAll names stop s None lines = Unit {0}
+AreAll names stop s (Some text) lines = taken names stop s (lines_of text) ≡ lines
 
--- all lines were run, and the last of them wait
-abbrev pub Gathered : Bool → Option (List ℕ) → Option (List ℕ) → Option (List ℕ) → State → State → Bool → List ℕ
-    → (Trees → Type 0) → Type 0
-Gathered names text w w' s s' all waits leaves =
-    (h : Halting names text w w' s s' waits leaves) × (h.untold ≡ []) × AreAll text (h.told ++ h.group)
-    × (all ≡ all_fine names s 1 (h.told ++ h.group))
+-- all lines that the run takes were run, and the last of them wait
+abbrev pub Gathered : Bool → Bool → Option (List ℕ) → Option (List ℕ) → Option (List ℕ) → State → State → Bool
+    → List ℕ → (Trees → Type 0) → Type 0
+Gathered names stop text w w' s s' all waits leaves =
+    (h : Halting names stop text w w' s s' waits leaves) × (h.untold ≡ [])
+    × AreAll names stop s text (h.told ++ h.group) × (all ≡ all_fine names s 1 (h.told ++ h.group))
 
 -- the lines stop before the last group is ended, or as a group was ended
-abbrev pub Halts : Bool → Stop → Option (List ℕ) → Option (List ℕ) → Option (List ℕ) → State → State → List ℕ
-    → (Trees → Type 0) → Type 0
-Halts names ReadFailed text w w' s s' waits leaves = HaltsWhole names text w w' s s' waits leaves
-Halts names Memory text w w' s s' waits leaves = Halting names text w w' s s' waits leaves
-Halts names WriteFailed text w w' s s' waits leaves = StoppedWriting names text w w' s s'
-Halts names Store text w w' s s' waits leaves = StoppedInGroup names text w w' s s' leaves
+abbrev pub Halts : Bool → Bool → Stop → Option (List ℕ) → Option (List ℕ) → Option (List ℕ) → State → State
+    → List ℕ → (Trees → Type 0) → Type 0
+Halts names stop ReadFailed text w w' s s' waits leaves = HaltsWhole names stop text w w' s s' waits leaves
+Halts names stop Memory text w w' s s' waits leaves = Halting names stop text w w' s s' waits leaves
+Halts names stop WriteFailed text w w' s s' waits leaves = StoppedWriting names stop text w w' s s'
+Halts names stop Store text w w' s s' waits leaves = StoppedInGroup names stop text w w' s s' leaves

@@ -23,7 +23,7 @@ status_of_fault _ = 3
 
 -- at once, unless the words ask for a desk
 abbrev pub early_status : Task → Option ℕ
-early_status (task.Run file names) = None
+early_status (task.Run file names stop check) = None
 early_status (task.Report file name of) = None
 early_status (task.Export file table) = None
 early_status (task.Migrate file) = None

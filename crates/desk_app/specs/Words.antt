@@ -117,7 +117,9 @@ abbrev pub among : Bor (List (Bor Text)) → Rule → Rule
 among names rule = record rule { parser = Some (Names names) }
 
 abbrev pub run_line : App
-run_line = with_rule (with_rule (new_app (codes "run")) file_rule) names_rule
+run_line =
+    with_rule (with_rule (with_rule (with_rule (new_app (codes "run")) file_rule) names_rule)
+    (flag_rule (codes "stop"))) (flag_rule (codes "check"))
 
 abbrev pub report_line : Listing report_names → App
 report_line names =
@@ -219,10 +221,11 @@ subject_of (Word word) = worded word.now
 
 -- a task of a desk: a run, with the file if one is named; a report of a row; a table; that a file is brought along;
 -- the rows at a path; so many connections to a port, or any number, with the file of a token if one is named. The last
--- word of a run and of an import is whether rows may be named, and so is the last but one of a serving, whose last is
--- whether the page is served
+-- word of an import is whether rows may be named, and so is the last but one of a serving, whose last is whether the page
+-- is served. The words of a run are whether rows may be named, whether it ends at the first line that is refused or
+-- faulty, and whether all lines are read before any is run
 pub data DeskTask : Type 0 where
-  run : Option Text → Bool → DeskTask
+  run : Option Text → Bool → Bool → Bool → DeskTask
   report : Text → ReportName → Subject → DeskTask
   export : Text → TableName → DeskTask
   migrate : Text → DeskTask
@@ -253,6 +256,14 @@ names_in rows = is_given (first_of (codes "names") rows)
 abbrev pub page_in : List Row → Bool
 page_in rows = is_given (first_of (codes "page") rows)
 
+-- the same: whether the run ends at the first line that is refused or faulty
+abbrev pub stop_in : List Row → Bool
+stop_in rows = is_given (first_of (codes "stop") rows)
+
+-- the same: whether all lines are read before any is run
+abbrev pub check_in : List Row → Bool
+check_in rows = is_given (first_of (codes "check") rows)
+
 -- where rows may be named any word may say one, else a number alone
 abbrev pub subject_by : Bool → Option Text → Option Subject
 subject_by names None = None
@@ -260,6 +271,9 @@ subject_by false (Some text) = option_map numbered (number_in text)
 subject_by true (Some text) = Some (worded text)
 
 -- by the matches of the subcommand
+abbrev pub run_in : List Row → DeskTask
+run_in rows = run (first_of (codes "db") rows) (names_in rows) (stop_in rows) (check_in rows)
+
 unfoldable pub report_in : List Row → Option DeskTask
 report_in rows = report_with (first_of (codes "db") rows) (option_and_then report_named (first_of (codes "name") rows))
     (subject_by (names_in rows) (first_of (codes "number") rows))
@@ -304,14 +318,14 @@ given_in id m = first_of id (rows_in m)
 
 -- by the subcommand and its matches: no subcommand is a run in memory
 abbrev pub desk_task_met : Option (Text × List Row) → Option DeskTask
-desk_task_met None = Some (run None false)
+desk_task_met None = Some (run None false false false)
 desk_task_met (Some met) =
     if bytes_eq met.0 (codes "report") then report_in met.1
     else if bytes_eq met.0 (codes "export") then export_in met.1
     else if bytes_eq met.0 (codes "migrate") then migrate_in met.1
     else if bytes_eq met.0 (codes "import") then import_in met.1
     else if bytes_eq met.0 (codes "serve") then serve_in met.1
-    else Some (run (first_of (codes "db") met.1) (names_in met.1))
+    else Some (run_in met.1)
 
 -- what the words ask of a desk, where nothing is found wrong
 unfoldable pub desk_task : Places → List Text → Option DeskTask
@@ -319,7 +333,7 @@ desk_task places words = desk_task_met (subcommand_of (command_line places) word
 
 -- the task of a desk, if it is one
 abbrev pub desk_task_of : Task → Option DeskTask
-desk_task_of (Run file names) = Some (run (option_map (λ path. path.now) file) names)
+desk_task_of (Run file names stop check) = Some (run (option_map (λ path. path.now) file) names stop check)
 desk_task_of (Report file name of) = Some (report file.now name (subject_of of))
 desk_task_of (Export file table) = Some (export file.now table)
 desk_task_of (Migrate file) = Some (migrate file.now)
@@ -336,7 +350,7 @@ AsksFor desk_task task = option_map desk_task_of task ≡ option_map (λ w. Some
 
 -- the file of the desk that is asked for
 abbrev pub file_of : Task → Option (Bor Text)
-file_of (Run file names) = file
+file_of (Run file names stop check) = file
 file_of (Report file name of) = Some file
 file_of (Export file table) = Some file
 file_of (Migrate file) = Some file
@@ -349,7 +363,7 @@ file_of Memory = None
 
 -- the task of a desk is told as it is; where there is none, a value is wrong; unless memory ran out
 abbrev pub Tells : Option DeskTask → Task → Type 0
-Tells desk_task (Run file names) = desk_task ≡ desk_task_of (Run file names)
+Tells desk_task (Run file names stop check) = desk_task ≡ desk_task_of (Run file names stop check)
 Tells desk_task (Report file name of) = desk_task ≡ desk_task_of (Report file name of)
 Tells desk_task (Export file table) = desk_task ≡ desk_task_of (Export file table)
 Tells desk_task (Migrate file) = desk_task ≡ desk_task_of (Migrate file)
@@ -373,8 +387,8 @@ abbrev pub IsShown : ErrorKind → Type 0
 IsShown kind = (kind ≡ DisplayHelp) ⊎ (kind ≡ DisplayVersion)
 
 abbrev pub AnswersAt : Places → List Text → Task → Type 0
-AnswersAt places words (Run file names) = (faults places words ≡ []) ×
-    (desk_task places words ≡ desk_task_of (Run file names))
+AnswersAt places words (Run file names stop check) =
+    (faults places words ≡ []) × (desk_task places words ≡ desk_task_of (Run file names stop check))
 AnswersAt places words (Report file name of) =
     (faults places words ≡ []) × (desk_task places words ≡ desk_task_of (Report file name of))
 AnswersAt places words (Export file table) =
@@ -396,9 +410,9 @@ AnswersAt places words Memory = Unit {0}
 abbrev pub Answers : List Text → Task → Type 0
 Answers words task = (places : Places) × AnswersAt places words task
 
--- a run in memory, in which no row may be named, unless memory ran out
+-- a run in memory of each line as it comes, in which no row may be named, unless memory ran out
 abbrev pub Runs : Task → Type 0
-Runs (Run file names) = (file ≡ None) × (names ≡ false)
+Runs (Run file names stop check) = (file ≡ None) × (names ≡ false) × (stop ≡ false) × (check ≡ false)
 Runs (Report file name of) = ⊥
 Runs (Export file table) = ⊥
 Runs (Migrate file) = ⊥
@@ -409,9 +423,10 @@ Runs (Wrong e) = ⊥
 Runs Unreadable = ⊥
 Runs Memory = Unit {0}
 
--- a run of the desk in this file, in which no row may be named, unless memory ran out
+-- a run of each line as it comes on the desk in this file, in which no row may be named, unless memory ran out
 abbrev pub RunsOn : Text → Task → Type 0
-RunsOn path (Run file names) = (option_map (λ given. given.now) file ≡ Some path) × (names ≡ false)
+RunsOn path (Run file names stop check) =
+    (option_map (λ given. given.now) file ≡ Some path) × (names ≡ false) × (stop ≡ false) × (check ≡ false)
 RunsOn path (Report file name of) = ⊥
 RunsOn path (Export file table) = ⊥
 RunsOn path (Migrate file) = ⊥
@@ -424,7 +439,7 @@ RunsOn path Memory = Unit {0}
 
 -- help or the version, by its kind, unless memory ran out
 abbrev pub HelpsBy : ErrorKind → Task → Type 0
-HelpsBy kind (Run file names) = ⊥
+HelpsBy kind (Run file names stop check) = ⊥
 HelpsBy kind (Report file name of) = ⊥
 HelpsBy kind (Export file table) = ⊥
 HelpsBy kind (Migrate file) = ⊥

@@ -5,7 +5,7 @@ use std::alloc::{AllocError, AllocFailed};
 /// How a run ended.
 #[derive(Clone, Copy, Debug, PartialEq, Eq)]
 pub enum RunEnd {
-    /// Every line was answered: true where nothing was refused or faulty.
+    /// Every line that the run takes was answered: true where nothing was refused or faulty.
     Done(bool),
     /// The reader failed, or was read too often.
     ReadFailed,

@@ -4,6 +4,7 @@
 
 mod again;
 mod books;
+mod checked;
 mod close;
 mod counted;
 mod database;
@@ -25,6 +26,7 @@ mod words;
 
 pub use again::{files_sent_again_change_nothing, lines_sent_again_end_alike};
 pub use books::Books;
+pub use checked::run_checked;
 pub use close::{close_desk, end_of_work, let_go};
 pub use counted::CountedBooks;
 pub use database::{FaultyFile, FileFault, connect, connect_to_old};

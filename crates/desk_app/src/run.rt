@@ -1,9 +1,10 @@
 //! A run over the lines of a reader. The lines that one read gave whole are run as a group: what they change is kept
 //! together, and their answers are written after it, in one write. No answer waits for a line that hasn't been read, so
 //! of a clerk who types, each line is a group of its own. A group ends, too, once its answers are long. No line is run
-//! after a failure. Where the writer fails the group is kept, and a front of its answers is written. Where a database has
-//! failed, the books are closed, nothing of the group's answers is written, and the tables are those before the group or,
-//! where the commit failed, maybe those after it.
+//! after a failure, nor, where a run is to stop there, after a line that is refused or faulty. Where the writer fails
+//! the group is kept, and a front of its answers is written. Where a database has failed, the books are closed, nothing
+//! of the group's answers is written, and the tables are those before the group or, where the commit failed, maybe
+//! those after it.
 ghost use Rattle.std.specs.Prelude.{◌≡◌, ◌≢◌, ◌⊎◌, ◌<◌, ◌≤◌, ◌++◌, ℕ, List, [], Bool, None, false};
 ghost use Rattle.std.specs.Prelude.{length, true, IfOk, OnOk, IfErr, OnErr, Err, IsSome, option_map};
 ghost use Rattle.std.specs.String.{string_bytes};
@@ -46,7 +47,7 @@ pub struct Told {
     pub fine: bool,
 }
 
-fn is_blank(line: &[u8]) -> bool
+pub(crate) fn is_blank(line: &[u8]) -> bool
     ensures { result ≡ is_blank line.now }
 {
     match line {
@@ -277,30 +278,32 @@ fn settle_if_due<B: Books, W: Write>(
 }
 
 /// Runs each line of the reader, in groups, and ends all groups but the last, whose answers wait: true where nothing was
-/// refused or faulty.
+/// refused or faulty. With `stop` the first line that is refused or faulty is the last.
 fn gather<B: Books, R: Read, W: Write>(
     alloc: Global,
     reader: &mut R,
     writer: &mut W,
     books: &mut B,
     names: bool,
+    stop: bool,
     text: &mut Vec<u8>,
 ) -> Result<bool, Stop>
     requires kept { B.are_kept books.old }
     requires none { text.old.items ≡ [] }
-    ensures done { IfOk result (λ all. Gathered names (R.remaining reader.old) (W.contents writer.old)
-        (W.contents writer.new) (B.state_in books.old) (B.state_in books.new) all text.new.items
+    ensures done { IfOk result (λ all. Gathered names stop (R.remaining reader.old)
+        (W.contents writer.old) (W.contents writer.new) (B.state_in books.old)
+        (B.state_in books.new) all text.new.items
         (λ trees. (B.failure_of books.old ≡ None) × B.may_leave books.new trees)) }
-    ensures stopped { IfErr result (λ stop. Halts names stop (R.remaining reader.old)
+    ensures stopped { IfErr result (λ why. Halts names stop why (R.remaining reader.old)
         (W.contents writer.old) (W.contents writer.new) (B.state_in books.old)
         (B.state_in books.new) text.new.items
         (λ trees. (B.failure_of books.old ≡ None) × B.may_leave books.new trees)) }
     ensures grouping { B.are_grouping books.new }
-    ensures kept { IfErr result (λ stop. IsOfSettling stop → B.are_kept books.new) }
+    ensures kept { IfErr result (λ why. IsOfSettling why → B.are_kept books.new) }
     ensures stays_open { StaysOpen (B.failure_of books.old) (B.failure_of books.new) result }
     ensures was_open { B.failure_of books.new ≡ None → B.failure_of books.old ≡ None }
-    ensures open { IfErr result (λ stop.
-        stop ≡ Stop.WriteFailed → B.failure_of books.new ≡ None) }
+    ensures open { IfErr result (λ why.
+        why ≡ Stop.WriteFailed → B.failure_of books.new ≡ None) }
 {
     let mut lines = Lines::new(alloc)?;
     let mut line = Vec::new(alloc);
@@ -312,30 +315,36 @@ fn gather<B: Books, R: Read, W: Write>(
         }
         let fine = add_line(alloc, books, number, &line, names, text)?;
         all = all && fine;
+        if stop && !all {
+            return Ok(false);
+        }
     }
     Err(Stop::ReadFailed)
 }
 
-/// Answers each line of the reader: true where nothing was refused or faulty.
+/// Answers each line of the reader: true where nothing was refused or faulty. With `stop` the first line that is
+/// refused or faulty is the last.
 fn answer_all<B: Books, R: Read, W: Write>(
     alloc: Global,
     reader: &mut R,
     writer: &mut W,
     books: &mut B,
     names: bool,
+    stop: bool,
 ) -> Result<bool, Stop>
     requires { B.are_kept books.old }
-    ensures done { IfOk result (λ all. Finished names (R.remaining reader.old) (W.contents writer.old)
-        (W.contents writer.new) (B.state_in books.old) (B.state_in books.new) all) }
-    ensures stopped { IfErr result (λ stop.
-        Stopped names stop (R.remaining reader.old) (W.contents writer.old)
+    ensures done { IfOk result (λ all. Finished names stop (R.remaining reader.old)
+        (W.contents writer.old) (W.contents writer.new) (B.state_in books.old)
+        (B.state_in books.new) all) }
+    ensures stopped { IfErr result (λ why.
+        Stopped names stop why (R.remaining reader.old) (W.contents writer.old)
         (W.contents writer.new) (B.state_in books.old) (B.state_in books.new)
         (λ trees. (B.failure_of books.old ≡ None) × B.may_leave books.new trees)) }
     ensures kept { B.are_kept books.new }
     ensures ends_open { EndsOpen (B.failure_of books.old) (B.failure_of books.new) result }
 {
     let mut text = Vec::new(alloc);
-    match gather(alloc, reader, writer, books, names, &mut text) {
+    match gather(alloc, reader, writer, books, names, stop, &mut text) {
         Ok(all) => {
             settle(writer, books, &mut text)?;
             Ok(all)
@@ -356,20 +365,22 @@ fn answer_all<B: Books, R: Read, W: Write>(
 /// Answers each line of the reader, one line each but for blank lines. However the run ends, what was answered is kept
 /// (`answered`): so it is where a run is stopped between two of its calls, since a writer may fail at any of them, and so
 /// may a disk, and then the run ends there. With `names` a line may say what a row is called in the place of its number: a
-/// name is looked up as the line comes, so it may be one that a line before it gave.
+/// name is looked up as the line comes, so it may be one that a line before it gave. With `stop` the run ends behind
+/// the first line that is refused or faulty, whose answer is the last.
 pub fn run_lines<B: Books, R: Read, W: Write>(
     alloc: Global,
     reader: &mut R,
     writer: &mut W,
     books: &mut B,
     names: bool,
+    stop: bool,
 ) -> RunEnd
     requires { B.are_kept books.old }
     ensures done { (all : Bool) → result ≡ RunEnd.Done all
-        → Finished names (R.remaining reader.old) (W.contents writer.old)
+        → Finished names stop (R.remaining reader.old) (W.contents writer.old)
         (W.contents writer.new) (B.state_in books.old) (B.state_in books.new) all }
-    ensures stopped { (stop : Stop) → result ≡ end_of stop
-        → Stopped names stop (R.remaining reader.old) (W.contents writer.old)
+    ensures stopped { (why : Stop) → result ≡ end_of why
+        → Stopped names stop why (R.remaining reader.old) (W.contents writer.old)
         (W.contents writer.new) (B.state_in books.old) (B.state_in books.new)
         (λ trees. (B.failure_of books.old ≡ None) × B.may_leave books.new trees) }
     ensures kept { B.are_kept books.new }
@@ -379,13 +390,13 @@ pub fn run_lines<B: Books, R: Read, W: Write>(
     ensures closed { result ≡ RunEnd.Store → IsSome (B.failure_of books.new) }
     ensures left { result ≢ RunEnd.Store → (trees : Trees) → B.may_leave books.new trees
         → TablesAre (B.state_in books.new) trees }
-    ensures answered { AnsweredIsKept names (R.remaining reader.old) (W.contents writer.old)
+    ensures answered { AnsweredIsKept names stop (R.remaining reader.old) (W.contents writer.old)
         (W.contents writer.new) (B.state_in books.old)
         (λ trees. (B.failure_of books.old ≡ None) × B.may_leave books.new trees) }
 {
-    match answer_all(alloc, reader, writer, books, names) {
+    match answer_all(alloc, reader, writer, books, names, stop) {
         Ok(all) => RunEnd::Done(all),
-        Err(stop) => stop.end(),
+        Err(why) => why.end(),
     }
 }
 

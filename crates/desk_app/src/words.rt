@@ -12,7 +12,7 @@ ghost use Rattle.desk_app.specs.Words.{migrate_line, run_line, serve_line, IsKin
 ghost use Rattle.desk_app.specs.Words.{IsReportLine, IsExportLine, IsImportLine, IsCommandLine};
 ghost use Rattle.desk_app.specs.Words.{document_named, number_up_to, table_named, report_in};
 ghost use Rattle.desk_app.specs.Words.{export_in, migrate_in, import_in, count_in, serve_in, desk_task_met};
-ghost use Rattle.desk_app.specs.Words.{desk_task_of, names_in, run, subject_by, subject_of};
+ghost use Rattle.desk_app.specs.Words.{desk_task_of, names_in, run_in, subject_by, subject_of};
 ghost use Rattle.desk_app.specs.Words.{given_in, rows_in, AsksFor, Tells, Parses, file_of};
 ghost use Rattle.desk_app.specs.Words.{asks_run, asks_help, asks_version, run_on};
 ghost use Rattle.desk_app.specs.Words.{run_with, is_path, Answers, Runs, RunsOn, HelpsBy};
@@ -39,10 +39,13 @@ pub enum ReportOf<'a> {
 #[derive(Drop)]
 pub enum Task<'a> {
     /// Each line of the standard input is answered, by the desk in the file, or by a new one in memory. Where `names` is
-    /// true, lines may name rows; so it is of an import's rows, and of what a server is sent.
+    /// true, lines may name rows; so it is of an import's rows, and of what a server is sent. Where `stop` is set, the run
+    /// ends at the first line that is refused or faulty; where `check` is set, nothing is run unless all lines can be read.
     Run {
         file: Option<&'a str>,
         names: bool,
+        stop: bool,
+        check: bool,
     },
     /// A report of the desk in the file is printed.
     Report {
@@ -217,7 +220,17 @@ fn run_command<'a>(alloc: Global) -> Result<Command<'a>, AllocError>
         .about("Answers each line of the standard input")
         .after_help(RUN_EXAMPLE)
         .arg(file(alloc))?
-        .arg(names_flag(alloc))
+        .arg(names_flag(alloc))?
+        .arg(flag(
+            alloc,
+            "stop",
+            "Ends at the first line that is refused or faulty",
+        ))?
+        .arg(flag(
+            alloc,
+            "check",
+            "Reads all lines before any is run, and runs none where one is faulty",
+        ))
 }
 
 fn report_command<'a>(alloc: Global) -> Result<Command<'a>, AllocError>
@@ -454,12 +467,13 @@ fn serve_count(matches: &ArgMatches<'_>) -> Option<Option<u64>>
 
 /// The run that is asked for.
 fn run_task<'a>(matches: &ArgMatches<'a>) -> Task<'a>
-    ensures { desk_task_of result
-        ≡ Some (run (given_in (codes "db") matches.now) (names_in (rows_in matches.now))) }
+    ensures { desk_task_of result ≡ Some (run_in (rows_in matches.now)) }
 {
     Task::Run {
         file: given(matches, "db"),
         names: names(matches),
+        stop: has_flag(matches, "stop"),
+        check: has_flag(matches, "check"),
     }
 }
 
@@ -554,6 +568,8 @@ fn task_by<'a>(alloc: Global, matches: &ArgMatches<'a>) -> Result<Option<Task<'a
         None => Ok(Some(Task::Run {
             file: None,
             names: false,
+            stop: false,
+            check: false,
         })),
     }
 }

@@ -56,7 +56,7 @@ fn runs_on<B: Books>(alloc: Global, books: &mut B, lines: &str, sink: &mut Sink)
     ensures { B.are_kept books.new }
 {
     let mut reader = lines.as_bytes();
-    let end = run_lines(alloc, &mut reader, sink, books, false);
+    let end = run_lines(alloc, &mut reader, sink, books, false, false);
     holds(matches!(end, RunEnd::Done(_)), "the run stops")
 }
 

@@ -203,7 +203,7 @@ fn answered<D: Disk + Drop>(
     let end = match sending {
         Sending::Lines(step) => {
             let mut source = Source::new(keyed.text.as_bytes(), step);
-            run_lines(alloc, &mut source, &mut sink, desk, false)
+            run_lines(alloc, &mut source, &mut sink, desk, false, false)
         }
         Sending::Receipts => received(alloc, desk, keyed.text.as_str(), &mut sink)?,
     };

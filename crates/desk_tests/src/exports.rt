@@ -199,7 +199,7 @@ fn closes(alloc: Global, calls: u64) -> Result<bool, Fail> {
     };
     let mut sink = Sink::new(alloc, 4096);
     let mut lines = LINES.as_bytes();
-    let _end = run_lines(alloc, &mut lines, &mut sink, &mut desk, false);
+    let _end = run_lines(alloc, &mut lines, &mut sink, &mut desk, false, false);
     if desk.failed().is_none() {
         return Ok(false);
     }

@@ -38,7 +38,7 @@ fn flushes_each_answer(rt: HostRuntime) -> Result<(), Fail> {
         shown: Vec::new(alloc),
         flushes: 0,
     };
-    let end = run_lines(alloc, &mut reader, &mut writer, &mut desk, false);
+    let end = run_lines(alloc, &mut reader, &mut writer, &mut desk, false, false);
     assert_eq!(rt; end, RunEnd::Done(false));
     assert_eq!(rt; writer.flushes, 2);
     let wanted =

@@ -119,7 +119,7 @@ fn told<R: Read>(alloc: Global, reader: &mut R) -> Result<Flushed, Fail> {
     let conn = Connection::open_in_memory(alloc)?;
     let mut desk = created(alloc, conn)?;
     let mut writer = Flushed::new(alloc);
-    match run_lines(alloc, reader, &mut writer, &mut desk, false) {
+    match run_lines(alloc, reader, &mut writer, &mut desk, false, false) {
         RunEnd::Done(true) => Ok(writer),
         _ => Err(Fail::from("another end")),
     }
@@ -182,13 +182,21 @@ fn cut_at(alloc: Global, room: usize, step: usize) -> Result<(Vec<u8>, usize), F
         &mut brim,
         &mut desk,
         false,
+        false,
     );
     let kept = match desk.shop() {
         Ok(shop) => shop.answers().len(),
         Err(_) => return Err(Fail::from("the desk is closed")),
     };
     let mut sink = Sink::new(alloc, 4096);
-    let again = run_lines(alloc, &mut LINES.as_bytes(), &mut sink, &mut desk, false);
+    let again = run_lines(
+        alloc,
+        &mut LINES.as_bytes(),
+        &mut sink,
+        &mut desk,
+        false,
+        false,
+    );
     if end == RunEnd::WriteFailed
         && again == RunEnd::Done(true)
         && sink.bytes.as_slice() == ANSWERS.as_bytes()

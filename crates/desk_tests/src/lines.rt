@@ -29,7 +29,7 @@ const FIRST_OUT: &str = r#"{"entries":0,"ids":[1]}
 fn runs(alloc: Global, source: &mut Source, sink: &mut Sink) -> Result<RunEnd, Fail> {
     let conn = Connection::open_in_memory(alloc)?;
     let mut desk = created(alloc, conn)?;
-    Ok(run_lines(alloc, source, sink, &mut desk, false))
+    Ok(run_lines(alloc, source, sink, &mut desk, false, false))
 }
 
 #[test]

@@ -24,7 +24,12 @@ fn ends_before_a_task(rt: HostRuntime) {
 
 /// A run on that file.
 fn run(file: Option<&str>) -> Task<'_> {
-    Task::Run { file, names: false }
+    Task::Run {
+        file,
+        names: false,
+        stop: false,
+        check: false,
+    }
 }
 
 #[test]

@@ -1,6 +1,5 @@
 -- How work ends, and the status of it.
 use Rattle.std.proofs.Common.{◌≡◌, ◌∙◌, ◌⊎◌, inl, inr, ℕ, Bool, true, false, [], ap, arith, refl, sym, subst}
-use Rattle.std.specs.Borrow.{Bor}
 use Rattle.std.specs.Prelude.{◌≢◌, ◌≤◌, ◌^◌, ◌-◌, List, Option, Some, None, IsSome, is_some, unwrap_or}
 use Rattle.table_store.specs.declared.fault.Failed.{Failed}
 use Rattle.sqlite.specs.Tree.{Trees}
@@ -11,14 +10,10 @@ use Rattle.desk_core.specs.Machine.{State}
 use Rattle.desk_app.specs.Empty.{IsEmpty}
 use Rattle.desk_app.specs.Ends.{end_of}
 use Rattle.desk_app.specs.Runs.{Finished, Stopped}
-use Rattle.desk_app.specs.Statuses.{early_status}
-use Rattle.desk_app.specs.Words.{file_of}
 use Rattle.desk_app.specs.declared.end.RunEnd.{RunEnd}
 use Rattle.desk_app.specs.declared.end.RunEnd.TheVariants.{Done, ReadFailed, WriteFailed, Memory, Store}
 use Rattle.desk_app.specs.declared.end.Stop.{Stop}
 use Rattle.desk_app.specs.declared.end.Stop.TheVariants as stops
-use Rattle.desk_app.specs.declared.words.Task.{Task}
-use Rattle.desk_app.specs.declared.words.Task.TheVariants as task
 use Rattle.desk_app.proofs.Running.{stopped_by}
 use Rattle.invdesk.specs.Clients.{Offers, IsOfServing, ServesClients, most_of}
 use Rattle.invdesk.specs.Lines.{RunsLines}
@@ -91,11 +86,11 @@ stop_back stops.Store = refl
 one_stop : (a b : Stop) → end_of a ≡ end_of b → a ≡ b
 one_stop a b e = let both : Some a ≡ Some b = sym (stop_back a) ∙ ap stop_of e ∙ stop_back b in cc
 
-runs_done : (names : Bool) (all : Bool) (s s' : State) → Finished names None None None s s' all
-    → RunsLines {F = Failed} names None None (λ _. ⊥) s s' (Done all)
-runs_done names all s s' ran = record {
-  done = λ other e. let same : all ≡ other = cc in subst (Finished names None None None s s') same ran;
-  stopped = λ stop e. absurd (no_stop all stop e);
+runs_done : (names stop all : Bool) (s s' : State) → Finished names stop None None None s s' all
+    → RunsLines {F = Failed} names stop None None (λ _. ⊥) s s' (Done all)
+runs_done names stop all s s' ran = record {
+  done = λ other e. let same : all ≡ other = cc in subst (Finished names stop None None None s s') same ran;
+  stopped = λ why e. absurd (no_stop all why e);
   were_open = λ _. (refl, refl);
   closed = λ e. absurd (cc);
   left = λ _ trees never. absurd never;
@@ -111,52 +106,53 @@ Nothing trees = (no_fault ≡ None) × ⊥
 no_tables : (trees : Trees) → Nothing trees → ⊥
 no_tables trees may = may.1
 
-runs_stopped : (names : Bool) (stop : Stop) (s s' : State) → stop ≢ stops.Store
-    → Stopped names stop None None None s s' (λ _. ⊥)
-    → RunsLines {F = Failed} names None None (λ _. ⊥) s s' (end_of stop)
-runs_stopped names stop s s' apart ran = record {
-  done = λ all e. absurd (no_stop all stop (sym e));
+runs_stopped : (names stop : Bool) (why : Stop) (s s' : State) → why ≢ stops.Store
+    → Stopped names stop why None None None s s' (λ _. ⊥)
+    → RunsLines {F = Failed} names stop None None (λ _. ⊥) s s' (end_of why)
+runs_stopped names stop why s s' apart ran = record {
+  done = λ all e. absurd (no_stop all why (sym e));
   stopped = λ other e.
-      subst (λ v. Stopped names v None None None s s' Nothing) (one_stop stop other e)
-      (stopped_by names stop None None None s s' (λ _. ⊥) Nothing no_tables ran);
+      subst (λ v. Stopped names stop v None None None s s' Nothing) (one_stop why other e)
+      (stopped_by names stop why None None None s s' (λ _. ⊥) Nothing no_tables ran);
   were_open = λ _. (refl, refl);
-  closed = λ e. absurd (apart (one_stop stop stops.Store e));
+  closed = λ e. absurd (apart (one_stop why stops.Store e));
   left = λ _ trees never. absurd never;
 }
 
-finished_in_memory : (names : Bool) (all : Bool) → FromEmpty (λ s s'. Finished names None None None s s' all)
-    → RunsInMemory names (Done all)
-finished_in_memory names all (s, empty, s', order, ran) = record {
+finished_in_memory : (names stop all : Bool) → FromEmpty (λ s s'. Finished names stop None None None s s' all)
+    → RunsInMemory names stop (Done all)
+finished_in_memory names stop all (s, empty, s', order, ran) = record {
   before = s;
   after = s';
   empty = empty;
-  runs = runs_done names all s s' ran;
+  runs = runs_done names stop all s s' ran;
   in_order = order;
 }
 
-stopped_in_memory : (names : Bool) (stop : Stop) → stop ≢ stops.Store
-    → FromEmpty (λ s s'. Stopped names stop None None None s s' (λ _. ⊥)) → RunsInMemory names (end_of stop)
-stopped_in_memory names stop apart (s, empty, s', order, ran) = record {
+stopped_in_memory : (names stop : Bool) (why : Stop) → why ≢ stops.Store
+    → FromEmpty (λ s s'. Stopped names stop why None None None s s' (λ _. ⊥)) → RunsInMemory names stop (end_of why)
+stopped_in_memory names stop why apart (s, empty, s', order, ran) = record {
   before = s;
   after = s';
   empty = empty;
-  runs = runs_stopped names stop s s' apart ran;
+  runs = runs_stopped names stop why s s' apart ran;
   in_order = order;
 }
 
-pub runs_in_memory : (names : Bool) (end : RunEnd)
-    → ((all : Bool) → end ≡ Done all → FromEmpty (λ s s'. Finished names None None None s s' all))
-    → ((stop : Stop) → end ≡ end_of stop → FromEmpty (λ s s'. Stopped names stop None None None s s' (λ _. ⊥)))
+pub runs_in_memory : (names stop : Bool) (end : RunEnd)
+    → ((all : Bool) → end ≡ Done all → FromEmpty (λ s s'. Finished names stop None None None s s' all))
+    → ((why : Stop) → end ≡ end_of why
+    → FromEmpty (λ s s'. Stopped names stop why None None None s s' (λ _. ⊥)))
     → end ≢ Store
-    → RunsInMemory names end
-runs_in_memory names (Done all) done stopped never = finished_in_memory names all (done all refl)
-runs_in_memory names ReadFailed done stopped never =
-    stopped_in_memory names stops.ReadFailed (λ e. absurd (cc)) (stopped stops.ReadFailed refl)
-runs_in_memory names WriteFailed done stopped never =
-    stopped_in_memory names stops.WriteFailed (λ e. absurd (cc)) (stopped stops.WriteFailed refl)
-runs_in_memory names Memory done stopped never =
-    stopped_in_memory names stops.Memory (λ e. absurd (cc)) (stopped stops.Memory refl)
-runs_in_memory names Store done stopped never = absurd (never refl)
+    → RunsInMemory names stop end
+runs_in_memory names stop (Done all) done stopped never = finished_in_memory names stop all (done all refl)
+runs_in_memory names stop ReadFailed done stopped never =
+    stopped_in_memory names stop stops.ReadFailed (λ e. absurd (cc)) (stopped stops.ReadFailed refl)
+runs_in_memory names stop WriteFailed done stopped never =
+    stopped_in_memory names stop stops.WriteFailed (λ e. absurd (cc)) (stopped stops.WriteFailed refl)
+runs_in_memory names stop Memory done stopped never =
+    stopped_in_memory names stop stops.Memory (λ e. absurd (cc)) (stopped stops.Memory refl)
+runs_in_memory names stop Store done stopped never = absurd (never refl)
 
 -- ---- the status
 

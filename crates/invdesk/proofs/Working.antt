@@ -20,14 +20,15 @@ along old new inside after P was is h = subst (λ v. P v new) was (subst (P insi
 
 -- a task that isn't one of the three is done by printing
 pub does_printing : {S : Type 0} (g : Ghosts S) (it : Task) (desk : Desk S) (end : RunEnd)
-    → ((file : Option (Bor (List ℕ))) (names : Bool) → it ≡ task.Run file names → ⊥)
+    → ((file : Option (Bor (List ℕ))) (names stop check : Bool) → it ≡ task.Run file names stop check → ⊥)
     → ((file : Option (Bor (List ℕ))) (port : ℕ) (count : Option ℕ) (token : Option (Bor (List ℕ))) (names page : Bool)
     → it ≡ task.Serve file port count token names page → ⊥)
     → ((file : Bor (List ℕ)) (kind : ImportKind) (document : List ℕ) (day : CivilDay) (path : Bor (List ℕ))
     (names : Bool)
     → it ≡ task.Import file kind document day path names → ⊥)
     → Prints it (state_of desk.shop) None None end → Does g it desk desk end
-does_printing g (task.Run file names) desk end run serve import prints = absurd (run file names refl)
+does_printing g (task.Run file names stop check) desk end run serve import prints =
+    absurd (run file names stop check refl)
 does_printing g (task.Serve file port count token names page) desk end run serve import prints =
     absurd (serve file port count token names page refl)
 does_printing g (task.Import file kind document day path names) desk end run serve import prints =

@@ -1,5 +1,6 @@
 pub mod Lines
 pub mod Rows
+pub mod Checks
 pub mod Prints
 pub mod Clients
 pub mod Works

@@ -10,13 +10,14 @@ use Rattle.desk_app.specs.Ends.{end_of}
 use Rattle.desk_app.specs.Runs.{Finished, Stopped}
 
 -- Lines were run on books that were in the state s and are in s', and the run ended so. Rows might be named in them, or
--- not. Which lines came, and what was written, is known to no clause: they are some lines. The books had been closed by
--- the one fault, if by any, and are by the other; these tables a crash may leave of them now.
-pub record RunsLines {F : Type 0} (names : Bool) (old new : Option F) (leaves : Trees → Type 0) (s s' : State)
+-- not, and the run might stop at the first that was refused or faulty, or not. Which lines came, and what was written,
+-- is known to no clause: they are some lines. The books had been closed by the one fault, if by any, and are by the
+-- other; these tables a crash may leave of them now.
+pub record RunsLines {F : Type 0} (names stop : Bool) (old new : Option F) (leaves : Trees → Type 0) (s s' : State)
     (end : RunEnd) : Type 0 where
-  pub done : (all : Bool) → end ≡ Done all → Finished names None None None s s' all
-  pub stopped : (stop : Stop) → end ≡ end_of stop
-      → Stopped names stop None None None s s' (λ trees. (old ≡ None) × leaves trees)
+  pub done : (all : Bool) → end ≡ Done all → Finished names stop None None None s s' all
+  pub stopped : (why : Stop) → end ≡ end_of why
+      → Stopped names stop why None None None s s' (λ trees. (old ≡ None) × leaves trees)
   pub were_open : end ≢ Store → (old ≡ None) × (new ≡ None)
   pub closed : end ≡ Store → IsSome new
   pub left : end ≢ Store → (trees : Trees) → leaves trees → TablesAre s' trees

@@ -1,5 +1,5 @@
 -- What is done with new books in memory.
-use Rattle.std.specs.Prelude.{ℕ, Bool, Option, None, is_some}
+use Rattle.std.specs.Prelude.{ℕ, Bool, true, false, Option, None, is_some}
 use Rattle.table_store.specs.declared.fault.Failed.{Failed}
 use Rattle.desk_core.specs.Books.{AreInOrder}
 use Rattle.desk_core.specs.Machine.{State}
@@ -10,16 +10,30 @@ use Rattle.desk_app.specs.declared.service.BooksService.{BooksService}
 use Rattle.desk_app.specs.declared.end.RunEnd.{RunEnd}
 use Rattle.desk_app.specs.declared.words.Task.{Task}
 use Rattle.desk_app.specs.declared.words.Task.TheVariants as task
+use Rattle.invdesk.specs.Checks.{ChecksInput}
 use Rattle.invdesk.specs.Clients.{ServesClients}
 use Rattle.invdesk.specs.Lines.{RunsLines}
 
 -- the lines of the standard input were run on them
-pub record RunsInMemory (names : Bool) (end : RunEnd) : Type 0 where
+pub record RunsInMemory (names stop : Bool) (end : RunEnd) : Type 0 where
   pub before : State
   pub after : State
   pub empty : IsEmpty before
-  pub runs : RunsLines {F = Failed} names None None (λ _. ⊥) before after end
+  pub runs : RunsLines {F = Failed} names stop None None (λ _. ⊥) before after end
   pub in_order : AreInOrder after
+
+-- they were all looked at before any was run
+pub record ChecksInMemory (names stop : Bool) (end : RunEnd) : Type 0 where
+  pub before : State
+  pub after : State
+  pub empty : IsEmpty before
+  pub checks : ChecksInput {F = Failed} names stop None None (λ _. ⊥) before after end
+  pub in_order : AreInOrder after
+
+-- by whether they are to be
+abbrev pub AnswersInMemory : Bool → Bool → Bool → RunEnd → Type 0
+AnswersInMemory names stop false end = RunsInMemory names stop end
+AnswersInMemory names stop true end = ChecksInMemory names stop end
 
 -- clients were served with them
 pub record ServesInMemory (names : Bool) (port : ℕ) (has_token has_page : Bool) (count : Option ℕ)
@@ -32,7 +46,7 @@ pub record ServesInMemory (names : Bool) (port : ℕ) (has_token has_page : Bool
 
 -- nothing else is asked of them
 abbrev pub DoesInMemory : Task → RunEnd → Type 0
-DoesInMemory (task.Run file names) end = RunsInMemory names end
+DoesInMemory (task.Run file names stop check) end = AnswersInMemory names stop check end
 DoesInMemory (task.Serve file port count token names page) end =
     ServesInMemory names port (is_some token) page count end
 DoesInMemory _ end = ⊥

@@ -1,5 +1,5 @@
 -- What is done with a desk, by what the words ask for.
-use Rattle.std.specs.Prelude.{◌≡◌, ℕ, Bool, Option, None, is_some}
+use Rattle.std.specs.Prelude.{◌≡◌, ℕ, Bool, true, false, Option, None, is_some}
 use Rattle.std.specs.declared.io.Stderr.{Stderr}
 use Rattle.sqlite_trees.specs.declared.store.Store.{Ghosts}
 use Rattle.sqlite.specs.Held.{state}
@@ -12,6 +12,7 @@ use Rattle.desk_app.specs.declared.watched.WatchedDesk.{WatchedDesk}
 use Rattle.desk_app.specs.declared.end.RunEnd.{RunEnd}
 use Rattle.desk_app.specs.declared.words.Task.{Task}
 use Rattle.desk_app.specs.declared.words.Task.TheVariants as task
+use Rattle.invdesk.specs.Checks.{ChecksInput}
 use Rattle.invdesk.specs.Clients.{ServesClients}
 use Rattle.invdesk.specs.Lines.{RunsLines}
 use Rattle.invdesk.specs.Prints.{Prints}
@@ -23,9 +24,19 @@ module _ {S : Type 0} (g : Ghosts S) where
   may_leave desk trees = HasCleanDisk (state g desk.conn) × (state g desk.conn).may_leave trees
 
   -- the lines of the standard input were run on a desk, which became another
-  abbrev pub RunsOnDesk : Bool → Desk S → Desk S → RunEnd → Type 0
-  RunsOnDesk names old new end =
-      RunsLines names old.failed new.failed (may_leave new) (state_of old.shop) (state_of new.shop) end
+  abbrev pub RunsOnDesk : Bool → Bool → Desk S → Desk S → RunEnd → Type 0
+  RunsOnDesk names stop old new end =
+      RunsLines names stop old.failed new.failed (may_leave new) (state_of old.shop) (state_of new.shop) end
+
+  -- they were all looked at before any was run
+  abbrev pub ChecksOnDesk : Bool → Bool → Desk S → Desk S → RunEnd → Type 0
+  ChecksOnDesk names stop old new end =
+      ChecksInput names stop old.failed new.failed (may_leave new) (state_of old.shop) (state_of new.shop) end
+
+  -- by whether they are to be
+  abbrev pub AnswersOnDesk : Bool → Bool → Bool → Desk S → Desk S → RunEnd → Type 0
+  AnswersOnDesk names stop false old new end = RunsOnDesk names stop old new end
+  AnswersOnDesk names stop true old new end = ChecksOnDesk names stop old new end
 
   -- clients were served with it, while its faults were told on the standard error
   pub record ServesDesk (names : Bool) (port : ℕ) (has_token has_page : Bool) (count : Option ℕ) (old new : Desk S)
@@ -39,7 +50,7 @@ module _ {S : Type 0} (g : Ghosts S) where
 
   -- what the words ask for was done with it, and ended so
   abbrev pub Does : Task → Desk S → Desk S → RunEnd → Type 0
-  Does (task.Run file names) old new end = RunsOnDesk names old new end
+  Does (task.Run file names stop check) old new end = AnswersOnDesk names stop check old new end
   Does (task.Import file kind document day path names) old new end =
       ImportsFile names kind document day old.failed new.failed (may_leave new) (state_of old.shop)
       (state_of new.shop) end

@@ -14,21 +14,23 @@ ghost use Rattle.desk_store.specs.Desks.{IsDesk};
 ghost use Rattle.desk_app.specs.Statuses.{early_status};
 ghost use Rattle.desk_app.specs.Subjects.{row_of_report};
 ghost use Rattle.desk_app.specs.Words.{file_of};
+ghost use Rattle.invdesk.specs.Checks.{ChecksInput};
 ghost use Rattle.invdesk.specs.Files.{ActsOnFile, Comes, IsClosedAfter, IsMoved, IsTaken};
-ghost use Rattle.invdesk.specs.Memory.{DoesInMemory};
+ghost use Rattle.invdesk.specs.Memory.{AnswersInMemory, ChecksInMemory, DoesInMemory};
 ghost use Rattle.invdesk.specs.Prints.{Prints, PrintsOfRow};
 ghost use Rattle.invdesk.specs.Rows.{ImportsFile, IsOfFile};
 ghost use Rattle.invdesk.specs.Statuses.{EndsWith, IsStatusAfter, IsStatusOf, IsStatusOnFile};
 ghost use Rattle.invdesk.specs.Statuses.{IsToldAtOnce};
-ghost use Rattle.invdesk.specs.Works.{Does, RunsOnDesk, ServesDesk, may_leave};
+ghost use Rattle.invdesk.specs.Works.{AnswersOnDesk, ChecksOnDesk, Does, RunsOnDesk, ServesDesk};
+ghost use Rattle.invdesk.specs.Works.{may_leave};
 
 use crate::serve::{began, serve};
 use desk_app::{
     Books, BooksService, CountedBooks, DEVICE, FaultyFile, FileFault, MEMORY, NoRow, ReportOf,
     RunEnd, Stop, Task, WatchedDesk, connect, connect_to_old, early_status, end_of_work, escaped,
     import_file, let_go, migrate_desk, no_row_text, print_export, print_migrated, print_report,
-    read_file, read_words, row_of_report, run_in_memory, run_lines, status_of, status_of_fault,
-    take_desk, told_line,
+    read_file, read_words, row_of_report, run_checked, run_in_memory, run_lines, status_of,
+    status_of_fault, take_desk, told_line,
 };
 use desk_core::Shop;
 use desk_store::Desk;
@@ -41,7 +43,7 @@ use std::alloc::{AllocError, Global};
 use std::env::{self, Env};
 use std::fmt::Display;
 use std::fs;
-use std::io::{self, BufWriter, Input, IsTerminal, Stderr, Write};
+use std::io::{self, BufWriter, Input, IsTerminal, Read, Stderr, Write};
 use std::process::ExitCode;
 
 /// The words that the program is called with, the first its name. Which these are is known to no clause.
@@ -110,6 +112,17 @@ fn tell_line<T: Display + Drop>(rt: &HostRuntime, what: T) {
     }
 }
 
+/// All bytes of the reader, or of one that has too many as many as show it.
+fn all_of<R: Read>(alloc: Global, reader: &mut R) -> Result<Vec<u8>, RunEnd>
+    ensures { IfErr result IsOfFile }
+{
+    match read_file(alloc, reader) {
+        Ok(bytes) => Ok(bytes),
+        Err(Stop::Memory) => Err(RunEnd::Memory),
+        Err(_) => Err(RunEnd::ReadFailed),
+    }
+}
+
 /// The bytes of the file at the path that is imported. Where it can't be opened, it is told why. Which bytes a real file
 /// has is known to no clause.
 fn bytes_at(rt: &HostRuntime, path: &str) -> Result<Vec<u8>, RunEnd>
@@ -125,11 +138,7 @@ fn bytes_at(rt: &HostRuntime, path: &str) -> Result<Vec<u8>, RunEnd>
             return Err(RunEnd::ReadFailed);
         }
     };
-    match read_file(rt.alloc(), &mut file) {
-        Ok(bytes) => Ok(bytes),
-        Err(Stop::Memory) => Err(RunEnd::Memory),
-        Err(_) => Err(RunEnd::ReadFailed),
-    }
+    all_of(rt.alloc(), &mut file)
 }
 
 /// Runs the rows of the file at the path on the books. Where it can't be read nothing is done.
@@ -256,16 +265,81 @@ fn closed(rt: &HostRuntime, path: &str, desk: Desk<FileStore<File>>, end: RunEnd
 /// A desk after work on it, and how the work ended.
 type Worked = (Desk<FileStore<File>>, RunEnd);
 
-/// Answers the lines of the standard input with the desk, whose file is told by that name. Lines may name rows or not.
-fn run_on(rt: &HostRuntime, names: bool, desk: Desk<FileStore<File>>, name: String) -> Worked
+/// Answers the lines of the standard input with the desk, whose file is told by that name. Lines may name rows or not,
+/// and the first that is refused or faulty may be the last.
+fn run_on(
+    rt: &HostRuntime,
+    names: bool,
+    stop: bool,
+    desk: Desk<FileStore<File>>,
+    name: String,
+) -> Worked
     requires { IsDesk over_files desk }
     ensures desk { IsDesk over_files result.0 }
-    ensures runs { RunsOnDesk over_files names desk result.0 result.1 }
+    ensures runs { RunsOnDesk over_files names stop desk result.0 result.1 }
 {
     let mut watched = WatchedDesk::new(desk, name, "", rt.stderr());
     let (mut reader, mut writer) = (rt.reader(), io::writer(rt));
-    let end = run_lines(rt.alloc(), &mut reader, &mut writer, &mut watched, names);
+    let end = run_lines(
+        rt.alloc(),
+        &mut reader,
+        &mut writer,
+        &mut watched,
+        names,
+        stop,
+    );
     (watched.into_desk(), end)
+}
+
+/// Answers the lines of the standard input on the books, once all have been looked at. Where it can't be read nothing is
+/// done.
+fn check<B: Books>(rt: &HostRuntime, names: bool, stop: bool, books: &mut B) -> RunEnd
+    requires { B.are_kept books.old }
+    ensures kept { B.are_kept books.new }
+    ensures checks { ChecksInput names stop (B.failure_of books.old) (B.failure_of books.new)
+        (B.may_leave books.new) (B.state_in books.old) (B.state_in books.new) result }
+{
+    match all_of(rt.alloc(), &mut rt.reader()) {
+        Ok(bytes) => run_checked(rt.alloc(), &bytes, &mut io::writer(rt), books, names, stop),
+        Err(end) => end,
+    }
+}
+
+/// Answers the lines of the standard input with the desk, once all have been looked at.
+fn check_on(
+    rt: &HostRuntime,
+    names: bool,
+    stop: bool,
+    desk: Desk<FileStore<File>>,
+    name: String,
+) -> Worked
+    requires { IsDesk over_files desk }
+    ensures desk { IsDesk over_files result.0 }
+    ensures checks { ChecksOnDesk over_files names stop desk result.0 result.1 }
+{
+    let mut watched = WatchedDesk::new(desk, name, "", rt.stderr());
+    let end = check(rt, names, stop, &mut watched);
+    let desk = watched.into_desk();
+    (desk, end)
+}
+
+/// Answers the lines of the standard input with the desk, each as it comes or once all have been looked at.
+fn answer_on(
+    rt: &HostRuntime,
+    names: bool,
+    stop: bool,
+    check: bool,
+    desk: Desk<FileStore<File>>,
+    name: String,
+) -> Worked
+    requires { IsDesk over_files desk }
+    ensures desk { IsDesk over_files result.0 }
+    ensures answers { AnswersOnDesk over_files names stop check desk result.0 result.1 }
+{
+    if check {
+        return check_on(rt, names, stop, desk, name);
+    }
+    run_on(rt, names, stop, desk, name)
 }
 
 /// Serves clients, so many or until it is stopped.
@@ -319,7 +393,12 @@ fn done(rt: &HostRuntime, task: &Task<'_>, desk: Desk<FileStore<File>>, name: St
     ensures does { Does over_files task.now desk result.0 result.1 }
 {
     match task {
-        Task::Run { names, .. } => run_on(rt, *names, desk, name),
+        Task::Run {
+            names,
+            stop,
+            check,
+            ..
+        } => answer_on(rt, *names, *stop, *check, desk, name),
         Task::Serve {
             port,
             count,
@@ -413,13 +492,36 @@ fn status_on_file(rt: &HostRuntime, path: &str, task: &Task<'_>) -> u8
     }
 }
 
+/// Answers the lines of the standard input with new books in memory, once all have been looked at.
+fn check_in_memory(rt: &HostRuntime, names: bool, stop: bool) -> RunEnd
+    ensures { ChecksInMemory names stop result }
+{
+    let mut shop = Shop::new(rt.alloc(), Limits::LARGEST);
+    check(rt, names, stop, &mut shop)
+}
+
+/// Answers the lines of the standard input with new books in memory, each as it comes or once all have been looked at.
+fn answer_in_memory(rt: &HostRuntime, names: bool, stop: bool, check: bool) -> RunEnd
+    ensures { AnswersInMemory names stop check result }
+{
+    if check {
+        return check_in_memory(rt, names, stop);
+    }
+    run_in_memory(
+        rt.alloc(),
+        &mut rt.reader(),
+        &mut io::writer(rt),
+        names,
+        stop,
+    )
+}
+
 /// Does what the words ask for, with new books in memory.
 fn act_in_memory(rt: &HostRuntime, task: &Task<'_>) -> RunEnd
     requires desk { early_status task.now ≡ None }
     requires no_file { file_of task.now ≡ None }
     ensures { DoesInMemory task.now result }
 {
-    let alloc = rt.alloc();
     match task {
         Task::Serve {
             port,
@@ -429,13 +531,16 @@ fn act_in_memory(rt: &HostRuntime, task: &Task<'_>) -> RunEnd
             page,
             ..
         } => {
-            let books = Shop::new(alloc, Limits::LARGEST);
+            let books = Shop::new(rt.alloc(), Limits::LARGEST);
             let mut service = BooksService::new(books, *names, began(rt));
             serve(rt, *port, *count, *token, *page, &mut service)
         }
-        Task::Run { names, .. } => {
-            run_in_memory(alloc, &mut rt.reader(), &mut io::writer(rt), *names)
-        }
+        Task::Run {
+            names,
+            stop,
+            check,
+            ..
+        } => answer_in_memory(rt, *names, *stop, *check),
         _ => unreachable!(),
     }
 }

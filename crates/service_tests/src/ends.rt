@@ -147,7 +147,7 @@ fn comes_in<R: Read, B: Books + Drop>(
         return Ok((end_of_connection(served), service.books));
     }
     let end = if way == Way::Lines {
-        run_lines(alloc, reader, sink, &mut books, false)
+        run_lines(alloc, reader, sink, &mut books, false, false)
     } else {
         delivers(alloc, reader, sink, &mut books)?
     };

@@ -51,7 +51,7 @@ fn runs(alloc: Global, names: bool, step: usize, answers: &str) -> Result<(), Fa
     let mut desk = created(alloc, Connection::open_in_memory(alloc)?)?;
     let mut source = Source::new(LINES.as_bytes(), step);
     let mut sink = Sink::new(alloc, step);
-    let end = run_lines(alloc, &mut source, &mut sink, &mut desk, names);
+    let end = run_lines(alloc, &mut source, &mut sink, &mut desk, names, false);
     holds(end == RunEnd::Done(false), "another end")?;
     holds(
         sink.bytes.as_slice() == answers.as_bytes(),

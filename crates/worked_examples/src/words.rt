@@ -9,14 +9,31 @@ fn named(names: bool) -> &'static str {
     if names { " named" } else { "" }
 }
 
+/// Whether a run ends at the first line that is refused or faulty.
+fn stops(stop: bool) -> &'static str {
+    if stop { " to the first fault" } else { "" }
+}
+
+/// Whether all lines are read before any is run.
+fn checks(check: bool) -> &'static str {
+    if check { " once read" } else { "" }
+}
+
 /// What is asked for, on one line.
 fn told(alloc: Global, task: &Task<'_>) -> Result<String, AllocError> {
     match task {
-        Task::Run { file: None, names } => format!(in alloc; "run{}", named(*names)),
         Task::Run {
-            file: Some(file),
+            file,
             names,
-        } => format!(in alloc; "run{} {file}", named(*names)),
+            stop,
+            check,
+        } => {
+            let (named, stops, checks) = (named(*names), stops(*stop), checks(*check));
+            match file {
+                None => format!(in alloc; "run{named}{stops}{checks}"),
+                Some(file) => format!(in alloc; "run{named}{stops}{checks} {file}"),
+            }
+        }
         Task::Report { file, name, of } => match of {
             ReportOf::Number(number) => format!(in alloc; "report {file} {name:?} {number}"),
             ReportOf::Word(word) => format!(in alloc; "report {file} {name:?} called {word}"),

@@ -5,7 +5,6 @@ use Rattle.desk_core.specs.Machine.{IsSoundState}
 use Rattle.desk_core.specs.ShopView.{state_of}
 use Rattle.desk_app.proofs.Taking.{empty_with}
 use Rattle.invdesk.specs.Clients.{ServesClients}
-use Rattle.invdesk.proofs.Ending.{runs_in_memory}
 use Rattle.invdesk.proofs.act_in_memory.Goals as goal
 
 pub serve-requires : goal.serve-requires
@@ -25,7 +24,4 @@ returns-in-Serve c =
     })
 
 pub returns-in-Run : goal.returns-in-Run
-returns-in-Run c =
-    rw c.in-Run.is
-    (runs_in_memory c.in-Run.names c.run_in_memory.result c.run_in_memory.ensures.done c.run_in_memory.ensures.stopped
-    c.run_in_memory.ensures.never)
+returns-in-Run c = rw c.in-Run.is c.answer_in_memory.ensures

@@ -12,7 +12,7 @@ returns-clause-desk c = rw c.into_desk.ensures c.run_lines-end.ensures.kept
 pub returns-clause-runs : goal.returns-clause-runs
 returns-clause-runs c =
     along c.args.desk c.into_desk.result c.new-watched.result.desk c.run_lines-end.new.books.desk
-    (λ old new. RunsOnDesk over_files c.args.names old new c.run_lines-end.result) c.new-watched.ensures c.into_desk.ensures
+    (λ old new. RunsOnDesk over_files c.args.names c.args.stop old new c.run_lines-end.result) c.new-watched.ensures c.into_desk.ensures
     (record {
       done = c.run_lines-end.ensures.done;
       stopped = c.run_lines-end.ensures.stopped;

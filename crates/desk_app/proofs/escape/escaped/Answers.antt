@@ -1,4 +1,4 @@
-use Rattle.std.proofs.Common.{◌≡◌, ◌+◌, ◌++◌, drop, length, ap, sym, ◌∙◌, arith, append-nil, string_bytes}
+use Rattle.std.proofs.Common.{◌++◌, drop, length, ap, sym, ◌∙◌, arith, append-nil, string_bytes}
 use Rattle.std.specs.Str.{chars}
 use Rattle.std.proofs.lemmas.List.{at_drop_all, length_push}
 use Rattle.std.proofs.lemmas.Iterator.{YieldsList-from_chars}

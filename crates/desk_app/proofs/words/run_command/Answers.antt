@@ -1,19 +1,28 @@
 use Rattle.std.proofs.Common.{ap, codes, ◌≡◌, ◌∙◌}
 use Rattle.std.proofs.lemmas.Result.{IfOk-weaker}
-use Rattle.clap.specs.Words.{app_of, new_app, with_rule}
+use Rattle.clap.specs.Words.{App, app_of, new_app, with_rule}
 use Rattle.clap.specs.Simple.{app_of_fields}
-use Rattle.desk_app.specs.Words.{file_rule, names_rule}
+use Rattle.desk_app.specs.Words.{file_rule, flag_rule, names_rule}
 use Rattle.desk_app.proofs.CommandLines.{rule_added}
 use Rattle.desk_app.proofs.words.run_command.Goals as goal
 
 pub returns : goal.returns
 returns c =
-    let name_is : app_of c.after_help.result ≡ new_app (codes "run") =
+    let line_is : app_of c.after_help.result ≡ new_app (codes "run") =
     ap app_of_fields c.after_help.ensures ∙ ap app_of_fields c.about.ensures ∙ c.new.ensures.app in
-    let one =
+    let one : App = with_rule (new_app (codes "run")) file_rule in
+    let named : App = with_rule one names_rule in
+    let stopped : App = with_rule named (flag_rule (codes "stop")) in
+    let one_is =
     rule_added c.after_help.result c.file.result c.in_ok-arg.field-0 (new_app (codes "run")) file_rule
-    c.in_ok-arg.ensures c.file.ensures.local name_is c.file.ensures.rule in
-    IfOk-weaker c.arg-2.result _ _
-    (λ r added. rule_added c.in_ok-arg.field-0 c.names_flag.result r (with_rule (new_app (codes "run")) file_rule)
-    names_rule added c.names_flag.ensures.local one c.names_flag.ensures.rule)
-    c.arg-2.ensures
+    c.in_ok-arg.ensures c.file.ensures.local line_is c.file.ensures.rule in
+    let named_is =
+    rule_added c.in_ok-arg.field-0 c.names_flag.result c.in_ok-arg-2.field-0 one names_rule c.in_ok-arg-2.ensures
+    c.names_flag.ensures.local one_is c.names_flag.ensures.rule in
+    let stopped_is =
+    rule_added c.in_ok-arg-2.field-0 c.flag.result c.in_ok-arg-3.field-0 named (flag_rule (codes "stop"))
+    c.in_ok-arg-3.ensures c.flag.ensures.local named_is c.flag.ensures.rule in
+    IfOk-weaker c.arg-4.result _ _
+    (λ r added. rule_added c.in_ok-arg-3.field-0 c.flag-2.result r stopped (flag_rule (codes "check")) added
+    c.flag-2.ensures.local stopped_is c.flag-2.ensures.rule)
+    c.arg-4.ensures
