@@ -48,11 +48,13 @@ http: build
 page: build
 	python3 tools/check_page.py $(PROGRAM)
 
-# The program on the worked examples with names and on the tutorial, and beside the rules written once more in Python:
-# answers, reports and tables of requests that are made up, and which changed files it opens.
+# The program on the worked examples with names and on the tutorial, as a clerk asks it to stop or to check, and beside
+# the rules written once more in Python: answers, reports and tables of requests that are made up, and which changed
+# files it opens.
 machine: build
 	python3 tools/check_examples.py $(PROGRAM)
 	python3 tools/check_tutorial.py $(PROGRAM)
+	python3 tools/check_people.py $(PROGRAM)
 	python3 tools/check_machine.py $(PROGRAM)
 	python3 tools/check_opening.py $(PROGRAM)
 

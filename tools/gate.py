@@ -5,10 +5,10 @@ First it looks whether each wrong body still applies, whether each name that the
 whether the worked examples with names ask for what those with numbers do, and say each field in each form, and whether
 the page has what it takes from the documents, and the program the page. Then 'rt ci' proves every crate from nothing,
 tries the must-fail edits, and runs the tests and the program. The program that this built is then tried as its owner
-would: with the examples with names and the tutorial, with files, imports, clients of HTTP, what its page reads, and
-kills, and beside the rules written once more. Where a step fails, those behind it are not run. The last line is
-'N passed, M failed': what 'rt ci' counts, and one for each script. It takes two to three hours, of which the scripts
-take five minutes.
+would: with the examples with names and the tutorial, with the words of a clerk, with files, imports, clients of HTTP,
+what its page reads, and kills, and beside the rules written once more. Where a step fails, those behind it are not run.
+The last line is 'N passed, M failed': what 'rt ci' counts, and one for each script. It takes two to three hours, of
+which the scripts take five minutes.
 
 usage: tools/gate.py [--jobs N]     N proofs side by side, one processor each; without it 'rt ci' shares them out"""
 import argparse
@@ -24,6 +24,7 @@ BEFORE = ["check_edits.py", "check_names.py", "name_lines.py --check", "make_pag
 AFTER = [
     f"check_examples.py {PROGRAM}",
     f"check_tutorial.py {PROGRAM}",
+    f"check_people.py {PROGRAM}",
     f"check_file.py {PROGRAM}",
     f"check_import.py {PROGRAM}",
     f"check_http.py {PROGRAM}",
