@@ -1,5 +1,6 @@
 //! All orders and their lines.
-ghost use Rattle.std.specs.Prelude.{◌≡◌, ◌+◌, ◌<◌, ◌^◌, ◌∷◌, [], option_copied, IfOk, OnOk};
+ghost use Rattle.std.specs.Prelude.{◌≡◌, ◌+◌, ◌<◌, ◌^◌, ◌==◌, ◌∷◌, [], filter, map};
+ghost use Rattle.std.specs.Prelude.{option_copied, IfOk, OnOk};
 ghost use Rattle.std.specs.FinMap as table;
 ghost use Rattle.std.specs.List.{list_any};
 ghost use Rattle.part_core.specs.Rows.{IsThere};
@@ -132,6 +133,15 @@ impl Orders {
     {
         self.lines
             .any_under(of_order_key(number), |line| is_missing(number, line))
+    }
+
+    /// The lines of the order, in order of number. It looks at those alone. An error is one of memory.
+    pub fn lines_of(&self, number: Id) -> Result<Vec<&OrderLine>, AllocError>
+        ensures { IfOk result (λ lines. map (λ l. l.now) lines.items
+            ≡ filter (λ l. l.order == number) (table.values (now_of self.now.lines))) }
+    {
+        self.lines
+            .select_under(of_order_key(number), |line| line.order == number)
     }
 
     /// A new order. An error is one of memory.
