@@ -1,2 +1,11 @@
+pub mod Adding
+pub mod BillTree
+pub mod Climbing
+pub mod Gathered
+pub mod Left
+pub mod Padding
+pub mod Pushed
 pub mod Selected
+pub mod SpacedWords
 pub mod Uses
+pub mod WordIn

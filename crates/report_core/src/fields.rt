@@ -1,9 +1,10 @@
 //! What stands in the fields of a report.
-ghost use Rattle.std.specs.Prelude.{◌≡◌, decimal, IfOk};
+ghost use Rattle.std.specs.Prelude.{◌≡◌, decimal, map, IfOk};
 ghost use Rattle.std.specs.String.{string_bytes};
 ghost use Rattle.part_core.specs.Catalogue.{part_in};
 ghost use Rattle.part_core.specs.CatalogueView.{parts_of};
 ghost use Rattle.report_core.specs.Fields.{name_of, text_or_empty};
+ghost use Rattle.report_core.specs.Lines.{fields_of};
 
 use part_core::{Batch, Catalogue, Serial};
 use std::alloc::{AllocError, Global};
@@ -51,4 +52,15 @@ pub fn name_field(alloc: Global, catalogue: &Catalogue, number: u64) -> Result<S
         Some(part) => String::from_str(alloc, part.name.as_str()),
         None => Ok(String::new(alloc)),
     }
+}
+
+/// A line of these words.
+pub fn words_line(alloc: Global, words: &[&str]) -> Result<Vec<String>, AllocError>
+    ensures { IfOk result (λ line. fields_of line ≡ map (λ w. w.now) words.now) }
+{
+    let mut line = Vec::with_capacity(alloc, words.len())?;
+    for word in words {
+        line.push(String::from_str(alloc, word)?)?;
+    }
+    Ok(line)
 }

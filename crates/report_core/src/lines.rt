@@ -96,6 +96,13 @@ impl Report {
         Report { lines }
     }
 
+    /// The lines, each the list of its fields.
+    pub fn lines(&self) -> &[Vec<String>]
+        ensures { lines_of result.now ≡ self.now }
+    {
+        self.lines.as_slice()
+    }
+
     /// The report as text: the fields of a line with a tab between two, and an LF after each line.
     pub fn text(&self, alloc: Global) -> Result<String, AllocError>
         ensures { IfOk result (λ text. string_bytes text ≡ report_text self.now) }

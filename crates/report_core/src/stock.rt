@@ -14,7 +14,7 @@ use part_core::{CoreFault, Refusal, Worded};
 use std::alloc::{AllocError, Global};
 use yard_core::{Item, Place, Yard, place_text};
 
-fn is_gone(item: &Item) -> bool
+pub(crate) fn is_gone(item: &Item) -> bool
     ensures { result ≡ is_gone item.now.place }
 {
     matches!(item.place, Place::Gone)

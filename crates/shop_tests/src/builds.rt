@@ -2,7 +2,7 @@
 ghost use Rattle.desk_core.specs.Machine.{IsSoundState};
 ghost use Rattle.desk_core.specs.ShopView.{state_of};
 
-use crate::outcomes::holds;
+use crate::outcomes::{holds, runs};
 use crate::requests::{
     allocate_build, allocate_output, assembly, build, cancel_build, complete_output, component,
     found, found_one, issue_build, line, location, part, serialised,
@@ -32,17 +32,6 @@ fn robots(alloc: Global) -> Result<Vec<Request>, Fail> {
     requests.push(allocate_build(9, 5, 7, 7)?)?;
     requests.push(allocate_output(10, 9, 6, 8, 1)?)?;
     Ok(requests)
-}
-
-fn runs(alloc: Global, shop: &mut Shop, requests: Vec<Request>) -> Result<(), Fail>
-    requires { IsSoundState (state_of shop.old) }
-    ensures { IsSoundState (state_of shop.new) }
-{
-    let outcomes = shop.run_list(alloc, requests.as_slice())?;
-    holds(
-        outcomes.iter().all(|outcome| outcome.is_ok()),
-        "a request is refused",
-    )
 }
 
 fn needs(shop: &Shop, line: u64, output: Option<u64>, wanted: u128) -> Result<(), Fail> {

@@ -57,6 +57,18 @@ pub fn plays(
     holds(are_told(outcomes.as_slice(), wanted), "other outcomes")
 }
 
+/// Runs the requests, and fails where one is refused.
+pub fn runs(alloc: Global, shop: &mut Shop, requests: Vec<Request>) -> Result<(), Fail>
+    requires { IsSoundState (state_of shop.old) }
+    ensures { IsSoundState (state_of shop.new) }
+{
+    let outcomes = shop.run_list(alloc, requests.as_slice())?;
+    holds(
+        outcomes.iter().all(|outcome| outcome.is_ok()),
+        "a request is refused",
+    )
+}
+
 /// Fails with the text where that doesn't hold.
 pub fn holds(condition: bool, text: &'static str) -> Result<(), Fail> {
     if condition {

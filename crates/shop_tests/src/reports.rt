@@ -2,7 +2,7 @@
 ghost use Rattle.desk_core.specs.Machine.{IsSoundState};
 ghost use Rattle.desk_core.specs.ShopView.{state_of};
 
-use crate::outcomes::holds;
+use crate::outcomes::{holds, runs};
 use crate::requests::{
     found, found_of, found_one, install, line, location, name, of_stock, part, remove,
 };
@@ -79,17 +79,6 @@ fn nested(alloc: Global) -> Result<Vec<Request>, Fail> {
     Ok(requests)
 }
 
-fn plays(alloc: Global, shop: &mut Shop, requests: Vec<Request>) -> Result<(), Fail>
-    requires { IsSoundState (state_of shop.old) }
-    ensures { IsSoundState (state_of shop.new) }
-{
-    let outcomes = shop.run_list(alloc, requests.as_slice())?;
-    holds(
-        outcomes.iter().all(|outcome| outcome.is_ok()),
-        "a request is refused",
-    )
-}
-
 fn tells(
     alloc: Global,
     shop: &Shop,
@@ -122,8 +111,8 @@ const STOCK: &'static str =
 fn reports(alloc: Global, shop: &mut Shop) -> Result<(), Fail>
     requires { IsSoundState (state_of shop.old) }
 {
-    plays(alloc, shop, parts(alloc)?)?;
-    plays(alloc, shop, items(alloc)?)?;
+    runs(alloc, shop, parts(alloc)?)?;
+    runs(alloc, shop, items(alloc)?)?;
     tells(alloc, shop, ReportName::Ledger, 2, LEDGER)?;
     tells(alloc, shop, ReportName::Stock, 2, STOCK)?;
     tells(alloc, shop, ReportName::Stock, 4, "")?;
@@ -149,8 +138,8 @@ fn tells_each_report(rt: HostRuntime) -> Result<(), Fail> {
 fn contents(alloc: Global, shop: &mut Shop) -> Result<(), Fail>
     requires { IsSoundState (state_of shop.old) }
 {
-    plays(alloc, shop, parts(alloc)?)?;
-    plays(alloc, shop, nested(alloc)?)?;
+    runs(alloc, shop, parts(alloc)?)?;
+    runs(alloc, shop, nested(alloc)?)?;
     tells(
         alloc,
         shop,
@@ -179,7 +168,7 @@ fn tells_content_at_each_depth(rt: HostRuntime) -> Result<(), Fail> {
 fn missing_rows(alloc: Global, shop: &mut Shop) -> Result<(), Fail>
     requires { IsSoundState (state_of shop.old) }
 {
-    plays(alloc, shop, parts(alloc)?)?;
+    runs(alloc, shop, parts(alloc)?)?;
     finds_nothing(alloc, shop, ReportName::Ledger, 1)?;
     finds_nothing(alloc, shop, ReportName::Stock, 5)?;
     finds_nothing(alloc, shop, ReportName::WhereUsed, 7)?;
@@ -199,7 +188,7 @@ fn finds_no_such_row(rt: HostRuntime) -> Result<(), Fail> {
 fn as_json(alloc: Global, shop: &mut Shop) -> Result<(), Fail>
     requires { IsSoundState (state_of shop.old) }
 {
-    plays(alloc, shop, parts(alloc)?)?;
+    runs(alloc, shop, parts(alloc)?)?;
     let used = report(alloc, shop, ReportName::WhereUsed, 2)?;
     let text = used.json(alloc)?.to_string(alloc)?;
     holds(

@@ -2,9 +2,11 @@
 use alloc_core::AllocCommand;
 use bom_core::{BomCommand, LineFlags, NewLine};
 use build_core::BuildCommand;
-use desk_core::{Command, Request};
+use desk_core::{Command, Key, Request};
 use order_core::OrderCommand;
-use part_core::{Day, Flags, Name, NewPart, PartCommand, Serials, Side, Text, read_serials};
+use part_core::{
+    Day, Flags, Name, NewPart, PartCommand, Serials, Side, Status, Text, read_serials,
+};
 use std::alloc::Global;
 use std::test::Fail;
 use stock_core::{NewStock, StockCommand};
@@ -41,6 +43,13 @@ fn of_order(command: OrderCommand) -> Result<Request, Fail> {
 
 fn of_build(command: BuildCommand) -> Result<Request, Fail> {
     request(Command::Build(command))
+}
+
+/// The request under this key.
+pub fn keyed(alloc: Global, key: &str, mut request: Request) -> Result<Request, Fail> {
+    let key = Key::new(String::from_str(alloc, key)?).ok_or("a key")?;
+    request.key = Some(key);
+    Ok(request)
 }
 
 // ---- locations, categories and parts
@@ -91,6 +100,17 @@ pub fn part(
     }))
 }
 
+/// A part in a category.
+pub fn part_in(alloc: Global, text: &str, category: u64, flags: Flags) -> Result<Request, Fail> {
+    let name = name(alloc, text)?;
+    of_part(PartCommand::AddPart(NewPart {
+        name,
+        category: Some(category),
+        template: None,
+        flags,
+    }))
+}
+
 // ---- bills of materials
 
 pub fn line(assembly: u64, component: u64, quantity: u64) -> Result<Request, Fail> {
@@ -129,6 +149,23 @@ pub fn found(part: u64, location: u64, quantity: u64) -> Result<Request, Fail> {
     found_of(part, location, new)
 }
 
+/// Pieces of a batch.
+pub fn found_batch(
+    alloc: Global,
+    part: u64,
+    location: u64,
+    quantity: u64,
+    batch: &str,
+) -> Result<Request, Fail> {
+    let batch = name(alloc, batch)?;
+    let new = NewStock {
+        quantity,
+        batch: Some(batch),
+        serials: None,
+    };
+    found_of(part, location, new)
+}
+
 /// A piece with a serial.
 pub fn found_one(alloc: Global, part: u64, location: u64, serial: &str) -> Result<Request, Fail> {
     let serials = read_serials(alloc, serial).ok().ok_or("a serial")?;
@@ -160,7 +197,18 @@ pub fn install(item: u64, parent: u64, quantity: u64) -> Result<Request, Fail> {
     })
 }
 
+pub fn set_status(item: u64, status: Status) -> Result<Request, Fail> {
+    of_stock(StockCommand::SetStatus { item, status })
+}
+
 // ---- orders and allocations
+
+pub fn purchase(alloc: Global, partner: &str) -> Result<Request, Fail> {
+    of_order(OrderCommand::NewOrder {
+        side: Side::Purchase,
+        partner: name(alloc, partner)?,
+    })
+}
 
 pub fn sale(alloc: Global, partner: &str) -> Result<Request, Fail> {
     of_order(OrderCommand::NewOrder {
@@ -179,6 +227,24 @@ pub fn order_line(order: u64, part: u64, quantity: u64) -> Result<Request, Fail>
 
 pub fn issue_order(order: u64) -> Result<Request, Fail> {
     of_order(OrderCommand::IssueOrder { order })
+}
+
+pub fn cancel_order(order: u64) -> Result<Request, Fail> {
+    of_order(OrderCommand::CancelOrder { order })
+}
+
+/// Pieces with neither a batch nor serials come by a line of a purchase.
+pub fn receive(line: u64, location: u64, quantity: u64) -> Result<Request, Fail> {
+    let new = NewStock {
+        quantity,
+        batch: None,
+        serials: None,
+    };
+    of_order(OrderCommand::Receive {
+        line,
+        location,
+        new,
+    })
 }
 
 pub fn allocate_sale(line: u64, item: u64, quantity: u64) -> Result<Request, Fail> {

@@ -1,0 +1,27 @@
+//! Which list is asked for.
+
+use part_core::Id;
+
+/// A list of the shop's rows.
+#[derive(Clone, Copy, Debug)]
+pub enum Listing<'a> {
+    /// The parts, with what there is of each; with an amount those alone of which less is free.
+    Stock(Option<u64>),
+    /// What lies at this location and below it.
+    At(Id),
+    /// A part: its flags, its sums, its bill, where it is used, and its items.
+    Part(Id),
+    /// An item: where it is, what lies in it, and its history.
+    Item(Id),
+    /// The orders with their lines; where it is true, those alone that are neither complete nor cancelled.
+    Orders(bool),
+    /// The builds with what they want; where it is true, those alone that are neither complete nor cancelled.
+    Builds(bool),
+    /// The parts and locations in whose names this word stands, the items whose serial or batch it is, and the keys that
+    /// begin with it.
+    Find(&'a str),
+    /// The parts that open builds lack, over all of them.
+    Shortages,
+    /// What is to be counted at this location and below it, or everywhere.
+    CountSheet(Option<Id>),
+}
