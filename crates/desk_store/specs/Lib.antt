@@ -9,3 +9,4 @@ pub mod Migrating
 pub mod Loading
 pub mod Exports
 pub mod Shown
+pub mod Records
