@@ -4,37 +4,23 @@ use Rattle.std.proofs.Common.{◌++◌, length, take, take_all, drop, drop-drop,
 use Rattle.std.proofs.Common.{refl, ◌∙◌}
 use Rattle.std.proofs.lemmas.List.{drop_all}
 use Rattle.std.proofs.KnownBytes.{Appends-nil}
-use Rattle.std.specs.Prelude.{Option, Some, None, Result, is_none}
+use Rattle.std.specs.Prelude.{Option, Some, None, is_none}
 use Rattle.sqlite.specs.Tree.{Trees}
 use Rattle.desk_core.specs.Machine.{State}
 use Rattle.desk_store.specs.StateTables.{TablesAre}
-use Rattle.desk_wire.specs.declared.fault.What.{What}
 use Rattle.desk_wire.specs.declared.fault.What.TheVariants.{TooLong}
-use Rattle.desk_wire.specs.declared.read.Wish.{Wish}
-use Rattle.desk_wire.specs.Reading.{line}
 use Rattle.desk_wire.specs.Writing.{fault_text}
 use Rattle.desk_app.specs.declared.end.RunEnd.TheVariants as ends
 use Rattle.desk_app.specs.declared.end.Stop.{Stop}
 use Rattle.desk_app.specs.declared.end.Stop.TheVariants.{ReadFailed, WriteFailed, Memory, Store}
 use Rattle.desk_app.specs.Answered.{AnsweredIsKept}
-use Rattle.desk_app.specs.Checked.{are_readable, fault_of, faults_out, is_readable, is_short, naming_ahead, text_faults}
-use Rattle.desk_app.specs.Checked.{told_of, wrong_in}
+use Rattle.desk_app.specs.Checked.{are_readable, fault_of, faults_out, is_readable, is_short, text_faults}
+use Rattle.desk_app.specs.Checked.{told_of}
 use Rattle.desk_app.specs.Cuts.{first_of, rest_of}
 use Rattle.desk_app.specs.Ends.{end_of}
-use Rattle.desk_app.specs.Runs.{BeginWith, is_blank, lines_of, Stopped}
+use Rattle.desk_app.specs.Runs.{BeginWith, lines_of, Stopped}
 use Rattle.desk_app.proofs.Running.{lines_first}
 use Rattle.desk_app.proofs.Stopping.{none_taken}
-
--- ---- one line
-
-pub blank_fault : (names : Bool) (l : List ℕ) → is_blank l ≡ true → fault_of names l ≡ None
-unfolding fault_of
-blank_fault names l e = rw e refl
-
-pub read_fault : (names : Bool) (l : List ℕ) (r : Result Wish What) → is_blank l ≡ false
-    → line (naming_ahead names) l ≡ r → fault_of names l ≡ wrong_in r
-unfolding fault_of
-read_fault names l r filled is = rw (filled, is) refl
 
 -- ---- the first line of a text
 
@@ -146,13 +132,6 @@ pub too_long : (names : Bool) (text : List ℕ) → 16777216 < length text
     → (fault_text (record { line = 0; what = TooLong }) ≡ text_faults names text) × (false ≡ is_readable names text)
 too_long names text h =
     let e : is_short text ≡ false = grind arith in
-    (rw e refl, rw e refl)
-
-pub not_too_long : (names : Bool) (text : List ℕ) → length text ≤ 16777216
-    → (faults_out names 1 (lines_of text) ≡ text_faults names text)
-    × (are_readable names (lines_of text) ≡ is_readable names text)
-not_too_long names text h =
-    let e : is_short text ≡ true = grind arith in
     (rw e refl, rw e refl)
 
 -- ---- nothing was run yet

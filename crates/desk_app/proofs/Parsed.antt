@@ -8,7 +8,7 @@ use Rattle.clap.specs.Words.{is_simple_and_free, kind_of, subcommand_of}
 use Rattle.clap.specs.declared.error.Error.{Error}
 use Rattle.clap.specs.declared.error.kind.ErrorKind.TheVariants.{OutOfMemory}
 use Rattle.clap.specs.declared.parser.matches.ArgMatches.{ArgMatches}
-use Rattle.desk_app.specs.Words.{IsCommandLine, Parses, Places, command_line, faults, kind_names}
+use Rattle.desk_app.specs.Words.{IsCommandLine, Parses, Places, command_line, faults, kind_names, list_names}
 use Rattle.desk_app.specs.Words.{report_names, table_names, desk_task, desk_task_met}
 use Rattle.desk_app.proofs.Faulty.{is_faults, is_free, is_simple_line}
 
@@ -20,6 +20,7 @@ pub anywhere : Places
 anywhere = record {
   reports = record { at = record { ref_ptr = (0, 0); now = lying report_names }; are = refl };
   tables = record { at = record { ref_ptr = (0, 0); now = lying table_names }; are = refl };
+  lists = record { at = record { ref_ptr = (0, 0); now = lying list_names }; are = refl };
   kinds = record { at = record { ref_ptr = (0, 0); now = lying kind_names }; are = refl };
 }
 

@@ -3,10 +3,10 @@ use Rattle.std.proofs.Common.{◌≡◌, ◌∙◌, List, [], false, sym, refl, 
 use Rattle.std.specs.Prelude.{Option, Some, None, option_map}
 use Rattle.clap.specs.Words.{Text}
 use Rattle.desk_app.specs.declared.words.Task.{Task}
-use Rattle.desk_app.specs.declared.words.Task.TheVariants.{Run, Report, Export, Migrate, Import, Serve}
+use Rattle.desk_app.specs.declared.words.Task.TheVariants.{Run, Report, Export, Show, Migrate, Import, Serve}
 use Rattle.desk_app.specs.declared.words.Task.TheVariants.{Help, Wrong, Unreadable, Memory}
-use Rattle.desk_app.specs.Words.{Places, DeskTask, run, report, export, migrate, import, serve}
-use Rattle.desk_app.specs.Words.{desk_task, faults, subject_of, Tells, AnswersAt, Runs, RunsOn}
+use Rattle.desk_app.specs.Words.{Places, DeskTask, run, report, export, show, migrate, import, serve}
+use Rattle.desk_app.specs.Words.{desk_task, faults, listed_of, subject_of, Tells, AnswersAt, Runs, RunsOn}
 
 pub told_answers : (places : Places) (words : List Text) (w : Option DeskTask) (task : Task) → faults places words ≡ []
     → w ≡ desk_task places words
@@ -14,6 +14,7 @@ pub told_answers : (places : Places) (words : List Text) (w : Option DeskTask) (
 told_answers places words w (Run file names stop check) free same t = (free, sym same ∙ t)
 told_answers places words w (Report file name of) free same t = (free, sym same ∙ t)
 told_answers places words w (Export file table) free same t = (free, sym same ∙ t)
+told_answers places words w (Show file list csv) free same t = (free, sym same ∙ t)
 told_answers places words w (Migrate file) free same t = (free, sym same ∙ t)
 told_answers places words w (Import file kind document day path names) free same t = (free, sym same ∙ t)
 told_answers places words w (Serve file port count token names page) free same t = (free, sym same ∙ t)
@@ -39,6 +40,8 @@ told_runs w (Report file name of) e t =
     absurd (cc)
 told_runs w (Export file table) e t = let f : Some (plain_run None) ≡ Some (export file.now table) = sym e
     ∙ t in absurd (cc)
+told_runs w (Show file list csv) e t =
+    let f : Some (plain_run None) ≡ Some (show file.now (listed_of list) csv) = sym e ∙ t in absurd (cc)
 told_runs w (Migrate file) e t = let f : Some (plain_run None) ≡ Some (migrate file.now) = sym e ∙ t in absurd (cc)
 told_runs w (Import file kind document day path names) e t =
     let f : Some (plain_run None) ≡ Some (import file.now kind document day path.now names) = sym e ∙ t in absurd (cc)
@@ -61,6 +64,8 @@ told_runs_on path w (Report file name of) e t =
     let f : Some (plain_run (Some path)) ≡ Some (report file.now name (subject_of of)) = sym e ∙ t in absurd (cc)
 told_runs_on path w (Export file table) e t =
     let f : Some (plain_run (Some path)) ≡ Some (export file.now table) = sym e ∙ t in absurd (cc)
+told_runs_on path w (Show file list csv) e t =
+    let f : Some (plain_run (Some path)) ≡ Some (show file.now (listed_of list) csv) = sym e ∙ t in absurd (cc)
 told_runs_on path w (Migrate file) e t =
     let f : Some (plain_run (Some path)) ≡ Some (migrate file.now) = sym e ∙ t in absurd (cc)
 told_runs_on path w (Import file kind document day from names) e t =

@@ -8,6 +8,7 @@ pub mod SentAgain
 pub mod LineRequests
 pub mod LinesAgain
 pub mod Printed
+pub mod Shows
 pub mod Words
 pub mod Statuses
 pub mod Empty

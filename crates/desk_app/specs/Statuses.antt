@@ -26,6 +26,7 @@ abbrev pub early_status : Task → Option ℕ
 early_status (task.Run file names stop check) = None
 early_status (task.Report file name of) = None
 early_status (task.Export file table) = None
+early_status (task.Show file list csv) = None
 early_status (task.Migrate file) = None
 early_status (task.Import file kind document day path names) = None
 early_status (task.Serve file port count token names page) = None

@@ -1,5 +1,6 @@
 -- The row that a report is of.
-use Rattle.std.specs.Prelude.{◌≡◌, codes, ℕ, List, Option, Some, IsSome, Result, Ok, Err}
+use Rattle.std.specs.Prelude.{◌≡◌, codes, ℕ, List, Option, Some, None, IsSome, Result, Ok, Err}
+use Rattle.std.specs.Borrow.{Bor}
 use Rattle.desk_core.specs.Machine.{State}
 use Rattle.desk_core.specs.Naming.{naming_in}
 use Rattle.report_core.specs.declared.name.ReportName.{ReportName}
@@ -12,13 +13,18 @@ use Rattle.desk_app.specs.declared.subject.NoRow.TheVariants.{Wrong, Memory, Clo
 use Rattle.desk_app.specs.declared.words.ReportOf.{ReportOf}
 use Rattle.desk_app.specs.declared.words.ReportOf.TheVariants.{Number, Word}
 
+-- the word that says its row, if a word does
+abbrev pub said_word : ReportOf → Option (Bor (List ℕ))
+said_word (Number number) = None
+said_word (Word word) = Some word
+
 -- a number is the row's own; a word is looked up as the names of this state are, in the table of the report
 abbrev pub row_of_report : ReportName → ReportOf → State → Result ℕ What
 row_of_report name (Number number) s = Ok number
 row_of_report name (Word word) s = row_at_word (Some (naming_in s)) (table_of name) (codes "of") word.now
 
 -- why there is none, of a desk that this fault has closed, if one has
-abbrev pub TellsNoRow : {F : Type 0} → Option F → Result ℕ What → NoRow → Type 0
+abbrev pub TellsNoRow : {F A : Type 0} → Option F → Result A What → NoRow → Type 0
 TellsNoRow failed row (Wrong what) = row ≡ Err what
 TellsNoRow failed row Memory = Unit {0}
 TellsNoRow failed row Closed = IsSome failed

@@ -1,6 +1,7 @@
 -- What the words ask for, of which the first is the program's name.
 use Rattle.std.specs.Prelude.{◌≡◌, ◌≢◌, ◌⊎◌, ◌||◌, ◌&&◌, ◌==◌, not, nat_lt, nat_le, ℕ, Bool, true, false, List, [], ◌∷◌}
 use Rattle.std.specs.Prelude.{◌++◌, codes, Option, Some, None, option_map, option_and_then, Result, IfOk, if◌then◌else◌}
+use Rattle.std.specs.Prelude.{is_none}
 use Rattle.std.specs.Borrow.{Bor}
 use Rattle.std.specs.Str.{bytes_eq}
 use Rattle.clap.specs.Words.{App, Rule, Row, Text, new_app, new_rule, with_rule, with_subcommand, fault_of, Kinds}
@@ -23,10 +24,12 @@ use Rattle.desk_wire.specs.Documents.{is_document}
 use Rattle.desk_wire.specs.Kinds.{import_kind_named}
 use Rattle.desk_wire.specs.Numbers.{number_in}
 use Rattle.desk_wire.specs.declared.kind.ImportKind.{ImportKind}
+use Rattle.desk_app.specs.declared.words.ListOf.{ListOf}
+use Rattle.desk_app.specs.declared.words.ListOf.TheVariants as list
 use Rattle.desk_app.specs.declared.words.ReportOf.{ReportOf}
 use Rattle.desk_app.specs.declared.words.ReportOf.TheVariants.{Number, Word}
 use Rattle.desk_app.specs.declared.words.Task.{Task}
-use Rattle.desk_app.specs.declared.words.Task.TheVariants.{Run, Report, Export, Migrate, Import, Serve}
+use Rattle.desk_app.specs.declared.words.Task.TheVariants.{Run, Report, Export, Show, Migrate, Import, Serve}
 use Rattle.desk_app.specs.declared.words.Task.TheVariants.{Help, Wrong, Unreadable, Memory}
 
 -- no more words, or `run`
@@ -63,7 +66,7 @@ abbrev pub is_path : Text → Bool
 is_path [] = false
 is_path (first ∷ rest) = not (first == 45)
 
--- the names that `report`, `export` and `import` take
+-- the names that `report`, `export`, `show` and `import` take
 abbrev pub report_names : List Text
 report_names =
     codes "ledger" ∷ codes "stock" ∷ codes "where_used" ∷ codes "history" ∷ codes "content" ∷ codes "shortage" ∷ []
@@ -73,6 +76,11 @@ table_names =
     codes "meta" ∷ codes "categories" ∷ codes "locations" ∷ codes "parts" ∷ codes "lines" ∷ codes "substitutes"
     ∷ codes "items" ∷ codes "history" ∷ codes "orders" ∷ codes "order_lines" ∷ codes "builds" ∷ codes "allocations"
     ∷ codes "kept" ∷ codes "spent" ∷ []
+
+abbrev pub list_names : List Text
+list_names =
+    codes "stock" ∷ codes "at" ∷ codes "part" ∷ codes "item" ∷ codes "orders" ∷ codes "builds" ∷ codes "find"
+    ∷ codes "shortages" ∷ codes "count-sheet" ∷ []
 
 abbrev pub kind_names : List Text
 kind_names = codes "receipts" ∷ codes "counts" ∷ []
@@ -85,6 +93,7 @@ pub record Listing (names : List Text) : Type 0 where
 pub record Places : Type 0 where
   pub reports : Listing report_names
   pub tables : Listing table_names
+  pub lists : Listing list_names
   pub kinds : Listing kind_names
 
 -- `--db FILE`
@@ -110,6 +119,10 @@ option_rule id = record (word_rule id) { long = Some id }
 abbrev pub optional_rule : Text → Rule
 optional_rule id = record (new_rule id) { long = Some id; value_names = 1; action = Some Set }
 
+-- a word that may be left out
+abbrev pub optional_word_rule : Text → Rule
+optional_word_rule id = record (new_rule id) { value_names = 1; action = Some Set }
+
 abbrev pub needed : Rule → Rule
 needed rule = record rule { required = true }
 
@@ -130,6 +143,17 @@ report_line names =
 abbrev pub export_line : Listing table_names → App
 export_line names =
     with_rule (with_rule (new_app (codes "export")) (needed file_rule)) (among names.at (word_rule (codes "table")))
+
+-- LIST, of the names that are listed there
+abbrev pub list_rule : Listing list_names → Rule
+list_rule names = among names.at (word_rule (codes "list"))
+
+abbrev pub show_line : Listing list_names → App
+show_line names =
+    with_rule
+    (with_rule (with_rule (with_rule (with_rule (with_rule (new_app (codes "show")) (needed file_rule))
+    (flag_rule (codes "csv"))) (flag_rule (codes "open"))) (optional_rule (codes "low"))) (list_rule names))
+    (optional_word_rule (codes "of"))
 
 abbrev pub migrate_line : App
 migrate_line = with_rule (new_app (codes "migrate")) (needed file_rule)
@@ -155,18 +179,24 @@ abbrev pub top_line : App
 top_line =
     on_top (λ shape. record shape { disable_help_subcommand = true; has_version = true }) (new_app (codes "invdesk"))
 
--- the program's command line, as `clap` sees it: it has a version, and six subcommands, none of them of help
+-- the program's command line, as `clap` sees it: it has a version, and seven subcommands, none of them of help
 abbrev pub command_line : Places → App
 command_line places =
-    with_subcommand (with_subcommand (with_subcommand (with_subcommand (with_subcommand (with_subcommand top_line
-    run_line.top) (report_line places.reports).top) (export_line places.tables).top) migrate_line.top)
-    (import_line places.kinds).top) serve_line.top
+    with_subcommand (with_subcommand (with_subcommand (with_subcommand (with_subcommand (with_subcommand (with_subcommand
+    top_line run_line.top) (report_line places.reports).top) (export_line places.tables).top)
+    (show_line places.lists).top) migrate_line.top) (import_line places.kinds).top) serve_line.top
 
 abbrev pub IsReportLine : App → Type 0
 IsReportLine app = (names : Listing report_names) × (app ≡ report_line names)
 
 abbrev pub IsExportLine : App → Type 0
 IsExportLine app = (names : Listing table_names) × (app ≡ export_line names)
+
+abbrev pub IsListRule : Rule → Type 0
+IsListRule rule = (names : Listing list_names) × (rule ≡ list_rule names)
+
+abbrev pub IsShowLine : App → Type 0
+IsShowLine app = (names : Listing list_names) × (app ≡ show_line names)
 
 abbrev pub IsKindRule : Rule → Type 0
 IsKindRule rule = (names : Listing kind_names) × (rule ≡ kind_rule names)
@@ -219,6 +249,29 @@ abbrev pub subject_of : ReportOf → Subject
 subject_of (Number number) = numbered number
 subject_of (Word word) = worded word.now
 
+-- what a list is of, and what is said of it: the texts are what was said
+pub data Listed : Type 0 where
+  stock : Option ℕ → Listed
+  at : Text → Listed
+  part : Text → Listed
+  item : Text → Listed
+  orders : Bool → Listed
+  builds : Bool → Listed
+  find : Text → Listed
+  shortages : Listed
+  count_sheet : Option Text → Listed
+
+abbrev pub listed_of : ListOf → Listed
+listed_of (list.Stock low) = stock low
+listed_of (list.At location) = at location.now
+listed_of (list.Part word) = part word.now
+listed_of (list.Item word) = item word.now
+listed_of (list.Orders only_open) = orders only_open
+listed_of (list.Builds only_open) = builds only_open
+listed_of (list.Find word) = find word.now
+listed_of list.Shortages = shortages
+listed_of (list.CountSheet location) = count_sheet (option_map (λ word. word.now) location)
+
 -- a task of a desk: a run, with the file if one is named; a report of a row; a table; that a file is brought along;
 -- the rows at a path; so many connections to a port, or any number, with the file of a token if one is named. The last
 -- word of an import is whether rows may be named, and so is the last but one of a serving, whose last is whether the page
@@ -228,6 +281,7 @@ pub data DeskTask : Type 0 where
   run : Option Text → Bool → Bool → Bool → DeskTask
   report : Text → ReportName → Subject → DeskTask
   export : Text → TableName → DeskTask
+  show : Text → Listed → Bool → DeskTask
   migrate : Text → DeskTask
   import : Text → ImportKind → Text → CivilDay → Text → Bool → DeskTask
   serve : Option Text → ℕ → Option ℕ → Option Text → Bool → Bool → DeskTask
@@ -242,6 +296,35 @@ abbrev pub export_with : Option Text → Option TableName → Option DeskTask
 export_with None table = None
 export_with (Some file) None = None
 export_with (Some file) (Some table) = Some (export file table)
+
+-- an amount, or none; none at all where what is said is no number
+abbrev pub low_in : Option Text → Option (Option ℕ)
+low_in None = Some None
+low_in (Some text) = option_map (λ amount. Some amount) (number_in text)
+
+-- with what is in stock goes an amount below which a part is low, and nothing else
+abbrev pub stock_by : Option Text → Option Text → Bool → Option Listed
+stock_by of low only_open = if is_none of && not only_open then option_map stock (low_in low) else None
+
+-- what goes with a list of another name: a word, or none; and with orders and builds whether the open ones alone are meant
+abbrev pub other_by : Text → Option Text → Bool → Option Listed
+other_by name of only_open =
+    if bytes_eq name (codes "at") then (if only_open then None else option_map at of)
+    else if bytes_eq name (codes "part") then (if only_open then None else option_map part of)
+    else if bytes_eq name (codes "item") then (if only_open then None else option_map item of)
+    else if bytes_eq name (codes "orders") then (if is_none of then Some (orders only_open) else None)
+    else if bytes_eq name (codes "builds") then (if is_none of then Some (builds only_open) else None)
+    else if bytes_eq name (codes "find") then (if only_open then None else option_map find of)
+    else if bytes_eq name (codes "shortages") then (if is_none of && not only_open then Some shortages else None)
+    else if bytes_eq name (codes "count-sheet") then (if only_open then None else Some (count_sheet of))
+    else None
+
+-- the list of that name, by the word, the amount and the flag that were given with it
+abbrev pub list_by : Text → Option Text → Option Text → Bool → Option Listed
+list_by name of low only_open =
+    if bytes_eq name (codes "stock") then stock_by of low only_open
+    else if is_none low then other_by name of only_open
+    else None
 
 -- a flag that was given has the value `true`
 abbrev pub is_given : Option Text → Bool
@@ -281,13 +364,26 @@ report_in rows = report_with (first_of (codes "db") rows) (option_and_then repor
 unfoldable pub export_in : List Row → Option DeskTask
 export_in rows = export_with (first_of (codes "db") rows) (option_and_then table_named (first_of (codes "table") rows))
 
-unfoldable pub migrate_in : List Row → Option DeskTask
-migrate_in rows = option_map migrate (first_of (codes "db") rows)
+abbrev pub open_in : List Row → Bool
+open_in rows = is_given (first_of (codes "open") rows)
+
+abbrev pub csv_in : List Row → Bool
+csv_in rows = is_given (first_of (codes "csv") rows)
 
 infixl 10 ◌>>=◌
 abbrev ◌>>=◌ : {A B : Type 0} → Option A → (A → Option B) → Option B
 None >>= f = None
 (Some x) >>= f = f x
+
+unfoldable pub show_in : List Row → Option DeskTask
+show_in rows = do
+  file ← first_of (codes "db") rows
+  name ← first_of (codes "list") rows
+  listed ← list_by name (first_of (codes "of") rows) (first_of (codes "low") rows) (open_in rows)
+  Some (show file listed (csv_in rows))
+
+unfoldable pub migrate_in : List Row → Option DeskTask
+migrate_in rows = option_map migrate (first_of (codes "db") rows)
 
 unfoldable pub import_in : List Row → Option DeskTask
 import_in rows = do
@@ -322,6 +418,7 @@ desk_task_met None = Some (run None false false false)
 desk_task_met (Some met) =
     if bytes_eq met.0 (codes "report") then report_in met.1
     else if bytes_eq met.0 (codes "export") then export_in met.1
+    else if bytes_eq met.0 (codes "show") then show_in met.1
     else if bytes_eq met.0 (codes "migrate") then migrate_in met.1
     else if bytes_eq met.0 (codes "import") then import_in met.1
     else if bytes_eq met.0 (codes "serve") then serve_in met.1
@@ -336,6 +433,7 @@ abbrev pub desk_task_of : Task → Option DeskTask
 desk_task_of (Run file names stop check) = Some (run (option_map (λ path. path.now) file) names stop check)
 desk_task_of (Report file name of) = Some (report file.now name (subject_of of))
 desk_task_of (Export file table) = Some (export file.now table)
+desk_task_of (Show file list csv) = Some (show file.now (listed_of list) csv)
 desk_task_of (Migrate file) = Some (migrate file.now)
 desk_task_of (Import file kind document day path names) = Some (import file.now kind document day path.now names)
 desk_task_of (Serve file port count token names page) =
@@ -353,6 +451,7 @@ abbrev pub file_of : Task → Option (Bor Text)
 file_of (Run file names stop check) = file
 file_of (Report file name of) = Some file
 file_of (Export file table) = Some file
+file_of (Show file list csv) = Some file
 file_of (Migrate file) = Some file
 file_of (Import file kind document day path names) = Some file
 file_of (Serve file port count token names page) = file
@@ -366,6 +465,7 @@ abbrev pub Tells : Option DeskTask → Task → Type 0
 Tells desk_task (Run file names stop check) = desk_task ≡ desk_task_of (Run file names stop check)
 Tells desk_task (Report file name of) = desk_task ≡ desk_task_of (Report file name of)
 Tells desk_task (Export file table) = desk_task ≡ desk_task_of (Export file table)
+Tells desk_task (Show file list csv) = desk_task ≡ desk_task_of (Show file list csv)
 Tells desk_task (Migrate file) = desk_task ≡ desk_task_of (Migrate file)
 Tells desk_task (Import file kind document day path names) = desk_task ≡ desk_task_of
     (Import file kind document day path names)
@@ -393,6 +493,8 @@ AnswersAt places words (Report file name of) =
     (faults places words ≡ []) × (desk_task places words ≡ desk_task_of (Report file name of))
 AnswersAt places words (Export file table) =
     (faults places words ≡ []) × (desk_task places words ≡ desk_task_of (Export file table))
+AnswersAt places words (Show file list csv) =
+    (faults places words ≡ []) × (desk_task places words ≡ desk_task_of (Show file list csv))
 AnswersAt places words (Migrate file) =
     (faults places words ≡ []) × (desk_task places words ≡ desk_task_of (Migrate file))
 AnswersAt places words (Import file kind document day path names) =
@@ -415,6 +517,7 @@ abbrev pub Runs : Task → Type 0
 Runs (Run file names stop check) = (file ≡ None) × (names ≡ false) × (stop ≡ false) × (check ≡ false)
 Runs (Report file name of) = ⊥
 Runs (Export file table) = ⊥
+Runs (Show file list csv) = ⊥
 Runs (Migrate file) = ⊥
 Runs (Import file kind document day path names) = ⊥
 Runs (Serve file port count token names page) = ⊥
@@ -429,6 +532,7 @@ RunsOn path (Run file names stop check) =
     (option_map (λ given. given.now) file ≡ Some path) × (names ≡ false) × (stop ≡ false) × (check ≡ false)
 RunsOn path (Report file name of) = ⊥
 RunsOn path (Export file table) = ⊥
+RunsOn path (Show file list csv) = ⊥
 RunsOn path (Migrate file) = ⊥
 RunsOn path (Import file kind document day from names) = ⊥
 RunsOn path (Serve file port count token names page) = ⊥
@@ -442,6 +546,7 @@ abbrev pub HelpsBy : ErrorKind → Task → Type 0
 HelpsBy kind (Run file names stop check) = ⊥
 HelpsBy kind (Report file name of) = ⊥
 HelpsBy kind (Export file table) = ⊥
+HelpsBy kind (Show file list csv) = ⊥
 HelpsBy kind (Migrate file) = ⊥
 HelpsBy kind (Import file of document day path names) = ⊥
 HelpsBy kind (Serve file port count token names page) = ⊥

@@ -42,7 +42,7 @@ pub fn early_status(task: &Task<'_>) -> Option<u8>
     ensures { result ≡ early_status task.now }
 {
     match task {
-        Task::Run { .. } | Task::Report { .. } | Task::Export(..) => None,
+        Task::Run { .. } | Task::Report { .. } | Task::Export(..) | Task::Show { .. } => None,
         Task::Migrate(_) | Task::Import { .. } | Task::Serve { .. } => None,
         Task::Help(_) => Some(0),
         Task::Wrong(_) | Task::Unreadable => Some(WRONG_WORDS),

@@ -6,10 +6,13 @@ ghost use Rattle.part_core.specs.Day.{day_of};
 ghost use Rattle.report_core.specs.Names.{report_named};
 ghost use Rattle.desk_wire.specs.Numbers.{number_in};
 ghost use Rattle.desk_wire.specs.Kinds.{import_kind_named};
+ghost use Rattle.desk_app.specs.Subjects.{said_word};
 ghost use Rattle.desk_app.specs.Words.{file_rule, flag_rule, names_rule, option_rule};
 ghost use Rattle.desk_app.specs.Words.{is_given, optional_rule, word_rule};
 ghost use Rattle.desk_app.specs.Words.{migrate_line, run_line, serve_line, IsKindRule};
 ghost use Rattle.desk_app.specs.Words.{IsReportLine, IsExportLine, IsImportLine, IsCommandLine};
+ghost use Rattle.desk_app.specs.Words.{IsListRule, IsShowLine, optional_word_rule, show_in};
+ghost use Rattle.desk_app.specs.Words.{list_by, listed_of, low_in, other_by, stock_by};
 ghost use Rattle.desk_app.specs.Words.{document_named, number_up_to, table_named, report_in};
 ghost use Rattle.desk_app.specs.Words.{export_in, migrate_in, import_in, count_in, serve_in, desk_task_met};
 ghost use Rattle.desk_app.specs.Words.{desk_task_of, names_in, run_in, subject_by, subject_of};
@@ -35,6 +38,41 @@ pub enum ReportOf<'a> {
     Word(&'a str),
 }
 
+impl<'a> ReportOf<'a> {
+    /// The word that says its row, if a word does.
+    pub fn word(&self) -> Option<&'a str>
+        ensures { result ≡ said_word self.now }
+    {
+        match self {
+            ReportOf::Number(_) => None,
+            ReportOf::Word(word) => Some(*word),
+        }
+    }
+}
+
+/// The list that is asked for. What it is of is said by a word, which is looked up once the file is open.
+#[derive(Clone, Copy, Debug)]
+pub enum ListOf<'a> {
+    /// What is in stock; with an amount those parts alone of which less is free.
+    Stock(Option<u64>),
+    /// What lies at a location and below it.
+    At(&'a str),
+    /// All that there is of a part.
+    Part(&'a str),
+    /// All that there is of an item.
+    Item(&'a str),
+    /// The orders; where it is true, the open ones alone.
+    Orders(bool),
+    /// The builds; where it is true, the open ones alone.
+    Builds(bool),
+    /// What is found by this word.
+    Find(&'a str),
+    /// What open builds lack.
+    Shortages,
+    /// What is to be counted at a location and below it, or everywhere.
+    CountSheet(Option<&'a str>),
+}
+
 /// The task that the words ask for. A file is named by its path.
 #[derive(Drop)]
 pub enum Task<'a> {
@@ -55,6 +93,12 @@ pub enum Task<'a> {
     },
     /// A table of the desk in the file is printed.
     Export(&'a str, TableName),
+    /// A list of the desk in the file is printed, in columns or as comma-separated values.
+    Show {
+        file: &'a str,
+        list: ListOf<'a>,
+        csv: bool,
+    },
     /// The file, if an earlier program wrote it, is brought along.
     Migrate(&'a str),
     /// The rows of the file at the path are run by the desk in the file.
@@ -96,6 +140,7 @@ impl<'a> Task<'a> {
             Task::Run { file, .. } | Task::Serve { file, .. } => *file,
             Task::Migrate(file) | Task::Export(file, _) => Some(*file),
             Task::Report { file, .. } | Task::Import { file, .. } => Some(*file),
+            Task::Show { file, .. } => Some(*file),
             _ => None,
         }
     }
@@ -109,6 +154,11 @@ const RUN_EXAMPLE: &str = "Example: invdesk run --db workshop.db < requests";
 const REPORT_EXAMPLE: &str = "Example: invdesk report --db workshop.db ledger 2";
 
 const EXPORT_EXAMPLE: &str = "Example: invdesk export --db workshop.db items";
+
+const SHOW_EXAMPLE: &str = "Examples:
+  invdesk show --db workshop.db stock --low 20
+  invdesk show --db workshop.db at Store
+  invdesk show --db workshop.db --csv count-sheet > sheet.csv";
 
 const MIGRATE_EXAMPLE: &str = "Example: invdesk migrate --db workshop.db";
 
@@ -143,6 +193,19 @@ const TABLES: [&str; 14] = [
     "allocations",
     "kept",
     "spent",
+];
+
+/// The names of the lists.
+const LISTS: [&str; 9] = [
+    "stock",
+    "at",
+    "part",
+    "item",
+    "orders",
+    "builds",
+    "find",
+    "shortages",
+    "count-sheet",
 ];
 
 /// The names of the kinds of imports.
@@ -181,6 +244,14 @@ fn names_flag<'a>(alloc: Global) -> Arg<'a>
         "names",
         "Rows may be named in the place of their numbers",
     )
+}
+
+/// A word that may be left out.
+fn optional_word<'a>(alloc: Global, id: &'a str, name: &'a str) -> Arg<'a>
+    ensures rule { rule_of result ≡ optional_word_rule id.now }
+    ensures local { result.global ≡ false }
+{
+    Arg::new(alloc, id).value_name(name).action(ArgAction::Set)
 }
 
 /// A word that has to be there.
@@ -264,6 +335,34 @@ fn export_command<'a>(alloc: Global) -> Result<Command<'a>, AllocError>
         .arg(table)
 }
 
+/// The word that says which list it is.
+fn list_word<'a>(alloc: Global) -> Arg<'a>
+    ensures rule { IsListRule (rule_of result) }
+    ensures local { result.global ≡ false }
+{
+    word(alloc, "list", "LIST")
+        .value_parser(LISTS.as_slice())
+        .help("Which list; at, part, item and find take a word, and count-sheet may take one")
+}
+
+fn show_command<'a>(alloc: Global) -> Result<Command<'a>, AllocError>
+    ensures { IfOk result (λ command. IsShowLine (app_of command)) }
+{
+    let low = optional(alloc, "low", "N").help("Of stock: those parts of which less is free");
+    let of = optional_word(alloc, "of", "WORD").help(
+        "The number of a location, a part or an item, or what it is called; of find, what to look for",
+    );
+    Command::new(alloc, "show")
+        .about("Shows a list")
+        .after_help(SHOW_EXAMPLE)
+        .arg(file(alloc).required(true))?
+        .arg(flag(alloc, "csv", "As comma-separated values, for a spreadsheet"))?
+        .arg(flag(alloc, "open", "Of orders and builds: the open ones alone"))?
+        .arg(low)?
+        .arg(list_word(alloc))?
+        .arg(of)
+}
+
 fn migrate_command<'a>(alloc: Global) -> Result<Command<'a>, AllocError>
     ensures { IfOk result (λ command. app_of command ≡ migrate_line) }
 {
@@ -334,6 +433,7 @@ fn command<'a>(alloc: Global) -> Result<Command<'a>, AllocError>
         .subcommand(run_command(alloc)?)?
         .subcommand(report_command(alloc)?)?
         .subcommand(export_command(alloc)?)?
+        .subcommand(show_command(alloc)?)?
         .subcommand(migrate_command(alloc)?)?
         .subcommand(import_command(alloc)?)?
         .subcommand(serve_command(alloc)?)
@@ -498,6 +598,87 @@ fn export_task<'a>(matches: &ArgMatches<'a>) -> Option<Task<'a>>
     Some(Task::Export(file, table))
 }
 
+/// The amount below which a part is low, if it is said; none where what is said is no number.
+fn low_amount(low: Option<&str>) -> Option<Option<u64>>
+    ensures { result ≡ low_in (option_map (λ t. t.now) low.entry) }
+{
+    match low {
+        None => Some(None),
+        Some(text) => match number_in(text) {
+            None => None,
+            Some(amount) => Some(Some(amount)),
+        },
+    }
+}
+
+/// The list of what is in stock, if no other word goes with it than an amount.
+fn stock_list<'a>(of: Option<&str>, low: Option<&str>, only_open: bool) -> Option<ListOf<'a>>
+    ensures { option_map listed_of result
+        ≡ stock_by (option_map (λ t. t.now) of.entry) (option_map (λ t. t.now) low.entry) only_open }
+{
+    if of.is_some() || only_open {
+        return None;
+    }
+    Some(ListOf::Stock(low_amount(low)?))
+}
+
+/// The list of that name, if these words go with it. That of what is in stock is another function's.
+fn other_list<'a>(name: &str, of: Option<&'a str>, only_open: bool) -> Option<ListOf<'a>>
+    ensures { option_map listed_of result
+        ≡ other_by name.now (option_map (λ t. t.now) of.entry) only_open }
+{
+    match (name, of, only_open) {
+        ("at", Some(location), false) => Some(ListOf::At(location)),
+        ("part", Some(part), false) => Some(ListOf::Part(part)),
+        ("item", Some(item), false) => Some(ListOf::Item(item)),
+        ("orders", None, _) => Some(ListOf::Orders(only_open)),
+        ("builds", None, _) => Some(ListOf::Builds(only_open)),
+        ("find", Some(word), false) => Some(ListOf::Find(word)),
+        ("shortages", None, false) => Some(ListOf::Shortages),
+        ("count-sheet", _, false) => Some(ListOf::CountSheet(of)),
+        _ => None,
+    }
+}
+
+/// The list of that name, if these words go with it.
+fn list_of<'a>(
+    name: &str,
+    of: Option<&'a str>,
+    low: Option<&str>,
+    only_open: bool,
+) -> Option<ListOf<'a>>
+    ensures { option_map listed_of result ≡ list_by name.now (option_map (λ t. t.now) of.entry)
+        (option_map (λ t. t.now) low.entry) only_open }
+{
+    if name == "stock" {
+        return stock_list(of, low, only_open);
+    }
+    if low.is_some() {
+        return None;
+    }
+    other_list(name, of, only_open)
+}
+
+/// The list that is asked for, if the words name one.
+#[tactic(auto, unfolding(crate::specs::Words::show_in))]
+fn show_task<'a>(matches: &ArgMatches<'a>) -> Option<Task<'a>>
+    ensures { AsksFor (show_in (rows_in matches.now)) result }
+{
+    let file = given(matches, "db")?;
+    let name = given(matches, "list")?;
+    let list = list_of(
+        name,
+        given(matches, "of"),
+        given(matches, "low"),
+        has_flag(matches, "open"),
+    )?;
+    Some(Task::Show {
+        file,
+        list,
+        csv: has_flag(matches, "csv"),
+    })
+}
+
 /// The migration that is asked for, if the words name a file.
 #[tactic(auto, unfolding(crate::specs::Words::migrate_in))]
 fn migrate_task<'a>(matches: &ArgMatches<'a>) -> Option<Task<'a>>
@@ -561,6 +742,7 @@ fn task_by<'a>(alloc: Global, matches: &ArgMatches<'a>) -> Result<Option<Task<'a
     match matches.subcommand() {
         Some(("report", matches)) => Ok(report_task(matches)),
         Some(("export", matches)) => Ok(export_task(matches)),
+        Some(("show", matches)) => Ok(show_task(matches)),
         Some(("migrate", matches)) => Ok(migrate_task(matches)),
         Some(("import", matches)) => import_task(alloc, matches),
         Some(("serve", matches)) => Ok(serve_task(matches)),
@@ -598,11 +780,17 @@ fn serve_wants(matches: &ArgMatches<'_>) -> &'static str {
     }
 }
 
+/// What goes with which list.
+const SHOW_WANTS: &str =
+    "stock takes --low N, where N has 1 to 19 digits; orders and builds take --open; at, part, \
+    item and find take a word, count-sheet may take one, and no other list does";
+
 /// What the values are to be where one isn't so.
 fn wants(alloc: Global, matches: &ArgMatches<'_>) -> Result<&'static str, AllocError> {
     match matches.subcommand() {
         Some(("import", matches)) => import_wants(alloc, matches),
         Some(("serve", matches)) => Ok(serve_wants(matches)),
+        Some(("show", _)) => Ok(SHOW_WANTS),
         _ => Ok("NUMBER has 1 to 19 digits"),
     }
 }
@@ -612,6 +800,7 @@ fn faulty_command<'a>(alloc: Global, word: Option<&str>) -> Result<Command<'a>, 
     match word {
         Some("report") => report_command(alloc)?.bin_name("invdesk report"),
         Some("import") => import_command(alloc)?.bin_name("invdesk import"),
+        Some("show") => show_command(alloc)?.bin_name("invdesk show"),
         Some("serve") => serve_command(alloc)?.bin_name("invdesk serve"),
         _ => command(alloc),
     }
@@ -639,7 +828,7 @@ fn told_by<'a>(alloc: Global, matches: &ArgMatches<'a>) -> Task<'a>
     }
 }
 
-/// Reads the words, of which the first is the program's name: no more, or `run`, `report`, `export`,
+/// Reads the words, of which the first is the program's name: no more, or `run`, `report`, `export`, `show`,
 /// `migrate`, `import` or `serve` with theirs.
 pub fn read_words<'a, S: AsStr>(alloc: Global, words: &'a [S]) -> Task<'a>
     ensures answers { Answers (map S.text words.now) result }

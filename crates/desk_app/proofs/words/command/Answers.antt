@@ -3,7 +3,7 @@ use Rattle.std.proofs.lemmas.Result.{IfOk-weaker}
 use Rattle.clap.specs.Words.{App, app_of, new_app, with_subcommand}
 use Rattle.clap.specs.Simple.{app_of_fields, on_top}
 use Rattle.desk_app.specs.Words.{Places, top_line, run_line, report_line, export_line, migrate_line}
-use Rattle.desk_app.specs.Words.{import_line, serve_line}
+use Rattle.desk_app.specs.Words.{import_line, serve_line, show_line}
 use Rattle.desk_app.proofs.CommandLines.{line_added}
 use Rattle.desk_app.proofs.words.command.Goals as goal
 
@@ -11,8 +11,9 @@ pub returns : goal.returns
 returns c =
     let report = c.in_ok-report_command.ensures in
     let export = c.in_ok-export_command.ensures in
+    let show = c.in_ok-show_command.ensures in
     let import = c.in_ok-import_command.ensures in
-    let places : Places = record { reports = report.0; tables = export.0; kinds = import.0 } in
+    let places : Places = record { reports = report.0; tables = export.0; lists = show.0; kinds = import.0 } in
     let quiet_is : app_of c.disable_help_subcommand.result
     ≡ on_top (λ shape. record shape { disable_help_subcommand = true }) (new_app (codes "invdesk")) =
     ap app_of_fields c.disable_help_subcommand.ensures
@@ -23,7 +24,8 @@ returns c =
     let run : App = with_subcommand top_line run_line.top in
     let with_report : App = with_subcommand run (report_line report.0).top in
     let with_export : App = with_subcommand with_report (export_line export.0).top in
-    let with_migrate : App = with_subcommand with_export migrate_line.top in
+    let with_show : App = with_subcommand with_export (show_line show.0).top in
+    let with_migrate : App = with_subcommand with_show migrate_line.top in
     let with_import : App = with_subcommand with_migrate (import_line import.0).top in
     let one =
     line_added c.version.result c.in_ok-run_command.field-0 c.in_ok-subcommand.field-0 top_line run_line
@@ -35,13 +37,16 @@ returns c =
     line_added c.in_ok-subcommand-2.field-0 c.in_ok-export_command.field-0 c.in_ok-subcommand-3.field-0 with_report
     (export_line export.0) c.in_ok-subcommand-3.ensures refl two export.1 in
     let four =
-    line_added c.in_ok-subcommand-3.field-0 c.in_ok-migrate_command.field-0 c.in_ok-subcommand-4.field-0 with_export
-    migrate_line c.in_ok-subcommand-4.ensures refl three c.in_ok-migrate_command.ensures in
+    line_added c.in_ok-subcommand-3.field-0 c.in_ok-show_command.field-0 c.in_ok-subcommand-4.field-0 with_export
+    (show_line show.0) c.in_ok-subcommand-4.ensures refl three show.1 in
     let five =
-    line_added c.in_ok-subcommand-4.field-0 c.in_ok-import_command.field-0 c.in_ok-subcommand-5.field-0 with_migrate
-    (import_line import.0) c.in_ok-subcommand-5.ensures refl four import.1 in
-    IfOk-weaker c.subcommand-6.result _ _ (λ r added. (
+    line_added c.in_ok-subcommand-4.field-0 c.in_ok-migrate_command.field-0 c.in_ok-subcommand-5.field-0 with_show
+    migrate_line c.in_ok-subcommand-5.ensures refl four c.in_ok-migrate_command.ensures in
+    let six =
+    line_added c.in_ok-subcommand-5.field-0 c.in_ok-import_command.field-0 c.in_ok-subcommand-6.field-0 with_migrate
+    (import_line import.0) c.in_ok-subcommand-6.ensures refl five import.1 in
+    IfOk-weaker c.subcommand-7.result _ _ (λ r added. (
       places,
-      line_added c.in_ok-subcommand-5.field-0 c.in_ok-serve_command.field-0 r with_import serve_line added refl five
+      line_added c.in_ok-subcommand-6.field-0 c.in_ok-serve_command.field-0 r with_import serve_line added refl six
           c.in_ok-serve_command.ensures,
-    )) c.subcommand-6.ensures
+    )) c.subcommand-7.ensures

@@ -1,0 +1,81 @@
+#!/usr/bin/env python3
+"""Writes what `help` tells at a terminal into the program: each command of `docs/MACHINE.md` with its fields, its
+refusals, what it does and a line of it, and each refusal of `docs/REFUSALS.md`. It is one text in
+`crates/desk_app/src/guide_text.rt`, in which an empty line stands between two entries, and each entry begins with a
+line of its name.
+
+usage: tools/make_guide.py [--check]     --check writes nothing, and tells whether the source is as it would be written"""
+import argparse
+import json
+import re
+import textwrap
+
+from machine.lines import FIELDS
+from make_page import section
+from shared import TOP, expect
+
+SOURCE = TOP / "crates" / "desk_app" / "src" / "guide_text.rt"
+HEAD = """\
+//! What `help` tells at a terminal. This file is written by `tools/make_guide.py` from `docs/MACHINE.md` and
+//! `docs/REFUSALS.md`.
+
+"""
+EXAMPLES = {
+    "number": 1, "text": "A", "flags": ["component"], "serials": "1-3", "rows": [1, 2], "yes": True,
+    "status": "Damaged", "side": "sale"}
+
+
+def wrapped(text, indent=2):
+    return textwrap.fill(text, 100, initial_indent=" " * indent, subsequent_indent=" " * (indent + 2))
+
+
+def plain(text):
+    return text.replace("`", "").replace("\\|", "|").strip()
+
+
+def example(do):
+    """A line of the command, with the fields that it can't lack."""
+    members = {"do": do, "day": "2030-01-02"}
+    for name, kind, is_optional in FIELDS[do]:
+        if not is_optional and kind != "yes":
+            members[name] = EXAMPLES.get(kind, 1)
+    return json.dumps(members, separators=(",", ":"))
+
+
+def entries():
+    rows = re.findall(r"^\| `(\w+)` (.*?) \| (.*?) \| (.*) \|$", section("MACHINE.md", "Commands"), re.M)
+    expect({row[0] for row in rows} == set(FIELDS), "docs/MACHINE.md has other commands than tools/machine")
+    names = " ".join(row[0] for row in rows)
+    yield "\n".join([
+        "help", "  A line of JSON is a request. These are the commands; help and a name says more of each:",
+        wrapped(names, 4), "  help refusals lists the words by which a request is refused. Ctrl-D ends the run."])
+    for do, fields, refusals, effect in rows:
+        lines = [do, "  Fields:"]
+        for name, optional, kind in re.findall(r"`(\w+)`(\??)([^,`]*)", fields):
+            lines.append(f"    {name}{optional}: {plain(kind) or 'a ' + name}")
+        lines += [wrapped("Refused as " + plain(refusals) + "."), wrapped("Does: " + plain(effect) + ".")]
+        yield "\n".join([*lines, "  Example: " + example(do)])
+    words = re.findall(r"^\| `(\w+)` \| (.*) \| (.*) \|$", section("REFUSALS.md", "Refusals"), re.M)
+    yield "\n".join(["refusals", *(wrapped(f"{word}: {plain(wrong)}") for word, wrong, _ in words)])
+    for word, wrong, mend in words:
+        yield "\n".join([word, wrapped(plain(wrong)), wrapped(plain(mend))])
+
+
+def source():
+    text = "\n\n".join(entries())
+    expect('"#' not in text and "\n\n\n" not in text, "an entry has a quote with a number sign, or an empty line")
+    return f'{HEAD}/// The entries, an empty line between two.\npub const GUIDE: &str = r#"{text}"#;\n'
+
+
+def main():
+    words = argparse.ArgumentParser(description=__doc__, formatter_class=argparse.RawDescriptionHelpFormatter)
+    words.add_argument("--check", action="store_true")
+    if words.parse_args().check:
+        expect(SOURCE.read_text() == source(), f"{SOURCE.relative_to(TOP)} isn't as tools/make_guide.py would write it")
+    else:
+        SOURCE.write_text(source())
+    print(f"make_guide: {len(source().encode()):,} bytes")
+
+
+if __name__ == "__main__":
+    main()
