@@ -35,6 +35,7 @@ does_printing g (task.Import file kind document day path names) desk end run ser
     absurd (import file kind document day path names refl)
 does_printing g (task.Report file name of) desk end run serve import prints = (refl, prints)
 does_printing g (task.Export file table) desk end run serve import prints = (refl, prints)
+does_printing g (task.Show file list csv) desk end run serve import prints = (refl, prints)
 does_printing g (task.Migrate file) desk end run serve import prints = (refl, prints)
 does_printing g (task.Help e) desk end run serve import prints = (refl, prints)
 does_printing g (task.Wrong e) desk end run serve import prints = (refl, prints)

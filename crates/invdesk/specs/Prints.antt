@@ -3,11 +3,14 @@ use Rattle.std.specs.Prelude.{◌≡◌, ℕ, List, Bool, true, false, Option, R
 use Rattle.std.specs.Io.KnownBytes.{Appends, Keeps}
 use Rattle.desk_core.specs.Machine.{State}
 use Rattle.desk_store.specs.Exports.{AppendsFront, table_text}
+use Rattle.report_core.specs.Listings.{listing_lines}
 use Rattle.report_core.specs.Reports.{report_lines}
+use Rattle.report_core.specs.declared.listing.Listing.{Listing}
 use Rattle.report_core.specs.declared.name.ReportName.{ReportName}
 use Rattle.report_core.specs.declared.name.ReportName.TheVariants.{History}
 use Rattle.desk_wire.specs.declared.fault.What.{What}
 use Rattle.desk_app.specs.Printed.{migrated_text, printed}
+use Rattle.desk_app.specs.Shows.{listing_by, shown_list}
 use Rattle.desk_app.specs.Subjects.{row_of_report}
 use Rattle.desk_app.specs.declared.end.RunEnd.{RunEnd}
 use Rattle.desk_app.specs.declared.end.RunEnd.TheVariants.{Done, ReadFailed, WriteFailed, Memory, Store}
@@ -33,17 +36,27 @@ abbrev pub PrintsReport : ReportName → ℕ → State → Option (List ℕ) →
 PrintsReport History number s w w' end = PrintsLines (printed (report_lines History number s)) w w' end
 PrintsReport name number s w w' end = PrintsText (printed (report_lines name number s)) w w' end
 
+-- a word says no row, so nothing was printed
+abbrev pub PrintsNone : Option (List ℕ) → Option (List ℕ) → RunEnd → Type 0
+PrintsNone w w' (Done fine) = (fine ≡ false) × Keeps w w'
+PrintsNone w w' Memory = Keeps w w'
+PrintsNone w w' Store = Keeps w w'
+PrintsNone w w' _ = ⊥
+
 -- the report of the row that was asked for was printed; where the word says none, nothing was
 abbrev pub PrintsOfRow : ReportName → Result ℕ What → State → Option (List ℕ) → Option (List ℕ) → RunEnd → Type 0
 PrintsOfRow name (Ok number) s w w' end = PrintsReport name number s w w' end
-PrintsOfRow name (Err what) s w w' (Done fine) = (fine ≡ false) × Keeps w w'
-PrintsOfRow name (Err what) s w w' Memory = Keeps w w'
-PrintsOfRow name (Err what) s w w' Store = Keeps w w'
-PrintsOfRow name (Err what) s w w' _ = ⊥
+PrintsOfRow name (Err what) s w w' end = PrintsNone w w' end
+
+-- the list that was asked for was printed; where a word says no row, nothing was
+abbrev pub PrintsList : Bool → Result Listing What → State → Option (List ℕ) → Option (List ℕ) → RunEnd → Type 0
+PrintsList csv (Ok listing) s w w' end = PrintsText (shown_list csv (listing_lines listing s)) w w' end
+PrintsList csv (Err what) s w w' end = PrintsNone w w' end
 
 -- what the words ask for was printed of a desk in this state; of other tasks nothing is printed
 abbrev pub Prints : Task → State → Option (List ℕ) → Option (List ℕ) → RunEnd → Type 0
 Prints (task.Report file name of) s w w' end = PrintsOfRow name (row_of_report name of s) s w w' end
 Prints (task.Export file table) s w w' end = PrintsLines (table_text table s, true) w w' end
+Prints (task.Show file list csv) s w w' end = PrintsList csv (listing_by list s) s w w' end
 Prints (task.Migrate file) s w w' end = PrintsText (migrated_text, true) w w' end
 Prints _ s w w' end = (end ≡ Done true) × Keeps w w'

@@ -7,17 +7,19 @@ mod page;
 mod serve;
 mod token;
 
-ghost use Rattle.std.specs.Prelude.{◌≡◌, ◌⊎◌, IfOk, IfErr, IfSome, None, is_some};
+ghost use Rattle.std.specs.Prelude.{◌≡◌, ◌⊎◌, false, IfOk, IfErr, IfSome, None, is_some};
 ghost use Rattle.sqlite.specs.Files.{over_files};
 ghost use Rattle.desk_core.specs.ShopView.{state_of};
 ghost use Rattle.desk_store.specs.Desks.{IsDesk};
+ghost use Rattle.desk_app.specs.Cuts.{ReadsFile};
 ghost use Rattle.desk_app.specs.Statuses.{early_status};
+ghost use Rattle.desk_app.specs.Shows.{listing_by};
 ghost use Rattle.desk_app.specs.Subjects.{row_of_report};
 ghost use Rattle.desk_app.specs.Words.{file_of};
 ghost use Rattle.invdesk.specs.Checks.{ChecksInput};
 ghost use Rattle.invdesk.specs.Files.{ActsOnFile, Comes, IsClosedAfter, IsMoved, IsTaken};
 ghost use Rattle.invdesk.specs.Memory.{AnswersInMemory, ChecksInMemory, DoesInMemory};
-ghost use Rattle.invdesk.specs.Prints.{Prints, PrintsOfRow};
+ghost use Rattle.invdesk.specs.Prints.{Prints, PrintsList, PrintsOfRow};
 ghost use Rattle.invdesk.specs.Rows.{ImportsFile, IsOfFile};
 ghost use Rattle.invdesk.specs.Statuses.{EndsWith, IsStatusAfter, IsStatusOf, IsStatusOnFile};
 ghost use Rattle.invdesk.specs.Statuses.{IsToldAtOnce};
@@ -26,15 +28,15 @@ ghost use Rattle.invdesk.specs.Works.{may_leave};
 
 use crate::serve::{began, serve};
 use desk_app::{
-    Books, BooksService, CountedBooks, DEVICE, FaultyFile, FileFault, MEMORY, NoRow, ReportOf,
-    RunEnd, Stop, Task, WatchedDesk, connect, connect_to_old, early_status, end_of_work, escaped,
-    import_file, let_go, migrate_desk, no_row_text, print_export, print_migrated, print_report,
-    read_file, read_words, row_of_report, run_checked, run_in_memory, run_lines, status_of,
-    status_of_fault, take_desk, told_line,
+    Books, BooksService, CountedBooks, DEVICE, FaultyFile, FileFault, ListOf, MEMORY, NoRow,
+    ReportOf, RunEnd, Stop, Task, TypedLines, WatchedDesk, connect, connect_to_old, early_status,
+    end_of_work, escaped, import_file, let_go, listing_of, migrate_desk, no_row_text, print_export,
+    print_list, print_migrated, print_report, read_file, read_words, row_of_report, run_checked,
+    run_in_memory, run_lines, status_of, status_of_fault, take_desk, told_line,
 };
 use desk_core::Shop;
 use desk_store::Desk;
-use desk_wire::{Document, ImportKind};
+use desk_wire::{Document, ImportKind, What};
 use part_core::{Day, Limits};
 use report_core::ReportName;
 use sqlite::{Error, File, FileStore, Files};
@@ -43,7 +45,7 @@ use std::alloc::{AllocError, Global};
 use std::env::{self, Env};
 use std::fmt::Display;
 use std::fs;
-use std::io::{self, BufWriter, Input, IsTerminal, Read, Stderr, Write};
+use std::io::{self, BufWriter, Input, IsTerminal, Read, Stderr, StdinLock, Write};
 use std::process::ExitCode;
 
 /// The words that the program is called with, the first its name. Which these are is known to no clause.
@@ -114,7 +116,8 @@ fn tell_line<T: Display + Drop>(rt: &HostRuntime, what: T) {
 
 /// All bytes of the reader, or of one that has too many as many as show it.
 fn all_of<R: Read>(alloc: Global, reader: &mut R) -> Result<Vec<u8>, RunEnd>
-    ensures { IfErr result IsOfFile }
+    ensures bytes { IfOk result (λ bytes. ReadsFile (R.remaining reader.old) bytes.items) }
+    ensures why { IfErr result IsOfFile }
 {
     match read_file(alloc, reader) {
         Ok(bytes) => Ok(bytes),
@@ -183,6 +186,37 @@ fn terminal(rt: &HostRuntime) -> Option<Stderr> {
 /// What a line ends with that tells of a fault of the database, while clients are served.
 const SERVED: &str = "; all requests fail until the service is started again";
 
+/// Tells why a word says no row, if there is a word. So printing ends.
+fn tell_no_row(rt: &HostRuntime, word: Option<&str>, what: &What) -> RunEnd
+    ensures { result ≡ RunEnd.Done false }
+{
+    if let Some(word) = word {
+        let why = no_row_text(what);
+        tell_line(rt, format_args!("{word}: {why}"));
+    }
+    RunEnd::Done(false)
+}
+
+/// Prints the list that the words ask for. Where a word says no row, it is told why.
+fn print_of_list<W: Write>(
+    rt: &HostRuntime,
+    list: ListOf<'_>,
+    csv: bool,
+    desk: &Desk<FileStore<File>>,
+    writer: &mut W,
+) -> RunEnd
+    requires { IsDesk over_files desk.now }
+    ensures { PrintsList csv (listing_by list.entry (state_of desk.now.shop))
+        (state_of desk.now.shop) (W.contents writer.old) (W.contents writer.new) result }
+{
+    match listing_of(rt.alloc(), desk, list) {
+        Ok(listing) => print_list(rt.alloc(), desk, listing, csv, writer),
+        Err(NoRow::Wrong(what)) => tell_no_row(rt, list.word(), &what),
+        Err(NoRow::Memory) => RunEnd::Memory,
+        Err(NoRow::Closed) => RunEnd::Store,
+    }
+}
+
 /// Prints the report of that name, of the row that the words say. Where a word says none, it is told why.
 fn print_of_row<W: Write>(
     rt: &HostRuntime,
@@ -197,13 +231,7 @@ fn print_of_row<W: Write>(
 {
     match row_of_report(rt.alloc(), desk, name, of) {
         Ok(number) => print_report(rt.alloc(), desk, name, number, writer),
-        Err(NoRow::Wrong(what)) => {
-            if let ReportOf::Word(word) = of {
-                let why = no_row_text(&what);
-                tell_line(rt, format_args!("{word}: {why}"));
-            }
-            RunEnd::Done(false)
-        }
+        Err(NoRow::Wrong(what)) => tell_no_row(rt, of.word(), &what),
         Err(NoRow::Memory) => RunEnd::Memory,
         Err(NoRow::Closed) => RunEnd::Store,
     }
@@ -223,6 +251,7 @@ fn print<W: Write>(
     match task {
         Task::Report { name, of, .. } => print_of_row(rt, *name, *of, desk, writer),
         Task::Export(_, table) => print_export(desk, *table, writer),
+        Task::Show { list, csv, .. } => print_of_list(rt, *list, *csv, desk, writer),
         Task::Migrate(_) => print_migrated(writer),
         _ => RunEnd::Done(true),
     }
@@ -262,6 +291,19 @@ fn closed(rt: &HostRuntime, path: &str, desk: Desk<FileStore<File>>, end: RunEnd
     (end, left)
 }
 
+/// The lines of the standard input. Where it is a terminal, they are prompted for on the standard error.
+fn lines_in(rt: &HostRuntime) -> TypedLines<StdinLock<'static>, Stderr> {
+    TypedLines::new(rt.reader(), rt.stderr(), rt.stdin().is_terminal())
+}
+
+/// Greets whoever types the lines of a run, with what is said of its books.
+fn greet<T: Display + Drop>(rt: &HostRuntime, books: T) {
+    if rt.stdin().is_terminal() {
+        let _ = eprintln!(rt; "invdesk: {books}");
+        let _ = eprintln!(rt; "One request a line; help tells more, and Ctrl-D ends.");
+    }
+}
+
 /// A desk after work on it, and how the work ended.
 type Worked = (Desk<FileStore<File>>, RunEnd);
 
@@ -278,11 +320,19 @@ fn run_on(
     ensures desk { IsDesk over_files result.0 }
     ensures runs { RunsOnDesk over_files names stop desk result.0 result.1 }
 {
+    if let Ok(shop) = desk.shop() {
+        let parts = shop.catalogue().parts().len();
+        let items = shop.yard().items().len();
+        greet(
+            rt,
+            format_args!("{name} has {parts} parts and {items} items."),
+        );
+    }
     let mut watched = WatchedDesk::new(desk, name, "", rt.stderr());
-    let (mut reader, mut writer) = (rt.reader(), io::writer(rt));
+    let (mut lines, mut writer) = (lines_in(rt), io::writer(rt));
     let end = run_lines(
         rt.alloc(),
-        &mut reader,
+        &mut lines,
         &mut writer,
         &mut watched,
         names,
@@ -507,9 +557,10 @@ fn answer_in_memory(rt: &HostRuntime, names: bool, stop: bool, check: bool) -> R
     if check {
         return check_in_memory(rt, names, stop);
     }
+    greet(rt, "no file is named, so nothing is kept.");
     run_in_memory(
         rt.alloc(),
-        &mut rt.reader(),
+        &mut lines_in(rt),
         &mut io::writer(rt),
         names,
         stop,

@@ -39,6 +39,10 @@ fn told(alloc: Global, task: &Task<'_>) -> Result<String, AllocError> {
             ReportOf::Word(word) => format!(in alloc; "report {file} {name:?} called {word}"),
         },
         Task::Export(file, table) => format!(in alloc; "export {file} {table:?}"),
+        Task::Show { file, list, csv } => {
+            let how = if *csv { " for a spreadsheet" } else { "" };
+            format!(in alloc; "show{how} {file} {list:?}")
+        }
         Task::Migrate(file) => format!(in alloc; "migrate {file}"),
         Task::Import {
             file,

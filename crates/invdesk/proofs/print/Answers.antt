@@ -11,6 +11,9 @@ returns-in-Export g c =
     (prints_lines _ _ _ c.print_export.result c.print_export.ensures.whole c.print_export.ensures.front
     c.print_export.ensures.nothing c.print_export.ensures.never)
 
+pub returns-in-Show : goal.returns-in-Show
+returns-in-Show g c = rw c.in-Show.is c.print_of_list.ensures
+
 pub returns-in-Migrate : goal.returns-in-Migrate
 returns-in-Migrate g c =
     rw c.in-Migrate.is
@@ -20,4 +23,4 @@ returns-in-Migrate g c =
 pub returns-in_default : goal.returns-in_default
 returns-in_default g c =
     prints_nothing c.args.task.now (state_of c.args.desk.now.shop) _ c.in_default.not-Report c.in_default.not-Export
-    c.in_default.not-Migrate
+    c.in_default.not-Show c.in_default.not-Migrate

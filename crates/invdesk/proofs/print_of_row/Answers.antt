@@ -1,6 +1,7 @@
-use Rattle.std.proofs.Common.{subst}
+use Rattle.std.proofs.Common.{subst, sym}
 use Rattle.desk_core.specs.ShopView.{state_of}
 use Rattle.desk_app.specs.Subjects.{TellsNoRow, row_of_report}
+use Rattle.invdesk.specs.Prints.{PrintsOfRow}
 use Rattle.invdesk.proofs.Printing.{prints_closed, prints_found, prints_no_memory, prints_report, prints_unfound}
 use Rattle.invdesk.proofs.print_of_row.Goals as goal
 
@@ -10,17 +11,13 @@ returns-in-Ok g c =
     (prints_report _ _ _ _ _ c.print_report.result c.print_report.ensures.whole c.print_report.ensures.front
     c.print_report.ensures.none c.print_report.ensures.nothing c.print_report.ensures.never)
 
-pub returns-in-Word : goal.returns-in-Word
-returns-in-Word g c =
-    let row = row_of_report c.args.name c.args.of (state_of c.args.desk.now.shop) in
-    prints_unfound c.args.name row c.in-Err-Wrong.what (state_of c.args.desk.now.shop) _
-    (subst (TellsNoRow c.args.desk.now.failed row) c.in-Err-Wrong.field-0-is c.in-Err-Wrong.ensures)
-
-pub returns-in_default : goal.returns-in_default
-returns-in_default g c =
-    let row = row_of_report c.args.name c.args.of (state_of c.args.desk.now.shop) in
-    prints_unfound c.args.name row c.in-Err-Wrong.what (state_of c.args.desk.now.shop) _
-    (subst (TellsNoRow c.args.desk.now.failed row) c.in-Err-Wrong.field-0-is c.in-Err-Wrong.ensures)
+pub returns-in-Err-Wrong : goal.returns-in-Err-Wrong
+returns-in-Err-Wrong g c =
+    let s = state_of c.args.desk.now.shop in
+    let row = row_of_report c.args.name c.args.of s in
+    subst (PrintsOfRow c.args.name row s _ _) (sym c.tell_no_row.ensures)
+    (prints_unfound c.args.name row c.in-Err-Wrong.what s _
+    (subst (TellsNoRow c.args.desk.now.failed row) c.in-Err-Wrong.field-0-is c.in-Err-Wrong.ensures))
 
 pub returns-in-Err-Memory : goal.returns-in-Err-Memory
 returns-in-Err-Memory g c =
