@@ -3,7 +3,8 @@
 send them, with and without a file, and looks at every answer, every report, the exit status and every table. With a
 file the program ends and begins again between, a delivery or a stocktake is imported each time, and in the end the
 books have small limits. Each tenth run is of lines that fit nothing, most of them faulty. In each third run rows are
-said by what they are called, on lines, in files and as words of a report.
+said by what they are called, on lines, in files and as words of a report. In the end every list is shown, in columns
+and as comma-separated values.
 
 usage: tools/check_machine.py PROGRAM [--runs N] [--lines N] [--seed N]"""
 import contextlib
@@ -18,6 +19,7 @@ import sys
 import tempfile
 
 import compare_lines
+from machine import lists
 from machine.imports import imported
 from machine.lines import COMMANDS, FIELDS, REPORTS
 from machine.machine import Machine
@@ -201,6 +203,53 @@ def table_of(program, path, name):
     return list(csv.reader(io.StringIO(told, newline="")))
 
 
+def words_to_find(made):
+    """Some words that find something, and one that finds nothing."""
+    m, r = made.m, made.r
+    texts = [it.name for it in (*m.parts.values(), *m.locations.values())]
+    texts += [text for it in m.items.values() for text in (it.serial, it.batch) if text] + list(m.kept)
+    for text in r.sample(sorted(texts), min(6, len(texts))):
+        begin = r.randint(0, len(text) - 1) if r.random() < 0.5 else 0
+        word = text[begin:] if r.random() < 0.5 else text[: r.randint(1, len(text))]
+        if not word.startswith("-"):
+            yield word
+    yield "no such thing"
+
+
+def asked_lists(made):
+    """The words of lists, and the rows that they have to show."""
+    m, r = made.m, made.r
+    low = r.choice([0, 1, 5, 100, 10**18])
+    yield ["stock"], lists.stock(m)
+    yield ["--low", str(low), "stock"], lists.stock(m, low)
+    for words, only_open in ([], False), (["--open"], True):
+        yield ["orders", *words], lists.orders(m, only_open)
+        yield ["builds", *words], lists.builds(m, only_open)
+    yield ["shortages"], lists.shortages(m)
+    yield ["count-sheet"], lists.count_sheet(m)
+    for place in r.sample(sorted(m.locations), min(4, len(m.locations))):
+        yield ["at", str(place)], lists.at(m, place)
+        yield ["count-sheet", str(place)], lists.count_sheet(m, place)
+    for part in r.sample(sorted(m.parts), min(6, len(m.parts))):
+        yield ["part", str(part)], lists.part(m, part)
+    for item in r.sample(sorted(m.items), min(6, len(m.items))):
+        yield ["item", str(item)], lists.item(m, item)
+    for word in words_to_find(made):
+        yield ["find", word], lists.find(m, word)
+
+
+def list_fault(program, made, path):
+    """What a list shows otherwise than it should, or None."""
+    for words, rows in asked_lists(made):
+        wanted = lists.texts(rows)
+        shown = [run(program, "show", "--db", path, *how, *words, lines=b"") for how in (["--csv"], [])]
+        rows = list(csv.reader(io.StringIO(shown[0].stdout.decode(), newline="")))
+        if rows != wanted or shown[1].stdout.decode() != lists.columns(wanted) or any(it.returncode for it in shown):
+            other = next((pair for pair in zip(rows, wanted) if pair[0] != pair[1]), "columns, or the number of rows")
+            return f"the list {words}: {other}"
+    return None
+
+
 def difference(program, made):
     """What the program says otherwise than the machine, or None."""
     with tempfile.TemporaryDirectory() as folder:
@@ -213,7 +262,8 @@ def difference(program, made):
         if fault or len(answers) != len(asked):
             return f"{len(answers)} answers to {len(asked)} lines; {fault}"
         if made.stops:
-            return next((f"the table {it}" for it in HEADERS if table_of(program, path, it) != table(made.m, it)), None)
+            other = next((f"the table {it}" for it in HEADERS if table_of(program, path, it) != table(made.m, it)), None)
+            return other or list_fault(program, made, path)
     return None
 
 

@@ -1,0 +1,211 @@
+#!/usr/bin/env python3
+"""Tries `show` on the built program: each list of a small workshop, in columns and as comma-separated values, beside rows
+that were worked out by hand; locations, parts and items by number and by name; words that go with no list; rows that
+aren't there; and that no list changes the file. Then it types at a terminal: a greeting, a prompt, `help`, and the same
+answers as from a pipe.
+
+usage: tools/check_lists.py PROGRAM"""
+import contextlib
+import csv
+import io
+import json
+import os
+import pty
+import subprocess
+import tempfile
+
+from machine import lists
+from shared import expect, reader_of_words, run
+
+DAY = "2030-01-02"
+LINES = [
+    {"do": "add_location", "name": "Store"},
+    {"do": "add_location", "name": "Shelf A", "parent": "Store"},
+    {"do": "add_category", "name": "Fixings"},
+    {"do": "add_part", "name": "Screw", "category": "Fixings", "flags": ["component", "purchaseable"]},
+    {"do": "add_part", "name": "Motor", "flags": ["component", "trackable"]},
+    {"do": "add_part", "name": "Robot", "flags": ["assembly", "trackable", "salable"]},
+    {"do": "add_part", "name": "Bölt", "flags": ["component"]},
+    {"do": "add_line", "assembly": "Robot", "component": "Screw", "quantity": 4},
+    {"do": "add_line", "assembly": "Robot", "component": "Motor", "quantity": 1, "variants": True},
+    {"do": "add_substitute", "line": 8, "part": "Bölt"},
+    {"do": "found", "part": "Screw", "location": ["Store", "Shelf A"], "quantity": 100, "batch": "L1", "key": "s1"},
+    {"do": "found", "part": "Motor", "location": "Store", "quantity": 2, "serials": "M1,M2"},
+    {"do": "order", "side": "purchase", "partner": "Acme", "key": "PO-1"},
+    {"do": "order_line", "order": 14, "part": "Screw", "quantity": 50},
+    {"do": "issue_order", "order": 14},
+    {"do": "receive", "line": 15, "location": "Store", "quantity": 20},
+    {"do": "build", "part": "Robot", "quantity": 2},
+    {"do": "issue_build", "build": 17},
+    {"do": "allocate_build", "build": 17, "line": 8, "item": 11, "quantity": 3},
+    {"do": "outputs", "build": 17, "quantity": 1, "serials": "R1"},
+    {"do": "allocate_build", "build": 17, "line": 9, "item": 12, "output": 19, "quantity": 1},
+    {"do": "set_status", "item": 13, "status": "Quarantined"},
+    {"do": "order", "side": "sale", "partner": "Bo, Ltd", "key": "SO-1"},
+]
+STOCK = [
+    "number name category present free allocated items".split(),
+    ["4", "Screw", "Fixings", "120", "117", "3", "2"],
+    ["5", "Motor", "", "2", "0", "1", "2"],
+    ["6", "Robot", "", "0", "0", "0", "1"],
+    ["7", "Bölt", "", "0", "0", "0", "0"],
+]
+STORE = [
+    "way depth item part quantity free batch serial status".split(),
+    ["Store / Shelf A", "1", "11", "Screw", "100", "97", "L1", "", "OK"],
+    ["Store", "1", "12", "Motor", "1", "0", "", "M1", "OK"],
+    ["Store", "1", "13", "Motor", "1", "0", "", "M2", "Quarantined"],
+    ["Store", "1", "16", "Screw", "20", "20", "", "", "OK"],
+]
+ORDERS = [
+    "order side state partner line part name wanted done allocated outstanding".split(),
+    ["14", "purchase", "in progress", "Acme", "15", "4", "Screw", "50", "20", "0", "30"],
+    ["21", "sale", "pending", "Bo, Ltd", "", "", "", "", "", "", ""],
+]
+BUILDS = [
+    "build part name state wanted done line component required allocated missing free".split(),
+    ["17", "6", "Robot", "in production", "2", "0", "8", "Screw", "8", "3", "5", "117"],
+    ["17", "6", "Robot", "in production", "2", "0", "9", "Motor", "2", "1", "1", "0"],
+]
+SHORTAGES = [
+    "part name required allocated missing free buy".split(),
+    ["4", "Screw", "8", "3", "5", "117", "0"],
+    ["5", "Motor", "2", "1", "1", "0", "1"],
+]
+SHEET = [
+    "number item part way batch serial expected quantity".split(),
+    ["1", "11", "Screw", "Store / Shelf A", "L1", "", "100", ""],
+    ["2", "12", "Motor", "Store", "", "M1", "1", ""],
+    ["3", "13", "Motor", "Store", "", "M2", "1", ""],
+    ["4", "16", "Screw", "Store", "", "", "20", ""],
+]
+FOUND = ["kind", "number", "name", "where"]
+MOTOR = [
+    "kind number name quantity batch serial status where day".split(),
+    ["item", "12", "Motor", "1", "", "M1", "OK", "Store", ""],
+    ["history", "2", "found", "1", "", "", "", "Store", DAY],
+]
+ROBOT = [
+    "kind number name quantity more".split(),
+    ["part", "6", "Robot", "", "assembly trackable salable"],
+    ["sums", "", "", "0", "received 0 + found 0 + built 0 + returned 0 = present 0 + consumed 0 + shipped 0 + written off 0"],
+    ["line", "8", "Screw", "4", ""],
+    ["substitute", "10", "Bölt", "", ""],
+    ["line", "9", "Motor", "1", "variants"],
+    ["item", "19", "OK", "1", "output 17"],
+]
+WANTED = [
+    (["stock"], STOCK),
+    (["stock", "--low", "1"], [STOCK[0], *STOCK[2:]]),
+    (["at", "Store"], STORE),
+    (["at", "1"], STORE),
+    (["at", '["Store","Shelf A"]'], STORE[:2]),
+    (["orders"], ORDERS),
+    (["--open", "orders"], ORDERS),
+    (["builds", "--open"], BUILDS),
+    (["shortages"], SHORTAGES),
+    (["count-sheet"], SHEET),
+    (["count-sheet", "2"], SHEET[:2]),
+    (["find", "ob"], [FOUND, ["part", "6", "Robot", ""]]),
+    (["find", "t"], [FOUND, ["part", "5", "Motor", ""], ["part", "6", "Robot", ""], ["part", "7", "Bölt", ""],
+                     ["location", "1", "Store", "Store"]]),
+    (["find", "L1"], [FOUND, ["item", "11", "Screw", "at 2"]]),
+    (["find", "s"], [FOUND, ["key", "11", "s1", ""]]),
+    (["item", '{"part":"Motor","serial":"M1"}'], MOTOR),
+    (["item", "12"], MOTOR),
+    (["part", "Robot"], ROBOT),
+]
+COLUMNS = """\
+number  name   category  present  free  allocated  items
+4       Screw  Fixings   120      117   3          2
+5       Motor            2        0     1          2
+6       Robot            0        0     0          1
+7       Bölt             0        0     0          0
+"""
+# Words that go with no list, and rows that there aren't: what is printed, and the status.
+WRONG = [
+    ["stock", "Store"], ["stock", "--open"], ["stock", "--low", "few"], ["at"], ["at", "Store", "--open"], ["orders", "14"],
+    ["builds", "--low", "3"], ["find"], ["shortages", "x"], ["shortages", "--open"], ["count-sheet", "--low", "1"], ["parts"],
+    []]
+NONE = [(["at", "99"], '{"refused":"NoSuch"}\n'), (["item", "99"], '{"refused":"NoSuch"}\n'), (["part", "Nut"], ""),
+        (["at", "Nowhere"], ""), (["count-sheet", "99"], '{"refused":"NoSuch"}\n'), (["count-sheet", "[7]"], "")]
+
+
+def show(program, path, *words):
+    return run(program, "show", "--db", path, *words)
+
+
+def try_lists(program, path):
+    for words, wanted in WANTED:
+        told = show(program, path, "--csv", *words)
+        rows = list(csv.reader(io.StringIO(told.stdout, newline="")))
+        expect(rows == wanted and told.returncode == 0, f"{words}: {rows}, and not {wanted}; {told.stderr}")
+        told = show(program, path, *words)
+        expect(told.stdout == lists.columns(wanted), f"{words} in columns:\n{told.stdout}")
+    expect(show(program, path, "stock").stdout == COLUMNS, "stock stands otherwise in its columns")
+
+
+def try_wrong(program, path):
+    for words in WRONG:
+        told = show(program, path, *words)
+        expect(told.returncode == 2 and not told.stdout and told.stderr, f"{words}: {told}")
+    for words, wanted in NONE:
+        told = show(program, path, *words)
+        expect((told.stdout, told.returncode, bool(told.stderr)) == (wanted, 1, not wanted), f"{words}: {told}")
+
+
+def terminal():
+    """The two ends of a terminal, or none where the system has none to give."""
+    try:
+        return pty.openpty()
+    except OSError:
+        return None
+
+
+def typed(program, path, lines, hand, seat):
+    """What the program writes to its output and to its screen where these lines are typed at a terminal."""
+    how = {"stdout": subprocess.PIPE, "stderr": subprocess.PIPE, "stdin": seat}
+    with subprocess.Popen([program, "run", "--names", "--db", path], **how) as process:
+        os.close(seat)
+        os.write(hand, "".join(line + "\n" for line in lines).encode() + b"\x04")
+        out, screen = process.communicate(timeout=20)
+        os.close(hand)
+    return out.decode(), screen.decode(), process.returncode
+
+
+def try_terminal(program, path, ends):
+    report = '{"report":"stock","of":"Screw"}'
+    wanted = run(program, "run", "--names", "--db", path, lines=report + "\n").stdout
+    lines = ["help", report, "help found", "help Short", "help me", "help refusals"]
+    out, screen, status = typed(program, path, lines, *ends)
+    expect((out, status) == (wanted, 0), f"a typed line is answered {out!r}")
+    begins = [f"invdesk: {path} has 4 parts and 5 items.", "> help\n", "> found\n  Fields:", "> Short\n", "> refusals\n",
+              "> There is no help on that"]
+    for begin in begins:
+        expect(begin in screen, f"{begin!r} isn't on the screen:\n{screen}")
+    piped = run(program, "run", "--db", path, lines="help\n")
+    expect(piped.stdout == '{"fault":"NotJson","line":1}\n' and not piped.stderr, f"help from a pipe: {piped}")
+
+
+def main():
+    program = reader_of_words(__doc__).parse_args().program
+    with tempfile.TemporaryDirectory() as top:
+        path = os.path.join(top, "workshop.db")
+        lines = "".join(json.dumps({"day": DAY, **line}) + "\n" for line in LINES)
+        done = run(program, "run", "--names", "--db", path, lines=lines)
+        expect(done.returncode == 0, f"the workshop: {done.stdout}")
+        with contextlib.closing(open(path, "rb")) as file:
+            before = file.read()
+        try_lists(program, path)
+        try_wrong(program, path)
+        with contextlib.closing(open(path, "rb")) as file:
+            expect(file.read() == before, "a list changed the file")
+        ends = terminal()
+        if ends:
+            try_terminal(program, path, ends)
+    seen = "a terminal" if ends else "no terminal, as there is none here"
+    print(f"check_lists: {len(WANTED)} lists, {len(WRONG) + len(NONE)} that aren't there, {seen}: all as they should be")
+
+
+if __name__ == "__main__":
+    main()

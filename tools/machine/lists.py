@@ -1,0 +1,210 @@
+"""The lists that `show` prints: a line with the names of the columns, then the rows."""
+from machine.checks import BUILD_STATES
+from machine.lines import FLAGS
+from machine.reports import LINE_FLAGS, ledger, place_text, shortage, where_used
+
+ALLOCATABLE = "OK Attention Damaged Returned".split()
+STATE_WORDS = {"Pending": "pending", "In progress": "in progress", "Complete": "complete", "Cancelled": "cancelled"}
+BUILD_WORDS = dict(zip(BUILD_STATES, ["pending", "in production", "on hold", "cancelled", "complete"]))
+
+
+def way(rows, number):
+    """The names from the top down to a row."""
+    names = []
+    while number is not None:
+        names.insert(0, rows[number].name)
+        number = rows[number].parent
+    return " / ".join(names)
+
+
+def is_under(rows, top, number):
+    while number is not None and number != top:
+        number = rows[number].parent
+    return number == top
+
+
+def allocated(m, item):
+    return sum(it.quantity for it in m.allocations.values() if it.item == item)
+
+
+def free(m, item):
+    it = m.items[item]
+    return it.quantity - allocated(m, item) if it.place[0] == "at" and it.status in ALLOCATABLE else 0
+
+
+def items_of(m, part):
+    return [n for n, it in sorted(m.items.items()) if it.part == part and it.place[0] != "gone"]
+
+
+def free_of_part(m, part):
+    return sum(free(m, n) for n in items_of(m, part))
+
+
+def stock(m, low=None):
+    yield "number name category present free allocated items".split()
+    for n, it in sorted(m.parts.items()):
+        items = items_of(m, n)
+        present = sum(m.items[i].quantity for i in items if m.place_of_root(i) == "at")
+        if low is None or free_of_part(m, n) < low:
+            meant = sum(allocated(m, i) for i in items)
+            yield n, it.name, way(m.categories, it.category), present, free_of_part(m, n), meant, len(items)
+
+
+def loose(m, top=None):
+    """The items that lie at the location or below it, or anywhere."""
+    for n, it in sorted(m.items.items()):
+        if it.place[0] == "at" and (top is None or is_under(m.locations, top, it.place[1])):
+            yield n, it
+
+
+def at(m, location):
+    yield "way depth item part quantity free batch serial status".split()
+    for n, it in loose(m, location):
+        yield placed(m, n, 1, way(m.locations, it.place[1]))
+        yield from inside(m, n, 2)
+
+
+def inside(m, item, depth):
+    for child in m.children(item):
+        yield placed(m, child, depth, "")
+        yield from inside(m, child, depth + 1)
+
+
+def placed(m, n, depth, there):
+    it = m.items[n]
+    name = "  " * (depth - 1) + m.parts[it.part].name
+    return there, depth, n, name, it.quantity, free(m, n), it.batch, it.serial, it.status
+
+
+def orders(m, only_open=False):
+    yield "order side state partner line part name wanted done allocated outstanding".split()
+    for n, it in sorted(m.orders.items()):
+        is_open = it.state in ("Pending", "In progress")
+        head = n, it.side, STATE_WORDS[it.state], it.partner
+        lines = [(line, of) for line, of in sorted(m.order_lines.items()) if of.order == n]
+        if only_open and not is_open:
+            continue
+        if not lines:
+            yield *head, *[""] * 7
+        for line, of in lines:
+            meant = sum(a.quantity for a in m.allocations.values() if a.side == "order" and a.line == line)
+            left = of.quantity - of.done if is_open else 0
+            yield *head, line, of.part, m.parts[of.part].name, of.quantity, of.done, meant, left
+
+
+def builds(m, only_open=False):
+    yield "build part name state wanted done line component required allocated missing free".split()
+    for n, it in sorted(m.builds.items()):
+        if only_open and it.state not in BUILD_STATES[:3]:
+            continue
+        head = n, it.part, m.parts[it.part].name, BUILD_WORDS[it.state], it.quantity, it.done
+        wants = list(shortage(m, n))
+        if not wants:
+            yield *head, *[""] * 6
+        for line, name, required, meant, missing in wants:
+            yield *head, line, name, required, meant, max(missing, 0), free_of_part(m, m.lines[line].component)
+
+
+def shortages(m):
+    yield "part name required allocated missing free buy".split()
+    wanted = {}
+    for build in sorted(m.builds):
+        for line, _, required, meant, missing in shortage(m, build):
+            sums = wanted.setdefault(m.lines[line].component, [0, 0, 0])
+            for i, amount in enumerate((required, meant, max(missing, 0))):
+                sums[i] += amount
+    for n in sorted(wanted):
+        if wanted[n][2] > 0:
+            left = free_of_part(m, n)
+            yield n, m.parts[n].name, *wanted[n], left, max(wanted[n][2] - left, 0)
+
+
+def find(m, word):
+    yield "kind number name where".split()
+    for n, it in sorted(m.parts.items()):
+        if word in it.name:
+            yield "part", n, it.name, way(m.categories, it.category)
+    for n, it in sorted(m.locations.items()):
+        if word in it.name:
+            yield "location", n, it.name, way(m.locations, n)
+    for n, it in sorted(m.items.items()):
+        if word in (it.serial, it.batch):
+            yield "item", n, m.parts[it.part].name, place_text(it.place)
+    for key, it in sorted(m.kept.items(), key=lambda kept: kept[0].encode()):
+        if key.startswith(word):
+            yield "key", it.answer["ids"][0] if it.answer["ids"] else "", key, ""
+
+
+def count_sheet(m, top=None):
+    yield "number item part way batch serial expected quantity".split()
+    for row, (n, it) in enumerate(loose(m, top), 1):
+        yield row, n, m.parts[it.part].name, way(m.locations, it.place[1]), it.batch, it.serial, it.quantity, ""
+
+
+def where(m, place):
+    return way(m.locations, place[1]) if place[0] == "at" else place_text(place)
+
+
+def item(m, number):
+    yield "kind number name quantity batch serial status where day".split()
+    yield pieces(m, "item", number, 1)
+    for n, depth in nested(m, number, 2):
+        yield pieces(m, "inside", n, depth)
+    for it in m.history:
+        if it.item == number:
+            yield "history", it.n, it.kind, it.quantity, "", "", "", where(m, it.place), it.day
+
+
+def nested(m, number, depth):
+    for child in m.children(number):
+        yield child, depth
+        yield from nested(m, child, depth + 1)
+
+
+def pieces(m, heading, n, depth):
+    it = m.items[n]
+    name = "  " * (depth - 1) + m.parts[it.part].name
+    return heading, n, name, it.quantity, it.batch, it.serial, it.status, where(m, it.place), ""
+
+
+def part(m, number):
+    it = m.parts[number]
+    yield "kind number name quantity more".split()
+    words = [flag for flag in FLAGS if flag in it.flags] + ["retired"] * it.retired
+    yield "part", number, it.name, "", " ".join(words)
+    _, *sums = ledger(m, number)
+    sums = dict(sums)
+    came = " + ".join(f"{name} {sums[name]}" for name in ("received", "found", "built", "returned"))
+    went = " + ".join(f"{name} {sums[name]}" for name in ("present", "consumed", "shipped"))
+    yield "sums", "", "", sums["present"], f"{came} = {went} + written off {sums['written']}"
+    yield from bill(m, number, 1)
+    for n, name in where_used(m, number):
+        yield "used in", n, name, "", ""
+    for n in items_of(m, number):
+        yield "item", n, m.items[n].status, m.items[n].quantity, where(m, m.items[n].place)
+
+
+def bill(m, number, depth):
+    """The bill of a part, with those of its components, 16 levels deep."""
+    for n in m.effective(number) if depth <= 16 else ():
+        line = m.lines[n]
+        words = [name for name in LINE_FLAGS if line[name]]
+        yield "line", n, "  " * (depth - 1) + m.parts[line.component].name, line.quantity, " ".join(words)
+        for other, it in sorted(m.substitutes.items()):
+            if it.line == n:
+                yield "substitute", other, "  " * (depth - 1) + m.parts[it.part].name, "", ""
+        yield from bill(m, line.component, depth + 1)
+
+
+def texts(rows):
+    return [["" if it is None else str(it) for it in row] for row in rows]
+
+
+def columns(rows):
+    """The rows in columns, each as wide as its widest field and two more."""
+    widths = {}
+    for row in rows:
+        for i, it in enumerate(row):
+            widths[i] = max(widths.get(i, 0), len(it))
+    padded = ([it.ljust(widths[i] + 2) for i, it in enumerate(row[:-1])] + row[-1:] for row in rows)
+    return "".join("".join(row) + "\n" for row in padded)
