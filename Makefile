@@ -11,7 +11,8 @@ run:
 	cd crates/invdesk && rt run < stdin
 
 # The gate: every proof from nothing, the must-fail edits, the tests, and the program that this built, beside Python's
-# libraries, curl, and the rules written once more. 'make test JOBS=2' runs two proofs side by side, on a processor each.
+# libraries, curl, and the rules written once more. 'make test JOBS=2' runs two proofs side by side, and not as many as
+# there are processors with 5.5 GB.
 test:
 	python3 tools/gate.py $(if $(JOBS),--jobs $(JOBS))
 
@@ -48,13 +49,14 @@ http: build
 page: build
 	python3 tools/check_page.py $(PROGRAM)
 
-# The program on the worked examples with names and on the tutorial, as a clerk asks it to stop or to check, and beside
-# the rules written once more in Python: answers, reports and tables of requests that are made up, and which changed
-# files it opens.
+# The program on the worked examples with names and on the tutorial, as a clerk asks it to stop, to check or to show a
+# list, and beside the rules written once more in Python: answers, reports, lists and tables of requests that are made
+# up, and which changed files it opens.
 machine: build
 	python3 tools/check_examples.py $(PROGRAM)
 	python3 tools/check_tutorial.py $(PROGRAM)
 	python3 tools/check_people.py $(PROGRAM)
+	python3 tools/check_lists.py $(PROGRAM)
 	python3 tools/check_machine.py $(PROGRAM)
 	python3 tools/check_opening.py $(PROGRAM)
 

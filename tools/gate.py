@@ -5,12 +5,12 @@ First it looks whether each wrong body still applies, whether each name that the
 whether the worked examples with names ask for what those with numbers do, and say each field in each form, and whether
 the page has what it takes from the documents, and the program the page. Then 'rt ci' proves every crate from nothing,
 tries the must-fail edits, and runs the tests and the program. The program that this built is then tried as its owner
-would: with the examples with names and the tutorial, with the words of a clerk, with files, imports, clients of HTTP,
-what its page reads, and kills, and beside the rules written once more. Where a step fails, those behind it are not run.
+would: with the examples with names and the tutorial, with the words of a clerk, with lists, files, imports, clients of
+HTTP, what its page reads, and kills, and beside the rules written once more. Where a step fails, those behind it are not run.
 The last line is 'N passed, M failed': what 'rt ci' counts, and one for each script. It takes two to three hours, of
 which the scripts take five minutes.
 
-usage: tools/gate.py [--jobs N]     N proofs side by side, one processor each; without it 'rt ci' shares them out"""
+usage: tools/gate.py [--jobs N]     N proofs side by side; without it as many as there are processors with 5.5 GB each"""
 import argparse
 import os
 import re
@@ -20,11 +20,14 @@ import sys
 from shared import TOP
 
 PROGRAM = "crates/invdesk/out/invdesk"
-BEFORE = ["check_edits.py", "check_names.py", "name_lines.py --check", "make_page.py --check"]
+# The memory that there has to be for each proof. The largest takes 7 GB, and most 2 to 4.
+FOR_EACH = 5_500 * 1024**2
+BEFORE = ["check_edits.py", "check_names.py", "name_lines.py --check", "make_page.py --check", "make_guide.py --check"]
 AFTER = [
     f"check_examples.py {PROGRAM}",
     f"check_tutorial.py {PROGRAM}",
     f"check_people.py {PROGRAM}",
+    f"check_lists.py {PROGRAM}",
     f"check_file.py {PROGRAM}",
     f"check_import.py {PROGRAM}",
     f"check_http.py {PROGRAM}",
@@ -45,10 +48,17 @@ def count_scripts(scripts):
     return len(scripts) - failed, failed
 
 
+def proofs_at_once():
+    """How many proofs run side by side: one for each processor that has memory for it. Left to itself 'rt ci' reckons far
+    more for each, and leaves processors idle."""
+    memory = os.sysconf("SC_PAGE_SIZE") * os.sysconf("SC_PHYS_PAGES")
+    return max(1, min(len(os.sched_getaffinity(0)), memory // FOR_EACH))
+
+
 def count_proofs(jobs):
     """Runs 'rt ci': how many passed, and how many failed, by its last line."""
     last = ""
-    environment = {**os.environ, "RT_JOBS": str(jobs)} if jobs else None
+    environment = {**os.environ, "RT_JOBS": str(jobs or proofs_at_once())}
     how = {"stdout": subprocess.PIPE, "text": True, "errors": "replace"}
     with subprocess.Popen(["rt", "ci"], cwd=TOP, env=environment, **how) as ran:
         for last in ran.stdout:
