@@ -1,6 +1,8 @@
 pub mod Adding
 pub mod BillTree
 pub mod Climbing
+pub mod Commas
+pub mod FactsLeft
 pub mod Gathered
 pub mod Left
 pub mod Padding

@@ -3,6 +3,7 @@ pub mod BuildList
 pub mod Columns
 pub mod Content
 pub mod CountSheet
+pub mod Facts
 pub mod Fields
 pub mod FindList
 pub mod Gathered

@@ -22,7 +22,7 @@ use part_core::Sheet;
 use std::alloc::{AllocError, Global};
 
 /// The word for a state.
-fn build_state_name(state: BuildState) -> &'static str
+pub(crate) fn build_state_name(state: BuildState) -> &'static str
     ensures { result.now ≡ build_state_name state }
 {
     match state {

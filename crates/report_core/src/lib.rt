@@ -4,6 +4,7 @@
 mod amounts;
 mod build_list;
 mod columns;
+mod command_facts;
 pub mod content;
 mod count_sheet;
 mod fields;
@@ -27,6 +28,7 @@ mod stock_list;
 mod ways;
 pub mod where_used;
 
+pub use command_facts::{facts, row_fact};
 pub use lines::{Report, line_text};
 pub use listing::Listing;
 pub use lists::listed;

@@ -21,7 +21,7 @@ use part_core::{Sheet, Worded};
 use std::alloc::{AllocError, Global};
 
 /// The word for a state.
-fn order_state_name(state: OrderState) -> &'static str
+pub(crate) fn order_state_name(state: OrderState) -> &'static str
     ensures { result.now ≡ order_state_name state }
 {
     match state {
@@ -33,7 +33,7 @@ fn order_state_name(state: OrderState) -> &'static str
 }
 
 /// What is still to come or to go of a line, which is none where its order isn't open.
-fn outstanding(order: &Order, line: &OrderLine) -> u64
+pub(crate) fn outstanding(order: &Order, line: &OrderLine) -> u64
     ensures { result ≡ outstanding order.now line.now }
 {
     if order.state.is_open() {

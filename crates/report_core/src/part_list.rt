@@ -42,7 +42,11 @@ fn spaced(alloc: Global, words: &[&str]) -> Result<String, AllocError>
 }
 
 /// Adds the word where it holds.
-fn push_word_if<'a>(words: &mut Vec<&'a str>, holds: bool, word: &'a str) -> Result<(), AllocError>
+pub(crate) fn push_word_if<'a>(
+    words: &mut Vec<&'a str>,
+    holds: bool,
+    word: &'a str,
+) -> Result<(), AllocError>
     ensures { OnOk result (map (λ w. w.now) words.new.items
         ≡ map (λ w. w.now) words.old.items ++ word_if holds word.now) }
 {
@@ -53,7 +57,7 @@ fn push_word_if<'a>(words: &mut Vec<&'a str>, holds: bool, word: &'a str) -> Res
 }
 
 /// The words for what a line asks for.
-fn line_words(alloc: Global, flags: LineFlags) -> Result<Vec<&'static str>, AllocError>
+pub(crate) fn line_words(alloc: Global, flags: LineFlags) -> Result<Vec<&'static str>, AllocError>
     ensures { IfOk result (λ words. map (λ w. w.now) words.items ≡ line_words flags) }
 {
     let mut words = Vec::new(alloc);
