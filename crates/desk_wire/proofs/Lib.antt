@@ -12,3 +12,4 @@ pub mod SerialLists
 pub mod Alike
 pub mod Words
 pub mod AlikeFiles
+pub mod LineFaults

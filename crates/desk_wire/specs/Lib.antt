@@ -8,6 +8,7 @@ pub mod Fields
 pub mod Members
 pub mod Reading
 pub mod Writing
+pub mod WrongFields
 pub mod Documents
 pub mod Kinds
 pub mod Numbers

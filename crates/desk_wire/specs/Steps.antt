@@ -1,5 +1,6 @@
 -- Steps of a reading, each of which may find what is wrong.
-use Rattle.std.specs.Prelude.{ℕ, ◌≡◌, Bool, true, false, Option, Some, None, Result, Ok, Err}
+use Rattle.std.specs.Prelude.{ℕ, ◌≡◌, Bool, true, false, List, Option, Some, None, Result, Ok, Err, alloc_error}
+use Rattle.std.specs.declared.alloc.AllocError.{AllocError}
 use Rattle.desk_wire.specs.declared.fault.What.{What}
 use Rattle.desk_wire.specs.declared.fault.WireFault.{WireFault}
 use Rattle.desk_wire.specs.declared.fault.Unread as unreads
@@ -33,6 +34,11 @@ abbrev pub at : {A : Type 0} → ℕ → Result A What → Result A WireFault
 at number (Ok x) = Ok x
 at number (Err what) = Err (record { line = number; what = what })
 
+-- where the reading of a field fails, that field and what stands in it; else what is wrong later
+abbrev pub at_fault : {A X : Type 0} → List ℕ → X → Result A What → Option (List ℕ × X) → Option (List ℕ × X)
+at_fault name there (Ok x) later = later
+at_fault name there (Err what) later = Some (name, there)
+
 -- what a function of the code answered is what reading gives, unless memory ran out
 abbrev pub Fails : {X : Type 0} → unreads.Unread → Result X What → Type 0
 Fails unread.Memory reading = Unit {0}
@@ -60,3 +66,9 @@ GivesAt number (Err e) reading = FailsAt number e reading
 abbrev pub FailsIn : {X : Type 0} → ReadError → Result X WireFault → Type 0
 FailsIn Memory reading = Unit {0}
 FailsIn (Wrong fault) reading = reading ≡ Err fault
+
+-- whether what a function of the code answered is a fault, unless memory ran out
+abbrev pub has_failed : {X : Type 0} → Result X unreads.Unread → Result Bool AllocError
+has_failed (Ok x) = Ok false
+has_failed (Err unread.Memory) = Err alloc_error
+has_failed (Err (unread.Wrong what)) = Ok true

@@ -89,6 +89,15 @@ pub struct WireFault {
     pub what: What,
 }
 
+/// A field that can't be read.
+#[derive(Drop)]
+pub struct WrongField {
+    /// The name of a member of a line.
+    pub name: String,
+    /// What stands there, as JSON. A member that is missing has none.
+    pub text: Option<String>,
+}
+
 /// Why a line, or a file, wasn't read.
 #[derive(Debug, Drop)]
 pub enum ReadError {

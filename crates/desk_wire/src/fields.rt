@@ -205,7 +205,7 @@ fn flags(object: &Value, name: &str) -> Result<Flags, What>
 }
 
 /// The field of that kind.
-fn field<N: Names>(
+pub fn field<N: Names>(
     alloc: Global,
     names: Option<&N>,
     object: &Value,

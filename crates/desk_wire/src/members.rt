@@ -30,8 +30,9 @@ fn is_field(name: &str, blanks: &[(&str, FieldKind)]) -> bool
     false
 }
 
+/// The name is one of these, or that of one of these fields.
 #[tactic(auto, using(crate::proofs::MemberNames::is_among_both))]
-fn is_known(name: &str, names: &[&str], blanks: &[(&str, FieldKind)]) -> bool
+pub fn is_known(name: &str, names: &[&str], blanks: &[(&str, FieldKind)]) -> bool
     ensures { result ≡ is_among name.now
         (map (λ name. name.now) names.now ++ names_of (shown_fields blanks.now)) }
 {

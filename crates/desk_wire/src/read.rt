@@ -27,7 +27,7 @@ pub enum Wish {
 }
 
 /// The object that a line is.
-fn object(alloc: Global, bytes: &[u8]) -> Result<Value, Unread>
+pub fn object(alloc: Global, bytes: &[u8]) -> Result<Value, Unread>
     ensures { MatchResult result (λ value. object_of bytes.now ≡ Ok (view value))
         (λ unread. Fails unread (object_of bytes.now)) }
 {
@@ -82,7 +82,7 @@ fn request<N: Names>(alloc: Global, names: Option<&N>, object: &Value) -> Result
 }
 
 /// Whether an object asks for a report: it has `report`, and `do` is missing.
-fn is_report(object: &Value) -> bool
+pub fn is_report(object: &Value) -> bool
     ensures { result ≡ is_report (view object.now) }
 {
     object.get("do").is_none() && object.get("report").is_some()
@@ -113,7 +113,7 @@ fn report_table(object: &Value) -> Option<RowKind>
 }
 
 /// What the report is of: a row of its table, and a number alone where there is no such report.
-fn of<N: Names>(alloc: Global, names: Option<&N>, object: &Value) -> Result<Id, Unread>
+pub fn of<N: Names>(alloc: Global, names: Option<&N>, object: &Value) -> Result<Id, Unread>
     ensures { Gives result (of_in (option_map (λ n. N.naming_of n.now) names.entry)
         (report_table (view object.now)) (view object.now)) }
 {
