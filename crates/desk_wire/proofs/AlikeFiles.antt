@@ -1,5 +1,6 @@
 -- Names change how a file is read only where a value is of a wrong type.
-use Rattle.std.proofs.Common.{◌≡◌, inl, inr, ℕ, ◌+◌, ◌==◌, List, [], ◌∷◌, ◌++◌, length, refl, ap, sym, subst}
+use Rattle.std.proofs.Common.{◌≡◌, inl, inr, ℕ, ◌+◌, ◌==◌, Bool, true, false, List, [], ◌∷◌, ◌++◌, length, drop}
+use Rattle.std.proofs.Common.{refl, ap, sym, subst}
 use Rattle.std.specs.Prelude.{Option, Some, None, Result, Ok, Err, codes, nat_le}
 use Rattle.std.specs.Str.{bytes_eq}
 use Rattle.std.specs.Cmp.Lexicographic.{pointwise}
@@ -21,10 +22,11 @@ use Rattle.desk_wire.specs.declared.row.ImportRow.{ImportRow}
 use Rattle.desk_wire.specs.Steps.{◌>>=◌, at, must, or_fault}
 use Rattle.desk_wire.specs.Numbers.{number_in, row_number_in}
 use Rattle.desk_wire.specs.Reading.{AreAlike}
-use Rattle.desk_wire.specs.Records.{Fields, are_texts}
+use Rattle.desk_wire.specs.Records.{Fields, are_texts, config_by}
 use Rattle.desk_wire.specs.RowWords.{number_of, row_at_word}
-use Rattle.desk_wire.specs.Imports.{AreAlikeFiles, NamesChangeFilesLittle, batch_of, command_of, field, import}
-use Rattle.desk_wire.specs.Imports.{key_of, names_of, row_of, rows_in, serials_of, with_rows}
+use Rattle.desk_wire.specs.Imports.{AreAlikeFiles, Columns, NamesChangeFilesLittle, Reads, arranged, batch_of, command_of}
+use Rattle.desk_wire.specs.Imports.{field, key_of, layout_by, loosely, names_of, quantity_at, row_list, row_of, rows_by}
+use Rattle.desk_wire.specs.Imports.{rows_in, rows_of_text, separators, serials_of, strictly, with_rows}
 use Rattle.desk_wire.proofs.Alike.{both, later, same}
 
 -- ---- one row
@@ -102,29 +104,64 @@ both_rows : {A B : Type 0} (off on : Result A WireFault) (f g : A → Result B W
 both_rows off on f g (inl wrong) h = inl (wrong.0, ap (λ r. r >>= f) wrong.1)
 both_rows off on f g (inr e) h = subst (λ r. AreAlikeFiles (off >>= f) (r >>= g)) (sym e) (later_row off f g h)
 
-with_rows_alike : (names : Naming) (kind : ImportKind) (document : List ℕ) (day : CivilDay) (number : ℕ)
-    (rows : List ImportRow) (rs : List Fields)
-    → AreAlikeFiles (with_rows None kind document day number rows rs) (with_rows (Some names) kind document day number rows rs)
-with_rows_alike names kind document day number rows [] = inr refl
-with_rows_alike names kind document day number rows (r ∷ rs) =
-    both_rows (at number (row_of None kind document day r)) (at number (row_of (Some names) kind document day r))
-    (λ row. with_rows None kind document day (number + 1) (rows ++ row ∷ []) rs)
-    (λ row. with_rows (Some names) kind document day (number + 1) (rows ++ row ∷ []) rs)
-    (at_alike number (row_of None kind document day r) (row_of (Some names) kind document day r)
-    (row_alike names kind document day r))
-    (λ row. with_rows_alike names kind document day (number + 1) (rows ++ row ∷ []) rs)
+abbrev AreAlikeReads : Reads → Reads → Type 0
+AreAlikeReads off on = (fields : Fields) → AreAlike (off fields) (on fields)
+
+with_rows_alike : (off on : Reads) → AreAlikeReads off on → (number : ℕ) (rows : List ImportRow) (rs : List Fields)
+    → AreAlikeFiles (with_rows off number rows rs) (with_rows on number rows rs)
+with_rows_alike off on alike number rows [] = inr refl
+with_rows_alike off on alike number rows (r ∷ rs) =
+    both_rows (at number (off r)) (at number (on r)) (λ row. with_rows off (number + 1) (rows ++ row_list row) rs)
+    (λ row. with_rows on (number + 1) (rows ++ row_list row) rs) (at_alike number (off r) (on r) (alike r))
+    (λ row. with_rows_alike off on alike (number + 1) (rows ++ row_list row) rs)
+
+strictly_alike : (names : Naming) (kind : ImportKind) (document : List ℕ) (day : CivilDay)
+    → AreAlikeReads (strictly None kind document day) (strictly (Some names) kind document day)
+strictly_alike names kind document day fields =
+    both (row_of None kind document day fields) (row_of (Some names) kind document day fields) (λ row. Ok (Some row))
+    (λ row. Ok (Some row)) (row_alike names kind document day fields) (λ row. inr refl)
+
+loosely_alike : (names : Naming) (kind : ImportKind) (document : List ℕ) (day : CivilDay) (columns : Columns)
+    → AreAlikeReads (loosely None kind document day columns) (loosely (Some names) kind document day columns)
+unfolding loosely
+loosely_alike names kind document day columns fields = go (field (quantity_at kind) (arranged columns fields)) refl
+  where
+    go : (quantity : List ℕ) → field (quantity_at kind) (arranged columns fields) ≡ quantity
+        → AreAlike (loosely None kind document day columns fields) (loosely (Some names) kind document day columns fields)
+    go [] e = inr (rw e refl)
+    go (b ∷ bs) e =
+        rw e (later (must Csv (are_texts fields)) _ _
+        (λ texts. later (must Csv (nat_le (length fields) columns.width)) _ _
+        (λ fits. strictly_alike names kind document day (arranged columns fields))))
 
 rows_alike : (names : Naming) (kind : ImportKind) (document : List ℕ) (day : CivilDay) (rs : List Fields)
     → AreAlikeFiles (rows_in None kind document day rs) (rows_in (Some names) kind document day rs)
 rows_alike names kind document day [] = inr refl
 rows_alike names kind document day (r ∷ rs) =
     later_row (at 1 (must Header (pointwise bytes_eq (names_of kind) r)))
-    (λ header. with_rows None kind document day 2 [] rs) (λ header. with_rows (Some names) kind document day 2 [] rs)
-    (λ header. with_rows_alike names kind document day 2 [] rs)
+    (λ header. with_rows (strictly None kind document day) 2 [] rs)
+    (λ header. with_rows (strictly (Some names) kind document day) 2 [] rs)
+    (λ header. with_rows_alike (strictly None kind document day) (strictly (Some names) kind document day)
+    (strictly_alike names kind document day) 2 [] rs)
+
+rows_by_alike : (names : Naming) (kind : ImportKind) (document : List ℕ) (day : CivilDay) (text : List ℕ)
+    (layout : Option (ℕ × Columns))
+    → AreAlikeFiles (rows_by None kind document day text layout) (rows_by (Some names) kind document day text layout)
+rows_by_alike names kind document day text None = inr refl
+rows_by_alike names kind document day text (Some layout) =
+    with_rows_alike (loosely None kind document day layout.1) (loosely (Some names) kind document day layout.1)
+    (loosely_alike names kind document day layout.1) 2 [] (drop 1 (records (config_by layout.0) text))
+
+text_alike : (loose : Bool) (names : Naming) (kind : ImportKind) (document : List ℕ) (day : CivilDay) (text : List ℕ)
+    → AreAlikeFiles (rows_of_text loose None kind document day text)
+    (rows_of_text loose (Some names) kind document day text)
+text_alike false names kind document day text = rows_alike names kind document day (records default_config text)
+text_alike true names kind document day text =
+    rows_by_alike names kind document day text (layout_by kind text separators)
 
 pub names_change_files_little : NamesChangeFilesLittle
-names_change_files_little names kind document day bytes =
+names_change_files_little loose names kind document day bytes =
     later_row (at 0 (must TooLong (nat_le (length bytes) 16777216)))
-    (λ fits. rows_in None kind document day (records default_config (strip_bom bytes)))
-    (λ fits. rows_in (Some names) kind document day (records default_config (strip_bom bytes)))
-    (λ fits. rows_alike names kind document day (records default_config (strip_bom bytes)))
+    (λ fits. rows_of_text loose None kind document day (strip_bom bytes))
+    (λ fits. rows_of_text loose (Some names) kind document day (strip_bom bytes))
+    (λ fits. text_alike loose names kind document day (strip_bom bytes))

@@ -13,3 +13,7 @@ pub mod Alike
 pub mod Words
 pub mod AlikeFiles
 pub mod LineFaults
+pub mod Layouts
+pub mod ColumnFacts
+pub mod RowFaults
+pub mod LooseFiles

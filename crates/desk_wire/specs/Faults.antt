@@ -1,10 +1,12 @@
 -- The faults' names, and the fields that they tell.
 use Rattle.std.specs.Prelude.{ℕ, List, codes, Option, Some, None}
+use Rattle.std.specs.Prelude.{option_map, string_bytes}
 use Rattle.desk_wire.specs.declared.fault.What.{What}
 use Rattle.desk_wire.specs.declared.fault.What.TheVariants.{TooLong, NotJson, NotObject, NoField, WrongType}
 use Rattle.desk_wire.specs.declared.fault.What.TheVariants.{UnknownCommand, UnknownField, BadKey, BadDay}
 use Rattle.desk_wire.specs.declared.fault.What.TheVariants.{BadText, BadSerials, BadWord}
 use Rattle.desk_wire.specs.declared.fault.What.TheVariants.{NoName, Ambiguous, Csv, Header}
+use Rattle.desk_wire.specs.declared.fault.WrongField.{WrongField}
 
 abbrev pub fault_name : What → List ℕ
 fault_name TooLong = codes "TooLong"
@@ -23,6 +25,10 @@ fault_name (NoName field) = codes "NoName"
 fault_name (Ambiguous field) = codes "Ambiguous"
 fault_name Csv = codes "Csv"
 fault_name Header = codes "Header"
+
+-- a field that can't be read: its name, and what stands in it
+abbrev pub shown_field : WrongField → List ℕ × Option (List ℕ)
+shown_field field = (string_bytes field.name, option_map string_bytes field.text)
 
 -- the name of the field that is wrong, where the fault tells it
 abbrev pub fault_field : What → Option (List ℕ)

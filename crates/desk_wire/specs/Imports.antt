@@ -1,6 +1,7 @@
 -- What a file of comma-separated values asks, or its first fault.
-use Rattle.std.specs.Prelude.{ℕ, ◌≡◌, ◌⊎◌, ◌+◌, ◌==◌, ◌++◌, ◌∷◌, List, [], length, nat_le, codes}
-use Rattle.std.specs.Prelude.{decimal, Option, Some, None, unwrap_or, Result, Ok, Err}
+use Rattle.std.specs.Prelude.{ℕ, ◌≡◌, ◌⊎◌, ◌+◌, ◌==◌, ◌&&◌, ◌||◌, ◌++◌, ◌∷◌, List, [], length, map, drop, nat_le, codes}
+use Rattle.std.specs.Prelude.{decimal, Bool, true, false, if◌then◌else◌, Option, Some, None, option_map, option_and_then}
+use Rattle.std.specs.Prelude.{unwrap_or, Result, Ok, Err}
 use Rattle.std.specs.Str.{bytes_eq}
 use Rattle.std.specs.Cmp.Lexicographic.{pointwise}
 use Rattle.csv.specs.Reading.{default_config, records, strip_bom}
@@ -16,17 +17,18 @@ use Rattle.desk_core.specs.declared.command.Command.TheVariants.{Order, Stock}
 use Rattle.desk_wire.specs.declared.fault.What.{What}
 use Rattle.desk_wire.specs.declared.fault.What.TheVariants.{TooLong, Csv, Header, WrongType}
 use Rattle.desk_wire.specs.declared.fault.WireFault.{WireFault}
-use Rattle.desk_wire.specs.declared.fault.Unread.{Unread}
-use Rattle.desk_wire.specs.declared.fault.Unread.TheVariants.{Memory, Wrong}
 use Rattle.desk_wire.specs.declared.kind.ImportKind.{ImportKind}
 use Rattle.desk_wire.specs.declared.kind.ImportKind.TheVariants.{Receipts, Counts}
 use Rattle.desk_wire.specs.declared.row.ImportRow.{ImportRow}
-use Rattle.desk_wire.specs.Steps.{◌>>=◌, or_fault, must, at}
+use Rattle.desk_wire.specs.declared.fault.FileError.{FileError}
+use Rattle.desk_wire.specs.declared.fault.FileError.TheVariants as error
+use Rattle.desk_wire.specs.Faults.{shown_field}
+use Rattle.desk_wire.specs.Steps.{◌>>=◌, or_fault, must, at, at_fault}
 use Rattle.desk_wire.specs.Texts.{row_text_from, listed}
 use Rattle.desk_wire.specs.Numbers.{row_number_in}
 use Rattle.desk_wire.specs.RowWords.{number_of, row_at_word}
 use Rattle.desk_wire.specs.Kinds.{import_kind_name}
-use Rattle.desk_wire.specs.Records.{Fields, are_texts}
+use Rattle.desk_wire.specs.Records.{Fields, are_texts, config_by}
 
 -- ---- one record
 
@@ -81,28 +83,227 @@ row_of names kind document day fields = do
     request = record { key = Some (key_of kind document number); day = day; command = command };
   })
 
+-- ---- the columns of a file: what stands between two fields, and where each of the row's fields stands
+
+-- what may stand between two fields of a file that is read loosely: a comma, a semicolon or a tab
+abbrev pub separators : List ℕ
+separators = 44 ∷ 59 ∷ 9 ∷ []
+
+-- where each of the row's fields stands, of which one that has no column is empty; and how many fields a record has at
+-- most
+pub record Columns : Type 0 where
+  pub places : List (Option ℕ)
+  pub width : ℕ
+
+-- at which places the name stands, from that place on
+abbrev pub places_from : ℕ → List ℕ → Fields → List ℕ
+places_from i name [] = []
+places_from i name (f ∷ fs) =
+    if bytes_eq name f then i ∷ places_from (i + 1) name fs else places_from (i + 1) name fs
+
+-- a batch and serials may have no column
+abbrev pub may_lack : List ℕ → Bool
+may_lack name = bytes_eq name (codes "batch") || bytes_eq name (codes "serials")
+
+-- the column of a name, if it has just one, or, where it may, none
+abbrev pub column_by : List ℕ → List ℕ → Option (Option ℕ)
+column_by name [] = if may_lack name then Some None else None
+column_by name (i ∷ []) = Some (Some i)
+column_by name (i ∷ j ∷ js) = None
+
+-- the column of each name in a header
+abbrev pub places_of : List (List ℕ) → Fields → Option (List (Option ℕ))
+places_of [] header = Some []
+places_of (name ∷ names) header =
+    option_and_then (λ place. option_map (λ places. place ∷ places) (places_of names header))
+    (column_by name (places_from 0 name header))
+
+-- the columns that a file's first record names, whatever else it names
+abbrev pub columns_of : ImportKind → Fields → Option Columns
+columns_of kind header =
+    if are_texts header
+    then option_map (λ places. record { places = places; width = length header }) (places_of (names_of kind) header)
+    else None
+
+abbrev pub field_at_place : Option ℕ → Fields → List ℕ
+field_at_place None fields = []
+field_at_place (Some i) fields = field i fields
+
+-- the row's fields, in their order, out of a record; one that the record ends before is empty
+abbrev pub arranged : Columns → Fields → Fields
+arranged columns fields = map (λ place. field_at_place place fields) columns.places
+
+-- which of the row's fields is the quantity
+abbrev pub quantity_at : ImportKind → ℕ
+quantity_at Receipts = 3
+quantity_at Counts = 2
+
+-- ---- how a record is read
+
+-- the row that a record is, or none where it is left out; or its first fault
+abbrev pub Reads : Type 0
+Reads = Fields → Result (Option ImportRow) What
+
+-- each record is a row
+abbrev pub strictly : Option Naming → ImportKind → List ℕ → CivilDay → Reads
+strictly names kind document day fields = do
+  row ← row_of names kind document day fields
+  Ok (Some row)
+
+-- A record without a quantity is left out, and so is an empty one. Any other is a row by its columns: `Csv` where it has
+-- more fields than the header.
+unfoldable pub loosely : Option Naming → ImportKind → List ℕ → CivilDay → Columns → Reads
+loosely names kind document day columns fields = do
+  texts ← must Csv (are_texts fields)
+  by_quantity (field (quantity_at kind) (arranged columns fields))
+  where
+    by_quantity : List ℕ → Result (Option ImportRow) What
+    by_quantity [] = Ok None
+    by_quantity (b ∷ bs) = do
+      fits ← must Csv (nat_le (length fields) columns.width)
+      strictly names kind document day (arranged columns fields)
+
 -- ---- all records
 
+-- a row, if there is one
+abbrev pub row_list : Option ImportRow → List ImportRow
+row_list None = []
+row_list (Some row) = row ∷ []
+
 -- these rows, and then those that the records are, of which the first has the number; or the first fault
-abbrev pub with_rows : Option Naming → ImportKind → List ℕ → CivilDay → ℕ → List ImportRow → List Fields
-    → Result (List ImportRow) WireFault
-with_rows names kind document day number rows [] = Ok rows
-with_rows names kind document day number rows (r ∷ rs) = do
-  row ← at number (row_of names kind document day r)
-  with_rows names kind document day (number + 1) (rows ++ row ∷ []) rs
+abbrev pub with_rows : Reads → ℕ → List ImportRow → List Fields → Result (List ImportRow) WireFault
+with_rows reads number rows [] = Ok rows
+with_rows reads number rows (r ∷ rs) = do
+  row ← at number (reads r)
+  with_rows reads (number + 1) (rows ++ row_list row) rs
 
 -- the rows under the header
 abbrev pub rows_in : Option Naming → ImportKind → List ℕ → CivilDay → List Fields → Result (List ImportRow) WireFault
 rows_in names kind document day [] = at 1 (Err Header)
 rows_in names kind document day (r ∷ rs) = do
   header ← at 1 (must Header (pointwise bytes_eq (names_of kind) r))
-  with_rows names kind document day 2 [] rs
+  with_rows (strictly names kind document day) 2 [] rs
+
+-- ---- loosely
+
+-- the columns that the first of these records names
+abbrev pub first_columns : ImportKind → List Fields → Option Columns
+first_columns kind [] = None
+first_columns kind (r ∷ rs) = columns_of kind r
+
+-- the first of these separators by which the first record names the columns, with the columns
+abbrev pub layout_by : ImportKind → List ℕ → List ℕ → Option (ℕ × Columns)
+layout_by kind text [] = None
+layout_by kind text (s ∷ ss) =
+    by_columns (first_columns kind (records (config_by s) text)) (layout_by kind text ss)
+  where
+    by_columns : Option Columns → Option (ℕ × Columns) → Option (ℕ × Columns)
+    by_columns None others = others
+    by_columns (Some columns) others = Some (s, columns)
+
+-- the rows under the header, by the columns that it names
+abbrev pub rows_by : Option Naming → ImportKind → List ℕ → CivilDay → List ℕ → Option (ℕ × Columns)
+    → Result (List ImportRow) WireFault
+rows_by names kind document day text None = at 1 (Err Header)
+rows_by names kind document day text (Some layout) =
+    with_rows (loosely names kind document day layout.1) 2 [] (drop 1 (records (config_by layout.0) text))
+
+-- the rows of a text, strictly or loosely
+abbrev pub rows_of_text : Bool → Option Naming → ImportKind → List ℕ → CivilDay → List ℕ
+    → Result (List ImportRow) WireFault
+rows_of_text false names kind document day text = rows_in names kind document day (records default_config text)
+rows_of_text true names kind document day text = rows_by names kind document day text (layout_by kind text separators)
 
 -- the rows of a file, by one naming for all
-abbrev pub import : Option Naming → ImportKind → List ℕ → CivilDay → List ℕ → Result (List ImportRow) WireFault
-import names kind document day bytes = do
+abbrev pub import : Bool → Option Naming → ImportKind → List ℕ → CivilDay → List ℕ → Result (List ImportRow) WireFault
+import loose names kind document day bytes = do
   fits ← at 0 (must TooLong (nat_le (length bytes) 16777216))
-  rows_in names kind document day (records default_config (strip_bom bytes))
+  rows_of_text loose names kind document day (strip_bom bytes)
+
+-- ---- what is wrong with a record
+
+-- the name of a field, and what stands in it
+abbrev pub Wrong : Type 0
+Wrong = List ℕ × Option (List ℕ)
+
+-- the name of the first field of a row that can't be read, and what stands in it
+abbrev pub wrong_in_row : Option Naming → ImportKind → Fields → Option Wrong
+wrong_in_row names Receipts row =
+    at_fault (codes "number") (Some (field 0 row)) (or_fault WrongType (row_number_in (field 0 row)))
+    (at_fault (codes "line") (Some (field 1 row)) (row_at_word names table.OrderLine (codes "line") (field 1 row))
+    (at_fault (codes "location") (Some (field 2 row)) (row_at_word names table.Location (codes "location") (field 2 row))
+    (at_fault (codes "quantity") (Some (field 3 row)) (number_of (field 3 row))
+    (at_fault (codes "batch") (Some (field 4 row)) (batch_of (field 4 row))
+    (at_fault (codes "serials") (Some (field 5 row)) (serials_of (field 5 row)) None)))))
+wrong_in_row names Counts row =
+    at_fault (codes "number") (Some (field 0 row)) (or_fault WrongType (row_number_in (field 0 row)))
+    (at_fault (codes "item") (Some (field 1 row)) (row_at_word names table.Item (codes "item") (field 1 row))
+    (at_fault (codes "quantity") (Some (field 2 row)) (number_of (field 2 row)) None))
+
+-- the first of these records that can't be read
+abbrev pub first_wrong : Reads → List Fields → Option Fields
+first_wrong reads [] = None
+first_wrong reads (r ∷ rs) = by_reading (reads r) (first_wrong reads rs)
+  where
+    by_reading : Result (Option ImportRow) What → Option Fields → Option Fields
+    by_reading (Ok row) others = others
+    by_reading (Err what) others = Some r
+
+-- what is wrong in the first of these records that can't be read, where each is as long as the header says
+abbrev pub wrong_strictly : Option Naming → ImportKind → Option Fields → Option Wrong
+wrong_strictly names kind None = None
+wrong_strictly names kind (Some r) =
+    if are_texts r && (length r == length (names_of kind)) then wrong_in_row names kind r else None
+
+-- the same by columns
+abbrev pub wrong_loosely : Option Naming → ImportKind → Columns → Option Fields → Option Wrong
+wrong_loosely names kind columns None = None
+wrong_loosely names kind columns (Some r) =
+    if are_texts r && nat_le (length r) columns.width then wrong_in_row names kind (arranged columns r) else None
+
+abbrev pub wrong_by : Option Naming → ImportKind → List ℕ → CivilDay → List ℕ → Option (ℕ × Columns)
+    → Option Wrong
+wrong_by names kind document day text None = None
+wrong_by names kind document day text (Some layout) =
+    wrong_loosely names kind layout.1
+    (first_wrong (loosely names kind document day layout.1) (drop 1 (records (config_by layout.0) text)))
+
+-- under the header, where it is one
+abbrev pub wrong_under : Option Naming → ImportKind → List ℕ → CivilDay → List Fields → Option Wrong
+wrong_under names kind document day [] = None
+wrong_under names kind document day (r ∷ rs) =
+    if pointwise bytes_eq (names_of kind) r
+    then wrong_strictly names kind (first_wrong (strictly names kind document day) rs)
+    else None
+
+abbrev pub wrong_in_text : Bool → Option Naming → ImportKind → List ℕ → CivilDay → List ℕ → Option Wrong
+wrong_in_text false names kind document day text = wrong_under names kind document day (records default_config text)
+wrong_in_text true names kind document day text =
+    wrong_by names kind document day text (layout_by kind text separators)
+
+-- what is wrong in the first record of a file that can't be read, if it is one of its fields
+abbrev pub wrong_in_file : Bool → Option Naming → ImportKind → List ℕ → CivilDay → List ℕ → Option Wrong
+wrong_in_file loose names kind document day bytes =
+    if nat_le (length bytes) 16777216 then wrong_in_text loose names kind document day (strip_bom bytes) else None
+
+-- an error tells the fault of a reading, and the field that is wrong there, unless memory ran out
+abbrev pub Tells : {X : Type 0} → Result X WireFault → Option Wrong → FileError → Type 0
+Tells reading wrong error.Memory = Unit {0}
+Tells reading wrong (error.Wrong fault field) = (reading ≡ Err fault) × (option_map shown_field field ≡ wrong)
+
+-- what was answered is the rows of the file, or its first fault, with what is wrong there
+abbrev pub Imports : Bool → Option Naming → ImportKind → List ℕ → CivilDay → List ℕ
+    → Result (List ImportRow) FileError → Type 0
+Imports loose names kind document day bytes (Ok rows) = import loose names kind document day bytes ≡ Ok rows
+Imports loose names kind document day bytes (Err e) =
+    Tells (import loose names kind document day bytes) (wrong_in_file loose names kind document day bytes) e
+
+-- a file that is read strictly is read so loosely
+abbrev pub LooseReadsStrict : Type 0
+LooseReadsStrict =
+    (names : Option Naming) (kind : ImportKind) (document : List ℕ) (day : CivilDay) (bytes : List ℕ)
+    (rows : List ImportRow) → import false names kind document day bytes ≡ Ok rows
+    → import true names kind document day bytes ≡ Ok rows
 
 -- ---- what names change
 
@@ -114,16 +315,5 @@ AreAlikeFiles off on =
 -- a file is read with names as it is without, but for what has a value of a wrong type
 abbrev pub NamesChangeFilesLittle : Type 0
 NamesChangeFilesLittle =
-    (names : Naming) (kind : ImportKind) (document : List ℕ) (day : CivilDay) (bytes : List ℕ)
-    → AreAlikeFiles (import None kind document day bytes) (import (Some names) kind document day bytes)
-
--- ---- what the code reads at a time
-
--- the next record was read: as a row, or as one that is wrong, or there was none
-abbrev pub ReadsRow : (Fields → Result ImportRow What) → List Fields → List Fields
-    → Result (Option ImportRow) Unread → Type 0
-ReadsRow reading old new (Ok None) = old ≡ []
-ReadsRow reading old new (Ok (Some row)) = (fields : Fields) × (old ≡ fields ∷ new) × (reading fields ≡ Ok row)
-ReadsRow reading old new (Err Memory) = Unit {0}
-ReadsRow reading old new (Err (Wrong what)) =
-    (fields : Fields) × (rest : List Fields) × (old ≡ fields ∷ rest) × (reading fields ≡ Err what)
+    (loose : Bool) (names : Naming) (kind : ImportKind) (document : List ℕ) (day : CivilDay) (bytes : List ℕ)
+    → AreAlikeFiles (import loose None kind document day bytes) (import loose (Some names) kind document day bytes)

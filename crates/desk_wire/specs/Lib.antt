@@ -19,3 +19,4 @@ pub mod SerialLists
 pub mod RowCommands
 pub mod NumberedRequests
 pub mod ImportRows
+pub mod Layouts

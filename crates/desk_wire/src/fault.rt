@@ -38,9 +38,11 @@ pub enum What {
     NoName(FieldName),
     /// Several rows have the name that stands in that field.
     Ambiguous(FieldName),
-    /// A record of a file isn't text in UTF-8, or has another number of fields than the header.
+    /// A record of a file isn't text in UTF-8, or has another number of fields than the header:
+    /// where the file is read loosely, more fields.
     Csv,
-    /// The first record of a file isn't the header, or there is none.
+    /// The first record of a file isn't the header, or there is none. Where the file is read
+    /// loosely, it doesn't name each column just once.
     Header,
 }
 
@@ -92,10 +94,19 @@ pub struct WireFault {
 /// A field that can't be read.
 #[derive(Drop)]
 pub struct WrongField {
-    /// The name of a member of a line.
+    /// The name of a member of a line, or of a column of a file.
     pub name: String,
-    /// What stands there, as JSON. A member that is missing has none.
+    /// What stands there: a value as JSON, or the text of a column. A member that is missing has none.
     pub text: Option<String>,
+}
+
+/// Why a file wasn't read.
+#[derive(Drop)]
+pub enum FileError {
+    /// A growth was refused, as memory ran out.
+    Memory,
+    /// The first fault of the file, and the field of its record that can't be read, where it is a field.
+    Wrong(WireFault, Option<WrongField>),
 }
 
 /// Why a line, or a file, wasn't read.
@@ -145,5 +156,27 @@ impl<T: Drop> From<AllocFailed<T>> for ReadError {
 
     fn from(_: AllocFailed<T>) -> Self {
         ReadError::Memory
+    }
+}
+
+impl From<AllocError> for FileError {
+    ghost use Rattle.std.specs.Prelude.{◌≡◌};
+    ghost use Rattle.desk_wire.specs.declared.fault.FileError.TheVariants.{Memory};
+
+    ghost from_gives = { λ _ error. error ≡ Memory };
+
+    fn from(_: AllocError) -> Self {
+        FileError::Memory
+    }
+}
+
+impl<T: Drop> From<AllocFailed<T>> for FileError {
+    ghost use Rattle.std.specs.Prelude.{◌≡◌};
+    ghost use Rattle.desk_wire.specs.declared.fault.FileError.TheVariants.{Memory};
+
+    ghost from_gives = { λ _ error. error ≡ Memory };
+
+    fn from(_: AllocFailed<T>) -> Self {
+        FileError::Memory
     }
 }

@@ -1,17 +1,23 @@
 //! A file of comma-separated values, as the rows that it is.
-ghost use Rattle.std.specs.Prelude.{◌≡◌, [], IfOk, IsSome, MatchResult, Ok, option_map};
-ghost use Rattle.desk_wire.specs.declared.fault.ReadError.TheVariants.{Wrong};
+ghost use Rattle.std.specs.Prelude.{◌≡◌, [], IfOk, IsSome, MatchResult, None, Ok, Err};
+ghost use Rattle.std.specs.Prelude.{false, true, option_map};
+ghost use Rattle.csv.specs.Reading.{strip_bom};
+ghost use Rattle.desk_wire.specs.declared.fault.FileError.TheVariants.{Wrong};
 ghost use Rattle.desk_wire.specs.declared.fault.What.TheVariants.{Header};
 ghost use Rattle.desk_wire.specs.declared.kind.ImportKind.TheVariants as kinds;
 ghost use Rattle.desk_wire.specs.Records.{IsReading, left};
-ghost use Rattle.desk_wire.specs.Steps.{FailsIn};
-ghost use Rattle.desk_wire.specs.Imports.{NamesChangeFilesLittle, ReadsRow, import, row_of, with_rows};
+ghost use Rattle.desk_wire.specs.Layouts.{ReadsRow, reads_by, wrong_in};
+ghost use Rattle.desk_wire.specs.Imports.{Imports, LooseReadsStrict, NamesChangeFilesLittle, Tells};
+ghost use Rattle.desk_wire.specs.Imports.{first_wrong, import, rows_of_text, with_rows};
+ghost use Rattle.desk_wire.specs.Imports.{wrong_in_text};
 
+use crate::columns::layout_of;
 use crate::document::Document;
-use crate::fault::{ReadError, Unread, What, WireFault};
+use crate::fault::{FileError, Unread, What, WireFault};
 use crate::kind::ImportKind;
+use crate::layout::{Layout, row_by};
 use crate::records::{next_record, records_of};
-use crate::row::{ImportRow, is_header, row};
+use crate::row::{ImportRow, is_header};
 use csv::{Reader, StringRecord};
 use desk_core::Names;
 use part_core::Day;
@@ -21,34 +27,45 @@ use std::alloc::Global;
 const MOST_BYTES: usize = 16_777_216;
 
 /// The file has no header.
-fn no_header() -> ReadError
-    ensures { result ≡ Wrong (record { line = 1; what = Header }) }
+fn no_header() -> FileError
+    ensures { result ≡ Wrong (record { line = 1; what = Header }) None }
 {
-    ReadError::Wrong(WireFault {
-        line: 1,
-        what: What::Header,
-    })
+    FileError::Wrong(
+        WireFault {
+            line: 1,
+            what: What::Header,
+        },
+        None,
+    )
 }
 
-/// Reads the next record, where there is one, as a row.
+/// Reads the next record, of that number, where there is one: as a row, or as one that is left out.
 fn next_row<N: Names>(
     alloc: Global,
     names: Option<&N>,
+    layout: &Layout,
     reader: &mut Reader<&[u8]>,
     fields: &mut StringRecord,
+    number: u64,
     kind: ImportKind,
     document: &Document,
     day: Day,
-) -> Result<Option<ImportRow>, Unread>
+) -> Result<Option<Option<ImportRow>>, FileError>
     requires { IsReading reader.old }
-    ensures row { ReadsRow (row_of (option_map (λ n. N.naming_of n.now) names.entry) kind document.now
-        day) (left reader.old) (left reader.new) result }
+    ensures row { let naming = option_map (λ n. N.naming_of n.now) names.entry in
+        ReadsRow (reads_by naming kind document.now day layout.now)
+        (wrong_in naming kind layout.now) number (left reader.old) (left reader.new) result }
     ensures reading { IfOk result (λ row. IsSome row → IsReading reader.new) }
 {
-    if !next_record(reader, fields)? {
-        return Ok(None);
+    match next_record(reader, fields) {
+        Ok(true) => {}
+        Ok(false) => return Ok(None),
+        Err(Unread::Memory) => return Err(FileError::Memory),
+        Err(Unread::Wrong(what)) => {
+            return Err(FileError::Wrong(WireFault { line: number, what }, None));
+        }
     }
-    let row = row(alloc, names, kind, document, day, fields)?;
+    let row = row_by(alloc, names, layout, number, kind, document, day, fields)?;
     Ok(Some(row))
 }
 
@@ -56,70 +73,141 @@ fn next_row<N: Names>(
 fn rows<N: Names>(
     alloc: Global,
     names: Option<&N>,
+    layout: &Layout,
     reader: &mut Reader<&[u8]>,
-    fields: &mut StringRecord,
     kind: ImportKind,
     document: &Document,
     day: Day,
-) -> Result<Vec<ImportRow>, ReadError>
+) -> Result<Vec<ImportRow>, FileError>
     requires { IsReading reader.old }
-    ensures { MatchResult result
-        (λ rows. with_rows (option_map (λ n. N.naming_of n.now) names.entry) kind document.now day 2 []
-        (left reader.old) ≡ Ok rows.items)
-        (λ error. FailsIn error (with_rows (option_map (λ n. N.naming_of n.now) names.entry) kind
-        document.now day 2 [] (left reader.old))) }
+    ensures { let naming = option_map (λ n. N.naming_of n.now) names.entry in
+        let reads = reads_by naming kind document.now day layout.now in
+        MatchResult result (λ rows. with_rows reads 2 [] (left reader.old) ≡ Ok rows.items)
+        (Tells (with_rows reads 2 [] (left reader.old))
+        (wrong_in naming kind layout.now (first_wrong reads (left reader.old)))) }
 {
     let mut rows = Vec::new(alloc);
+    let mut fields = StringRecord::new(alloc);
     for number in 2..u64::MAX {
-        match next_row(alloc, names, reader, fields, kind, document, day) {
-            Ok(Some(row)) => rows.push(row)?,
-            Ok(None) => return Ok(rows),
-            Err(Unread::Memory) => return Err(ReadError::Memory),
-            Err(Unread::Wrong(what)) => {
-                return Err(ReadError::Wrong(WireFault { line: number, what }));
-            }
+        match next_row(
+            alloc,
+            names,
+            layout,
+            reader,
+            &mut fields,
+            number,
+            kind,
+            document,
+            day,
+        )? {
+            Some(Some(row)) => rows.push(row)?,
+            Some(None) => {}
+            None => return Ok(rows),
         }
     }
-    Err(ReadError::Memory)
+    Err(FileError::Memory)
 }
 
-/// The rows of a file, each a request of the day with a key of its own, or the file's first fault with
-/// the number of its record, where the header is 1: `TooLong`, with 0, of more than 16,777,216 bytes;
-/// `Header` where the first record isn't the header; then `Csv`, `WrongType`, `BadText` and
-/// `BadSerials` of the rows, and those of a row's name. Where the books are handed in, a field that is the number of a
-/// row may have its name: the books as they are before the first row, so no name calls a row that the file makes.
-pub fn import_rows<N: Names>(
+/// The rows of a file whose first record is the header.
+fn strict_rows<N: Names>(
     alloc: Global,
     names: Option<&N>,
     bytes: &[u8],
     kind: ImportKind,
     document: &Document,
     day: Day,
-) -> Result<Vec<ImportRow>, ReadError>
-    ensures { MatchResult result
-        (λ rows. import (option_map (λ n. N.naming_of n.now) names.entry) kind document.now day bytes.now
-        ≡ Ok rows.items)
-        (λ error. FailsIn error (import (option_map (λ n. N.naming_of n.now) names.entry) kind
-        document.now day bytes.now)) }
+) -> Result<Vec<ImportRow>, FileError>
+    ensures { let naming = option_map (λ n. N.naming_of n.now) names.entry in
+        let reading = rows_of_text false naming kind document.now day (strip_bom bytes.now) in
+        MatchResult result (λ rows. reading ≡ Ok rows.items)
+        (Tells reading (wrong_in_text false naming kind document.now day (strip_bom bytes.now))) }
 {
-    if bytes.len() > MOST_BYTES {
-        return Err(ReadError::Wrong(WireFault {
-            line: 0,
-            what: What::TooLong,
-        }));
-    }
-    let mut reader = records_of(alloc, bytes);
-    let mut fields = StringRecord::new(alloc);
-    match next_record(&mut reader, &mut fields) {
+    let mut reader = records_of(alloc, b',', bytes);
+    let mut header = StringRecord::new(alloc);
+    match next_record(&mut reader, &mut header) {
         Ok(true) => {}
         Ok(false) => return Err(no_header()),
         Err(Unread::Wrong(_)) => return Err(no_header()),
-        Err(Unread::Memory) => return Err(ReadError::Memory),
+        Err(Unread::Memory) => return Err(FileError::Memory),
     }
-    if !is_header(kind, &fields) {
+    if !is_header(kind, &header) {
         return Err(no_header());
     }
-    rows(alloc, names, &mut reader, &mut fields, kind, document, day)
+    let layout = Layout::Strict;
+    rows(alloc, names, &layout, &mut reader, kind, document, day)
+}
+
+/// The rows of a file by the columns that its header names.
+fn loose_rows<N: Names>(
+    alloc: Global,
+    names: Option<&N>,
+    bytes: &[u8],
+    kind: ImportKind,
+    document: &Document,
+    day: Day,
+) -> Result<Vec<ImportRow>, FileError>
+    ensures { let naming = option_map (λ n. N.naming_of n.now) names.entry in
+        let reading = rows_of_text true naming kind document.now day (strip_bom bytes.now) in
+        MatchResult result (λ rows. reading ≡ Ok rows.items)
+        (Tells reading (wrong_in_text true naming kind document.now day (strip_bom bytes.now))) }
+{
+    let Some((separator, columns)) = layout_of(alloc, kind, bytes)? else {
+        return Err(no_header());
+    };
+    let mut reader = records_of(alloc, separator, bytes);
+    let mut header = StringRecord::new(alloc);
+    // By this record the columns were found.
+    match next_record(&mut reader, &mut header) {
+        Ok(true) => {}
+        Ok(false) => return Err(no_header()),
+        Err(Unread::Wrong(_)) => return Err(no_header()),
+        Err(Unread::Memory) => return Err(FileError::Memory),
+    }
+    let layout = Layout::Loose(columns);
+    rows(alloc, names, &layout, &mut reader, kind, document, day)
+}
+
+/// The rows of a file, each a request of the day with a key of its own, or the file's first fault
+/// with the number of its record, where the header is 1: `TooLong`, with 0, of more than 16,777,216
+/// bytes; `Header` where the first record isn't the header; then `Csv`, `WrongType`, `BadText` and
+/// `BadSerials` of the rows, and those of a row's name. Beside a fault stands the field that can't
+/// be read, where it is a field. Where the books are handed in, a field that is the number of a row
+/// may have its name: the books as they are before the first row, so no name calls a row that the
+/// file makes.
+///
+/// A file that is read loosely has a comma, a semicolon or a tab between two fields, and its
+/// columns in any order, beside others. `batch` and `serials` may have no column. A record without
+/// a quantity is left out, one may end before its last fields, and `Csv` is one of more fields than
+/// the header. `Header` is the fault where no separator makes the first record name each column
+/// just once.
+pub fn import_rows<N: Names>(
+    alloc: Global,
+    loose: bool,
+    names: Option<&N>,
+    bytes: &[u8],
+    kind: ImportKind,
+    document: &Document,
+    day: Day,
+) -> Result<Vec<ImportRow>, FileError>
+    ensures { let naming = option_map (λ n. N.naming_of n.now) names.entry in
+        MatchResult result
+        (λ rows. import loose naming kind document.now day bytes.now ≡ Ok rows.items)
+        (λ error. Imports loose naming kind document.now day bytes.now (Err error)) }
+{
+    if bytes.len() > MOST_BYTES {
+        return Err(FileError::Wrong(
+            WireFault {
+                line: 0,
+                what: What::TooLong,
+            },
+            None,
+        ));
+    }
+    if loose {
+        loose_rows(alloc, names, bytes, kind, document, day)
+    } else {
+        strict_rows(alloc, names, bytes, kind, document, day)
+    }
 }
 
 /// The receipts of a document: `receive` with the keys `receipts/DOCUMENT/NUMBER`.
@@ -129,14 +217,21 @@ pub fn import_receipts<N: Names>(
     bytes: &[u8],
     document: &Document,
     day: Day,
-) -> Result<Vec<ImportRow>, ReadError>
-    ensures { MatchResult result
-        (λ rows. import (option_map (λ n. N.naming_of n.now) names.entry) kinds.Receipts document.now day
-        bytes.now ≡ Ok rows.items)
-        (λ error. FailsIn error (import (option_map (λ n. N.naming_of n.now) names.entry)
-        kinds.Receipts document.now day bytes.now)) }
+) -> Result<Vec<ImportRow>, FileError>
+    ensures { let naming = option_map (λ n. N.naming_of n.now) names.entry in
+        MatchResult result
+        (λ rows. import false naming kinds.Receipts document.now day bytes.now ≡ Ok rows.items)
+        (λ error. Imports false naming kinds.Receipts document.now day bytes.now (Err error)) }
 {
-    import_rows(alloc, names, bytes, ImportKind::Receipts, document, day)
+    import_rows(
+        alloc,
+        false,
+        names,
+        bytes,
+        ImportKind::Receipts,
+        document,
+        day,
+    )
 }
 
 /// The counts of a document: `count` with the keys `counts/DOCUMENT/NUMBER`.
@@ -146,17 +241,29 @@ pub fn import_counts<N: Names>(
     bytes: &[u8],
     document: &Document,
     day: Day,
-) -> Result<Vec<ImportRow>, ReadError>
-    ensures { MatchResult result
-        (λ rows. import (option_map (λ n. N.naming_of n.now) names.entry) kinds.Counts document.now day
-        bytes.now ≡ Ok rows.items)
-        (λ error. FailsIn error (import (option_map (λ n. N.naming_of n.now) names.entry) kinds.Counts
-        document.now day bytes.now)) }
+) -> Result<Vec<ImportRow>, FileError>
+    ensures { let naming = option_map (λ n. N.naming_of n.now) names.entry in
+        MatchResult result
+        (λ rows. import false naming kinds.Counts document.now day bytes.now ≡ Ok rows.items)
+        (λ error. Imports false naming kinds.Counts document.now day bytes.now (Err error)) }
 {
-    import_rows(alloc, names, bytes, ImportKind::Counts, document, day)
+    import_rows(
+        alloc,
+        false,
+        names,
+        bytes,
+        ImportKind::Counts,
+        document,
+        day,
+    )
 }
 
 /// The law that with names a file is read as it is without, but for one with a value of a wrong type.
 pub fn names_change_files_little()
     ensures { NamesChangeFilesLittle }
+{}
+
+/// The law that a file which is read strictly is read so loosely.
+pub fn loose_reads_strict()
+    ensures { LooseReadsStrict }
 {}

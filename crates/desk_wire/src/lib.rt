@@ -31,17 +31,29 @@
 //! 3. of each row, in order: `Csv`, and then of its fields from left to right `WrongType`, `BadText` or
 //!    `BadSerials`.
 //!
+//! Beside the fault stands the name of the field that can't be read, with what stands in it, where
+//! it is a field of a row with as many fields as it may have.
+//!
+//! A file may be read loosely. Then a comma, a semicolon or a tab stands between two fields: the
+//! first of these by which the first record names each wanted column just once. The columns stand
+//! in any order, beside others, and `batch` and `serials` may have none. A record whose quantity is
+//! empty is left out, and one that ends before its last fields has them empty. `Csv` is a record
+//! that isn't text, or is to be a row and has more fields than the header. What is read strictly is
+//! read so loosely too.
+//!
 //! Where names are allowed, the line of a receipt, its location and the item of a count may be words that say what the
 //! row is called, in the books as they are before the first row of the file; so may a word of the command line. Such
 //! a file too is read as it is without names, but for one with a value of a wrong type.
 #![tactic(auto)]
 
+mod columns;
 mod document;
 mod fault;
 mod field_name;
 mod fields;
 mod import;
 mod kind;
+mod layout;
 mod line_faults;
 mod members;
 mod number;
@@ -50,6 +62,7 @@ mod records;
 mod report;
 mod row;
 mod row_command;
+mod row_faults;
 mod row_names;
 mod row_words;
 mod serial_count;
@@ -59,9 +72,11 @@ mod values;
 mod write;
 
 pub use document::Document;
-pub use fault::{ReadError, Unread, What, WireFault, WrongField};
+pub use fault::{FileError, ReadError, Unread, What, WireFault, WrongField};
 pub use field_name::FieldName;
-pub use import::{import_counts, import_receipts, import_rows, names_change_files_little};
+pub use import::{
+    import_counts, import_receipts, import_rows, loose_reads_strict, names_change_files_little,
+};
 pub use kind::{ImportKind, import_kind_named};
 pub use line_faults::wrong_field;
 pub use number::number_in;

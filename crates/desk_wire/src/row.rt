@@ -10,6 +10,7 @@ ghost use Rattle.desk_wire.specs.Records.{are_texts};
 ghost use Rattle.desk_wire.specs.Steps.{Gives, GivesBy};
 ghost use Rattle.desk_wire.specs.RowCommands.{command_by};
 ghost use Rattle.desk_wire.specs.Imports.{names_of, field, batch_of, serials_of, command_of, key_of, row_of};
+ghost use Rattle.desk_wire.specs.Imports.{quantity_at};
 ghost use Rattle.desk_wire.specs.RowWords.{number_of};
 
 use crate::document::Document;
@@ -69,7 +70,7 @@ impl ImportRow {
 }
 
 /// The header of a file.
-fn header(kind: ImportKind) -> &'static [&'static str]
+pub fn header(kind: ImportKind) -> &'static [&'static str]
     ensures { map (λ name. name.now) result.now ≡ names_of kind }
 {
     match kind {
@@ -78,7 +79,18 @@ fn header(kind: ImportKind) -> &'static [&'static str]
     }
 }
 
-fn field(fields: &StringRecord, index: usize) -> &str
+/// Which of a row's fields is the quantity.
+pub fn quantity_at(kind: ImportKind) -> usize
+    ensures { result ≡ quantity_at kind }
+{
+    match kind {
+        ImportKind::Receipts => 3,
+        ImportKind::Counts => 2,
+    }
+}
+
+/// The field at that place: empty where the record ends before it.
+pub fn field(fields: &StringRecord, index: usize) -> &str
     ensures { result.now ≡ field index (fields_of fields.now) }
 {
     fields.get(index).unwrap_or("")
@@ -116,7 +128,7 @@ fn number(fields: &StringRecord, index: usize) -> Result<u64, What>
 }
 
 /// A batch, or none where the field is empty.
-fn batch(alloc: Global, text: &str) -> Result<Option<Batch>, Unread>
+pub fn batch(alloc: Global, text: &str) -> Result<Option<Batch>, Unread>
     ensures { Gives result (batch_of text.now) }
 {
     if text.is_empty() {

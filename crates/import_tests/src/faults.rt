@@ -1,6 +1,6 @@
 //! What is wrong with files.
 use crate::shown::{rows_of, show, under};
-use desk_wire::{ImportKind, ReadError};
+use desk_wire::{FileError, ImportKind};
 use std::test::Fail;
 
 const RECEIPTS: &str = "number,line,location,quantity,batch,serials";
@@ -98,7 +98,7 @@ fn reads_files_of_16_mebibytes(rt: HostRuntime) -> Result<(), Fail> {
     bytes.push(b'\n')?;
     let read = rows_of(alloc, None, ImportKind::Counts, "D1", bytes.as_slice())?;
     let told = match &read {
-        Err(ReadError::Wrong(fault)) => (fault.what.name(), fault.line),
+        Err(FileError::Wrong(fault, _)) => (fault.what.name(), fault.line),
         _ => ("none", 1),
     };
     assert_eq!(rt; told, ("TooLong", 0));

@@ -1,7 +1,8 @@
 //! What a file is, as a text.
 use desk_core::{Command, Shop};
 use desk_wire::{
-    Document, ImportKind, ImportRow, ReadError, WireFault, import_counts, import_receipts,
+    Document, FileError, ImportKind, ImportRow, WireFault, WrongField, import_counts,
+    import_receipts, import_rows,
 };
 use order_core::OrderCommand;
 use part_core::{Day, Serials, Text};
@@ -81,7 +82,7 @@ pub fn rows_of(
     kind: ImportKind,
     document: &str,
     bytes: &[u8],
-) -> Result<Result<Vec<ImportRow>, ReadError>, Fail> {
+) -> Result<Result<Vec<ImportRow>, FileError>, Fail> {
     let name = String::from_str(alloc, document)?;
     let document = Document::new(name).ok_or("it is a document")?;
     let day = Day::parse("2030-03-01").ok_or("it is a day")?;
@@ -110,8 +111,39 @@ pub fn show(
     let read = rows_of(alloc, shop, kind, "D1", bytes)?;
     let text = match &read {
         Ok(rows) => show_rows(alloc, rows.as_slice())?,
-        Err(ReadError::Wrong(fault)) => show_fault(alloc, fault)?,
-        Err(ReadError::Memory) => String::from_str(alloc, "no memory")?,
+        Err(FileError::Wrong(fault, _)) => show_fault(alloc, fault)?,
+        Err(FileError::Memory) => String::from_str(alloc, "no memory")?,
+    };
+    Ok(text)
+}
+
+/// The fault, with the field that can't be read, if it is one.
+fn show_field(
+    alloc: Global,
+    fault: &WireFault,
+    field: &Option<WrongField>,
+) -> Result<String, AllocError> {
+    let mut text = show_fault(alloc, fault)?;
+    if let Some(field) = field {
+        text.push_str(": ")?;
+        text.push_str(field.name.as_str())?;
+        if let Some(there) = &field.text {
+            text.push_str(" is ")?;
+            text.push_str(there.as_str())?;
+        }
+    }
+    Ok(text)
+}
+
+/// Each row of a file of document D1 that is read strictly or loosely, or its fault with the field that can't be read.
+pub fn show_as(alloc: Global, loose: bool, kind: ImportKind, bytes: &[u8]) -> Result<String, Fail> {
+    let document = Document::new(String::from_str(alloc, "D1")?).ok_or("it is a document")?;
+    let day = Day::parse("2030-03-01").ok_or("it is a day")?;
+    let nobody = None::<&Shop>;
+    let text = match &import_rows(alloc, loose, nobody, bytes, kind, &document, day) {
+        Ok(rows) => show_rows(alloc, rows.as_slice())?,
+        Err(FileError::Wrong(fault, field)) => show_field(alloc, fault, field)?,
+        Err(FileError::Memory) => String::from_str(alloc, "no memory")?,
     };
     Ok(text)
 }

@@ -1,0 +1,139 @@
+//! A record of a file, as a row or as one that is left out.
+ghost use Rattle.std.specs.Prelude.{◌≡◌, true, Some, None, option_map};
+ghost use Rattle.csv.specs.Records.{fields_of};
+ghost use Rattle.desk_wire.specs.declared.fault.FileError.TheVariants.{Wrong};
+ghost use Rattle.desk_wire.specs.declared.fault.What.TheVariants.{Csv};
+ghost use Rattle.desk_wire.specs.Imports.{loosely, strictly};
+ghost use Rattle.desk_wire.specs.Imports.{wrong_in_row, wrong_loosely, wrong_strictly};
+ghost use Rattle.desk_wire.specs.Layouts.{IsReadAs, columns_in, reads_by, wrong_in};
+ghost use Rattle.desk_wire.specs.Records.{are_texts};
+
+use crate::columns::HeaderColumns;
+use crate::document::Document;
+use crate::fault::{FileError, Unread, What, WireFault};
+use crate::kind::ImportKind;
+use crate::row::{ImportRow, field, header, quantity_at, row};
+use crate::row_faults::wrong_field;
+use csv::StringRecord;
+use desk_core::Names;
+use part_core::Day;
+use std::alloc::Global;
+
+/// How the records of a file are read.
+#[derive(Drop)]
+pub enum Layout {
+    /// Each record is a row, with its fields in their order.
+    Strict,
+    /// Each record with a quantity is a row, by the columns that the header names.
+    Loose(HeaderColumns),
+}
+
+/// The row that these fields are. A fault tells the first field that can't be read.
+fn told_row<N: Names>(
+    alloc: Global,
+    names: Option<&N>,
+    number: u64,
+    kind: ImportKind,
+    document: &Document,
+    day: Day,
+    fields: &StringRecord,
+) -> Result<Option<ImportRow>, FileError>
+    requires { are_texts (fields_of fields.now) ≡ true }
+    ensures { let naming = option_map (λ n. N.naming_of n.now) names.entry in
+        IsReadAs (strictly naming kind document.now day (fields_of fields.now))
+        (wrong_in_row naming kind (fields_of fields.now)) number result }
+{
+    match row(alloc, names, kind, document, day, fields) {
+        Ok(row) => Ok(Some(row)),
+        Err(Unread::Memory) => Err(FileError::Memory),
+        Err(Unread::Wrong(what)) => {
+            let field = wrong_field(alloc, names, kind, fields)?;
+            Err(FileError::Wrong(WireFault { line: number, what }, field))
+        }
+    }
+}
+
+/// The record has another number of fields than the header, or more.
+fn not_so_many(number: u64) -> FileError
+    ensures { result ≡ Wrong (record { line = number; what = Csv }) None }
+{
+    FileError::Wrong(
+        WireFault {
+            line: number,
+            what: What::Csv,
+        },
+        None,
+    )
+}
+
+/// The row that a record is.
+fn strict_row<N: Names>(
+    alloc: Global,
+    names: Option<&N>,
+    number: u64,
+    kind: ImportKind,
+    document: &Document,
+    day: Day,
+    fields: &StringRecord,
+) -> Result<Option<ImportRow>, FileError>
+    requires { are_texts (fields_of fields.now) ≡ true }
+    ensures { let naming = option_map (λ n. N.naming_of n.now) names.entry in
+        IsReadAs (strictly naming kind document.now day (fields_of fields.now))
+        (wrong_strictly naming kind (Some (fields_of fields.now))) number result }
+{
+    if fields.len() != header(kind).len() {
+        return Err(not_so_many(number));
+    }
+    told_row(alloc, names, number, kind, document, day, fields)
+}
+
+/// The row that a record is by these columns: none where it has no quantity.
+fn loose_row<N: Names>(
+    alloc: Global,
+    names: Option<&N>,
+    columns: &HeaderColumns,
+    number: u64,
+    kind: ImportKind,
+    document: &Document,
+    day: Day,
+    fields: &StringRecord,
+) -> Result<Option<ImportRow>, FileError>
+    requires { are_texts (fields_of fields.now) ≡ true }
+    ensures { let naming = option_map (λ n. N.naming_of n.now) names.entry in
+        let header = columns_in columns.now in
+        IsReadAs (loosely naming kind document.now day header (fields_of fields.now))
+        (wrong_loosely naming kind header (Some (fields_of fields.now))) number result }
+{
+    let arranged = columns.arranged(alloc, fields)?;
+    if field(&arranged, quantity_at(kind)).is_empty() {
+        return Ok(None);
+    }
+    if fields.len() > columns.width() {
+        return Err(not_so_many(number));
+    }
+    told_row(alloc, names, number, kind, document, day, &arranged)
+}
+
+/// The row that a record of texts is, if it is one, or its fault, with the number of the record.
+pub fn row_by<N: Names>(
+    alloc: Global,
+    names: Option<&N>,
+    layout: &Layout,
+    number: u64,
+    kind: ImportKind,
+    document: &Document,
+    day: Day,
+    fields: &StringRecord,
+) -> Result<Option<ImportRow>, FileError>
+    requires { are_texts (fields_of fields.now) ≡ true }
+    ensures { let naming = option_map (λ n. N.naming_of n.now) names.entry in
+        IsReadAs (reads_by naming kind document.now day layout.now (fields_of fields.now))
+        (wrong_in naming kind layout.now (Some (fields_of fields.now))) number result }
+{
+    match layout {
+        Layout::Strict => strict_row(alloc, names, number, kind, document, day, fields),
+        Layout::Loose(columns) => loose_row(
+            alloc, names, columns, number, kind, document, day, fields,
+        ),
+    }
+}
