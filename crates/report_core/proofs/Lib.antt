@@ -1,13 +1,3 @@
-pub mod Adding
-pub mod BillTree
-pub mod Climbing
-pub mod Commas
-pub mod FactsLeft
-pub mod Gathered
-pub mod Left
 pub mod Padding
-pub mod Pushed
 pub mod Selected
-pub mod SpacedWords
 pub mod Uses
-pub mod WordIn

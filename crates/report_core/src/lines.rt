@@ -90,7 +90,7 @@ fn lines_value(alloc: Global, lines: &[Vec<String>]) -> Result<Value, AllocError
 
 impl Report {
     /// The report of these lines.
-    pub(crate) fn new(lines: Vec<Vec<String>>) -> Self
+    pub fn new(lines: Vec<Vec<String>>) -> Self
         ensures { result ≡ lines_of lines.items }
     {
         Report { lines }

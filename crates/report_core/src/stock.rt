@@ -14,7 +14,8 @@ use part_core::{CoreFault, Refusal, Worded};
 use std::alloc::{AllocError, Global};
 use yard_core::{Item, Place, Yard, place_text};
 
-pub(crate) fn is_gone(item: &Item) -> bool
+/// Whether the item is used up, and stands in no place any more.
+pub fn is_gone(item: &Item) -> bool
     ensures { result ≡ is_gone item.now.place }
 {
     matches!(item.place, Place::Gone)

@@ -43,7 +43,7 @@ pub fn uses_tells_walks()
 }
 
 /// The parts that contain the part of that number, in order of number. An error is one of memory.
-pub(crate) fn parts_using(shop: &Shop, number: u64) -> Result<Vec<&Part>, AllocError>
+pub fn parts_using(shop: &Shop, number: u64) -> Result<Vec<&Part>, AllocError>
     requires { IsSoundState (state_of shop.now) }
     ensures { IfOk result (λ parts. let s = state_of shop.now in map (λ p. p.now) parts.items
         ≡ filter (uses s.parts s.bills number) (part_rows s.parts)) }

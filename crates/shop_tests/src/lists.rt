@@ -12,8 +12,8 @@ use crate::requests::{
     location, order_line, part, part_in, purchase, receive, remove, sale, serialised, set_status,
 };
 use desk_core::{Request, Shop};
+use list_core::{Listing, listed};
 use part_core::{CoreFault, Flags, Limits, Refusal, Status};
-use report_core::{Listing, listed};
 use std::alloc::Global;
 use std::test::Fail;
 

@@ -1,0 +1,10 @@
+pub mod Adding
+pub mod BillTree
+pub mod Climbing
+pub mod Commas
+pub mod FactsLeft
+pub mod Gathered
+pub mod Left
+pub mod Pushed
+pub mod SpacedWords
+pub mod WordIn

@@ -1,0 +1,65 @@
+-- The list of all that there is of an item: where it is, what lies in it, and its history.
+use Rattle.std.specs.Prelude.{ℕ, List, [], ◌∷◌, ◌++◌, map, filter, decimal, codes, Option, Some, option_map}
+use Rattle.std.specs.FinMap as table
+use Rattle.part_core.specs.Catalogue.{part_in}
+use Rattle.part_core.specs.Day.{day_text}
+use Rattle.part_core.specs.Status.{status_name}
+use Rattle.forest.specs.declared.entry.Entry.{Entry}
+use Rattle.forest.specs.declared.item.Item.{Item}
+use Rattle.forest.specs.declared.place.Place.{Place}
+use Rattle.forest.specs.declared.place.Place.TheVariants.{At}
+use Rattle.yard_core.specs.Contents.{content_of}
+use Rattle.yard_core.specs.EntryLines.{kind_name, place_text}
+use Rattle.yard_core.specs.Stock.{is_entry_on}
+use Rattle.desk_core.specs.Machine.{State}
+use Rattle.report_core.specs.Fields.{name_of, text_or_empty}
+use Rattle.report_core.specs.Lines.{Lines}
+use Rattle.list_core.specs.PlaceList.{indented}
+use Rattle.list_core.specs.Ways.{way_text}
+
+abbrev pub item_header : List (List ℕ)
+item_header =
+    codes "kind" ∷ codes "number" ∷ codes "name" ∷ codes "quantity" ∷ codes "batch" ∷ codes "serial" ∷ codes "status"
+    ∷ codes "where" ∷ codes "day" ∷ []
+
+-- where something is: of a location its way
+abbrev pub where_text : State → Place → List ℕ
+where_text s (At location) = way_text (Some location) s.stock.locations
+where_text s place = place_text place
+
+-- an item under that heading, its part's name after two spaces for each item that it lies in here
+abbrev pub item_fields : List ℕ → State → Item × ℕ → List (List ℕ)
+item_fields heading s node =
+    heading
+    ∷ decimal node.0.number
+    ∷ indented node.1 (name_of (part_in node.0.part s.parts))
+    ∷ decimal node.0.quantity
+    ∷ text_or_empty node.0.lot.batch
+    ∷ text_or_empty node.0.lot.serial
+    ∷ status_name node.0.lot.status
+    ∷ where_text s node.0.place
+    ∷ []
+    ∷ []
+
+-- an entry of its history: what was done, of how many, and where
+abbrev pub history_fields : State → Entry → List (List ℕ)
+history_fields s entry =
+    codes "history"
+    ∷ decimal entry.number
+    ∷ kind_name entry.note.kind
+    ∷ decimal entry.note.quantity
+    ∷ []
+    ∷ []
+    ∷ []
+    ∷ where_text s entry.note.place
+    ∷ day_text entry.day
+    ∷ []
+
+-- the item, what lies in it, and the entries on it, in order; none where there is no such item
+abbrev pub item_list : ℕ → State → Option Lines
+item_list number s = option_map (λ item.
+    item_header
+    ∷ item_fields (codes "item") s (item, 1)
+    ∷ (map (item_fields (codes "inside") s) (content_of number s.stock)
+    ++ map (history_fields s) (filter (is_entry_on number) (table.values s.stock.history))))
+    (table.get s.stock.items (number ∷ []))

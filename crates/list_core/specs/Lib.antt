@@ -1,0 +1,14 @@
+pub mod Amounts
+pub mod BuildList
+pub mod CountSheet
+pub mod Facts
+pub mod FindList
+pub mod Gathered
+pub mod ItemList
+pub mod Listings
+pub mod OrderList
+pub mod PartList
+pub mod PlaceList
+pub mod ShortageList
+pub mod StockList
+pub mod Ways
