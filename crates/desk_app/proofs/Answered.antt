@@ -6,8 +6,8 @@ use Rattle.std.specs.Io.KnownBytes.{Appends}
 use Rattle.sqlite.specs.Tree.{Trees}
 use Rattle.desk_core.specs.Machine.{State}
 use Rattle.desk_store.specs.StateTables.{TablesAre}
-use Rattle.desk_app.specs.declared.end.Stop.{Stop}
-use Rattle.desk_app.specs.declared.end.Stop.TheVariants.{ReadFailed, WriteFailed, Memory, Store}
+use Rattle.desk_ends.specs.declared.end.Stop.{Stop}
+use Rattle.desk_ends.specs.declared.end.Stop.TheVariants.{ReadFailed, WriteFailed, Memory, Store}
 use Rattle.desk_app.specs.Answered.{AnsweredIsKept, AreAfterNoFewer}
 use Rattle.desk_app.specs.Runs.{lines_of, run_after, run_out, taken, AreTaken, BeginWith, EndsOpen, Finished, Stopped}
 use Rattle.desk_app.proofs.Running.{run_out-append}

@@ -10,14 +10,14 @@ use Rattle.desk_core.specs.Machine.{State}
 use Rattle.desk_store.specs.StateTables.{TablesAre}
 use Rattle.desk_wire.specs.declared.fault.What.TheVariants.{TooLong}
 use Rattle.desk_wire.specs.Writing.{fault_text}
-use Rattle.desk_app.specs.declared.end.RunEnd.TheVariants as ends
-use Rattle.desk_app.specs.declared.end.Stop.{Stop}
-use Rattle.desk_app.specs.declared.end.Stop.TheVariants.{ReadFailed, WriteFailed, Memory, Store}
+use Rattle.desk_ends.specs.declared.end.RunEnd.TheVariants as ends
+use Rattle.desk_ends.specs.declared.end.Stop.{Stop}
+use Rattle.desk_ends.specs.declared.end.Stop.TheVariants.{ReadFailed, WriteFailed, Memory, Store}
 use Rattle.desk_app.specs.Answered.{AnsweredIsKept}
 use Rattle.desk_app.specs.Checked.{are_readable, fault_of, faults_out, is_readable, is_short, text_faults}
 use Rattle.desk_app.specs.Checked.{told_of}
 use Rattle.desk_app.specs.Cuts.{first_of, rest_of}
-use Rattle.desk_app.specs.Ends.{end_of}
+use Rattle.desk_ends.specs.Ends.{end_of}
 use Rattle.desk_app.specs.Runs.{BeginWith, lines_of, Stopped}
 use Rattle.desk_app.proofs.Running.{lines_first}
 use Rattle.desk_app.proofs.Stopping.{none_taken}

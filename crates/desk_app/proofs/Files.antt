@@ -10,30 +10,30 @@ use Rattle.desk_app.specs.Cuts.{enough, ReadsFile}
 use Rattle.desk_app.proofs.Cutting.{enough_short}
 use Rattle.desk_app.proofs.Stepping.{long_take, short_length}
 
-import_long : (names : Option Naming) (kind : ImportKind) (document : List ℕ) (day : CivilDay) (bytes : List ℕ)
+import_long : (loose : Bool) (names : Option Naming) (kind : ImportKind) (document : List ℕ) (day : CivilDay) (bytes : List ℕ)
     → nat_le (length bytes) 16777216 ≡ false
-    → import names kind document day bytes ≡ Err (record { line = 0; what = TooLong })
-import_long names kind document day bytes e = rw e refl
+    → import loose names kind document day bytes ≡ Err (record { line = 0; what = TooLong })
+import_long loose names kind document day bytes e = rw e refl
 
 long_enough : (file : List ℕ) → nat_le (length file) 16777216 ≡ false → nat_le (length (enough file)) 16777216 ≡ false
 unfolding enough
 long_enough file e = long_take 16777216 file e
 
-import_enough : (names : Option Naming) (kind : ImportKind) (document : List ℕ) (day : CivilDay) (file : List ℕ)
-    → import names kind document day (enough file) ≡ import names kind document day file
-import_enough names kind document day file = cases (nat_le (length file) 16777216) refl
+import_enough : (loose : Bool) (names : Option Naming) (kind : ImportKind) (document : List ℕ) (day : CivilDay) (file : List ℕ)
+    → import loose names kind document day (enough file) ≡ import loose names kind document day file
+import_enough loose names kind document day file = cases (nat_le (length file) 16777216) refl
   where
     cases : (b : Bool) → nat_le (length file) 16777216 ≡ b
-        → import names kind document day (enough file) ≡ import names kind document day file
-    cases true e = ap (import names kind document day) (enough_short file (short_length 16777216 file e))
+        → import loose names kind document day (enough file) ≡ import loose names kind document day file
+    cases true e = ap (import loose names kind document day) (enough_short file (short_length 16777216 file e))
     cases false e =
-        import_long names kind document day (enough file) (long_enough file e) ∙ sym
-        (import_long names kind document day file e)
+        import_long loose names kind document day (enough file) (long_enough file e) ∙ sym
+        (import_long loose names kind document day file e)
 
 -- what is imported of it is what the whole file is
 pub imported_as_whole : (o : Option (List ℕ)) (bytes : List ℕ) → ReadsFile o bytes
-    → IfSome o (λ file. (names : Option Naming) (kind : ImportKind) (document : List ℕ) (day : CivilDay)
-    → import names kind document day bytes ≡ import names kind document day file)
+    → IfSome o (λ file. (loose : Bool) (names : Option Naming) (kind : ImportKind) (document : List ℕ) (day : CivilDay)
+    → import loose names kind document day bytes ≡ import loose names kind document day file)
 imported_as_whole None bytes h = tt
 imported_as_whole (Some file) bytes h =
-    λ names kind document day. ap (import names kind document day) h ∙ import_enough names kind document day file
+    λ loose names kind document day. ap (import loose names kind document day) h ∙ import_enough loose names kind document day file

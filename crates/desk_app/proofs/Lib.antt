@@ -11,14 +11,7 @@ pub mod SentAgain
 pub mod LineRequests
 pub mod LinesAgain
 pub mod Files
-pub mod CommandLines
-pub mod Faulty
-pub mod Parsed
-pub mod RunOn
-pub mod Told
 pub mod Closing
-pub mod Taking
 pub mod Leaving
-pub mod Escaping
 pub mod TableWords
 pub mod Tags

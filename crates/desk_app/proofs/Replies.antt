@@ -1,5 +1,5 @@
 -- What is replied to a body that is a request, or a file.
-use Rattle.std.proofs.Common.{◌≡◌, ◌∙◌, ℕ, Bool, List, [], ap, sym, refl, subst, ◌⊎◌, inl, inr}
+use Rattle.std.proofs.Common.{◌≡◌, ◌∙◌, ℕ, Bool, List, [], ap, sym, refl, subst, ◌⊎◌, inl, inr, false}
 use Rattle.std.specs.Prelude.{Option, None, Result, Ok, Err, IfErr, IfOk, OnErr}
 use Rattle.sqlite.specs.Tree.{Trees}
 use Rattle.part_core.specs.Day.{CivilDay}
@@ -98,11 +98,11 @@ ran_none (Err fault) s s' is = is
 -- the same of a file
 pub counted_file : (why : NoReply) (names : Bool) (tag : Option Tag) (s s' : State) (kind : ImportKind)
     (document : List ℕ) (day : CivilDay) (rows : List ℕ)
-    → IsFailedFile why (import (naming names s) (import_kind kind) document day rows) s s'
+    → IsFailedFile why (import false (naming names s) (import_kind kind) document day rows) s s'
     → Stops desk_machine leaves why (s, names, tag) (ImportFile kind document day rows) (s', names, raised tag)
 counted_file (Failed e) names tag s s' kind document day rows h = (h, refl, refl)
 counted_file Untold names tag s s' kind document day rows h =
-    inr (inr (ran_none (import (naming names s) (import_kind kind) document day rows) s s' h, refl, refl))
+    inr (inr (ran_none (import false (naming names s) (import_kind kind) document day rows) s s' h, refl, refl))
 
 -- ---- what is replied, with the tag
 
@@ -124,7 +124,7 @@ unreplied_line (Err why) names tag tag' s s' line h t =
 
 pub unreplied_file : (r : Result Reply NoReply) (names : Bool) (tag tag' : Option Tag) (s s' : State)
     (kind : ImportKind) (document : List ℕ) (day : CivilDay) (rows : List ℕ)
-    → IfErr r (λ why. IsFailedFile why (import (naming names s) (import_kind kind) document day rows) s s')
+    → IfErr r (λ why. IsFailedFile why (import false (naming names s) (import_kind kind) document day rows) s s')
     → OnErr r (tag' ≡ raised tag)
     → IfErr r (λ why. Stops desk_machine leaves why (s, names, tag) (ImportFile kind document day rows)
     (s', names, tag'))

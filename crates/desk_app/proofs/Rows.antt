@@ -10,9 +10,9 @@ use Rattle.desk_core.specs.Machine.{State, Outcome, step}
 use Rattle.desk_store.specs.StateTables.{TablesAre}
 use Rattle.desk_wire.specs.ImportReports.{outcome_text, report_line}
 use Rattle.desk_wire.specs.declared.row.ImportRow.{ImportRow}
-use Rattle.desk_app.specs.declared.end.Stop.{Stop}
-use Rattle.desk_app.specs.declared.end.Stop.TheVariants.{ReadFailed, WriteFailed, Memory, Store}
-use Rattle.desk_app.specs.declared.run.Told.{Told}
+use Rattle.desk_ends.specs.declared.end.Stop.{Stop}
+use Rattle.desk_ends.specs.declared.end.Stop.TheVariants.{ReadFailed, WriteFailed, Memory, Store}
+use Rattle.desk_ends.specs.declared.told.Told.{Told}
 use Rattle.desk_app.specs.Runs.{by_outcome, CutRequest, IsOfBooks, StaysOpen}
 use Rattle.desk_app.specs.ImportRuns.{are_answers, import_told, rows_after, rows_out, rows_outcomes, rows_told}
 use Rattle.desk_app.specs.ImportRuns.{AreLeftByRows, ImportStopped, IsLeftByImport, RanFront, Reading}
@@ -200,16 +200,6 @@ pub left_next : {L : Type 0} (rows : List ImportRow) (i : ℕ) (s s' s'' : State
 left_next rows i s s' s'' text fine trees run same before (inl earlier) = before earlier
 left_next rows i s s' s'' text fine trees run same before (inr tables) =
     left_running rows i s s'' text fine trees (rows_same rows i s s' s'' text fine same run) tables
-
--- all rows were run
-pub left_told : (rows : List ImportRow) (s s' : State) (text : List ℕ) (fine : Bool) (trees : Trees)
-    → rows_told s rows ≡ (s', text, fine) → TablesAre s' trees → AreLeftByRows rows s trees
-left_told rows s s' text fine trees told tables = record {
-  done = rows;
-  rest = [];
-  split = sym (append-nil rows);
-  tables = subst (λ v. TablesAre v trees) (sym (ap (λ p. p.0) told)) tables;
-}
 
 -- whatever was told of them, the first were run
 pub ran_some : (r : Result Bool Stop) (rows : List ImportRow) (s s' s'' : State) (text : List ℕ)

@@ -1,7 +1,7 @@
 -- A file that is sent again.
-use Rattle.std.proofs.Common.{◌≡◌, ◌+◌, ◌==◌, ℕ, true, List, [], ◌∷◌, ◌++◌, length}
-use Rattle.std.proofs.Common.{nat_le, map, ap, sym, refl, ◌∙◌, subst, append_assoc}
-use Rattle.std.specs.Prelude.{Option, Some, Result, Ok, Err}
+use Rattle.std.proofs.Common.{◌≡◌, ◌+◌, ◌==◌, ℕ, Bool, true, false, List, [], ◌∷◌, ◌++◌, length, drop}
+use Rattle.std.proofs.Common.{nat_le, map, ap, sym, refl, ◌∙◌, subst, append_assoc, append-nil}
+use Rattle.std.specs.Prelude.{Option, Some, None, option_map, Result, Ok, Err}
 use Rattle.std.specs.Cmp.Lexicographic.{pointwise}
 use Rattle.std.specs.Str.{bytes_eq}
 use Rattle.csv.specs.Reading.{default_config, records, strip_bom}
@@ -13,9 +13,11 @@ use Rattle.desk_core.specs.Repeats.{LaterRepeatsChangeNothing}
 use Rattle.desk_core.specs.declared.command.Command.{Command}
 use Rattle.desk_core.specs.declared.command.Request.{Request}
 use Rattle.desk_wire.specs.ImportReports.{import_text}
-use Rattle.desk_wire.specs.Imports.{command_of, field, import, key_of, names_of, row_of, rows_in, with_rows}
+use Rattle.desk_wire.specs.Imports.{Columns, Reads, arranged, command_of, field, import, key_of, layout_by, loosely}
+use Rattle.desk_wire.specs.Imports.{names_of, quantity_at, row_list, row_of, rows_by, rows_in, rows_of_text}
+use Rattle.desk_wire.specs.Imports.{separators, strictly, with_rows}
 use Rattle.desk_wire.specs.Numbers.{row_number_in}
-use Rattle.desk_wire.specs.Records.{Fields, are_texts}
+use Rattle.desk_wire.specs.Records.{Fields, are_texts, config_by}
 use Rattle.desk_wire.specs.Steps.{◌>>=◌, at, must, or_fault}
 use Rattle.desk_wire.specs.declared.fault.What.{What}
 use Rattle.desk_wire.specs.declared.fault.What.TheVariants.{Csv, Header, TooLong, WrongType}
@@ -73,56 +75,141 @@ row_parts names kind document day fields =
     bind_map (row_on kind document day) (command_of names kind fields) (λ command. Ok (number, command)) _
     (λ command. refl))))
 
-abbrev with_parts : Option Naming → ImportKind → ℕ → List Part → List Fields → Result (List Part) WireFault
-with_parts names kind number parts [] = Ok parts
-with_parts names kind number parts (r ∷ rs) = do
-  part ← at number (part_of names kind r)
-  with_parts names kind (number + 1) (parts ++ part ∷ []) rs
+abbrev parts_listed : Option Part → List Part
+parts_listed None = []
+parts_listed (Some part) = part ∷ []
+
+-- what a record says of its row, if it is one
+abbrev Says : Type 0
+Says = Fields → Result (Option Part) What
+
+abbrev part_strictly : Option Naming → ImportKind → Says
+part_strictly names kind fields = do
+  part ← part_of names kind fields
+  Ok (Some part)
+
+unfoldable part_loosely : Option Naming → ImportKind → Columns → Says
+part_loosely names kind columns fields = do
+  texts ← must Csv (are_texts fields)
+  by_quantity (field (quantity_at kind) (arranged columns fields))
+  where
+    by_quantity : List ℕ → Result (Option Part) What
+    by_quantity [] = Ok None
+    by_quantity (b ∷ bs) = do
+      fits ← must Csv (nat_le (length fields) columns.width)
+      part_strictly names kind (arranged columns fields)
+
+strictly_parts : (names : Option Naming) (kind : ImportKind) (document : List ℕ) (day : CivilDay) (fields : Fields)
+    → strictly names kind document day fields
+    ≡ map_ok (option_map (row_on kind document day)) (part_strictly names kind fields)
+strictly_parts names kind document day fields =
+    let on = row_on kind document day in
+    ap (λ (v : Result ImportRow What). v >>= (λ row. Ok (Some row))) (row_parts names kind document day fields)
+    ∙ map_bind on (option_map on) (part_of names kind fields) (λ part. Ok (Some part)) (λ row. Ok (Some row)) (λ part. refl)
+
+loosely_by : (names : Option Naming) (kind : ImportKind) (document : List ℕ) (day : CivilDay) (columns : Columns)
+    (fields : Fields) (q : List ℕ) → field (quantity_at kind) (arranged columns fields) ≡ q
+    → loosely names kind document day columns fields
+    ≡ map_ok (option_map (row_on kind document day)) (part_loosely names kind columns fields)
+unfolding loosely part_loosely
+loosely_by names kind document day columns fields [] e = rw e
+    (bind_map (option_map (row_on kind document day)) (must Csv (are_texts fields)) (λ _. Ok None) (λ _. Ok None)
+    (λ _. refl))
+loosely_by names kind document day columns fields (b ∷ bs) e = rw e
+    (bind_map (option_map (row_on kind document day)) (must Csv (are_texts fields)) _ _
+    (λ _. bind_map (option_map (row_on kind document day)) (must Csv (nat_le (length fields) columns.width)) _ _
+    (λ _. strictly_parts names kind document day (arranged columns fields))))
+
+loosely_parts : (names : Option Naming) (kind : ImportKind) (document : List ℕ) (day : CivilDay) (columns : Columns)
+    (fields : Fields)
+    → loosely names kind document day columns fields
+    ≡ map_ok (option_map (row_on kind document day)) (part_loosely names kind columns fields)
+loosely_parts names kind document day columns fields =
+    loosely_by names kind document day columns fields (field (quantity_at kind) (arranged columns fields)) refl
+
+abbrev with_parts : Says → ℕ → List Part → List Fields → Result (List Part) WireFault
+with_parts says number parts [] = Ok parts
+with_parts says number parts (r ∷ rs) = do
+  part ← at number (says r)
+  with_parts says (number + 1) (parts ++ parts_listed part) rs
 
 map_push : {A B : Type 0} (h : A → B) (xs : List A) (x : A) → map h (xs ++ x ∷ []) ≡ map h xs ++ h x ∷ []
 map_push h [] x = refl
 map_push h (y ∷ ys) x = ap (λ v. h y ∷ v) (map_push h ys x)
 
-all_parts : (names : Option Naming) (kind : ImportKind) (document : List ℕ) (day : CivilDay) (number : ℕ)
-    (parts : List Part) (rs : List Fields)
-    → with_rows names kind document day number (map (row_on kind document day) parts) rs
-    ≡ map_ok (map (row_on kind document day)) (with_parts names kind number parts rs)
-all_parts names kind document day number parts [] = refl
-all_parts names kind document day number parts (r ∷ rs) =
-    let on = row_on kind document day in
-    ap (λ v. at number v >>= (λ row. with_rows names kind document day (number + 1) (map on parts ++ row ∷ []) rs))
-    (row_parts names kind document day r)
-    ∙ ap (λ v. v >>= (λ row. with_rows names kind document day (number + 1) (map on parts ++ row ∷ []) rs))
-    (at_map on number (part_of names kind r))
-    ∙ map_bind on (map on) (at number (part_of names kind r))
-    (λ part. with_parts names kind (number + 1) (parts ++ part ∷ []) rs)
-    (λ row. with_rows names kind document day (number + 1) (map on parts ++ row ∷ []) rs)
-    (λ part. ap (λ v. with_rows names kind document day (number + 1) v rs) (sym (map_push on parts part))
-    ∙ all_parts names kind document day (number + 1) (parts ++ part ∷ []) rs)
+map_listed : (h : Part → ImportRow) (xs : List Part) (x : Option Part)
+    → map h (xs ++ parts_listed x) ≡ map h xs ++ row_list (option_map h x)
+map_listed h xs None = ap (map h) (append-nil xs) ∙ sym (append-nil (map h xs))
+map_listed h xs (Some x) = map_push h xs x
+
+module _ (on : Part → ImportRow) (reads : Reads) (says : Says)
+    (same : (fields : Fields) → reads fields ≡ map_ok (option_map on) (says fields)) where
+  all_parts : (number : ℕ) (parts : List Part) (rs : List Fields)
+      → with_rows reads number (map on parts) rs ≡ map_ok (map on) (with_parts says number parts rs)
+  all_parts number parts [] = refl
+  all_parts number parts (r ∷ rs) =
+      ap (λ v. at number v >>= (λ row. with_rows reads (number + 1) (map on parts ++ row_list row) rs)) (same r)
+      ∙ ap (λ v. v >>= (λ row. with_rows reads (number + 1) (map on parts ++ row_list row) rs))
+      (at_map (option_map on) number (says r))
+      ∙ map_bind (option_map on) (map on) (at number (says r))
+      (λ part. with_parts says (number + 1) (parts ++ parts_listed part) rs)
+      (λ row. with_rows reads (number + 1) (map on parts ++ row_list row) rs)
+      (λ part. ap (λ v. with_rows reads (number + 1) v rs) (sym (map_listed on parts part))
+      ∙ all_parts (number + 1) (parts ++ parts_listed part) rs)
 
 abbrev parts_in : Option Naming → ImportKind → List Fields → Result (List Part) WireFault
 parts_in names kind [] = at 1 (Err Header)
 parts_in names kind (r ∷ rs) = do
   header ← at 1 (must Header (pointwise bytes_eq (names_of kind) r))
-  with_parts names kind 2 [] rs
+  with_parts (part_strictly names kind) 2 [] rs
 
 header_parts : (names : Option Naming) (kind : ImportKind) (document : List ℕ) (day : CivilDay) (rs : List Fields)
     → rows_in names kind document day rs ≡ map_ok (map (row_on kind document day)) (parts_in names kind rs)
 header_parts names kind document day [] = refl
 header_parts names kind document day (r ∷ rs) =
     bind_map (map (row_on kind document day)) (at 1 (must Header (pointwise bytes_eq (names_of kind) r))) _ _
-    (λ _. all_parts names kind document day 2 [] rs)
+    (λ _. all_parts (row_on kind document day) (strictly names kind document day) (part_strictly names kind)
+    (strictly_parts names kind document day) 2 [] rs)
 
-abbrev parts_of : Option Naming → ImportKind → List ℕ → Result (List Part) WireFault
-parts_of names kind bytes = do
+abbrev parts_by : Option Naming → ImportKind → List ℕ → Option (ℕ × Columns) → Result (List Part) WireFault
+parts_by names kind text None = at 1 (Err Header)
+parts_by names kind text (Some layout) =
+    with_parts (part_loosely names kind layout.1) 2 [] (drop 1 (records (config_by layout.0) text))
+
+layout_parts : (names : Option Naming) (kind : ImportKind) (document : List ℕ) (day : CivilDay) (text : List ℕ)
+    (layout : Option (ℕ × Columns))
+    → rows_by names kind document day text layout
+    ≡ map_ok (map (row_on kind document day)) (parts_by names kind text layout)
+layout_parts names kind document day text None = refl
+layout_parts names kind document day text (Some layout) =
+    all_parts (row_on kind document day) (loosely names kind document day layout.1)
+    (part_loosely names kind layout.1) (loosely_parts names kind document day layout.1) 2 []
+    (drop 1 (records (config_by layout.0) text))
+
+abbrev parts_of_text : Bool → Option Naming → ImportKind → List ℕ → Result (List Part) WireFault
+parts_of_text false names kind text = parts_in names kind (records default_config text)
+parts_of_text true names kind text = parts_by names kind text (layout_by kind text separators)
+
+text_parts : (loose : Bool) (names : Option Naming) (kind : ImportKind) (document : List ℕ) (day : CivilDay)
+    (text : List ℕ)
+    → rows_of_text loose names kind document day text
+    ≡ map_ok (map (row_on kind document day)) (parts_of_text loose names kind text)
+text_parts false names kind document day text = header_parts names kind document day (records default_config text)
+text_parts true names kind document day text =
+    layout_parts names kind document day text (layout_by kind text separators)
+
+abbrev parts_of : Bool → Option Naming → ImportKind → List ℕ → Result (List Part) WireFault
+parts_of loose names kind bytes = do
   fits ← at 0 (must TooLong (nat_le (length bytes) 16777216))
-  parts_in names kind (records default_config (strip_bom bytes))
+  parts_of_text loose names kind (strip_bom bytes)
 
-import_parts : (names : Option Naming) (kind : ImportKind) (document : List ℕ) (day : CivilDay) (bytes : List ℕ)
-    → import names kind document day bytes ≡ map_ok (map (row_on kind document day)) (parts_of names kind bytes)
-import_parts names kind document day bytes =
+import_parts : (loose : Bool) (names : Option Naming) (kind : ImportKind) (document : List ℕ) (day : CivilDay)
+    (bytes : List ℕ)
+    → import loose names kind document day bytes
+    ≡ map_ok (map (row_on kind document day)) (parts_of loose names kind bytes)
+import_parts loose names kind document day bytes =
     bind_map (map (row_on kind document day)) (at 0 (must TooLong (nat_le (length bytes) 16777216))) _ _
-    (λ _. header_parts names kind document day (records default_config (strip_bom bytes)))
+    (λ _. text_parts loose names kind document day (strip_bom bytes))
 
 -- ---- rows that are run again
 
@@ -203,8 +290,8 @@ module _ (law : LaterRepeatsChangeNothing) (kind : ImportKind) (document : List 
   of_parts (Err fault) rows e h = absurd (cc)
 
 pub sent_again : LaterRepeatsChangeNothing → FilesSentAgainChangeNothing
-sent_again law names s kind document day later bytes rows between is answered still =
+sent_again law loose names s kind document day later bytes rows between is answered still =
     let then_ = (run s (requests_of rows ++ between)).0 in
-    ap (λ v. import_told then_ v) (import_parts (naming names then_) kind document later bytes)
-    ∙ of_parts law kind document day later s between (parts_of (naming names then_) kind bytes) rows
-    (sym (import_parts (naming names then_) kind document day bytes) ∙ still) answered
+    ap (λ v. import_told then_ v) (import_parts loose (naming names then_) kind document later bytes)
+    ∙ of_parts law kind document day later s between (parts_of loose (naming names then_) kind bytes) rows
+    (sym (import_parts loose (naming names then_) kind document day bytes) ∙ still) answered

@@ -91,7 +91,7 @@ import_told : (names : Bool) (d : State) (kind : ImportKind) (document : List �
     ⊎ ((import_file names d kind document day rows).0 ≡ d)
 unfolding import_file
 import_told names d kind document day rows =
-    file_told d (import (naming names d) (import_kind kind) document day rows)
+    file_told d (import false (naming names d) (import_kind kind) document day rows)
 
 -- what only reads leaves all as it was
 unread : (d d' : ServiceState) → d' ≡ d → Follows d d'

@@ -1,5 +1,4 @@
 pub mod Cuts
-pub mod Ends
 pub mod Runs
 pub mod Answered
 pub mod Checked
@@ -7,14 +6,6 @@ pub mod ImportRuns
 pub mod SentAgain
 pub mod LineRequests
 pub mod LinesAgain
-pub mod Printed
-pub mod Shows
-pub mod Words
-pub mod Statuses
-pub mod Empty
-pub mod FileFaults
 pub mod Closed
 pub mod Services
-pub mod Looks
-pub mod Escaped
-pub mod Subjects
+pub mod Reasons

@@ -15,8 +15,8 @@ use Rattle.desk_wire.specs.Reading as reading
 use Rattle.desk_wire.specs.Writing.{answer_text, refused_text, fault_text, report_text}
 use Rattle.sqlite.specs.Tree.{Trees}
 use Rattle.desk_store.specs.StateTables.{TablesAre}
-use Rattle.desk_app.specs.declared.end.Stop.{Stop}
-use Rattle.desk_app.specs.declared.end.Stop.TheVariants.{ReadFailed, WriteFailed, Memory, Store}
+use Rattle.desk_ends.specs.declared.end.Stop.{Stop}
+use Rattle.desk_ends.specs.declared.end.Stop.TheVariants.{ReadFailed, WriteFailed, Memory, Store}
 
 -- ---- one line: the state after it, the text with LF that is answered, and whether nothing was
 -- refused or faulty

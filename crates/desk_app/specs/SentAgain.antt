@@ -14,10 +14,10 @@ use Rattle.desk_app.specs.Runs.{naming}
 -- named it always does; with names it does where each name is still that of the same row.
 abbrev pub FilesSentAgainChangeNothing : Type 0
 FilesSentAgainChangeNothing =
-    (names : Bool) (s : State) (kind : ImportKind) (document : List ℕ) (day later : CivilDay) (bytes : List ℕ)
+    (loose names : Bool) (s : State) (kind : ImportKind) (document : List ℕ) (day later : CivilDay) (bytes : List ℕ)
     (rows : List ImportRow) (between : List Request)
-    → import (naming names s) kind document day bytes ≡ Ok rows
+    → import loose (naming names s) kind document day bytes ≡ Ok rows
     → are_answers (rows_outcomes s rows) ≡ true
     → (let then_ = (run s (requests_of rows ++ between)).0 in
-    import (naming names then_) kind document day bytes ≡ Ok rows
-    → import_told then_ (import (naming names then_) kind document later bytes) ≡ (then_, rows_out s rows, true))
+    import loose (naming names then_) kind document day bytes ≡ Ok rows
+    → import_told then_ (import loose (naming names then_) kind document later bytes) ≡ (then_, rows_out s rows, true))

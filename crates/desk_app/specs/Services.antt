@@ -15,6 +15,10 @@ use Rattle.desk_store.specs.StateTables.{TablesAre}
 use Rattle.desk_wire.specs.declared.fault.What.{What}
 use Rattle.desk_wire.specs.declared.kind.ImportKind as wire_kind
 use Rattle.desk_wire.specs.declared.kind.ImportKind.TheVariants as wire_kinds
+use Rattle.desk_wire.specs.declared.fault.FileError.{FileError}
+use Rattle.desk_wire.specs.declared.fault.FileError.TheVariants as file
+use Rattle.desk_wire.specs.declared.fault.ReadError.{ReadError}
+use Rattle.desk_wire.specs.declared.fault.ReadError.TheVariants as read
 use Rattle.desk_wire.specs.Imports.{import}
 use Rattle.desk_wire.specs.Reading as reading
 use Rattle.desk_wire.specs.Writing.{answer_text, refused_text, fault_text}
@@ -33,9 +37,9 @@ use Rattle.desk_http.specs.declared.service.Failure.TheVariants.{Store, Memory}
 use Rattle.desk_http.specs.declared.service.NoReply.{NoReply}
 use Rattle.desk_http.specs.declared.service.NoReply.TheVariants.{Failed, Untold}
 use Rattle.desk_app.specs.ImportRuns.{Reading, rows_after, rows_out, RanSome, IsLeftByImport}
-use Rattle.desk_app.specs.Printed.{printed}
+use Rattle.desk_ends.specs.Printed.{printed}
 use Rattle.desk_app.specs.Runs.{naming}
-use Rattle.desk_app.specs.Words.{table_named}
+use Rattle.desk_ends.specs.Named.{table_named}
 
 -- a kind and a name, as the lines and the reports have them
 abbrev pub import_kind : ImportKind → wire_kind.ImportKind
@@ -71,7 +75,7 @@ by_reading s (Err fault) = (s, (Faulty, fault_text fault))
 
 unfoldable pub import_file : Bool → State → ImportKind → List ℕ → CivilDay → List ℕ → State × ReplyView
 import_file names s kind document day rows =
-    by_reading s (import (naming names s) (import_kind kind) document day rows)
+    by_reading s (import false (naming names s) (import_kind kind) document day rows)
 
 abbrev pub by_printed : List ℕ × Bool → ReplyView
 by_printed (text, true) = (Reported, text)
@@ -128,7 +132,7 @@ desk_machine = record {
 abbrev pub leaves_of : Bool → State → Operation → State → Type 0
 leaves_of names s (RunLine line) s' = s' ≡ s
 leaves_of names s (ImportFile kind document day rows) s' =
-    RanSome (import (naming names s) (import_kind kind) document day rows) s s'
+    RanSome (import false (naming names s) (import_kind kind) document day rows) s s'
 leaves_of names s (ShowReport name number) s' = s' ≡ s
 leaves_of names s (ShowTable name) s' = s' ≡ s
 leaves_of names s (ShowBooks known) s' = s' ≡ s
@@ -186,7 +190,7 @@ IsShownOfOpen old (ShowHistory from) why = IsToldOfOpen old why
 abbrev pub IsLeftByOperation : Bool → Operation → State → State → Trees → Type 0
 IsLeftByOperation names (RunLine line) s s' trees = TablesAre s' trees ⊎ TablesAre (run_line names s line).0 trees
 IsLeftByOperation names (ImportFile kind document day rows) s s' trees =
-    IsLeftByImport (import (naming names s) (import_kind kind) document day rows) s trees
+    IsLeftByImport (import false (naming names s) (import_kind kind) document day rows) s trees
 IsLeftByOperation names (ShowReport name number) s s' trees = TablesAre s' trees
 IsLeftByOperation names (ShowTable name) s s' trees = TablesAre s' trees
 IsLeftByOperation names (ShowBooks known) s s' trees = TablesAre s' trees
@@ -223,3 +227,9 @@ pub record TagsTellBooks : Type 0 where
   pub none : (d : ServiceState) → Follows d d
   pub more : (d d' d'' : ServiceState) → Follows d d' → Follows d' d'' → Follows d d''
   pub same : (d d' : ServiceState) (tag : Tag) → Follows d d' → d.2 ≡ Some tag → d'.2 ≡ Some tag → d'.0 ≡ d.0
+
+-- the same fault, of a file and of what was read of it
+abbrev pub FailsAlike : FileError → ReadError → Type 0
+FailsAlike file.Memory read.Memory = Unit {0}
+FailsAlike (file.Wrong fault field) (read.Wrong same) = same ≡ fault
+FailsAlike _ _ = ⊥

@@ -1,6 +1,6 @@
 //! The books that lines are run on: a desk, or a shop alone. Requests are run alone, or in groups that are kept together; to
 //! a shop alone a group is nothing.
-ghost use Rattle.std.specs.Prelude.{◌≡◌, ◌↔◌, ◌⊎◌, Option, None, IfOk, OnOk, OnErr, Err, IsSome};
+ghost use Rattle.std.specs.Prelude.{◌≡◌, ◌↔◌, ◌⊎◌, ℕ, List, [], Option, None, IfOk, OnOk, OnErr, Err, IsSome};
 ghost use Rattle.sqlite.specs.Held.{state};
 ghost use Rattle.sqlite.specs.State.{HasCleanDisk};
 ghost use Rattle.sqlite.specs.Tree.{Trees};
@@ -14,7 +14,9 @@ ghost use Rattle.desk_store.specs.Desks.{IsDesk};
 ghost use Rattle.desk_store.specs.Groups.{IsGrouping};
 ghost use Rattle.desk_store.specs.Outcomes.{Tells};
 ghost use Rattle.desk_store.proofs.Grouping.{begins_group, closed_desk};
+ghost use Rattle.desk_app.specs.Reasons.{Notes};
 
+use crate::undone::Why;
 use desk_core::{Request, Shop};
 use desk_store::{Desk, Fault};
 use part_core::Answer;
@@ -37,6 +39,9 @@ pub trait Books {
     // the tables that a crash may leave of them
     ghost may_leave: { Self → Trees → Type 0 };
 
+    // what waits to be told of why lines and rows weren't done
+    ghost reasons_in: { Self → List ℕ } = { λ _. [] };
+
     /// Runs one request. What it changes is kept before it is answered.
     fn run(&mut self, request: &Request) -> Result<Answer, Fault>
         requires { are_kept self.old }
@@ -58,7 +63,8 @@ pub trait Books {
         ensures closed { (result ≡ Err Fault.Closed) ↔ IsSome (failure_of self.old) }
         ensures store { IsSome (failure_of self.new)
             ↔ ((result ≡ Err Fault.Store) ⊎ IsSome (failure_of self.old)) }
-        ensures left { (trees : Trees) → may_leave self.new trees → may_leave self.old trees };
+        ensures left { (trees : Trees) → may_leave self.new trees → may_leave self.old trees }
+        ensures quiet { reasons_in self.new ≡ reasons_in self.old };
 
     /// Ends the group: what it changes is kept, all of it, or nothing where a fault closes the books.
     fn commit(&mut self) -> Result<(), Fault>
@@ -70,6 +76,17 @@ pub trait Books {
         ensures closed { OnErr result (IsSome (failure_of self.new)) }
         ensures left { (trees : Trees) → may_leave self.new trees
             → may_leave self.old trees ⊎ TablesAre (state_in self.new) trees };
+
+    /// Is told why a line or a row wasn't done, for whoever is told of it. Nothing of what they hold changes.
+    fn explain(&mut self, why: &Why<'_>)
+        requires { are_grouping self.old }
+        ensures grouping { are_grouping self.new }
+        ensures kept { are_kept self.old → are_kept self.new }
+        ensures same { state_in self.new ≡ state_in self.old }
+        ensures failure { failure_of self.new ≡ failure_of self.old }
+        ensures left { (trees : Trees) → may_leave self.new trees → may_leave self.old trees }
+        ensures notes { Notes (state_in self.old) why.now (reasons_in self.old)
+            (reasons_in self.new) };
 
     /// The shop that holds their state: `Closed` where a fault has closed them.
     fn shop(&self) -> Result<&Shop, Fault>
@@ -118,6 +135,8 @@ impl<S: Alter> Books for Desk<S> {
         Desk::commit(self)
     }
 
+    fn explain(&mut self, _why: &Why<'_>) {}
+
     fn shop(&self) -> Result<&Shop, Fault> {
         Desk::shop(self)
     }
@@ -155,6 +174,8 @@ impl Books for Shop {
     fn commit(&mut self) -> Result<(), Fault> {
         Ok(())
     }
+
+    fn explain(&mut self, _why: &Why<'_>) {}
 
     fn shop(&self) -> Result<&Shop, Fault> {
         Ok(self)

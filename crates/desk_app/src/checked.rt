@@ -7,19 +7,20 @@ ghost use Rattle.std.specs.String.{string_bytes};
 ghost use Rattle.sqlite.specs.Tree.{Trees};
 ghost use Rattle.desk_core.specs.Books.{AreInOrder};
 ghost use Rattle.desk_store.specs.StateTables.{TablesAre};
-ghost use Rattle.desk_app.specs.declared.end.Stop.{Stop};
+ghost use Rattle.desk_ends.specs.declared.end.Stop.{Stop};
 ghost use Rattle.desk_app.specs.Answered.{AnsweredIsKept};
 ghost use Rattle.desk_app.specs.Checked.{anything, are_readable, fault_of, faults_out, is_readable};
 ghost use Rattle.desk_app.specs.Checked.{naming_ahead, text_faults, told_of, TellsFaults};
 ghost use Rattle.desk_app.specs.Cuts.{first_of};
-ghost use Rattle.desk_app.specs.Ends.{end_of};
+ghost use Rattle.desk_ends.specs.Ends.{end_of};
 ghost use Rattle.desk_app.specs.Runs.{lines_of, Finished, Stopped};
 
 use crate::books::Books;
-use crate::end::{RunEnd, Stop};
 use crate::pieces::end_of;
-use crate::run::{Told, is_blank, run_lines};
+use crate::reasons::why_faulty_line;
+use crate::run::{is_blank, run_lines};
 use desk_core::{Key, Names};
+use desk_ends::{RunEnd, Stop, Told};
 use desk_store::send;
 use desk_wire::{ReadError, What, WireFault, fault_text, read_line};
 use part_core::{Found, Id, Serial};
@@ -143,6 +144,62 @@ fn faults_of(alloc: Global, bytes: &[u8], names: bool) -> Result<Told, Stop>
         });
     }
     faults_of_lines(alloc, bytes, names)
+}
+
+/// The fault of the line of that number, if it has one.
+fn fault_of_line(
+    alloc: Global,
+    number: u64,
+    line: &[u8],
+    names: bool,
+) -> Result<Option<WireFault>, AllocError> {
+    if is_blank(line) {
+        return Ok(None);
+    }
+    let any = AnyRow;
+    let named = names_ahead(&any, names);
+    let fault = match read_line(alloc, named, line, number) {
+        Ok(_) => return Ok(None),
+        Err(ReadError::Wrong(fault)) => fault,
+        Err(ReadError::Memory) => return Err(AllocError),
+    };
+    Ok(Some(fault))
+}
+
+/// Why the line of that number can't be read, if it can't.
+fn reason_of_line(
+    alloc: Global,
+    number: u64,
+    line: &[u8],
+    names: bool,
+) -> Result<Option<String>, AllocError> {
+    let Some(fault) = fault_of_line(alloc, number, line, names)? else {
+        return Ok(None);
+    };
+    let any = AnyRow;
+    let reason = why_faulty_line(alloc, names_ahead(&any, names), line, &fault)?;
+    Ok(Some(reason))
+}
+
+/// Tells a person why each line of the text that can't be read can't be, as `run_checked` looks at them. What can't be
+/// written, or has no memory, is left out.
+pub fn explain_faults<W: Write>(alloc: Global, bytes: &[u8], names: bool, writer: &mut W) {
+    if bytes.len() > MOST_BYTES {
+        let _ = writer.write_all(
+            b"all lines: TooLong: they have more than 16777216 bytes together\n",
+        );
+        return;
+    }
+    let mut number: u64 = 0;
+    let mut at = 0;
+    while at < bytes.len() {
+        number += 1;
+        let line = first_line(&bytes[at..]);
+        if let Ok(Some(text)) = reason_of_line(alloc, number, line, names) {
+            let _ = writer.write_all(text.as_bytes());
+        }
+        at += line.len() + 1;
+    }
 }
 
 /// Tells the faults.

@@ -8,18 +8,19 @@ ghost use Rattle.sqlite.specs.Tree.{Trees};
 ghost use Rattle.desk_core.specs.Books.{AreInOrder};
 ghost use Rattle.desk_store.specs.StateTables.{TablesAre};
 ghost use Rattle.desk_wire.specs.Imports.{import};
-ghost use Rattle.desk_app.specs.declared.end.Stop.{Stop};
-ghost use Rattle.desk_app.specs.Ends.{end_of};
+ghost use Rattle.desk_ends.specs.declared.end.Stop.{Stop};
+ghost use Rattle.desk_ends.specs.Ends.{end_of};
 ghost use Rattle.desk_app.specs.Runs.{EndsOpen, IsOfBooks, StaysOpen, naming};
 ghost use Rattle.desk_app.specs.ImportRuns.{import_told, rows_told, AreLeftByRows, ImportStopped};
 ghost use Rattle.desk_app.specs.ImportRuns.{ImportedWhole, IsLeftByImport, RanFront, RanSome};
 
 use crate::books::Books;
-use crate::end::{RunEnd, Stop};
-use crate::run::{Told, named_shop, tell_outcome};
+use crate::run::{named_shop, tell_outcome};
+use crate::undone::{Place, Why};
+use desk_ends::{RunEnd, Stop, Told};
 use desk_store::send;
 use desk_wire::{
-    Document, ImportKind, ImportRow, ReadError, fault_text, import_rows, push_report_line,
+    Document, FileError, ImportKind, ImportRow, fault_text, import_rows, push_report_line,
 };
 use part_core::Day;
 use std::alloc::Global;
@@ -75,7 +76,8 @@ fn add_rows<B: Books>(
     for row in rows {
         waiting = next_in_group(books, waiting)?;
         let request = row.request(alloc)?;
-        let told = tell_outcome(alloc, books, &request)?;
+        let place = Place::Row(row.number());
+        let told = tell_outcome(alloc, books, place, &request)?;
         push_report_line(text, row.number(), told.text.as_str())?;
         fine = fine && told.fine;
     }
@@ -118,31 +120,39 @@ fn tell_import<B: Books>(
     kind: ImportKind,
     document: &Document,
     day: Day,
+    loose: bool,
     names: bool,
     books: &mut B,
 ) -> Result<Told, Stop>
     requires { B.are_kept books.old }
     ensures ok { IfOk result (λ told.
-        import_told (B.state_in books.old) (import (naming names (B.state_in books.old)) kind document.now day bytes.now)
+        import_told (B.state_in books.old) (import loose (naming names (B.state_in books.old)) kind document.now day bytes.now)
         ≡ (B.state_in books.new, string_bytes told.text, told.fine)) }
     ensures cut { IfErr result (λ stop. IsOfBooks stop
-        × RanSome (import (naming names (B.state_in books.old)) kind document.now day bytes.now)
+        × RanSome (import loose (naming names (B.state_in books.old)) kind document.now day bytes.now)
         (B.state_in books.old) (B.state_in books.new)) }
     ensures kept { B.are_kept books.new }
     ensures stays_open { StaysOpen (B.failure_of books.old) (B.failure_of books.new) result }
     ensures left { B.failure_of books.old ≡ None → (trees : Trees)
         → B.may_leave books.new trees
-        → IsLeftByImport (import (naming names (B.state_in books.old)) kind document.now day bytes.now)
+        → IsLeftByImport (import loose (naming names (B.state_in books.old)) kind document.now day bytes.now)
         (B.state_in books.old) trees }
 {
     let named = named_shop(books, names)?;
-    match import_rows(alloc, named, bytes, kind, document, day) {
+    match import_rows(alloc, loose, named, bytes, kind, document, day) {
         Ok(rows) => tell_rows(alloc, &rows, books),
-        Err(ReadError::Wrong(fault)) => Ok(Told {
-            text: fault_text(alloc, fault)?,
-            fine: false,
-        }),
-        Err(ReadError::Memory) => Err(Stop::Memory),
+        Err(FileError::Wrong(fault, field)) => {
+            books.explain(&Why::FaultyFile {
+                kind,
+                fault: &fault,
+                field: &field,
+            });
+            Ok(Told {
+                text: fault_text(alloc, fault)?,
+                fine: false,
+            })
+        }
+        Err(FileError::Memory) => Err(Stop::Memory),
     }
 }
 
@@ -153,26 +163,27 @@ fn import_all<B: Books, W: Write>(
     kind: ImportKind,
     document: &Document,
     day: Day,
+    loose: bool,
     names: bool,
     writer: &mut W,
     books: &mut B,
 ) -> Result<bool, Stop>
     requires { B.are_kept books.old }
-    ensures done { IfOk result (λ all. ImportedWhole (import (naming names (B.state_in books.old)) kind document.now day bytes.now)
+    ensures done { IfOk result (λ all. ImportedWhole (import loose (naming names (B.state_in books.old)) kind document.now day bytes.now)
         (W.contents writer.old) (W.contents writer.new)
         (B.state_in books.old) (B.state_in books.new) all) }
     ensures stopped { IfErr result (λ stop.
-        ImportStopped stop (import (naming names (B.state_in books.old)) kind document.now day bytes.now)
+        ImportStopped stop (import loose (naming names (B.state_in books.old)) kind document.now day bytes.now)
         (W.contents writer.old) (W.contents writer.new)
         (B.state_in books.old) (B.state_in books.new)) }
     ensures kept { B.are_kept books.new }
     ensures stays_open { StaysOpen (B.failure_of books.old) (B.failure_of books.new) result }
     ensures left { B.failure_of books.old ≡ None → (trees : Trees)
         → B.may_leave books.new trees
-        → IsLeftByImport (import (naming names (B.state_in books.old)) kind document.now day bytes.now)
+        → IsLeftByImport (import loose (naming names (B.state_in books.old)) kind document.now day bytes.now)
         (B.state_in books.old) trees }
 {
-    let told = tell_import(alloc, bytes, kind, document, day, names, books)?;
+    let told = tell_import(alloc, bytes, kind, document, day, loose, names, books)?;
     send(writer, told.text.as_bytes())?;
     Ok(told.fine)
 }
@@ -180,24 +191,26 @@ fn import_all<B: Books, W: Write>(
 /// Runs the rows of a file of comma-separated values, and then writes their report; of a faulty file
 /// it runs none, and writes the fault's line. The end is `Done(true)` where nothing was refused or faulty. With `names` a
 /// field may say what a row is called in the place of its number: names are looked up before the first row is run, so
-/// none calls a row that the file makes.
+/// none calls a row that the file makes. With `loose` columns are taken by their names, a comma, a semicolon or a tab
+/// stands between fields, and a record without a quantity is left out.
 pub fn import_file<B: Books, W: Write>(
     alloc: Global,
     bytes: &[u8],
     kind: ImportKind,
     document: &Document,
     day: Day,
+    loose: bool,
     names: bool,
     writer: &mut W,
     books: &mut B,
 ) -> RunEnd
     requires { B.are_kept books.old }
     ensures done { (all : Bool) → result ≡ RunEnd.Done all
-        → ImportedWhole (import (naming names (B.state_in books.old)) kind document.now day bytes.now)
+        → ImportedWhole (import loose (naming names (B.state_in books.old)) kind document.now day bytes.now)
         (W.contents writer.old) (W.contents writer.new)
         (B.state_in books.old) (B.state_in books.new) all }
     ensures stopped { (stop : Stop) → result ≡ end_of stop
-        → ImportStopped stop (import (naming names (B.state_in books.old)) kind document.now day bytes.now)
+        → ImportStopped stop (import loose (naming names (B.state_in books.old)) kind document.now day bytes.now)
         (W.contents writer.old) (W.contents writer.new)
         (B.state_in books.old) (B.state_in books.new) }
     ensures never { result ≢ RunEnd.ReadFailed }
@@ -208,10 +221,12 @@ pub fn import_file<B: Books, W: Write>(
     ensures closed { result ≡ RunEnd.Store → IsSome (B.failure_of books.new) }
     ensures left { B.failure_of books.old ≡ None → (trees : Trees)
         → B.may_leave books.new trees
-        → IsLeftByImport (import (naming names (B.state_in books.old)) kind document.now day bytes.now)
+        → IsLeftByImport (import loose (naming names (B.state_in books.old)) kind document.now day bytes.now)
         (B.state_in books.old) trees }
 {
-    match import_all(alloc, bytes, kind, document, day, names, writer, books) {
+    match import_all(
+        alloc, bytes, kind, document, day, loose, names, writer, books,
+    ) {
         Ok(all) => RunEnd::Done(all),
         Err(stop) => stop.end(),
     }

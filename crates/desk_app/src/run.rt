@@ -15,21 +15,23 @@ ghost use Rattle.desk_core.specs.Machine.{IsSoundState, step};
 ghost use Rattle.desk_core.specs.Naming.{naming_in};
 ghost use Rattle.desk_core.specs.ShopView.{state_of};
 ghost use Rattle.desk_store.specs.StateTables.{TablesAre};
-ghost use Rattle.desk_app.specs.declared.end.Stop.{Stop};
+ghost use Rattle.desk_ends.specs.declared.end.Stop.{Stop};
 ghost use Rattle.desk_app.specs.Answered.{AnsweredIsKept};
 ghost use Rattle.desk_app.specs.Cuts.{has_end, unread};
-ghost use Rattle.desk_app.specs.Ends.{end_of};
+ghost use Rattle.desk_ends.specs.Ends.{end_of};
 ghost use Rattle.desk_app.specs.LineRequests.{LinesAloneAsk, LinesAreRequests};
 ghost use Rattle.report_core.specs.Reports.{report_lines};
+ghost use Rattle.desk_app.specs.Reasons.{NotesLine, NotesOutcome, NotesReport};
 ghost use Rattle.desk_app.specs.Runs.{by_outcome, by_report, is_blank, line_step, line_after};
 ghost use Rattle.desk_app.specs.Runs.{line_out, is_fine, CutLine, CutRequest, CutSettling};
 ghost use Rattle.desk_app.specs.Runs.{EndsOpen, Finished, Gathered, Halts, IsOfBooks, IsOfSettling};
 ghost use Rattle.desk_app.specs.Runs.{StaysOpen, Stopped, naming};
 
 use crate::books::Books;
-use crate::end::{RunEnd, Stop};
 use crate::lines::Lines;
+use crate::undone::{Place, Why};
 use desk_core::{Request, Shop};
+use desk_ends::{RunEnd, Stop, Told};
 use desk_store::{Fault, send};
 use desk_wire::{ReadError, Wish, answer_text, fault_text, read_line, refused_text, report_text};
 use part_core::CoreFault;
@@ -39,13 +41,6 @@ use std::io::{Read, Write};
 
 /// A group ends once so many bytes of answers wait.
 const ENOUGH: usize = 65_536;
-
-/// What is answered to a line, and whether nothing was refused or faulty.
-#[derive(Drop)]
-pub struct Told {
-    pub text: String,
-    pub fine: bool,
-}
 
 pub(crate) fn is_blank(line: &[u8]) -> bool
     ensures { result ≡ is_blank line.now }
@@ -57,10 +52,11 @@ pub(crate) fn is_blank(line: &[u8]) -> bool
     }
 }
 
-/// Runs a request of a group, and tells its outcome.
+/// Runs a request of a group that stands there, and tells its outcome.
 pub(crate) fn tell_outcome<B: Books>(
     alloc: Global,
     books: &mut B,
+    place: Place,
     request: &Request,
 ) -> Result<Told, Stop>
     requires { B.are_grouping books.old }
@@ -72,16 +68,25 @@ pub(crate) fn tell_outcome<B: Books>(
     ensures stays_open { StaysOpen (B.failure_of books.old) (B.failure_of books.new) result }
     ensures ends_open { EndsOpen (B.failure_of books.old) (B.failure_of books.new) result }
     ensures left { (trees : Trees) → B.may_leave books.new trees → B.may_leave books.old trees }
+    ensures reasons { OnOk result (NotesOutcome place request.now
+        (step (B.state_in books.old) request.now) (B.reasons_in books.old) (B.reasons_in books.new)) }
 {
     match books.run_grouped(request) {
         Ok(answer) => Ok(Told {
             text: answer_text(alloc, &answer)?,
             fine: true,
         }),
-        Err(Fault::Refused(refusal)) => Ok(Told {
-            text: refused_text(alloc, refusal)?,
-            fine: false,
-        }),
+        Err(Fault::Refused(refusal)) => {
+            books.explain(&Why::Refused {
+                place,
+                request,
+                refusal,
+            });
+            Ok(Told {
+                text: refused_text(alloc, refusal)?,
+                fine: false,
+            })
+        }
         Err(Fault::Memory) => Err(Stop::Memory),
         Err(Fault::Store | Fault::Closed) => Err(Stop::Store),
     }
@@ -129,6 +134,36 @@ fn tell_of_books<B: Books>(
     }
 }
 
+/// Tells the report of that name, of the shop that the books hold, as the line of that number asks for it.
+fn tell_report<B: Books>(
+    alloc: Global,
+    books: &mut B,
+    line: u64,
+    name: ReportName,
+    of: u64,
+) -> Result<Told, Stop>
+    requires { B.are_grouping books.old }
+    ensures ok { IfOk result (λ told.
+        by_report (B.state_in books.old) (report_lines name of (B.state_in books.old))
+        ≡ (B.state_in books.new, string_bytes told.text, told.fine)) }
+    ensures stop { IfErr result IsOfBooks }
+    ensures same { B.state_in books.new ≡ B.state_in books.old }
+    ensures grouping { B.are_grouping books.new }
+    ensures failure { B.failure_of books.new ≡ B.failure_of books.old }
+    ensures left { (trees : Trees) → B.may_leave books.new trees → B.may_leave books.old trees }
+    ensures open { result ≢ Err Stop.Store → B.failure_of books.old ≡ None }
+    ensures closed { result ≡ Err Stop.Store → IsSome (B.failure_of books.old) }
+    ensures reasons { OnOk result (NotesReport (B.state_in books.old) line name of
+        (report_lines name of (B.state_in books.old)) (B.reasons_in books.old)
+        (B.reasons_in books.new)) }
+{
+    let told = tell_of_books(alloc, books, name, of)?;
+    if !told.fine {
+        books.explain(&Why::NoReport { line, name, of });
+    }
+    Ok(told)
+}
+
 /// The shop whose rows a line may name: none where lines name no rows, and then nothing is asked of the books.
 pub(crate) fn named_shop<B: Books>(books: &B, names: bool) -> Result<Option<&Shop>, Stop>
     requires { B.are_grouping books.now }
@@ -167,15 +202,24 @@ fn tell<B: Books>(
     ensures stays_open { StaysOpen (B.failure_of books.old) (B.failure_of books.new) result }
     ensures was_open { B.failure_of books.new ≡ None → B.failure_of books.old ≡ None }
     ensures left { (trees : Trees) → B.may_leave books.new trees → B.may_leave books.old trees }
+    ensures reasons { OnOk result (NotesLine names (B.state_in books.old) number line.now
+        (B.reasons_in books.old) (B.reasons_in books.new)) }
 {
     let named = named_shop(books, names)?;
     match read_line(alloc, named, line, number) {
-        Ok(Wish::Request(request)) => tell_outcome(alloc, books, &request),
-        Ok(Wish::Report { name, of }) => tell_of_books(alloc, books, name, of),
-        Err(ReadError::Wrong(fault)) => Ok(Told {
-            text: fault_text(alloc, fault)?,
-            fine: false,
-        }),
+        Ok(Wish::Request(request)) => tell_outcome(alloc, books, Place::Line(number), &request),
+        Ok(Wish::Report { name, of }) => tell_report(alloc, books, number, name, of),
+        Err(ReadError::Wrong(fault)) => {
+            books.explain(&Why::FaultyLine {
+                names,
+                line,
+                fault: &fault,
+            });
+            Ok(Told {
+                text: fault_text(alloc, fault)?,
+                fine: false,
+            })
+        }
         Err(ReadError::Memory) => Err(Stop::Memory),
     }
 }

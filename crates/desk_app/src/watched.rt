@@ -10,6 +10,7 @@ ghost use Rattle.desk_store.specs.Groups.{IsGrouping};
 ghost use Rattle.desk_store.proofs.Grouping.{begins_group, closed_desk};
 
 use crate::books::Books;
+use crate::undone::Why;
 use desk_core::{Request, Shop};
 use desk_store::{Desk, Fault};
 use part_core::Answer;
@@ -104,6 +105,8 @@ impl<S: Alter, W: Write + Drop> Books for WatchedDesk<S, W> {
         self.tell();
         outcome
     }
+
+    fn explain(&mut self, _why: &Why<'_>) {}
 
     fn shop(&self) -> Result<&Shop, Fault> {
         Books::shop(&self.desk)

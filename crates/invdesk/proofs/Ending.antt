@@ -7,13 +7,13 @@ use Rattle.desk_http.specs.Sites.{PageView, SiteRules}
 use Rattle.desk_app.specs.declared.service.BooksService.{BooksService}
 use Rattle.desk_core.specs.Books.{AreInOrder}
 use Rattle.desk_core.specs.Machine.{State}
-use Rattle.desk_app.specs.Empty.{IsEmpty}
-use Rattle.desk_app.specs.Ends.{end_of}
+use Rattle.desk_ends.specs.Empty.{IsEmpty}
+use Rattle.desk_ends.specs.Ends.{end_of}
 use Rattle.desk_app.specs.Runs.{Finished, Stopped}
-use Rattle.desk_app.specs.declared.end.RunEnd.{RunEnd}
-use Rattle.desk_app.specs.declared.end.RunEnd.TheVariants.{Done, ReadFailed, WriteFailed, Memory, Store}
-use Rattle.desk_app.specs.declared.end.Stop.{Stop}
-use Rattle.desk_app.specs.declared.end.Stop.TheVariants as stops
+use Rattle.desk_ends.specs.declared.end.RunEnd.{RunEnd}
+use Rattle.desk_ends.specs.declared.end.RunEnd.TheVariants.{Done, ReadFailed, WriteFailed, Memory, Store}
+use Rattle.desk_ends.specs.declared.end.Stop.{Stop}
+use Rattle.desk_ends.specs.declared.end.Stop.TheVariants as stops
 use Rattle.desk_app.proofs.Running.{stopped_by}
 use Rattle.invdesk.specs.Clients.{Offers, IsOfServing, ServesClients, most_of}
 use Rattle.invdesk.specs.Lines.{RunsLines}

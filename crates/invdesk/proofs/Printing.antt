@@ -7,20 +7,20 @@ use Rattle.std.proofs.KnownBytes.{Appends-nil}
 use Rattle.table_store.specs.declared.name.TableName.{TableName}
 use Rattle.desk_core.specs.Machine.{State}
 use Rattle.desk_store.specs.Exports.{AppendsFront}
-use Rattle.report_core.specs.Listings.{listing_lines}
+use Rattle.list_core.specs.Listings.{listing_lines}
 use Rattle.report_core.specs.Reports.{report_lines}
-use Rattle.report_core.specs.declared.listing.Listing.{Listing}
+use Rattle.list_core.specs.declared.listing.Listing.{Listing}
 use Rattle.report_core.specs.declared.name.ReportName.{ReportName}
 use Rattle.report_core.specs.declared.name.ReportName.TheVariants.{Ledger, Stock, WhereUsed, History, Content, Shortage}
 use Rattle.desk_wire.specs.declared.fault.What.{What}
-use Rattle.desk_app.specs.Printed.{IsPrinted, migrated_text, printed}
-use Rattle.desk_app.specs.Shows.{shown_list}
-use Rattle.desk_app.specs.declared.end.RunEnd.{RunEnd}
-use Rattle.desk_app.specs.declared.end.RunEnd.TheVariants.{Done, ReadFailed, WriteFailed, Memory, Store}
-use Rattle.desk_app.specs.declared.words.ListOf.{ListOf}
-use Rattle.desk_app.specs.declared.words.ReportOf.{ReportOf}
-use Rattle.desk_app.specs.declared.words.Task.{Task}
-use Rattle.desk_app.specs.declared.words.Task.TheVariants as task
+use Rattle.desk_ends.specs.Printed.{IsPrinted, migrated_text, printed}
+use Rattle.desk_cli.specs.Shows.{shown_list}
+use Rattle.desk_ends.specs.declared.end.RunEnd.{RunEnd}
+use Rattle.desk_ends.specs.declared.end.RunEnd.TheVariants.{Done, ReadFailed, WriteFailed, Memory, Store}
+use Rattle.desk_cli.specs.declared.words.ListOf.{ListOf}
+use Rattle.desk_cli.specs.declared.words.ReportOf.{ReportOf}
+use Rattle.desk_cli.specs.declared.words.Task.{Task}
+use Rattle.desk_cli.specs.declared.words.Task.TheVariants as task
 use Rattle.invdesk.specs.Prints.{Prints, PrintsLines, PrintsList, PrintsOfRow, PrintsReport, PrintsText}
 
 pub prints_text : (told : List ℕ × Bool) (w w' : Option (List ℕ)) (end : RunEnd)
@@ -172,9 +172,10 @@ prints_nothing (task.Report file name of) s w report export show migrate = absur
 prints_nothing (task.Export file table) s w report export show migrate = absurd (export file table refl)
 prints_nothing (task.Show file list csv) s w report export show migrate = absurd (show file list csv refl)
 prints_nothing (task.Migrate file) s w report export show migrate = absurd (migrate file refl)
-prints_nothing (task.Run file names stop check) s w report export show migrate = (refl, Keeps-refl w)
-prints_nothing (task.Import file kind document day path names) s w report export show migrate = (refl, Keeps-refl w)
+prints_nothing (task.Run file names stop check explain) s w report export show migrate = (refl, Keeps-refl w)
+prints_nothing (task.Import file kind document day path names loose explain) s w report export show migrate = (refl, Keeps-refl w)
 prints_nothing (task.Serve file port count token names page) s w report export show migrate = (refl, Keeps-refl w)
+prints_nothing (task.Guide topic) s w report export show migrate = (refl, Keeps-refl w)
 prints_nothing (task.Help e) s w report export show migrate = (refl, Keeps-refl w)
 prints_nothing (task.Wrong e) s w report export show migrate = (refl, Keeps-refl w)
 prints_nothing task.Unreadable s w report export show migrate = (refl, Keeps-refl w)

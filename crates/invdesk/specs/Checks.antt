@@ -3,11 +3,11 @@ use Rattle.std.specs.Prelude.{◌≡◌, ◌≢◌, ◌⊎◌, ℕ, List, Bool, 
 use Rattle.sqlite.specs.Tree.{Trees}
 use Rattle.desk_core.specs.Machine.{State}
 use Rattle.desk_store.specs.StateTables.{TablesAre}
-use Rattle.desk_app.specs.declared.end.RunEnd.{RunEnd}
-use Rattle.desk_app.specs.declared.end.RunEnd.TheVariants.{Done, Store}
-use Rattle.desk_app.specs.declared.end.Stop.{Stop}
+use Rattle.desk_ends.specs.declared.end.RunEnd.{RunEnd}
+use Rattle.desk_ends.specs.declared.end.RunEnd.TheVariants.{Done, Store}
+use Rattle.desk_ends.specs.declared.end.Stop.{Stop}
 use Rattle.desk_app.specs.Checked.{is_readable, text_faults, TellsFaults}
-use Rattle.desk_app.specs.Ends.{end_of}
+use Rattle.desk_ends.specs.Ends.{end_of}
 use Rattle.desk_app.specs.Runs.{Finished, Stopped}
 use Rattle.invdesk.specs.Rows.{Unread}
 

@@ -8,8 +8,8 @@ use Rattle.desk_http.specs.Sites.{SiteRules}
 use Rattle.desk_http.specs.declared.service.NoReply.{NoReply}
 use Rattle.desk_app.specs.Services.{desk_machine, leaves, Relates}
 use Rattle.desk_app.specs.declared.service.BooksService.{BooksService}
-use Rattle.desk_app.specs.declared.end.RunEnd.{RunEnd}
-use Rattle.desk_app.specs.declared.end.RunEnd.TheVariants.{Done, ReadFailed, WriteFailed, Memory, Store}
+use Rattle.desk_ends.specs.declared.end.RunEnd.{RunEnd}
+use Rattle.desk_ends.specs.declared.end.RunEnd.TheVariants.{Done, ReadFailed, WriteFailed, Memory, Store}
 
 -- requests are to come to this port, and to show a token where one is asked for; a page is shown, or none
 pub record Offers (port : ℕ) (has_token has_page : Bool) (site : SiteRules) : Type 0 where

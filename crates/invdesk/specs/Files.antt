@@ -16,12 +16,12 @@ use Rattle.desk_store.specs.Migrating.{EitherAre}
 use Rattle.desk_store.specs.StateTables.{TablesAre}
 use Rattle.desk_store.specs.declared.desk.Desk.{Desk}
 use Rattle.desk_app.specs.Closed.{KeepAlone}
-use Rattle.desk_app.specs.Empty.{IsEmpty}
-use Rattle.desk_app.specs.FileFaults.{IsBare}
-use Rattle.desk_app.specs.declared.end.RunEnd.{RunEnd}
-use Rattle.desk_app.specs.declared.end.RunEnd.TheVariants.{Store}
-use Rattle.desk_app.specs.declared.words.Task.{Task}
-use Rattle.desk_app.specs.declared.words.Task.TheVariants as task
+use Rattle.desk_ends.specs.Empty.{IsEmpty}
+use Rattle.desk_cli.specs.FileFaults.{IsBare}
+use Rattle.desk_ends.specs.declared.end.RunEnd.{RunEnd}
+use Rattle.desk_ends.specs.declared.end.RunEnd.TheVariants.{Store}
+use Rattle.desk_cli.specs.declared.words.Task.{Task}
+use Rattle.desk_cli.specs.declared.words.Task.TheVariants as task
 use Rattle.invdesk.specs.Works.{Does}
 
 module _ {S : Type 0} (g : Ghosts S) where

@@ -5,11 +5,11 @@ use Rattle.desk_core.specs.Books.{AreInOrder}
 use Rattle.desk_core.specs.Machine.{State}
 use Rattle.desk_core.specs.ShopView.{state_of}
 use Rattle.desk_core.specs.declared.shop.Shop.{Shop}
-use Rattle.desk_app.specs.Empty.{IsEmpty}
+use Rattle.desk_ends.specs.Empty.{IsEmpty}
 use Rattle.desk_app.specs.declared.service.BooksService.{BooksService}
-use Rattle.desk_app.specs.declared.end.RunEnd.{RunEnd}
-use Rattle.desk_app.specs.declared.words.Task.{Task}
-use Rattle.desk_app.specs.declared.words.Task.TheVariants as task
+use Rattle.desk_ends.specs.declared.end.RunEnd.{RunEnd}
+use Rattle.desk_cli.specs.declared.words.Task.{Task}
+use Rattle.desk_cli.specs.declared.words.Task.TheVariants as task
 use Rattle.invdesk.specs.Checks.{ChecksInput}
 use Rattle.invdesk.specs.Clients.{ServesClients}
 use Rattle.invdesk.specs.Lines.{RunsLines}
@@ -46,7 +46,7 @@ pub record ServesInMemory (names : Bool) (port : ℕ) (has_token has_page : Bool
 
 -- nothing else is asked of them
 abbrev pub DoesInMemory : Task → RunEnd → Type 0
-DoesInMemory (task.Run file names stop check) end = AnswersInMemory names stop check end
+DoesInMemory (task.Run file names stop check explain) end = AnswersInMemory names stop check end
 DoesInMemory (task.Serve file port count token names page) end =
     ServesInMemory names port (is_some token) page count end
 DoesInMemory _ end = ⊥

@@ -3,19 +3,19 @@ use Rattle.std.specs.Prelude.{◌≡◌, ℕ, List, Bool, true, false, Option, R
 use Rattle.std.specs.Io.KnownBytes.{Appends, Keeps}
 use Rattle.desk_core.specs.Machine.{State}
 use Rattle.desk_store.specs.Exports.{AppendsFront, table_text}
-use Rattle.report_core.specs.Listings.{listing_lines}
+use Rattle.list_core.specs.Listings.{listing_lines}
 use Rattle.report_core.specs.Reports.{report_lines}
-use Rattle.report_core.specs.declared.listing.Listing.{Listing}
+use Rattle.list_core.specs.declared.listing.Listing.{Listing}
 use Rattle.report_core.specs.declared.name.ReportName.{ReportName}
 use Rattle.report_core.specs.declared.name.ReportName.TheVariants.{History}
 use Rattle.desk_wire.specs.declared.fault.What.{What}
-use Rattle.desk_app.specs.Printed.{migrated_text, printed}
-use Rattle.desk_app.specs.Shows.{listing_by, shown_list}
-use Rattle.desk_app.specs.Subjects.{row_of_report}
-use Rattle.desk_app.specs.declared.end.RunEnd.{RunEnd}
-use Rattle.desk_app.specs.declared.end.RunEnd.TheVariants.{Done, ReadFailed, WriteFailed, Memory, Store}
-use Rattle.desk_app.specs.declared.words.Task.{Task}
-use Rattle.desk_app.specs.declared.words.Task.TheVariants as task
+use Rattle.desk_ends.specs.Printed.{migrated_text, printed}
+use Rattle.desk_cli.specs.Shows.{listing_by, shown_list}
+use Rattle.desk_cli.specs.Subjects.{row_of_report}
+use Rattle.desk_ends.specs.declared.end.RunEnd.{RunEnd}
+use Rattle.desk_ends.specs.declared.end.RunEnd.TheVariants.{Done, ReadFailed, WriteFailed, Memory, Store}
+use Rattle.desk_cli.specs.declared.words.Task.{Task}
+use Rattle.desk_cli.specs.declared.words.Task.TheVariants as task
 
 -- this text was printed whole, and the end tells whether it is what was asked for; or a front of it, where the writer
 -- failed; or nothing

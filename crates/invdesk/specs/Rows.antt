@@ -6,10 +6,10 @@ use Rattle.desk_core.specs.Machine.{State}
 use Rattle.desk_store.specs.StateTables.{TablesAre}
 use Rattle.desk_wire.specs.Imports.{import}
 use Rattle.desk_wire.specs.declared.kind.ImportKind.{ImportKind}
-use Rattle.desk_app.specs.declared.end.RunEnd.{RunEnd}
-use Rattle.desk_app.specs.declared.end.RunEnd.TheVariants.{Done, ReadFailed, Memory, Store}
-use Rattle.desk_app.specs.declared.end.Stop.{Stop}
-use Rattle.desk_app.specs.Ends.{end_of}
+use Rattle.desk_ends.specs.declared.end.RunEnd.{RunEnd}
+use Rattle.desk_ends.specs.declared.end.RunEnd.TheVariants.{Done, ReadFailed, Memory, Store}
+use Rattle.desk_ends.specs.declared.end.Stop.{Stop}
+use Rattle.desk_ends.specs.Ends.{end_of}
 use Rattle.desk_app.specs.ImportRuns.{ImportedWhole, ImportStopped, IsLeftByImport, Reading}
 use Rattle.desk_app.specs.Runs.{naming}
 
@@ -38,8 +38,8 @@ pub record RunsRows {F : Type 0} (reading : Reading) (old new : Option F) (leave
   pub left : old ≡ None → (trees : Trees) → leaves trees → IsLeftByImport reading s trees
 
 -- A file was imported: which bytes it has is known to no clause, so some bytes. Rows might be named in it, or not.
-abbrev pub ImportsFile : {F : Type 0} → Bool → ImportKind → List ℕ → CivilDay → Option F → Option F → (Trees → Type 0)
+abbrev pub ImportsFile : {F : Type 0} → Bool → Bool → ImportKind → List ℕ → CivilDay → Option F → Option F → (Trees → Type 0)
     → State → State → RunEnd → Type 0
-ImportsFile names kind document day old new leaves s s' end =
+ImportsFile loose names kind document day old new leaves s s' end =
     Unread old new leaves s s' end
-    ⊎ ((bytes : List ℕ) × RunsRows (import (naming names s) kind document day bytes) old new leaves s s' end)
+    ⊎ ((bytes : List ℕ) × RunsRows (import loose (naming names s) kind document day bytes) old new leaves s s' end)

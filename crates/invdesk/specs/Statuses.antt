@@ -1,12 +1,12 @@
 -- The status that the program ends with.
 use Rattle.std.specs.Prelude.{◌≡◌, ◌≢◌, ◌⊎◌, ℕ, List, Some, None, IsSome}
 use Rattle.sqlite_disk.specs.declared.Disk as disk
-use Rattle.desk_app.specs.Statuses.{early_status, status_of, status_of_fault}
-use Rattle.desk_app.specs.Words.{Answers, file_of}
-use Rattle.desk_app.specs.declared.database.FileFault.{FileFault}
-use Rattle.desk_app.specs.declared.end.RunEnd.{RunEnd}
-use Rattle.desk_app.specs.declared.words.Task.{Task}
-use Rattle.desk_app.specs.declared.words.Task.TheVariants as task
+use Rattle.desk_cli.specs.Statuses.{early_status, status_of, status_of_fault}
+use Rattle.desk_cli.specs.Words.{Answers, file_of}
+use Rattle.desk_cli.specs.declared.database.FileFault.{FileFault}
+use Rattle.desk_ends.specs.declared.end.RunEnd.{RunEnd}
+use Rattle.desk_cli.specs.declared.words.Task.{Task}
+use Rattle.desk_cli.specs.declared.words.Task.TheVariants as task
 use Rattle.invdesk.specs.Files.{ActsOnFile, Left}
 use Rattle.invdesk.specs.Memory.{DoesInMemory}
 

@@ -9,9 +9,9 @@ use Rattle.desk_core.specs.ShopView.{state_of}
 use Rattle.desk_store.specs.declared.desk.Desk.{Desk}
 use Rattle.desk_app.specs.declared.service.BooksService.{BooksService}
 use Rattle.desk_app.specs.declared.watched.WatchedDesk.{WatchedDesk}
-use Rattle.desk_app.specs.declared.end.RunEnd.{RunEnd}
-use Rattle.desk_app.specs.declared.words.Task.{Task}
-use Rattle.desk_app.specs.declared.words.Task.TheVariants as task
+use Rattle.desk_ends.specs.declared.end.RunEnd.{RunEnd}
+use Rattle.desk_cli.specs.declared.words.Task.{Task}
+use Rattle.desk_cli.specs.declared.words.Task.TheVariants as task
 use Rattle.invdesk.specs.Checks.{ChecksInput}
 use Rattle.invdesk.specs.Clients.{ServesClients}
 use Rattle.invdesk.specs.Lines.{RunsLines}
@@ -50,9 +50,9 @@ module _ {S : Type 0} (g : Ghosts S) where
 
   -- what the words ask for was done with it, and ended so
   abbrev pub Does : Task → Desk S → Desk S → RunEnd → Type 0
-  Does (task.Run file names stop check) old new end = AnswersOnDesk names stop check old new end
-  Does (task.Import file kind document day path names) old new end =
-      ImportsFile names kind document day old.failed new.failed (may_leave new) (state_of old.shop)
+  Does (task.Run file names stop check explain) old new end = AnswersOnDesk names stop check old new end
+  Does (task.Import file kind document day path names loose explain) old new end =
+      ImportsFile loose names kind document day old.failed new.failed (may_leave new) (state_of old.shop)
       (state_of new.shop) end
   Does (task.Serve file port count token names page) old new end =
       ServesDesk names port (is_some token) page count old new end

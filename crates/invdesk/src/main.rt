@@ -12,10 +12,10 @@ ghost use Rattle.sqlite.specs.Files.{over_files};
 ghost use Rattle.desk_core.specs.ShopView.{state_of};
 ghost use Rattle.desk_store.specs.Desks.{IsDesk};
 ghost use Rattle.desk_app.specs.Cuts.{ReadsFile};
-ghost use Rattle.desk_app.specs.Statuses.{early_status};
-ghost use Rattle.desk_app.specs.Shows.{listing_by};
-ghost use Rattle.desk_app.specs.Subjects.{row_of_report};
-ghost use Rattle.desk_app.specs.Words.{file_of};
+ghost use Rattle.desk_cli.specs.Statuses.{early_status};
+ghost use Rattle.desk_cli.specs.Shows.{listing_by};
+ghost use Rattle.desk_cli.specs.Subjects.{row_of_report};
+ghost use Rattle.desk_cli.specs.Words.{file_of};
 ghost use Rattle.invdesk.specs.Checks.{ChecksInput};
 ghost use Rattle.invdesk.specs.Files.{ActsOnFile, Comes, IsClosedAfter, IsMoved, IsTaken};
 ghost use Rattle.invdesk.specs.Memory.{AnswersInMemory, ChecksInMemory, DoesInMemory};
@@ -28,18 +28,22 @@ ghost use Rattle.invdesk.specs.Works.{may_leave};
 
 use crate::serve::{began, serve};
 use desk_app::{
-    Books, BooksService, CountedBooks, DEVICE, FaultyFile, FileFault, ListOf, MEMORY, NoRow,
-    ReportOf, RunEnd, Stop, Task, TypedLines, WatchedDesk, connect, connect_to_old, early_status,
-    end_of_work, escaped, import_file, let_go, listing_of, migrate_desk, no_row_text, print_export,
-    print_list, print_migrated, print_report, read_file, read_words, row_of_report, run_checked,
-    run_in_memory, run_lines, status_of, status_of_fault, take_desk, told_line,
+    Books, BooksService, CountedBooks, ExplainedBooks, WatchedDesk, end_of_work, explain_faults,
+    import_file, let_go, read_file, run_checked, run_in_memory, run_lines,
+};
+use desk_cli::{
+    DEVICE, FaultyFile, FileFault, ListOf, MEMORY, NoRow, ReportOf, Task, TypedLines, connect,
+    connect_to_old, early_status, escaped, listing_of, migrate_desk, no_row_text, print_export,
+    print_list, print_migrated, print_report, read_words, row_of_report, status_of,
+    status_of_fault, take_desk, told_line,
 };
 use desk_core::Shop;
+use desk_ends::{RunEnd, Stop, guide_to};
 use desk_store::Desk;
 use desk_wire::{Document, ImportKind, What};
 use part_core::{Day, Limits};
 use report_core::ReportName;
-use sqlite::{Error, File, FileStore, Files};
+use sqlite::{Alter, Error, File, FileStore, Files};
 use sqlite_disk::Disk;
 use std::alloc::{AllocError, Global};
 use std::env::{self, Env};
@@ -86,6 +90,14 @@ fn tell_words<R: Eprint + AllocGlobal>(rt: &R, fault: &clap::Error) -> io::Resul
     }
 }
 
+/// Prints the help on a topic.
+fn print_guide<R: Print + AllocGlobal>(rt: &R, topic: &str) -> io::Result<()> {
+    match guide_to(topic) {
+        Some(entry) => println!(rt; "{entry}"),
+        None => Ok(()),
+    }
+}
+
 /// Prints what the words ask for, and gives the status to end with at once, unless a desk is asked for.
 fn at_once<R: Print + Eprint + AllocGlobal>(rt: &R, task: &Task<'_>) -> Option<u8>
     ensures none { result ≡ None → early_status task.now ≡ None }
@@ -95,6 +107,7 @@ fn at_once<R: Print + Eprint + AllocGlobal>(rt: &R, task: &Task<'_>) -> Option<u
         return None;
     };
     let printed = match task {
+        Task::Guide(topic) => print_guide(rt, topic),
         Task::Help(text) => text.print(rt),
         Task::Wrong(fault) => tell_words(rt, fault),
         Task::Unreadable => eprintln!(rt; "invdesk: a word isn't UTF-8"),
@@ -151,12 +164,13 @@ fn import<B: Books>(
     kind: ImportKind,
     document: &Document,
     day: Day,
+    loose: bool,
     names: bool,
     books: &mut B,
 ) -> RunEnd
     requires { B.are_kept books.old }
     ensures kept { B.are_kept books.new }
-    ensures imports { ImportsFile names kind document.now day (B.failure_of books.old)
+    ensures imports { ImportsFile loose names kind document.now day (B.failure_of books.old)
         (B.failure_of books.new) (B.may_leave books.new) (B.state_in books.old)
         (B.state_in books.new) result }
 {
@@ -168,6 +182,7 @@ fn import<B: Books>(
                 kind,
                 document,
                 day,
+                loose,
                 names,
                 &mut io::writer(rt),
                 books,
@@ -181,6 +196,13 @@ fn import<B: Books>(
 fn terminal(rt: &HostRuntime) -> Option<Stderr> {
     let stderr = rt.stderr();
     stderr.is_terminal().then_some(stderr)
+}
+
+/// Who is told why a line or a row isn't done: whoever reads the standard error, where that is asked for or it is a
+/// terminal.
+fn reasons(rt: &HostRuntime, explain: bool) -> Option<Stderr> {
+    let stderr = rt.stderr();
+    (explain || stderr.is_terminal()).then_some(stderr)
 }
 
 /// What a line ends with that tells of a fault of the database, while clients are served.
@@ -304,21 +326,23 @@ fn greet<T: Display + Drop>(rt: &HostRuntime, books: T) {
     }
 }
 
-/// A desk after work on it, and how the work ended.
-type Worked = (Desk<FileStore<File>>, RunEnd);
+/// A desk after work on it, and how the work ended. What wraps a desk twice leaves its store open: with that of files put
+/// in, its proof is too long.
+type Worked<S> = (Desk<S>, RunEnd);
 
 /// Answers the lines of the standard input with the desk, whose file is told by that name. Lines may name rows or not,
-/// and the first that is refused or faulty may be the last.
-fn run_on(
+/// and the first that is refused or faulty may be the last. It may be told why a line isn't done.
+fn run_on<S: Alter + Drop>(
     rt: &HostRuntime,
     names: bool,
     stop: bool,
-    desk: Desk<FileStore<File>>,
+    explain: bool,
+    desk: Desk<S>,
     name: String,
-) -> Worked
-    requires { IsDesk over_files desk }
-    ensures desk { IsDesk over_files result.0 }
-    ensures runs { RunsOnDesk over_files names stop desk result.0 result.1 }
+) -> Worked<S>
+    requires { IsDesk S.Store desk }
+    ensures desk { IsDesk S.Store result.0 }
+    ensures runs { RunsOnDesk S.Store names stop desk result.0 result.1 }
 {
     if let Ok(shop) = desk.shop() {
         let parts = shop.catalogue().parts().len();
@@ -328,68 +352,84 @@ fn run_on(
             format_args!("{name} has {parts} parts and {items} items."),
         );
     }
-    let mut watched = WatchedDesk::new(desk, name, "", rt.stderr());
+    let watched = WatchedDesk::new(desk, name, "", rt.stderr());
+    let mut explained = ExplainedBooks::new(rt.alloc(), watched, reasons(rt, explain));
     let (mut lines, mut writer) = (lines_in(rt), io::writer(rt));
     let end = run_lines(
         rt.alloc(),
         &mut lines,
         &mut writer,
-        &mut watched,
+        &mut explained,
         names,
         stop,
     );
-    (watched.into_desk(), end)
+    (explained.into_books().into_desk(), end)
 }
 
 /// Answers the lines of the standard input on the books, once all have been looked at. Where it can't be read nothing is
-/// done.
-fn check<B: Books>(rt: &HostRuntime, names: bool, stop: bool, books: &mut B) -> RunEnd
+/// done. It may be told why a line can't be read.
+fn check<B: Books>(
+    rt: &HostRuntime,
+    names: bool,
+    stop: bool,
+    explain: bool,
+    books: &mut B,
+) -> RunEnd
     requires { B.are_kept books.old }
     ensures kept { B.are_kept books.new }
     ensures checks { ChecksInput names stop (B.failure_of books.old) (B.failure_of books.new)
         (B.may_leave books.new) (B.state_in books.old) (B.state_in books.new) result }
 {
     match all_of(rt.alloc(), &mut rt.reader()) {
-        Ok(bytes) => run_checked(rt.alloc(), &bytes, &mut io::writer(rt), books, names, stop),
+        Ok(bytes) => {
+            let end = run_checked(rt.alloc(), &bytes, &mut io::writer(rt), books, names, stop);
+            if let Some(mut told) = reasons(rt, explain) {
+                explain_faults(rt.alloc(), &bytes, names, &mut told);
+            }
+            end
+        }
         Err(end) => end,
     }
 }
 
 /// Answers the lines of the standard input with the desk, once all have been looked at.
-fn check_on(
+fn check_on<S: Alter + Drop>(
     rt: &HostRuntime,
     names: bool,
     stop: bool,
-    desk: Desk<FileStore<File>>,
+    explain: bool,
+    desk: Desk<S>,
     name: String,
-) -> Worked
-    requires { IsDesk over_files desk }
-    ensures desk { IsDesk over_files result.0 }
-    ensures checks { ChecksOnDesk over_files names stop desk result.0 result.1 }
+) -> Worked<S>
+    requires { IsDesk S.Store desk }
+    ensures desk { IsDesk S.Store result.0 }
+    ensures checks { ChecksOnDesk S.Store names stop desk result.0 result.1 }
 {
-    let mut watched = WatchedDesk::new(desk, name, "", rt.stderr());
-    let end = check(rt, names, stop, &mut watched);
-    let desk = watched.into_desk();
+    let watched = WatchedDesk::new(desk, name, "", rt.stderr());
+    let mut explained = ExplainedBooks::new(rt.alloc(), watched, reasons(rt, explain));
+    let end = check(rt, names, stop, explain, &mut explained);
+    let desk = explained.into_books().into_desk();
     (desk, end)
 }
 
 /// Answers the lines of the standard input with the desk, each as it comes or once all have been looked at.
-fn answer_on(
+fn answer_on<S: Alter + Drop>(
     rt: &HostRuntime,
     names: bool,
     stop: bool,
     check: bool,
-    desk: Desk<FileStore<File>>,
+    explain: bool,
+    desk: Desk<S>,
     name: String,
-) -> Worked
-    requires { IsDesk over_files desk }
-    ensures desk { IsDesk over_files result.0 }
-    ensures answers { AnswersOnDesk over_files names stop check desk result.0 result.1 }
+) -> Worked<S>
+    requires { IsDesk S.Store desk }
+    ensures desk { IsDesk S.Store result.0 }
+    ensures answers { AnswersOnDesk S.Store names stop check desk result.0 result.1 }
 {
     if check {
-        return check_on(rt, names, stop, desk, name);
+        return check_on(rt, names, stop, explain, desk, name);
     }
-    run_on(rt, names, stop, desk, name)
+    run_on(rt, names, stop, explain, desk, name)
 }
 
 /// Serves clients, so many or until it is stopped.
@@ -402,7 +442,7 @@ fn serve_on(
     page: bool,
     desk: Desk<FileStore<File>>,
     name: String,
-) -> Worked
+) -> Worked<FileStore<File>>
     requires { IsDesk over_files desk }
     ensures desk { IsDesk over_files result.0 }
     ensures serves { ServesDesk over_files names port (is_some token.entry) page count desk
@@ -414,30 +454,38 @@ fn serve_on(
     (service.books.into_desk(), end)
 }
 
-/// Runs the rows of the file at the path.
-fn import_on(
+/// Runs the rows of the file at the path. It may be told why a row isn't done.
+fn import_on<S: Alter + Drop>(
     rt: &HostRuntime,
     path: &str,
     kind: ImportKind,
     document: &Document,
     day: Day,
+    loose: bool,
     names: bool,
-    desk: Desk<FileStore<File>>,
+    explain: bool,
+    desk: Desk<S>,
     name: String,
-) -> Worked
-    requires { IsDesk over_files desk }
-    ensures desk { IsDesk over_files result.0 }
-    ensures imports { ImportsFile names kind document.now day desk.failed result.0.failed
-        (may_leave over_files result.0) (state_of desk.shop) (state_of result.0.shop) result.1 }
+) -> Worked<S>
+    requires { IsDesk S.Store desk }
+    ensures desk { IsDesk S.Store result.0 }
+    ensures imports { ImportsFile loose names kind document.now day desk.failed result.0.failed
+        (may_leave S.Store result.0) (state_of desk.shop) (state_of result.0.shop) result.1 }
 {
     let watched = WatchedDesk::new(desk, name, "", rt.stderr());
-    let mut counted = CountedBooks::new(watched, terminal(rt));
-    let end = import(rt, path, kind, document, day, names, &mut counted);
-    (counted.into_books().into_desk(), end)
+    let explained = ExplainedBooks::new(rt.alloc(), watched, reasons(rt, explain));
+    let mut counted = CountedBooks::new(explained, terminal(rt));
+    let end = import(rt, path, kind, document, day, loose, names, &mut counted);
+    (counted.into_books().into_books().into_desk(), end)
 }
 
 /// Does what the words ask for with the desk, whose file is told by that name.
-fn done(rt: &HostRuntime, task: &Task<'_>, desk: Desk<FileStore<File>>, name: String) -> Worked
+fn done(
+    rt: &HostRuntime,
+    task: &Task<'_>,
+    desk: Desk<FileStore<File>>,
+    name: String,
+) -> Worked<FileStore<File>>
     requires { IsDesk over_files desk }
     ensures desk { IsDesk over_files result.0 }
     ensures does { Does over_files task.now desk result.0 result.1 }
@@ -447,8 +495,9 @@ fn done(rt: &HostRuntime, task: &Task<'_>, desk: Desk<FileStore<File>>, name: St
             names,
             stop,
             check,
+            explain,
             ..
-        } => answer_on(rt, *names, *stop, *check, desk, name),
+        } => answer_on(rt, *names, *stop, *check, *explain, desk, name),
         Task::Serve {
             port,
             count,
@@ -463,8 +512,14 @@ fn done(rt: &HostRuntime, task: &Task<'_>, desk: Desk<FileStore<File>>, name: St
             day,
             path,
             names,
+            loose,
+            explain,
             ..
-        } => import_on(rt, path, *kind, document, *day, *names, desk, name),
+        } => {
+            import_on(
+                rt, path, *kind, document, *day, *loose, *names, *explain, desk, name,
+            )
+        }
         _ => {
             let end = print_out(rt, task, &desk);
             (desk, end)
@@ -515,11 +570,29 @@ fn desk_of(
     }
 }
 
+/// A file of so many bytes takes about a second to read.
+const LONG: u64 = 32 * 1024 * 1024;
+
+/// Says at a terminal that a long file is being read, whose name is told so.
+fn tell_of_long(rt: &HostRuntime, path: &str, name: &str) {
+    if !rt.stderr().is_terminal() {
+        return;
+    }
+    let Ok(found) = fs::metadata(rt, path) else {
+        return;
+    };
+    if found.len() >= LONG {
+        let size = found.len() / 1_000_000;
+        let _ = eprintln!(rt; "invdesk: {name} has {size} MB; reading it takes a moment");
+    }
+}
+
 /// Does what the words ask for, with the desk of the file, and closes the file.
 fn act_on_file(rt: &HostRuntime, path: &str, task: &Task<'_>) -> Result<Ended, FileFault>
     ensures { IfOk result (λ ended. ActsOnFile task.now ended.0 ended.1) }
 {
     let name = escaped(rt.alloc(), path)?;
+    tell_of_long(rt, path, name.as_str());
     let desk = desk_of(rt, path, task)?;
     let (desk, end) = done(rt, task, desk, name);
     Ok(closed(rt, path, desk, end))
@@ -543,25 +616,29 @@ fn status_on_file(rt: &HostRuntime, path: &str, task: &Task<'_>) -> u8
 }
 
 /// Answers the lines of the standard input with new books in memory, once all have been looked at.
-fn check_in_memory(rt: &HostRuntime, names: bool, stop: bool) -> RunEnd
+fn check_in_memory(rt: &HostRuntime, names: bool, stop: bool, explain: bool) -> RunEnd
     ensures { ChecksInMemory names stop result }
 {
-    let mut shop = Shop::new(rt.alloc(), Limits::LARGEST);
-    check(rt, names, stop, &mut shop)
+    let shop = Shop::new(rt.alloc(), Limits::LARGEST);
+    let mut explained = ExplainedBooks::new(rt.alloc(), shop, reasons(rt, explain));
+    let end = check(rt, names, stop, explain, &mut explained);
+    explained.into_books();
+    end
 }
 
 /// Answers the lines of the standard input with new books in memory, each as it comes or once all have been looked at.
-fn answer_in_memory(rt: &HostRuntime, names: bool, stop: bool, check: bool) -> RunEnd
+fn answer_in_memory(rt: &HostRuntime, names: bool, stop: bool, check: bool, explain: bool) -> RunEnd
     ensures { AnswersInMemory names stop check result }
 {
     if check {
-        return check_in_memory(rt, names, stop);
+        return check_in_memory(rt, names, stop, explain);
     }
     greet(rt, "no file is named, so nothing is kept.");
     run_in_memory(
         rt.alloc(),
         &mut lines_in(rt),
         &mut io::writer(rt),
+        reasons(rt, explain),
         names,
         stop,
     )
@@ -590,8 +667,9 @@ fn act_in_memory(rt: &HostRuntime, task: &Task<'_>) -> RunEnd
             names,
             stop,
             check,
+            explain,
             ..
-        } => answer_in_memory(rt, *names, *stop, *check),
+        } => answer_in_memory(rt, *names, *stop, *check, *explain),
         _ => unreachable!(),
     }
 }

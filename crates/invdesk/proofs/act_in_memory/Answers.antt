@@ -3,7 +3,7 @@ use Rattle.std.specs.Prelude.{None, is_some}
 use Rattle.table_store.specs.declared.fault.Failed.{Failed}
 use Rattle.desk_core.specs.Machine.{IsSoundState}
 use Rattle.desk_core.specs.ShopView.{state_of}
-use Rattle.desk_app.proofs.Taking.{empty_with}
+use Rattle.desk_ends.proofs.Empty.{empty_with}
 use Rattle.invdesk.specs.Clients.{ServesClients}
 use Rattle.invdesk.proofs.act_in_memory.Goals as goal
 

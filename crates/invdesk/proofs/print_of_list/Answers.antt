@@ -1,7 +1,7 @@
 use Rattle.std.proofs.Common.{subst, sym}
 use Rattle.desk_core.specs.ShopView.{state_of}
-use Rattle.desk_app.specs.Shows.{listing_by}
-use Rattle.desk_app.specs.Subjects.{TellsNoRow}
+use Rattle.desk_cli.specs.Shows.{listing_by}
+use Rattle.desk_cli.specs.Subjects.{TellsNoRow}
 use Rattle.invdesk.specs.Prints.{PrintsList}
 use Rattle.invdesk.proofs.Printing.{list_closed, list_found, list_no_memory, list_unfound, prints_text}
 use Rattle.invdesk.proofs.print_of_list.Goals as goal

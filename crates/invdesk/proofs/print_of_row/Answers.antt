@@ -1,6 +1,6 @@
 use Rattle.std.proofs.Common.{subst, sym}
 use Rattle.desk_core.specs.ShopView.{state_of}
-use Rattle.desk_app.specs.Subjects.{TellsNoRow, row_of_report}
+use Rattle.desk_cli.specs.Subjects.{TellsNoRow, row_of_report}
 use Rattle.invdesk.specs.Prints.{PrintsOfRow}
 use Rattle.invdesk.proofs.Printing.{prints_closed, prints_found, prints_no_memory, prints_report, prints_unfound}
 use Rattle.invdesk.proofs.print_of_row.Goals as goal

@@ -3,7 +3,7 @@ use Rattle.desk_core.specs.Machine.{step}
 use Rattle.desk_core.specs.declared.command.Request.{Request}
 use Rattle.desk_app.specs.Runs.{IsOfBooks, by_outcome}
 use Rattle.desk_app.specs.ImportRuns.{RanFront}
-use Rattle.desk_app.specs.declared.end.Stop.TheVariants.{Memory}
+use Rattle.desk_ends.specs.declared.end.Stop.TheVariants.{Memory}
 use Rattle.desk_app.proofs.Rows.{rows_next, rows_start, rows_end, untold_front, cut_front, memory_front}
 use Rattle.desk_app.proofs.Rows.{unasked_front, unkept_front, left_next, left_none, rows_same}
 use Rattle.desk_app.proofs.Running.{if_err, if_err_as}
@@ -111,7 +111,7 @@ returns-in_err-push_report_line-clause-left g c before trees there =
 pub loop-row-preserved : goal.loop-row-preserved
 loop-row-preserved g c =
     let inside : c.loop-row.row-index < length c.args.rows.now = search rules in
-    let line = rw (c.number.ensures, c.as_str.ensures.value) at c.in_ok-push_report_line.ensures in
+    let line = rw (c.number-in-loop-row.ensures, c.as_str.ensures.value) at c.in_ok-push_report_line.ensures in
     let all : c.if-fine.fine ≡ (c.loop-row.fine && c.in_ok-told.told.fine) =
     elim c.if-fine.branch [
       | then-fine w ↦ rw w.if-fine.true w.fine-is

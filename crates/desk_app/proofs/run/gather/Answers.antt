@@ -2,7 +2,7 @@ use Rattle.std.proofs.Common.{◌≡◌, ◌+◌, ◌&&◌, ◌∙◌, true, fal
 use Rattle.std.specs.Prelude.{None}
 use Rattle.desk_app.specs.Cuts.{left}
 use Rattle.desk_app.specs.Runs.{is_fine, Halts, IsOfSettling}
-use Rattle.desk_app.specs.declared.end.Stop.TheVariants.{Memory, ReadFailed, WriteFailed}
+use Rattle.desk_ends.specs.declared.end.Stop.TheVariants.{Memory, ReadFailed, WriteFailed}
 use Rattle.desk_app.proofs.Running.{Running, running_due, running_line, running_start, kept_start, gathered}
 use Rattle.desk_app.proofs.Running.{gathered_there, halting, halts_line}
 use Rattle.desk_app.proofs.Running.{halts_reading, halts_start, halts_unsettled, if_err, if_err_as, line_settles, line_writes}

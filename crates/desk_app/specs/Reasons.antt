@@ -1,0 +1,114 @@
+-- Why a line or a row wasn't done, in words: what a person is told beside the answer.
+use Rattle.std.specs.Prelude.{◌≡◌, ℕ, List, [], ◌∷◌, ◌++◌, decimal, codes, Option, Some, None, option_map, string_bytes}
+use Rattle.std.specs.Prelude.{◌⊎◌, Bool, Result, Ok, Err}
+use Rattle.part_core.specs.FormTables.{forms_by}
+use Rattle.part_core.specs.Refusal.{refusal_name}
+use Rattle.desk_core.specs.CommandForms.{command_fields, command_forms, command_verb}
+use Rattle.desk_core.specs.Machine.{Outcome, State, step}
+use Rattle.desk_core.specs.declared.command.Request.{Request as Req}
+use Rattle.desk_core.specs.declared.command.Command.{Command}
+use Rattle.list_core.specs.Facts.{facts_of, row_fact}
+use Rattle.report_core.specs.Lines.{Lines}
+use Rattle.report_core.specs.Reports.{report_lines}
+use Rattle.report_core.specs.declared.name.ReportName.{ReportName}
+use Rattle.desk_wire.specs.declared.read.Wish.{Wish}
+use Rattle.desk_wire.specs.declared.read.Wish.TheVariants.{Request, Report}
+use Rattle.desk_wire.specs.Reading as reading
+use Rattle.desk_wire.specs.declared.fault.What.{What}
+use Rattle.desk_wire.specs.declared.fault.WireFault.{WireFault}
+use Rattle.desk_wire.specs.declared.fault.WrongField.{WrongField}
+use Rattle.desk_wire.specs.Faults.{fault_name}
+use Rattle.desk_wire.specs.Reading.{table_of}
+use Rattle.desk_wire.specs.WrongFields.{TellsField, wrong_in_line}
+use Rattle.desk_app.specs.Runs.{naming}
+use Rattle.desk_app.specs.declared.undone.Place.{Place}
+use Rattle.desk_app.specs.declared.undone.Place.TheVariants.{Line, Row}
+use Rattle.desk_app.specs.declared.undone.Why.{Why}
+use Rattle.desk_app.specs.declared.undone.Why.TheVariants.{Refused, NoReport, FaultyLine, FaultyFile}
+
+abbrev pub place_text : Place → List ℕ
+place_text (Line n) = codes "line " ++ decimal n
+place_text (Row n) = codes "row " ++ decimal n
+
+-- texts with a colon between them
+abbrev pub colons : List (List ℕ) → List ℕ
+colons [] = []
+colons (w ∷ []) = w
+colons (w ∷ v ∷ vs) = w ++ (codes ": " ++ colons (v ∷ vs))
+
+-- the facts of a command: each row that it names, as the tables have it, and what it asks for
+abbrev pub command_facts : State → Command → List ℕ
+command_facts s c = facts_of (forms_by command_forms) (command_verb c) (command_fields c) s
+
+-- the name of a field, where one is wrong
+abbrev pub field_words : Option WrongField → List (List ℕ)
+field_words None = []
+field_words (Some field) = string_bytes field.name ∷ []
+
+-- what stands in it, if it is there
+abbrev pub value_words : Option WrongField → List (List ℕ)
+value_words None = []
+value_words (Some field) = by_text (option_map string_bytes field.text)
+  where
+    by_text : Option (List ℕ) → List (List ℕ)
+    by_text None = []
+    by_text (Some text) = text ∷ []
+
+-- a fault, with the field that it is in
+abbrev pub fault_words : List ℕ → What → Option WrongField → List ℕ
+fault_words place what field = colons (place ∷ (field_words field ++ (fault_name what ∷ value_words field)))
+
+-- a text begins with this
+abbrev pub Begins : List ℕ → List ℕ → Type 0
+Begins front text = (more : List ℕ) × (text ≡ front ++ more)
+
+-- What is told begins with the place, the answer's word and the facts in these books: of a request each row that it names
+-- and what it asks for, of a report the row that it would be of, of a fault the field and what stands in it. Behind them
+-- stands what the word means.
+abbrev pub IsReason : State → Why → List ℕ → Type 0
+IsReason s (Refused place request refusal) text =
+    Begins (colons (place_text place ∷ refusal_name refusal ∷ command_facts s request.now.command ∷ [])) text
+IsReason s (NoReport line name of) text =
+    Begins (colons (place_text (Line line) ∷ codes "NoSuch" ∷ row_fact s (codes "of") (table_of name) of ∷ [])) text
+IsReason s (FaultyLine names line fault) text =
+    (field : Option WrongField) × TellsField field (wrong_in_line (naming names s) line.now)
+    × Begins (fault_words (place_text (Line fault.now.line)) fault.now.what field) text
+IsReason s (FaultyFile kind fault field) text =
+    Begins (fault_words (codes "record " ++ decimal fault.now.line) fault.now.what field.now) text
+
+-- what waits to be told is as before, or such a text comes behind it
+abbrev pub Waits : (List ℕ → Type 0) → List ℕ → List ℕ → Type 0
+Waits is_told old new = (new ≡ old) ⊎ ((text : List ℕ) × is_told text × (new ≡ old ++ text))
+
+abbrev pub Notes : State → Why → List ℕ → List ℕ → Type 0
+Notes s why old new = Waits (IsReason s why) old new
+
+-- ---- that it is the reason of what is answered
+
+-- of a request that stands there: of one that is refused, the refusal
+abbrev pub NotesOutcome : Place → Req → State × Outcome → List ℕ → List ℕ → Type 0
+NotesOutcome place request (s, Ok answer) old new = new ≡ old
+NotesOutcome place request (s, Err refusal) old new =
+    Waits (Begins (colons (place_text place ∷ refusal_name refusal ∷ command_facts s request.command ∷ []))) old new
+
+-- of a line that asks for a report: of a row that isn't there, which row
+abbrev pub NotesReport : State → ℕ → ReportName → ℕ → Option Lines → List ℕ → List ℕ → Type 0
+NotesReport s line name of (Some lines) old new = new ≡ old
+NotesReport s line name of None old new =
+    Waits (Begins (colons (place_text (Line line) ∷ codes "NoSuch" ∷ row_fact s (codes "of") (table_of name) of ∷ [])))
+    old new
+
+-- of a faulty line: its fault, and the member that can't be read
+abbrev pub NotesFault : Bool → State → ℕ → List ℕ → What → List ℕ → List ℕ → Type 0
+NotesFault names s number line what old new =
+    Waits (λ text. (field : Option WrongField) × TellsField field (wrong_in_line (naming names s) line)
+    × Begins (fault_words (place_text (Line number)) what field) text) old new
+
+abbrev pub NotesWish : Bool → State → ℕ → List ℕ → Result Wish What → List ℕ → List ℕ → Type 0
+NotesWish names s number line (Ok (Request request)) old new = NotesOutcome (Line number) request (step s request) old new
+NotesWish names s number line (Ok (Report name of)) old new = NotesReport s number name of (report_lines name of s) old new
+NotesWish names s number line (Err what) old new = NotesFault names s number line what old new
+
+-- of a line, by what it asks for
+abbrev pub NotesLine : Bool → State → ℕ → List ℕ → List ℕ → List ℕ → Type 0
+NotesLine names s number line old new = NotesWish names s number line (reading.line (naming names s) line) old new

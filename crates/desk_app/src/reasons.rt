@@ -1,0 +1,223 @@
+//! What a person is told of a line or a row that wasn't done: where it stands, the word that was answered, the facts of the
+//! rows that it names, and what the word means.
+ghost use Rattle.std.specs.Prelude.{◌≡◌, ◌∷◌, ◌++◌, [], ℕ, List, codes, decimal, Option, option_map, IfOk};
+ghost use Rattle.std.specs.String.{string_bytes};
+ghost use Rattle.part_core.specs.Refusal.{refusal_name};
+ghost use Rattle.desk_core.specs.Naming.{naming_in};
+ghost use Rattle.desk_core.specs.ShopView.{state_of};
+ghost use Rattle.list_core.specs.Facts.{row_fact};
+ghost use Rattle.desk_wire.specs.declared.fault.WrongField.{WrongField};
+ghost use Rattle.desk_wire.specs.Reading.{table_of};
+ghost use Rattle.desk_wire.specs.WrongFields.{wrong_in_line, TellsField};
+ghost use Rattle.desk_app.specs.Reasons.{colons, command_facts, fault_words, place_text, Begins, IsReason};
+ghost use Rattle.desk_app.specs.Runs.{naming};
+
+use crate::guesses::guess;
+use crate::undone::{Place, Why};
+use desk_core::{Names, Request, Shop};
+use desk_ends::guide_to;
+use desk_wire::{ImportKind, What, WireFault, WrongField, table_of, wrong_field};
+use list_core::{facts, row_fact};
+use part_core::{Id, Refusal};
+use report_core::ReportName;
+use std::alloc::{AllocError, Global};
+
+/// What the word means, and what can be done, to the end of the line.
+fn meaning(alloc: Global, word: &str) -> Result<String, AllocError> {
+    let mut text = String::from_str(alloc, ".")?;
+    if let Some(entry) = guide_to(word) {
+        for line in entry.lines().skip(1) {
+            text.push_str(" ")?;
+            text.push_str(line.trim())?;
+        }
+    }
+    text.push_str("\n")?;
+    Ok(text)
+}
+
+/// The text with more behind it.
+fn followed(mut text: String, more: &str) -> Result<String, AllocError>
+    ensures { (front : List ℕ) → string_bytes text ≡ front
+        → IfOk result (λ told. Begins front (string_bytes told)) }
+{
+    text.push_str(more)?;
+    Ok(text)
+}
+
+fn place_text(alloc: Global, place: Place) -> Result<String, AllocError>
+    ensures { IfOk result (λ text. string_bytes text ≡ place_text place) }
+{
+    match place {
+        Place::Line(number) => format!(in alloc; "line {number}"),
+        Place::Row(number) => format!(in alloc; "row {number}"),
+    }
+}
+
+/// Why a request was refused.
+fn why_refused(
+    alloc: Global,
+    shop: &Shop,
+    place: Place,
+    request: &Request,
+    refusal: Refusal,
+) -> Result<String, AllocError>
+    ensures { IfOk result (λ text. Begins (colons (place_text place ∷ refusal_name refusal
+        ∷ command_facts (state_of shop.now) request.now.command ∷ [])) (string_bytes text)) }
+{
+    let (place, name) = (place_text(alloc, place)?, refusal.name());
+    let facts = facts(alloc, shop, &request.command)?;
+    let text = format!(in alloc; "{place}: {name}: {facts}")?;
+    let meaning = meaning(alloc, name)?;
+    followed(text, meaning.as_str())
+}
+
+/// Why there is no report.
+fn why_no_report(
+    alloc: Global,
+    shop: &Shop,
+    line: u64,
+    name: ReportName,
+    of: Id,
+) -> Result<String, AllocError>
+    ensures { IfOk result (λ text. Begins (colons (place_text (Place.Line line) ∷ codes "NoSuch"
+        ∷ row_fact (state_of shop.now) (codes "of") (table_of name) of ∷ [])) (string_bytes text)) }
+{
+    let place = place_text(alloc, Place::Line(line))?;
+    let fact = row_fact(alloc, shop, "of", table_of(name), of)?;
+    let text = format!(in alloc; "{place}: NoSuch: {fact}")?;
+    let meaning = meaning(alloc, "NoSuch")?;
+    followed(text, meaning.as_str())
+}
+
+/// A fault with the field that it is in, and what stands there.
+fn fault_words(
+    alloc: Global,
+    place: &str,
+    what: &What,
+    field: &Option<WrongField>,
+) -> Result<String, AllocError>
+    ensures { IfOk result (λ text.
+        string_bytes text ≡ fault_words place.now what.now field.now) }
+{
+    let mut text = String::from_str(alloc, place)?;
+    text.push_str(": ")?;
+    if let Some(field) = field {
+        text.push_str(field.name.as_str())?;
+        text.push_str(": ")?;
+    }
+    text.push_str(what.name())?;
+    if let Some(field) = field {
+        if let Some(value) = &field.text {
+            text.push_str(": ")?;
+            text.push_str(value.as_str())?;
+        }
+    }
+    Ok(text)
+}
+
+/// The names that a line was read with.
+fn names_of(shop: &Shop, names: bool) -> Option<&Shop>
+    ensures { option_map (λ shop. naming_in (state_of shop.now)) result
+        ≡ naming names (state_of shop.now) }
+{
+    if names { Some(shop) } else { None }
+}
+
+/// The known word that is most like one of those that were said, in brackets, where a word was misspelt.
+fn guess_text(
+    alloc: Global,
+    what: &What,
+    field: Option<&WrongField>,
+) -> Result<String, AllocError> {
+    let Some(field) = field else {
+        return Ok(String::new(alloc));
+    };
+    match guess(alloc, what, field)? {
+        Some(word) => format!(in alloc; " (did you mean {word}?)"),
+        None => Ok(String::new(alloc)),
+    }
+}
+
+/// What stands behind a fault of a line: a word that may have been meant, and what the fault means.
+fn behind_fault(
+    alloc: Global,
+    what: &What,
+    field: Option<&WrongField>,
+) -> Result<String, AllocError> {
+    let mut text = guess_text(alloc, what, field)?;
+    text.push_str(meaning(alloc, what.name())?.as_str())?;
+    Ok(text)
+}
+
+/// What is wrong with a line that was read with these names.
+pub(crate) fn why_faulty_line<N: Names>(
+    alloc: Global,
+    names: Option<&N>,
+    line: &[u8],
+    fault: &WireFault,
+) -> Result<String, AllocError>
+    ensures { IfOk result (λ text. (field : Option WrongField)
+        × TellsField field
+        (wrong_in_line (option_map (λ n. N.naming_of n.now) names.entry) line.now)
+        × Begins (fault_words (place_text (Place.Line fault.now.line)) fault.now.what field)
+        (string_bytes text)) }
+{
+    let field = wrong_field(alloc, names, line)?;
+    let place = place_text(alloc, Place::Line(fault.line))?;
+    let text = fault_words(alloc, place.as_str(), &fault.what, &field)?;
+    let more = behind_fault(alloc, &fault.what, field.as_ref())?;
+    followed(text, more.as_str())
+}
+
+/// What stands behind a fault of a file: the header that is wanted, and what the fault means.
+fn behind_fault_of_file(
+    alloc: Global,
+    kind: ImportKind,
+    what: &What,
+) -> Result<String, AllocError> {
+    let wanted = match (what, kind) {
+        (What::Header, ImportKind::Receipts) => {
+            ": number,line,location,quantity,batch,serials is wanted"
+        }
+        (What::Header, ImportKind::Counts) => ": number,item,quantity is wanted",
+        _ => "",
+    };
+    let mut text = String::from_str(alloc, wanted)?;
+    text.push_str(meaning(alloc, what.name())?.as_str())?;
+    Ok(text)
+}
+
+/// What is wrong with a file.
+fn why_faulty_file(
+    alloc: Global,
+    kind: ImportKind,
+    fault: &WireFault,
+    field: &Option<WrongField>,
+) -> Result<String, AllocError>
+    ensures { IfOk result (λ text. Begins (fault_words (codes "record " ++ decimal fault.now.line)
+        fault.now.what field.now) (string_bytes text)) }
+{
+    let number = fault.line;
+    let place = format!(in alloc; "record {number}")?;
+    let text = fault_words(alloc, place.as_str(), &fault.what, field)?;
+    let more = behind_fault_of_file(alloc, kind, &fault.what)?;
+    followed(text, more.as_str())
+}
+
+/// The line that a person is told, with its LF. An error is one of memory.
+pub fn reason(alloc: Global, shop: &Shop, why: &Why<'_>) -> Result<String, AllocError>
+    ensures { IfOk result (λ text. IsReason (state_of shop.now) why.now (string_bytes text)) }
+{
+    match why {
+        Why::Refused {
+            place,
+            request,
+            refusal,
+        } => why_refused(alloc, shop, *place, request, *refusal),
+        Why::NoReport { line, name, of } => why_no_report(alloc, shop, *line, *name, *of),
+        Why::FaultyLine { names, line, fault } => {
+            why_faulty_line(alloc, names_of(shop, *names), line, fault)
+        }
+        Why::FaultyFile { kind, fault, field } => why_faulty_file(alloc, *kind, fault, field),
+    }
+}

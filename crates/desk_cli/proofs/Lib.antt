@@ -1,0 +1,7 @@
+pub mod CommandLines
+pub mod Faulty
+pub mod Parsed
+pub mod RunOn
+pub mod Told
+pub mod Taking
+pub mod Escaping

@@ -1,0 +1,59 @@
+-- What is found in words that name a file for a run.
+use Rattle.std.proofs.Common.{◌≡◌, ◌∙◌, ℕ, Bool, true, false, List, [], ◌∷◌, ap, refl}
+use Rattle.std.specs.Prelude.{◌==◌, not, Some}
+use Rattle.clap.specs.Words.{IsAmong, Text}
+use Rattle.clap.specs.declared.error.kind.ErrorKind.{ErrorKind}
+use Rattle.clap.proofs.OnLiterals.{clap_on_literals}
+use Rattle.desk_cli.specs.Words.{faults, Places, run, run_on, run_with, is_path, desk_task}
+use Rattle.desk_cli.proofs.Faulty.{nothing_among}
+
+named_free : (places : Places) (name file : Text) → faults places (run_on name file) ≡ []
+unfolding faults clap_on_literals
+named_free places name file = refl
+
+named_task : (places : Places) (name file : Text) → desk_task places (run_on name file) ≡ Some (run (Some file) false false false false)
+unfolding desk_task clap_on_literals
+named_task places name file = refl
+
+pub run_on_task : (places : Places) (words : List Text) (name file : Text) → words ≡ run_on name file
+    → desk_task places words ≡ Some (run (Some file) false false false false)
+run_on_task places words name file e = ap (desk_task places) e ∙ named_task places name file
+
+pub no_run_on : (places : Places) (words : List Text) (k : ErrorKind) → IsAmong k (faults places words)
+    → (name file : Text)
+    → words ≡ run_on name file → ⊥
+no_run_on places words k h name file e =
+    nothing_among k (faults places words) (ap (faults places) e ∙ named_free places name file) h
+
+begun_free : (places : Places) (name : Text) (first : ℕ) (rest : Text) → (first == 45) ≡ false
+    → faults places (run_with name (first ∷ rest)) ≡ []
+unfolding faults clap_on_literals
+begun_free places name first rest h = simp h
+
+begun_task : (places : Places) (name : Text) (first : ℕ) (rest : Text) → (first == 45) ≡ false
+    → desk_task places (run_with name (first ∷ rest)) ≡ Some (run (Some (first ∷ rest)) false false false false)
+unfolding desk_task clap_on_literals
+begun_task places name first rest h = simp h
+
+no_hyphen : (b : Bool) → not b ≡ true → b ≡ false
+no_hyphen true h = absurd (cc)
+no_hyphen false h = refl
+
+path_free : (places : Places) (name file : Text) → is_path file ≡ true → faults places (run_with name file) ≡ []
+path_free places name [] h = absurd (cc)
+path_free places name (first ∷ rest) h = begun_free places name first rest (no_hyphen (first == 45) h)
+
+path_task : (places : Places) (name file : Text) → is_path file ≡ true
+    → desk_task places (run_with name file) ≡ Some (run (Some file) false false false false)
+path_task places name [] h = absurd (cc)
+path_task places name (first ∷ rest) h = begun_task places name first rest (no_hyphen (first == 45) h)
+
+pub run_with_task : (places : Places) (words : List Text) (name file : Text) → is_path file ≡ true
+    → words ≡ run_with name file → desk_task places words ≡ Some (run (Some file) false false false false)
+run_with_task places words name file h e = ap (desk_task places) e ∙ path_task places name file h
+
+pub no_run_with : (places : Places) (words : List Text) (k : ErrorKind) → IsAmong k (faults places words)
+    → (name file : Text) → is_path file ≡ true
+    → words ≡ run_with name file → ⊥
+no_run_with places words k a name file h e =
+    nothing_among k (faults places words) (ap (faults places) e ∙ path_free places name file h) a

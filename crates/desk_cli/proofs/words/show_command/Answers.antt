@@ -1,0 +1,51 @@
+use Rattle.std.proofs.Common.{ap, codes, false, ◌≡◌, ◌∙◌}
+use Rattle.std.proofs.lemmas.Result.{IfOk-weaker}
+use Rattle.clap.specs.Words.{App, app_of, new_app, rule_of, with_rule}
+use Rattle.clap.specs.Simple.{app_of_fields}
+use Rattle.clap.specs.declared.builder.arg.Arg.{Arg}
+use Rattle.desk_cli.specs.Words.{file_rule, flag_rule, list_rule, needed, optional_rule, optional_word_rule}
+use Rattle.desk_cli.proofs.CommandLines.{rule_added}
+use Rattle.desk_cli.proofs.words.show_command.Goals as goal
+
+pub returns : goal.returns
+returns c =
+    let list = c.list_word.ensures.rule in
+    let line_is : app_of c.after_help.result ≡ new_app (codes "show") =
+    ap app_of_fields c.after_help.ensures ∙ ap app_of_fields c.about.ensures ∙ c.new.ensures.app in
+    let file_is : rule_of c.required.result ≡ needed file_rule =
+    ap rule_of c.required.ensures ∙ ap needed c.file.ensures.rule in
+    let file_local : c.required.result.global ≡ false =
+    ap (λ (a : Arg). a.global) c.required.ensures ∙ c.file.ensures.local in
+    let low_is : rule_of c.help-low.result ≡ optional_rule (codes "low") =
+    ap rule_of c.help-low.ensures ∙ c.optional.ensures.rule in
+    let low_local : c.help-low.result.global ≡ false =
+    ap (λ (a : Arg). a.global) c.help-low.ensures ∙ c.optional.ensures.local in
+    let of_is : rule_of c.help-of.result ≡ optional_word_rule (codes "of") =
+    ap rule_of c.help-of.ensures ∙ c.optional_word.ensures.rule in
+    let of_local : c.help-of.result.global ≡ false =
+    ap (λ (a : Arg). a.global) c.help-of.ensures ∙ c.optional_word.ensures.local in
+    let one : App = with_rule (new_app (codes "show")) (needed file_rule) in
+    let two : App = with_rule one (flag_rule (codes "csv")) in
+    let three : App = with_rule two (flag_rule (codes "open")) in
+    let four : App = with_rule three (optional_rule (codes "low")) in
+    let five : App = with_rule four (list_rule list.0) in
+    let one_is =
+    rule_added c.after_help.result c.required.result c.in_ok-arg.field-0 (new_app (codes "show")) (needed file_rule)
+    c.in_ok-arg.ensures file_local line_is file_is in
+    let two_is =
+    rule_added c.in_ok-arg.field-0 c.flag.result c.in_ok-arg-2.field-0 one (flag_rule (codes "csv"))
+    c.in_ok-arg-2.ensures c.flag.ensures.local one_is c.flag.ensures.rule in
+    let three_is =
+    rule_added c.in_ok-arg-2.field-0 c.flag-2.result c.in_ok-arg-3.field-0 two (flag_rule (codes "open"))
+    c.in_ok-arg-3.ensures c.flag-2.ensures.local two_is c.flag-2.ensures.rule in
+    let four_is =
+    rule_added c.in_ok-arg-3.field-0 c.help-low.result c.in_ok-arg-4.field-0 three (optional_rule (codes "low"))
+    c.in_ok-arg-4.ensures low_local three_is low_is in
+    let five_is =
+    rule_added c.in_ok-arg-4.field-0 c.list_word.result c.in_ok-arg-5.field-0 four (list_rule list.0)
+    c.in_ok-arg-5.ensures c.list_word.ensures.local four_is list.1 in
+    IfOk-weaker c.arg-6.result _ _ (λ r added. (
+      list.0,
+      rule_added c.in_ok-arg-5.field-0 c.help-of.result r five (optional_word_rule (codes "of")) added of_local
+          five_is of_is,
+    )) c.arg-6.ensures

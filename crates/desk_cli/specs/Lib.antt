@@ -1,0 +1,7 @@
+pub mod Shows
+pub mod Words
+pub mod Statuses
+pub mod FileFaults
+pub mod Looks
+pub mod Escaped
+pub mod Subjects

@@ -1,0 +1,580 @@
+-- What the words ask for, of which the first is the program's name.
+use Rattle.std.specs.Prelude.{◌≡◌, ◌≢◌, ◌⊎◌, ◌||◌, ◌&&◌, ◌==◌, not, nat_lt, nat_le, ℕ, Bool, true, false, List, [], ◌∷◌}
+use Rattle.std.specs.Prelude.{◌++◌, codes, Option, Some, None, option_map, option_and_then, Result, IfOk, if◌then◌else◌}
+use Rattle.std.specs.Prelude.{is_none}
+use Rattle.std.specs.Borrow.{Bor}
+use Rattle.std.specs.Str.{bytes_eq}
+use Rattle.clap.specs.Words.{App, Rule, Row, Text, new_app, new_rule, with_rule, with_subcommand, fault_of, Kinds}
+use Rattle.clap.specs.Words.{IsAmong, FailsBy, kind_of, first_of, found_of, rows_of, subcommand_of, subcommand_rows_of}
+use Rattle.clap.specs.Simple.{on_top}
+use Rattle.clap.specs.Walk.{texts}
+use Rattle.clap.specs.declared.builder.action.ArgAction.TheVariants.{Set, SetTrue}
+use Rattle.clap.specs.declared.builder.value_parser.ValueParser.TheVariants.{Names}
+use Rattle.clap.specs.declared.error.Error.{Error}
+use Rattle.clap.specs.declared.error.kind.ErrorKind.TheVariants.{DisplayHelp, DisplayVersion}
+use Rattle.clap.specs.declared.error.kind.ErrorKind.TheVariants.{OutOfMemory, ValueValidation}
+use Rattle.clap.specs.declared.error.kind.ErrorKind.{ErrorKind}
+use Rattle.clap.specs.declared.parser.matches.ArgMatches.{ArgMatches}
+use Rattle.part_core.specs.Day.{CivilDay, day_of}
+use Rattle.report_core.specs.Names.{report_named}
+use Rattle.report_core.specs.declared.name.ReportName.{ReportName}
+use Rattle.table_store.specs.declared.name.TableName.{TableName}
+use Rattle.table_store.specs.declared.name.TableName.TheVariants as table
+use Rattle.desk_wire.specs.Kinds.{import_kind_named}
+use Rattle.desk_wire.specs.Numbers.{number_in}
+use Rattle.desk_wire.specs.declared.kind.ImportKind.{ImportKind}
+use Rattle.desk_ends.specs.Named.{document_named, table_named}
+use Rattle.desk_cli.specs.declared.words.ListOf.{ListOf}
+use Rattle.desk_cli.specs.declared.words.ListOf.TheVariants as list
+use Rattle.desk_cli.specs.declared.words.ReportOf.{ReportOf}
+use Rattle.desk_cli.specs.declared.words.ReportOf.TheVariants.{Number, Word}
+use Rattle.desk_cli.specs.declared.words.Task.{Task}
+use Rattle.desk_cli.specs.declared.words.Task.TheVariants.{Run, Report, Export, Show, Migrate, Import, Serve}
+use Rattle.desk_cli.specs.declared.words.Task.TheVariants.{Guide, Help, Wrong, Unreadable, Memory}
+
+-- no more words, or `run`
+abbrev pub asks_run : List (List ℕ) → Bool
+asks_run [] = false
+asks_run (name ∷ []) = true
+asks_run (name ∷ word ∷ []) = bytes_eq word (codes "run")
+asks_run (name ∷ word ∷ more ∷ words) = false
+
+-- one word more, which is a flag of help
+abbrev pub asks_help : List (List ℕ) → Bool
+asks_help [] = false
+asks_help (name ∷ []) = false
+asks_help (name ∷ word ∷ []) = bytes_eq word (codes "--help") || bytes_eq word (codes "-h")
+asks_help (name ∷ word ∷ more ∷ words) = false
+
+-- one word more, which is a flag of the version
+abbrev pub asks_version : List (List ℕ) → Bool
+asks_version [] = false
+asks_version (name ∷ []) = false
+asks_version (name ∷ word ∷ []) = bytes_eq word (codes "--version") || bytes_eq word (codes "-V")
+asks_version (name ∷ word ∷ more ∷ words) = false
+
+-- `run --db=FILE`
+abbrev pub run_on : Text → Text → List Text
+run_on name file = name ∷ codes "run" ∷ (codes "--db=" ++ file) ∷ []
+
+-- `run --db FILE`
+abbrev pub run_with : Text → Text → List Text
+run_with name file = name ∷ codes "run" ∷ codes "--db" ∷ file ∷ []
+
+-- the word isn't empty and doesn't begin with a hyphen, as options do
+abbrev pub is_path : Text → Bool
+is_path [] = false
+is_path (first ∷ rest) = not (first == 45)
+
+-- the names that `report`, `export`, `show` and `import` take
+abbrev pub report_names : List Text
+report_names =
+    codes "ledger" ∷ codes "stock" ∷ codes "where_used" ∷ codes "history" ∷ codes "content" ∷ codes "shortage" ∷ []
+
+abbrev pub table_names : List Text
+table_names =
+    codes "meta" ∷ codes "categories" ∷ codes "locations" ∷ codes "parts" ∷ codes "lines" ∷ codes "substitutes"
+    ∷ codes "items" ∷ codes "history" ∷ codes "orders" ∷ codes "order_lines" ∷ codes "builds" ∷ codes "allocations"
+    ∷ codes "kept" ∷ codes "spent" ∷ []
+
+abbrev pub list_names : List Text
+list_names =
+    codes "stock" ∷ codes "at" ∷ codes "part" ∷ codes "item" ∷ codes "orders" ∷ codes "builds" ∷ codes "find"
+    ∷ codes "shortages" ∷ codes "count-sheet" ∷ []
+
+abbrev pub kind_names : List Text
+kind_names = codes "receipts" ∷ codes "counts" ∷ []
+
+abbrev pub topic_names : List Text
+topic_names = codes "commands" ∷ codes "refusals" ∷ codes "faults" ∷ []
+
+-- a reference to these texts, wherever they lie
+pub record Listing (names : List Text) : Type 0 where
+  pub at : Bor (List (Bor Text))
+  pub are : texts at.now ≡ names
+
+pub record Places : Type 0 where
+  pub reports : Listing report_names
+  pub tables : Listing table_names
+  pub lists : Listing list_names
+  pub kinds : Listing kind_names
+  pub topics : Listing topic_names
+
+-- `--db FILE`
+abbrev pub file_rule : Rule
+file_rule = record (new_rule (codes "db")) { long = Some (codes "db"); value_names = 1; action = Some Set }
+
+-- a flag, as `--names`
+abbrev pub flag_rule : Text → Rule
+flag_rule id = record (new_rule id) { long = Some id; action = Some SetTrue }
+
+abbrev pub names_rule : Rule
+names_rule = flag_rule (codes "names")
+
+-- a word that has to be there
+abbrev pub word_rule : Text → Rule
+word_rule id = record (new_rule id) { value_names = 1; required = true; action = Some Set }
+
+-- an option that has to be there
+abbrev pub option_rule : Text → Rule
+option_rule id = record (word_rule id) { long = Some id }
+
+-- an option that may be left out
+abbrev pub optional_rule : Text → Rule
+optional_rule id = record (new_rule id) { long = Some id; value_names = 1; action = Some Set }
+
+-- a word that may be left out
+abbrev pub optional_word_rule : Text → Rule
+optional_word_rule id = record (new_rule id) { value_names = 1; action = Some Set }
+
+abbrev pub needed : Rule → Rule
+needed rule = record rule { required = true }
+
+abbrev pub among : Bor (List (Bor Text)) → Rule → Rule
+among names rule = record rule { parser = Some (Names names) }
+
+abbrev pub run_line : App
+run_line =
+    with_rule
+    (with_rule (with_rule (with_rule (with_rule (new_app (codes "run")) file_rule) names_rule)
+    (flag_rule (codes "stop"))) (flag_rule (codes "check"))) (flag_rule (codes "explain"))
+
+abbrev pub report_line : Listing report_names → App
+report_line names =
+    with_rule
+    (with_rule (with_rule (with_rule (new_app (codes "report")) (needed file_rule)) names_rule)
+    (among names.at (word_rule (codes "name")))) (word_rule (codes "number"))
+
+abbrev pub export_line : Listing table_names → App
+export_line names =
+    with_rule (with_rule (new_app (codes "export")) (needed file_rule)) (among names.at (word_rule (codes "table")))
+
+-- LIST, of the names that are listed there
+abbrev pub list_rule : Listing list_names → Rule
+list_rule names = among names.at (word_rule (codes "list"))
+
+abbrev pub show_line : Listing list_names → App
+show_line names =
+    with_rule
+    (with_rule (with_rule (with_rule (with_rule (with_rule (new_app (codes "show")) (needed file_rule))
+    (flag_rule (codes "csv"))) (flag_rule (codes "open"))) (optional_rule (codes "low"))) (list_rule names))
+    (optional_word_rule (codes "of"))
+
+abbrev pub migrate_line : App
+migrate_line = with_rule (new_app (codes "migrate")) (needed file_rule)
+
+-- `--kind KIND`, of the names that are listed there
+abbrev pub kind_rule : Listing kind_names → Rule
+kind_rule names = among names.at (option_rule (codes "kind"))
+
+abbrev pub import_line : Listing kind_names → App
+import_line names =
+    with_rule
+    (with_rule (with_rule (with_rule (with_rule (with_rule (with_rule (with_rule (new_app (codes "import"))
+    (needed file_rule)) names_rule) (flag_rule (codes "loose"))) (flag_rule (codes "explain")))
+    (kind_rule names)) (option_rule (codes "document"))) (option_rule (codes "day"))) (word_rule (codes "path"))
+
+abbrev pub serve_line : App
+serve_line =
+    with_rule
+    (with_rule (with_rule (with_rule (with_rule (with_rule (new_app (codes "serve")) file_rule) names_rule)
+    (flag_rule (codes "page"))) (option_rule (codes "port"))) (optional_rule (codes "count")))
+    (optional_rule (codes "token"))
+
+-- TOPIC, of the names that are listed there
+abbrev pub topic_rule : Listing topic_names → Rule
+topic_rule names = among names.at (word_rule (codes "topic"))
+
+abbrev pub help_line : Listing topic_names → App
+help_line names = with_rule (new_app (codes "help")) (topic_rule names)
+
+abbrev pub top_line : App
+top_line =
+    on_top (λ shape. record shape { disable_help_subcommand = true; has_version = true }) (new_app (codes "invdesk"))
+
+-- the program's command line, as `clap` sees it: it has a version, and eight subcommands
+abbrev pub command_line : Places → App
+command_line places =
+    with_subcommand (with_subcommand (with_subcommand (with_subcommand (with_subcommand (with_subcommand (with_subcommand
+    (with_subcommand top_line run_line.top) (report_line places.reports).top) (export_line places.tables).top)
+    (show_line places.lists).top) migrate_line.top) (import_line places.kinds).top) serve_line.top)
+    (help_line places.topics).top
+
+abbrev pub IsReportLine : App → Type 0
+IsReportLine app = (names : Listing report_names) × (app ≡ report_line names)
+
+abbrev pub IsExportLine : App → Type 0
+IsExportLine app = (names : Listing table_names) × (app ≡ export_line names)
+
+abbrev pub IsListRule : Rule → Type 0
+IsListRule rule = (names : Listing list_names) × (rule ≡ list_rule names)
+
+abbrev pub IsShowLine : App → Type 0
+IsShowLine app = (names : Listing list_names) × (app ≡ show_line names)
+
+abbrev pub IsKindRule : Rule → Type 0
+IsKindRule rule = (names : Listing kind_names) × (rule ≡ kind_rule names)
+
+abbrev pub IsImportLine : App → Type 0
+IsImportLine app = (names : Listing kind_names) × (app ≡ import_line names)
+
+abbrev pub IsTopicRule : Rule → Type 0
+IsTopicRule rule = (names : Listing topic_names) × (rule ≡ topic_rule names)
+
+abbrev pub IsHelpLine : App → Type 0
+IsHelpLine app = (names : Listing topic_names) × (app ≡ help_line names)
+
+abbrev pub IsCommandLine : App → Type 0
+IsCommandLine app = (places : Places) × (app ≡ command_line places)
+
+-- what `clap` finds wrong, or finds that help or the version is asked for
+unfoldable pub faults : Places → List Text → Kinds
+faults places words = fault_of (command_line places) words
+
+-- a number from 1 to so many
+abbrev pub up_to : ℕ → ℕ → Option ℕ
+up_to most number = if nat_lt 0 number && nat_le number most then Some number else None
+
+abbrev pub number_up_to : ℕ → Text → Option ℕ
+number_up_to most text = option_and_then (up_to most) (number_in text)
+
+-- what a report is of: the row of a number, or, where rows may be named, what a word says
+pub data Subject : Type 0 where
+  numbered : ℕ → Subject
+  worded : Text → Subject
+
+abbrev pub subject_of : ReportOf → Subject
+subject_of (Number number) = numbered number
+subject_of (Word word) = worded word.now
+
+-- what a list is of, and what is said of it: the texts are what was said
+pub data Listed : Type 0 where
+  stock : Option ℕ → Listed
+  at : Text → Listed
+  part : Text → Listed
+  item : Text → Listed
+  orders : Bool → Listed
+  builds : Bool → Listed
+  find : Text → Listed
+  shortages : Listed
+  count_sheet : Option Text → Listed
+
+abbrev pub listed_of : ListOf → Listed
+listed_of (list.Stock low) = stock low
+listed_of (list.At location) = at location.now
+listed_of (list.Part word) = part word.now
+listed_of (list.Item word) = item word.now
+listed_of (list.Orders only_open) = orders only_open
+listed_of (list.Builds only_open) = builds only_open
+listed_of (list.Find word) = find word.now
+listed_of list.Shortages = shortages
+listed_of (list.CountSheet location) = count_sheet (option_map (λ word. word.now) location)
+
+-- a task of a desk: a run, with the file if one is named; a report of a row; a table; that a file is brought along;
+-- the rows at a path; so many connections to a port, or any number, with the file of a token if one is named; help on a
+-- topic, which needs no desk. The last words of an import are whether rows may be named, whether the file is read loosely,
+-- and whether a person is told why a row isn't done; those of a serving whether rows may be named, and whether the page
+-- is served. The words of a run are whether rows may be named, whether it ends at the first line that is refused or
+-- faulty, whether all lines are read before any is run, and whether a person is told why a line isn't done
+pub data DeskTask : Type 0 where
+  run : Option Text → Bool → Bool → Bool → Bool → DeskTask
+  report : Text → ReportName → Subject → DeskTask
+  export : Text → TableName → DeskTask
+  show : Text → Listed → Bool → DeskTask
+  migrate : Text → DeskTask
+  import : Text → ImportKind → Text → CivilDay → Text → Bool → Bool → Bool → DeskTask
+  serve : Option Text → ℕ → Option ℕ → Option Text → Bool → Bool → DeskTask
+  guide : Text → DeskTask
+
+abbrev pub report_with : Option Text → Option ReportName → Option Subject → Option DeskTask
+report_with None name of = None
+report_with (Some file) None of = None
+report_with (Some file) (Some name) None = None
+report_with (Some file) (Some name) (Some of) = Some (report file name of)
+
+abbrev pub export_with : Option Text → Option TableName → Option DeskTask
+export_with None table = None
+export_with (Some file) None = None
+export_with (Some file) (Some table) = Some (export file table)
+
+-- an amount, or none; none at all where what is said is no number
+abbrev pub low_in : Option Text → Option (Option ℕ)
+low_in None = Some None
+low_in (Some text) = option_map (λ amount. Some amount) (number_in text)
+
+-- with what is in stock goes an amount below which a part is low, and nothing else
+abbrev pub stock_by : Option Text → Option Text → Bool → Option Listed
+stock_by of low only_open = if is_none of && not only_open then option_map stock (low_in low) else None
+
+-- what goes with a list of another name: a word, or none; and with orders and builds whether the open ones alone are meant
+abbrev pub other_by : Text → Option Text → Bool → Option Listed
+other_by name of only_open =
+    if bytes_eq name (codes "at") then (if only_open then None else option_map at of)
+    else if bytes_eq name (codes "part") then (if only_open then None else option_map part of)
+    else if bytes_eq name (codes "item") then (if only_open then None else option_map item of)
+    else if bytes_eq name (codes "orders") then (if is_none of then Some (orders only_open) else None)
+    else if bytes_eq name (codes "builds") then (if is_none of then Some (builds only_open) else None)
+    else if bytes_eq name (codes "find") then (if only_open then None else option_map find of)
+    else if bytes_eq name (codes "shortages") then (if is_none of && not only_open then Some shortages else None)
+    else if bytes_eq name (codes "count-sheet") then (if only_open then None else Some (count_sheet of))
+    else None
+
+-- the list of that name, by the word, the amount and the flag that were given with it
+abbrev pub list_by : Text → Option Text → Option Text → Bool → Option Listed
+list_by name of low only_open =
+    if bytes_eq name (codes "stock") then stock_by of low only_open
+    else if is_none low then other_by name of only_open
+    else None
+
+-- a flag that was given has the value `true`
+abbrev pub is_given : Option Text → Bool
+is_given None = false
+is_given (Some text) = bytes_eq text (codes "true")
+
+-- by the matches of the subcommand: whether rows may be named
+abbrev pub names_in : List Row → Bool
+names_in rows = is_given (first_of (codes "names") rows)
+
+-- the same: whether the page is served
+abbrev pub page_in : List Row → Bool
+page_in rows = is_given (first_of (codes "page") rows)
+
+-- the same: whether the run ends at the first line that is refused or faulty
+abbrev pub stop_in : List Row → Bool
+stop_in rows = is_given (first_of (codes "stop") rows)
+
+-- the same: whether all lines are read before any is run
+abbrev pub check_in : List Row → Bool
+check_in rows = is_given (first_of (codes "check") rows)
+
+-- the same: whether a person is told why a line or a row isn't done
+abbrev pub explain_in : List Row → Bool
+explain_in rows = is_given (first_of (codes "explain") rows)
+
+-- the same: whether a file is read loosely
+abbrev pub loose_in : List Row → Bool
+loose_in rows = is_given (first_of (codes "loose") rows)
+
+-- where rows may be named any word may say one, else a number alone
+abbrev pub subject_by : Bool → Option Text → Option Subject
+subject_by names None = None
+subject_by false (Some text) = option_map numbered (number_in text)
+subject_by true (Some text) = Some (worded text)
+
+-- by the matches of the subcommand
+abbrev pub run_in : List Row → DeskTask
+run_in rows = run (first_of (codes "db") rows) (names_in rows) (stop_in rows) (check_in rows) (explain_in rows)
+
+unfoldable pub report_in : List Row → Option DeskTask
+report_in rows = report_with (first_of (codes "db") rows) (option_and_then report_named (first_of (codes "name") rows))
+    (subject_by (names_in rows) (first_of (codes "number") rows))
+
+unfoldable pub export_in : List Row → Option DeskTask
+export_in rows = export_with (first_of (codes "db") rows) (option_and_then table_named (first_of (codes "table") rows))
+
+abbrev pub open_in : List Row → Bool
+open_in rows = is_given (first_of (codes "open") rows)
+
+abbrev pub csv_in : List Row → Bool
+csv_in rows = is_given (first_of (codes "csv") rows)
+
+infixl 10 ◌>>=◌
+abbrev ◌>>=◌ : {A B : Type 0} → Option A → (A → Option B) → Option B
+None >>= f = None
+(Some x) >>= f = f x
+
+unfoldable pub show_in : List Row → Option DeskTask
+show_in rows = do
+  file ← first_of (codes "db") rows
+  name ← first_of (codes "list") rows
+  listed ← list_by name (first_of (codes "of") rows) (first_of (codes "low") rows) (open_in rows)
+  Some (show file listed (csv_in rows))
+
+unfoldable pub migrate_in : List Row → Option DeskTask
+migrate_in rows = option_map migrate (first_of (codes "db") rows)
+
+unfoldable pub import_in : List Row → Option DeskTask
+import_in rows = do
+  file ← first_of (codes "db") rows
+  kind ← option_and_then import_kind_named (first_of (codes "kind") rows)
+  document ← option_and_then document_named (first_of (codes "document") rows)
+  day ← option_and_then day_of (first_of (codes "day") rows)
+  path ← first_of (codes "path") rows
+  Some (import file kind document day path (names_in rows) (loose_in rows) (explain_in rows))
+
+-- no count, or one that a serving may have
+abbrev pub count_in : Option Text → Option (Option ℕ)
+count_in None = Some None
+count_in (Some text) = option_map (λ count. Some count) (number_up_to 1000000 text)
+
+unfoldable pub serve_in : List Row → Option DeskTask
+serve_in rows = do
+  port ← option_and_then (number_up_to 65535) (first_of (codes "port") rows)
+  count ← count_in (first_of (codes "count") rows)
+  Some (serve (first_of (codes "db") rows) port count (first_of (codes "token") rows) (names_in rows) (page_in rows))
+
+unfoldable pub guide_in : List Row → Option DeskTask
+guide_in rows = option_map guide (first_of (codes "topic") rows)
+
+abbrev pub rows_in : ArgMatches → List Row
+rows_in m = rows_of (found_of m)
+
+-- the first value of that word or option
+abbrev pub given_in : Text → ArgMatches → Option Text
+given_in id m = first_of id (rows_in m)
+
+-- by the subcommand and its matches: no subcommand is a run in memory
+abbrev pub desk_task_met : Option (Text × List Row) → Option DeskTask
+desk_task_met None = Some (run None false false false false)
+desk_task_met (Some met) =
+    if bytes_eq met.0 (codes "report") then report_in met.1
+    else if bytes_eq met.0 (codes "export") then export_in met.1
+    else if bytes_eq met.0 (codes "show") then show_in met.1
+    else if bytes_eq met.0 (codes "migrate") then migrate_in met.1
+    else if bytes_eq met.0 (codes "import") then import_in met.1
+    else if bytes_eq met.0 (codes "serve") then serve_in met.1
+    else if bytes_eq met.0 (codes "help") then guide_in met.1
+    else Some (run_in met.1)
+
+-- what the words ask of a desk, where nothing is found wrong
+unfoldable pub desk_task : Places → List Text → Option DeskTask
+desk_task places words = desk_task_met (subcommand_of (command_line places) words)
+
+-- the task of a desk, if it is one
+abbrev pub desk_task_of : Task → Option DeskTask
+desk_task_of (Run file names stop check explain) =
+    Some (run (option_map (λ path. path.now) file) names stop check explain)
+desk_task_of (Report file name of) = Some (report file.now name (subject_of of))
+desk_task_of (Export file table) = Some (export file.now table)
+desk_task_of (Show file list csv) = Some (show file.now (listed_of list) csv)
+desk_task_of (Migrate file) = Some (migrate file.now)
+desk_task_of (Import file kind document day path names loose explain) =
+    Some (import file.now kind document day path.now names loose explain)
+desk_task_of (Serve file port count token names page) =
+    Some (serve (option_map (λ path. path.now) file) port count (option_map (λ path. path.now) token) names page)
+desk_task_of (Guide topic) = Some (guide topic.now)
+desk_task_of (Help e) = None
+desk_task_of (Wrong e) = None
+desk_task_of Unreadable = None
+desk_task_of Memory = None
+
+abbrev pub AsksFor : Option DeskTask → Option Task → Type 0
+AsksFor desk_task task = option_map desk_task_of task ≡ option_map (λ w. Some w) desk_task
+
+-- the file of the desk that is asked for
+abbrev pub file_of : Task → Option (Bor Text)
+file_of (Run file names stop check explain) = file
+file_of (Report file name of) = Some file
+file_of (Export file table) = Some file
+file_of (Show file list csv) = Some file
+file_of (Migrate file) = Some file
+file_of (Import file kind document day path names loose explain) = Some file
+file_of (Serve file port count token names page) = file
+file_of (Guide topic) = None
+file_of (Help e) = None
+file_of (Wrong e) = None
+file_of Unreadable = None
+file_of Memory = None
+
+-- the task of a desk is told as it is; where there is none, a value is wrong; unless memory ran out
+abbrev pub Tells : Option DeskTask → Task → Type 0
+Tells desk_task (Run file names stop check explain) = desk_task ≡ desk_task_of (Run file names stop check explain)
+Tells desk_task (Report file name of) = desk_task ≡ desk_task_of (Report file name of)
+Tells desk_task (Export file table) = desk_task ≡ desk_task_of (Export file table)
+Tells desk_task (Show file list csv) = desk_task ≡ desk_task_of (Show file list csv)
+Tells desk_task (Migrate file) = desk_task ≡ desk_task_of (Migrate file)
+Tells desk_task (Import file kind document day path names loose explain) = desk_task ≡ desk_task_of
+    (Import file kind document day path names loose explain)
+Tells desk_task (Serve file port count token names page) =
+    desk_task ≡ desk_task_of (Serve file port count token names page)
+Tells desk_task (Guide topic) = desk_task ≡ desk_task_of (Guide topic)
+Tells desk_task (Help e) = ⊥
+Tells desk_task (Wrong e) = (desk_task ≡ None) × (kind_of e ≡ ValueValidation)
+Tells desk_task Unreadable = ⊥
+Tells desk_task Memory = Unit {0}
+
+-- what `clap` makes of the words
+pub record Parses (words : List Text) (r : Result ArgMatches Error) : Type 0 where
+  pub places : Places
+  pub fails : FailsBy (faults places words) r
+  pub desk_task : IfOk r (λ m. desk_task_met (subcommand_rows_of m) ≡ desk_task places words)
+
+-- help, or the version: what is printed because it is asked for
+abbrev pub IsShown : ErrorKind → Type 0
+IsShown kind = (kind ≡ DisplayHelp) ⊎ (kind ≡ DisplayVersion)
+
+abbrev pub AnswersAt : Places → List Text → Task → Type 0
+AnswersAt places words (Run file names stop check explain) =
+    (faults places words ≡ []) × (desk_task places words ≡ desk_task_of (Run file names stop check explain))
+AnswersAt places words (Report file name of) =
+    (faults places words ≡ []) × (desk_task places words ≡ desk_task_of (Report file name of))
+AnswersAt places words (Export file table) =
+    (faults places words ≡ []) × (desk_task places words ≡ desk_task_of (Export file table))
+AnswersAt places words (Show file list csv) =
+    (faults places words ≡ []) × (desk_task places words ≡ desk_task_of (Show file list csv))
+AnswersAt places words (Migrate file) =
+    (faults places words ≡ []) × (desk_task places words ≡ desk_task_of (Migrate file))
+AnswersAt places words (Import file kind document day path names loose explain) =
+    (faults places words ≡ []) × (desk_task places words ≡ desk_task_of (Import file kind document day path names loose explain))
+AnswersAt places words (Serve file port count token names page) =
+    (faults places words ≡ []) × (desk_task places words ≡ desk_task_of (Serve file port count token names page))
+AnswersAt places words (Guide topic) =
+    (faults places words ≡ []) × (desk_task places words ≡ desk_task_of (Guide topic))
+AnswersAt places words (Help e) = IsShown (kind_of e) × IsAmong (kind_of e) (faults places words)
+AnswersAt places words (Wrong e) =
+    ((¬ IsShown (kind_of e)) × (kind_of e ≢ OutOfMemory) × IsAmong (kind_of e) (faults places words))
+    ⊎ ((faults places words ≡ []) × (desk_task places words ≡ None) × (kind_of e ≡ ValueValidation))
+AnswersAt places words Unreadable = ⊥
+AnswersAt places words Memory = Unit {0}
+
+-- where nothing is found wrong, what the words ask of a desk, or that a value is wrong; else what is found
+abbrev pub Answers : List Text → Task → Type 0
+Answers words task = (places : Places) × AnswersAt places words task
+
+-- a run in memory of each line as it comes, in which no row may be named, unless memory ran out
+abbrev pub Runs : Task → Type 0
+Runs (Run file names stop check explain) =
+    (file ≡ None) × (names ≡ false) × (stop ≡ false) × (check ≡ false) × (explain ≡ false)
+Runs (Report file name of) = ⊥
+Runs (Export file table) = ⊥
+Runs (Show file list csv) = ⊥
+Runs (Migrate file) = ⊥
+Runs (Import file kind document day path names loose explain) = ⊥
+Runs (Serve file port count token names page) = ⊥
+Runs (Guide topic) = ⊥
+Runs (Help e) = ⊥
+Runs (Wrong e) = ⊥
+Runs Unreadable = ⊥
+Runs Memory = Unit {0}
+
+-- a run of each line as it comes on the desk in this file, in which no row may be named, unless memory ran out
+abbrev pub RunsOn : Text → Task → Type 0
+RunsOn path (Run file names stop check explain) =
+    (option_map (λ given. given.now) file ≡ Some path) × (names ≡ false) × (stop ≡ false) × (check ≡ false)
+    × (explain ≡ false)
+RunsOn path (Report file name of) = ⊥
+RunsOn path (Export file table) = ⊥
+RunsOn path (Show file list csv) = ⊥
+RunsOn path (Migrate file) = ⊥
+RunsOn path (Import file kind document day from names loose explain) = ⊥
+RunsOn path (Serve file port count token names page) = ⊥
+RunsOn path (Guide topic) = ⊥
+RunsOn path (Help e) = ⊥
+RunsOn path (Wrong e) = ⊥
+RunsOn path Unreadable = ⊥
+RunsOn path Memory = Unit {0}
+
+-- help or the version, by its kind, unless memory ran out
+abbrev pub HelpsBy : ErrorKind → Task → Type 0
+HelpsBy kind (Run file names stop check explain) = ⊥
+HelpsBy kind (Report file name of) = ⊥
+HelpsBy kind (Export file table) = ⊥
+HelpsBy kind (Show file list csv) = ⊥
+HelpsBy kind (Migrate file) = ⊥
+HelpsBy kind (Import file of document day path names loose explain) = ⊥
+HelpsBy kind (Serve file port count token names page) = ⊥
+HelpsBy kind (Guide topic) = ⊥
+HelpsBy kind (Help e) = kind_of e ≡ kind
+HelpsBy kind (Wrong e) = ⊥
+HelpsBy kind Unreadable = ⊥
+HelpsBy kind Memory = Unit {0}

@@ -1,0 +1,22 @@
+//! The command line: the words that the program is called with, the desk in its file, what is printed of it, lines that are
+//! typed, and the status that the program ends with.
+#![tactic(auto)]
+
+mod database;
+mod escape;
+mod file;
+mod look;
+mod show;
+mod status;
+mod subject;
+mod typed;
+mod words;
+
+pub use database::{FaultyFile, FileFault, connect, connect_to_old};
+pub use escape::{escaped, told_line};
+pub use file::{migrate_desk, print_export, print_migrated, print_report, take_desk};
+pub use show::{listing_of, print_list};
+pub use status::{DEVICE, MEMORY, NOT_ALL, WRONG_WORDS, early_status, status_of, status_of_fault};
+pub use subject::{NoRow, no_row_text, row_of_report};
+pub use typed::TypedLines;
+pub use words::{ListOf, ReportOf, Task, read_words};

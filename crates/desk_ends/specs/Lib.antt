@@ -1,0 +1,4 @@
+pub mod Ends
+pub mod Printed
+pub mod Empty
+pub mod Named
