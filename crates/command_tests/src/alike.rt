@@ -3,15 +3,14 @@
 ghost use Rattle.desk_store.specs.Desks.{IsDesk};
 
 use desk_core::{Request, Shop};
-use desk_play::each_stop::tables_of;
-use desk_play::outcomes::holds;
-use desk_play::play::created;
-use desk_play::tables::tables_text;
 use desk_store::{Desk, Fault};
 use part_core::{Answer, CoreFault, Limits};
 use sqlite::{Alter, Connection};
 use std::alloc::Global;
 use std::test::Fail;
+use store_play::files::{created, tables_of};
+use store_play::outcomes::holds;
+use store_play::tables::tables_text;
 
 /// Whether a desk tells of a request what a shop told.
 fn is_told(outcome: &Result<Answer, Fault>, wanted: &Result<Answer, CoreFault>) -> bool {

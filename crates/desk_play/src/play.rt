@@ -1,44 +1,25 @@
 //! Lines that are played on books with nothing in them: on a desk, which is closed and opened again before the last of
 //! them, and on a shop.
 ghost use Rattle.std.specs.Prelude.{◌≡◌, false, IfOk};
+ghost use Rattle.sqlite.specs.Files.{over_files};
 ghost use Rattle.sqlite.specs.Held.{state};
 ghost use Rattle.sqlite.specs.State.{HasCleanDisk};
 ghost use Rattle.desk_core.specs.Machine.{IsSoundState};
 ghost use Rattle.desk_core.specs.ShopView.{state_of};
 ghost use Rattle.desk_store.specs.Desks.{IsDesk};
 
-use crate::devices::Sink;
-use crate::outcomes::holds;
-use desk_app::{Books, RunEnd, run_lines};
+use desk_app::{Books, run_lines};
 use desk_core::Shop;
+use desk_ends::RunEnd;
 use desk_store::Desk;
 use part_core::Limits;
-use sqlite::{Alter, Connection};
+use sqlite::{Alter, Connection, FileStore};
+use sqlite_disk::Memory;
 use std::alloc::Global;
 use std::test::Fail;
-
-/// A desk with nothing in it, with these limits.
-fn created_within<S: Alter + Drop>(
-    alloc: Global,
-    limits: Limits,
-    conn: Connection<S>,
-) -> Result<Desk<S>, Fail>
-    requires { HasCleanDisk (state S.Store conn) → (state S.Store conn).in_transaction ≡ false }
-    ensures { IfOk result (λ desk. IsDesk S.Store desk) }
-{
-    match Desk::create(alloc, conn, limits) {
-        Ok(desk) => Ok(desk),
-        Err(_) => Err(Fail::from("no desk is made")),
-    }
-}
-
-/// A desk with nothing in it. It fails where the database holds something, or fails itself.
-pub fn created<S: Alter + Drop>(alloc: Global, conn: Connection<S>) -> Result<Desk<S>, Fail>
-    requires { HasCleanDisk (state S.Store conn) → (state S.Store conn).in_transaction ≡ false }
-    ensures { IfOk result (λ desk. IsDesk S.Store desk) }
-{
-    created_within(alloc, Limits::LARGEST, conn)
-}
+use store_play::devices::Sink;
+use store_play::files::{created_within, fresh, opened};
+use store_play::outcomes::holds;
 
 /// The desk, closed and opened again.
 fn reopened<S: Alter + Drop>(alloc: Global, desk: Desk<S>) -> Result<Desk<S>, Fail>
@@ -110,4 +91,21 @@ pub fn plays_on_shop(alloc: Global, shop: &mut Shop, lines: &str, answers: &str)
     ensures { IsSoundState (state_of shop.new) }
 {
     plays_on(alloc, shop, lines, answers)
+}
+
+/// The desk of files that ran the lines, which are answered so.
+pub fn filled(alloc: Global, lines: &str, answers: &str) -> Result<Desk<FileStore<Memory>>, Fail>
+    ensures { IfOk result (λ desk. IsDesk over_files desk) }
+{
+    let mut desk = match opened(alloc, fresh(alloc)?, 8) {
+        Ok(desk) => desk,
+        Err(_) => return Err(Fail::from("a new desk isn't opened")),
+    };
+    plays_on(alloc, &mut desk, lines, answers)?;
+    Ok(desk)
+}
+
+/// How many lines the text has, each with its LF.
+pub fn lines_in(text: &[u8]) -> usize {
+    text.iter().filter(|byte| **byte == b'\n').count()
 }

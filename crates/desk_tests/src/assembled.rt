@@ -4,11 +4,11 @@ ghost use Rattle.desk_core.specs.ShopView.{state_of};
 
 use bom_core::Substitute;
 use desk_core::{AssembleFault, Shop, Tables};
-use desk_play::outcomes::holds;
 use desk_play::play::plays_on_shop;
 use part_core::{Limits, MOST, Row, Sheet};
 use std::alloc::Global;
 use std::test::Fail;
+use store_play::outcomes::holds;
 use yard_core::Place;
 
 const LINES: &str = r#"{"day":"2030-01-02","do":"add_location","name":"A"}

@@ -1,10 +1,11 @@
 //! Databases that no run could have left: one change by SQL of a small workshop's tables each.
-use desk_play::outcomes::holds;
-use desk_play::play::{created, plays_on};
+use desk_play::play::plays_on;
 use desk_store::{Desk, OpenFault};
 use sqlite::{Connection, MemStore};
 use std::alloc::Global;
 use std::test::Fail;
+use store_play::files::created;
+use store_play::outcomes::holds;
 
 const LINES: &str = r#"{"day":"2030-01-02","do":"add_location","name":"A"}
 {"day":"2030-01-02","do":"add_category","name":"Bought"}

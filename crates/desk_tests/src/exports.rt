@@ -1,13 +1,13 @@
 //! Tables and histories as text, whole and through writers that fail, and of a closed desk.
 use desk_app::run_lines;
-use desk_play::devices::Sink;
-use desk_play::each_stop::{fresh, fused, opened};
-use desk_play::outcomes::holds;
-use desk_play::play::{created, plays_on};
+use desk_play::play::plays_on;
 use desk_store::{Desk, ExportFault};
 use sqlite::{Alter, Connection};
 use std::alloc::Global;
 use std::test::Fail;
+use store_play::devices::Sink;
+use store_play::files::{created, fresh, fused, opened};
+use store_play::outcomes::holds;
 use table_store::TableName;
 
 const LINES: &str = r#"{"day":"2030-01-02","do":"add_location","name":"Shelf \"A\", left"}

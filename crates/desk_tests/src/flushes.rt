@@ -1,9 +1,10 @@
 //! What a writer sees of the answers.
-use desk_app::{RunEnd, run_lines};
-use desk_play::play::created;
+use desk_app::run_lines;
+use desk_ends::RunEnd;
 use sqlite::Connection;
 use std::io::{self, Write};
 use std::test::Fail;
+use store_play::files::created;
 
 /// Shows what is written once it is flushed.
 #[derive(Drop)]

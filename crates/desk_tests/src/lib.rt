@@ -1,5 +1,5 @@
-//! Tests of the whole desk: lines in groups and alone, through readers, writers and disks that fail, files that are
-//! damaged, shops of rows that were read, tables as text, and the statuses of the program.
+//! Tests of the whole desk: lines through readers, writers and disks that fail, files that are damaged, shops of rows that
+//! were read, and tables as text.
 #![tactic(auto)]
 
 #[cfg(test)]
@@ -11,14 +11,6 @@ mod exports;
 #[cfg(test)]
 mod flushes;
 #[cfg(test)]
-mod groups;
-#[cfg(test)]
 mod lines;
 #[cfg(test)]
-mod old;
-#[cfg(test)]
 mod shown;
-#[cfg(test)]
-mod statuses;
-#[cfg(test)]
-mod stops;

@@ -1,11 +1,12 @@
 //! Lines, a repeat and reports among them, through slow and failing readers and writers.
-use desk_app::{RunEnd, run_lines};
-use desk_play::devices::{Sink, Source};
-use desk_play::play::created;
+use desk_app::run_lines;
+use desk_ends::RunEnd;
 use sqlite::Connection;
 use std::alloc::Global;
 use std::io::ErrorKind;
 use std::test::Fail;
+use store_play::devices::{Sink, Source};
+use store_play::files::created;
 
 const FIRST: &str = r#"{"day":"2030-01-02","do":"add_location","name":"A"}
 {"day":"2030-01-02","do":"add_part","flags":["component","purchaseable"],"name":"Screw"}

@@ -3,12 +3,12 @@ ghost use Rattle.desk_core.specs.Machine.{IsSoundState};
 ghost use Rattle.desk_core.specs.ShopView.{state_of};
 
 use desk_core::Shop;
-use desk_play::outcomes::holds;
 use desk_play::play::plays_on;
 use desk_store::{books_text, history_text, table_text};
 use part_core::Limits;
 use std::alloc::Global;
 use std::test::Fail;
+use store_play::outcomes::holds;
 use table_store::TableName;
 
 /// Names with a quote, a backslash and characters beyond ASCII.

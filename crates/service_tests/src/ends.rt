@@ -4,22 +4,21 @@ ghost use Rattle.std.specs.Prelude.{◌≡◌, false};
 ghost use Rattle.sqlite.specs.Held.{state};
 ghost use Rattle.sqlite.specs.State.{HasCleanDisk};
 
-use crate::delivery::{DELIVERY, DELIVERY_OUT, ORDERED, ORDERED_OUT};
 use crate::requests::{DELIVERED, FIRST};
-use desk_app::{Books, BooksService, RunEnd, import_file, read_file, run_lines};
+use desk_app::{Books, BooksService, import_file, read_file, run_lines};
+use desk_ends::RunEnd;
 use desk_http::Served;
 use desk_play::ask::ask;
-use desk_play::devices::{Interrupted, Sink, Source};
-use desk_play::each_stop::tables_of;
-use desk_play::imports::{day, document};
-use desk_play::outcomes::holds;
-use desk_play::play::{created, plays_on};
-use desk_play::stops::lines_in;
+use desk_play::play::{lines_in, plays_on};
 use desk_wire::ImportKind;
 use sqlite::{Alter, Connection};
 use std::alloc::Global;
 use std::io::Read;
 use std::test::Fail;
+use store_play::delivery::{DELIVERY, DELIVERY_OUT, ORDERED, ORDERED_OUT, day, document};
+use store_play::devices::{Interrupted, Sink, Source};
+use store_play::files::{created, tables_of};
+use store_play::outcomes::holds;
 
 /// So many bytes at once are all of an input.
 const WHOLE: usize = 65_536;
@@ -128,7 +127,9 @@ fn delivers<R: Read, B: Books>(
     };
     let (document, day) = (document(alloc)?, day("2030-03-01")?);
     let kind = ImportKind::Receipts;
-    Ok(import_file(alloc, &file, kind, &document, day, false, sink, books))
+    Ok(import_file(
+        alloc, &file, kind, &document, day, false, false, sink, books,
+    ))
 }
 
 /// Takes in to the books what comes that way: how it ends, and the books.

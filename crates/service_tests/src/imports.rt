@@ -4,20 +4,21 @@ ghost use Rattle.std.specs.Prelude.{IfOk};
 ghost use Rattle.desk_core.specs.Machine.{IsSoundState};
 ghost use Rattle.desk_core.specs.ShopView.{state_of};
 
-use crate::delivery::{
-    DELIVERY, DELIVERY_OUT, ORDERED, ORDERED_OUT, OTHER, OTHER_OUT, STOCK, STOCK_OUT,
-};
-use desk_app::{CountedBooks, RunEnd, Stop, import_file, read_file};
+use desk_app::{CountedBooks, import_file, read_file};
 use desk_core::Shop;
-use desk_play::devices::{Sink, Source};
-use desk_play::imports::{day, document, imports};
-use desk_play::outcomes::holds;
+use desk_ends::{RunEnd, Stop};
+use desk_play::imports::imports;
 use desk_play::play::plays_on_shop;
 use desk_wire::ImportKind;
 use part_core::Limits;
 use std::alloc::Global;
 use std::io::ErrorKind;
 use std::test::Fail;
+use store_play::delivery::{
+    DELIVERY, DELIVERY_OUT, ORDERED, ORDERED_OUT, OTHER, OTHER_OUT, STOCK, STOCK_OUT, day, document,
+};
+use store_play::devices::{Sink, Source};
+use store_play::outcomes::holds;
 
 /// A shop that ordered screws and motors.
 fn ordered(alloc: Global) -> Result<Shop, Fail>
@@ -153,6 +154,7 @@ fn imports_none(alloc: Global, rows: &str, length: usize) -> Result<(RunEnd, Sin
         &document(alloc)?,
         day("2030-03-01")?,
         false,
+        false,
         &mut sink,
         &mut shop,
     );
@@ -232,6 +234,7 @@ fn tells_how_many(alloc: Global, times: u64, told: &str) -> Result<(), Fail> {
         ImportKind::Counts,
         &document(alloc)?,
         day("2030-03-02")?,
+        false,
         false,
         &mut Sink::new(alloc, 4096),
         &mut books,

@@ -3,12 +3,12 @@ use crate::requests::{FIRST, LINES, NOTHING};
 use desk_app::BooksService;
 use desk_core::Shop;
 use desk_http::{Access, Clients, Site, serve_connections};
-use desk_play::outcomes::holds;
 use part_core::Limits;
 use std::alloc::Global;
 use std::io::{self, Read, Write};
 use std::net::{Ipv4Addr, Shutdown, TcpListener, TcpStream};
 use std::test::Fail;
+use store_play::outcomes::holds;
 
 /// A client that has sent its request, and says no more.
 fn asked(rt: &HostRuntime, listener: &TcpListener, request: &str) -> io::Result<TcpStream> {

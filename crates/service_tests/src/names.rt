@@ -1,17 +1,18 @@
 //! Rows that are said by what they are called, in lines, in a file and by HTTP, where that is allowed and where it isn't.
-use crate::delivery::{DELIVERY_OUT, ORDERED, ORDERED_OUT};
 use crate::requests::asks_all;
-use desk_app::{BooksService, RunEnd, import_file, run_lines};
+use desk_app::{BooksService, import_file, run_lines};
 use desk_core::Shop;
-use desk_play::devices::{Sink, Source};
-use desk_play::imports::{day, document};
-use desk_play::outcomes::holds;
-use desk_play::play::{created, plays_on};
+use desk_ends::RunEnd;
+use desk_play::play::plays_on;
 use desk_wire::ImportKind;
 use part_core::Limits;
 use sqlite::Connection;
 use std::alloc::Global;
 use std::test::Fail;
+use store_play::delivery::{DELIVERY_OUT, ORDERED, ORDERED_OUT, day, document};
+use store_play::devices::{Sink, Source};
+use store_play::files::created;
+use store_play::outcomes::holds;
 
 /// A purchase and its delivery, and a location that isn't there.
 const LINES: &str = r#"{"day":"2030-01-02","do":"add_location","name":"A"}
@@ -94,6 +95,7 @@ fn is_imported(
         kind,
         &document,
         day,
+        false,
         names,
         &mut sink,
         &mut shop,

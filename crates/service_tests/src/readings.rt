@@ -5,10 +5,10 @@ ghost use Rattle.desk_core.specs.ShopView.{state_of};
 use desk_app::{Books, BooksService};
 use desk_core::Shop;
 use desk_http::{NoReply, Outcome, Reply, Service, Tag};
-use desk_play::outcomes::holds;
 use part_core::Limits;
 use std::alloc::Global;
 use std::test::Fail;
+use store_play::outcomes::holds;
 
 /// When the service began.
 const BEGAN: u64 = 1700000000000000000;

@@ -3,18 +3,19 @@ ghost use Rattle.std.specs.Prelude.{◌≡◌, false};
 ghost use Rattle.sqlite.specs.Held.{state};
 ghost use Rattle.sqlite.specs.State.{HasCleanDisk};
 
-use crate::delivery::{ORDERED, ORDERED_OUT};
 use desk_app::{Books, BooksService};
 use desk_core::Shop;
 use desk_http::Served;
 use desk_play::ask::ask;
-use desk_play::devices::{Sink, Source};
-use desk_play::outcomes::holds;
-use desk_play::play::{created, plays_on};
+use desk_play::play::plays_on;
 use part_core::Limits;
 use sqlite::{Alter, Connection};
 use std::alloc::Global;
 use std::test::Fail;
+use store_play::delivery::{ORDERED, ORDERED_OUT};
+use store_play::devices::{Sink, Source};
+use store_play::files::created;
+use store_play::outcomes::holds;
 
 /// Requests that change nothing on books with nothing in them: lines without a length, too long, or with two lengths, and
 /// reports of nothing that is there.

@@ -5,11 +5,11 @@ ghost use Rattle.desk_core.specs.ShopView.{state_of};
 
 use crate::example::Example;
 use desk_core::Shop;
-use desk_play::outcomes::holds;
 use desk_play::play::plays_on_shop;
 use part_core::Limits;
 use std::alloc::Global;
 use std::test::Fail;
+use store_play::outcomes::holds;
 
 /// A shop in which the example was played.
 fn shop_after(alloc: Global, example: &Example) -> Result<Shop, Fail>

@@ -1,14 +1,15 @@
 //! Tables of worked examples that were changed by SQL. Each is refused and left as it is: once the change is undone, the desk
 //! is opened with the tables that it had.
 use crate::example::Example;
-use desk_play::each_stop::{connected, filled, tables_of};
-use desk_play::outcomes::holds;
+use desk_play::play::filled;
 use desk_store::{Desk, OpenFault};
 use sqlite::{Connection, FileStore, Files};
 use sqlite_disk::Memory;
 use std::alloc::{AllocError, Global};
 use std::fs;
 use std::test::Fail;
+use store_play::files::{connected, tables_of};
+use store_play::outcomes::holds;
 
 /// A connection to the files of a desk, whose tables are changed.
 fn changed(

@@ -4,13 +4,14 @@ ghost use Rattle.sqlite.specs.Held.{state};
 ghost use Rattle.sqlite.specs.State.{HasCleanDisk};
 
 use crate::example::Example;
-use desk_play::devices::Sink;
-use desk_play::outcomes::holds;
-use desk_play::play::{created, plays_on};
+use desk_play::play::plays_on;
 use desk_store::{Desk, ExportFault};
 use sqlite::{Alter, Connection};
 use std::alloc::Global;
 use std::test::Fail;
+use store_play::devices::Sink;
+use store_play::files::created;
+use store_play::outcomes::holds;
 use table_store::TableName;
 
 const TABLES: [TableName; 14] = [

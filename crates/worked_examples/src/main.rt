@@ -12,18 +12,12 @@ mod calls;
 mod changed;
 mod example;
 mod exports;
-mod limits;
-mod many_allocations;
-mod many_lines;
-mod many_nested;
-mod many_outputs;
 mod words;
 
 use crate::example::Example;
 use desk_play::play::plays;
-use desk_play::stops::{Keyed, stops_at_each_call};
+use desk_stops::stops::{Keyed, stops_at_each_call};
 use part_core::Limits;
-use std::alloc::Global;
 use std::io;
 use std::test::Fail;
 
@@ -87,26 +81,6 @@ fn stop(rt: &HostRuntime, name: &str) -> Result<(), Fail> {
     stops_at_each_call(alloc, &keyed, false)
 }
 
-/// Examples under small limits, each under many.
-fn limit(rt: &HostRuntime, alloc: Global) -> Result<(), Fail> {
-    tell(rt, "limits: a sale is shipped", limits::shipping(alloc))?;
-    tell(
-        rt,
-        "limits: a build is completed",
-        limits::completing(alloc),
-    )?;
-    tell(rt, "limits: an output is completed", limits::fitting(alloc))?;
-    tell(rt, "limits: stock is allocated", limits::allocating(alloc))
-}
-
-/// Examples that are made rather than written down.
-fn make(rt: &HostRuntime, alloc: Global) -> Result<(), Fail> {
-    tell(rt, "many: allocations", many_allocations::play(alloc))?;
-    tell(rt, "many: items in one", many_nested::play(alloc))?;
-    tell(rt, "many: outputs of a build", many_outputs::play(alloc))?;
-    tell(rt, "many: lines of a bill", many_lines::play(alloc))
-}
-
 fn main(rt: HostRuntime) -> Result<(), Fail> {
     let alloc = rt.alloc();
     let list = io::read_to_string(alloc, rt.reader())?;
@@ -122,7 +96,5 @@ fn main(rt: HostRuntime) -> Result<(), Fail> {
     }
     let cell = Example::read(&rt, "cell-shipped")?;
     let exported = exports::play(alloc, &cell, "{\"entries\":0,\"ids\":[25]}\n");
-    tell(&rt, "exports: a writer that fails", exported)?;
-    limit(&rt, alloc)?;
-    make(&rt, alloc)
+    tell(&rt, "exports: a writer that fails", exported)
 }

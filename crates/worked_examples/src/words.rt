@@ -1,5 +1,5 @@
 //! The words that the program is called with, and what they ask for.
-use desk_app::{ReportOf, Task, early_status, read_words};
+use desk_cli::{ReportOf, Task, early_status, read_words};
 use std::alloc::{AllocError, Global};
 use std::fs;
 use std::test::Fail;
@@ -19,6 +19,11 @@ fn checks(check: bool) -> &'static str {
     if check { " once read" } else { "" }
 }
 
+/// Whether it is told why something isn't done.
+fn explains(explain: bool) -> &'static str {
+    if explain { " with reasons" } else { "" }
+}
+
 /// What is asked for, on one line.
 fn told(alloc: Global, task: &Task<'_>) -> Result<String, AllocError> {
     match task {
@@ -27,11 +32,13 @@ fn told(alloc: Global, task: &Task<'_>) -> Result<String, AllocError> {
             names,
             stop,
             check,
+            explain,
         } => {
             let (named, stops, checks) = (named(*names), stops(*stop), checks(*check));
+            let explains = explains(*explain);
             match file {
-                None => format!(in alloc; "run{named}{stops}{checks}"),
-                Some(file) => format!(in alloc; "run{named}{stops}{checks} {file}"),
+                None => format!(in alloc; "run{named}{stops}{checks}{explains}"),
+                Some(file) => format!(in alloc; "run{named}{stops}{checks}{explains} {file}"),
             }
         }
         Task::Report { file, name, of } => match of {
@@ -51,10 +58,15 @@ fn told(alloc: Global, task: &Task<'_>) -> Result<String, AllocError> {
             day,
             path,
             names,
+            loose,
+            explain,
         } => {
             let (document, day) = (document.as_str(), day.text(alloc)?);
-            let named = named(*names);
-            format!(in alloc; "import{named} {file} {kind:?} {document} {day} {path}")
+            let (named, explains) = (named(*names), explains(*explain));
+            let loosely = if *loose { " loosely" } else { "" };
+            format!(in alloc;
+                "import{named}{loosely}{explains} {file} {kind:?} {document} {day} {path}"
+            )
         }
         Task::Serve {
             file,
@@ -68,6 +80,7 @@ fn told(alloc: Global, task: &Task<'_>) -> Result<String, AllocError> {
             let paged = if *page { " with a page" } else { "" };
             format!(in alloc; "serve{named}{paged} {file:?} {port} {count:?} {token:?}")
         }
+        Task::Guide(topic) => format!(in alloc; "help on {topic}"),
         Task::Help(text) | Task::Wrong(text) => {
             let text = format!(in alloc; "{text}")?;
             format!(in alloc; "{text:?}")

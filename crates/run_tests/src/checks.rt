@@ -1,10 +1,11 @@
 //! Runs that look at all lines before the first is run.
-use desk_app::{RunEnd, run_checked};
+use desk_app::run_checked;
 use desk_core::Shop;
-use desk_play::devices::Sink;
-use desk_play::outcomes::holds;
+use desk_ends::RunEnd;
 use part_core::Limits;
 use std::test::Fail;
+use store_play::devices::Sink;
+use store_play::outcomes::holds;
 
 /// Five lines, of which the second and the fourth can't be read. The last names a part that isn't there.
 const FAULTY: &str = r#"{"day":"2030-01-02","do":"add_location","name":"A"}

@@ -1,13 +1,15 @@
 //! Lines in groups: what one read gives is kept together and answered in one write. However a text is cut into reads, its
 //! answers are the same bytes; where the writer fails, what was run stays and is answered when it is sent again.
-use desk_app::{RunEnd, run_lines};
-use desk_play::devices::{Sink, Source};
-use desk_play::play::created;
-use desk_play::stops::{Keyed, Sending, lines_in, stops_in_groups};
+use desk_app::run_lines;
+use desk_ends::RunEnd;
+use desk_play::play::lines_in;
+use desk_stops::stops::{Keyed, Sending, stops_in_groups};
 use sqlite::Connection;
 use std::alloc::Global;
 use std::io::{self, ErrorKind, Read, Write};
 use std::test::Fail;
+use store_play::devices::{Sink, Source};
+use store_play::files::created;
 
 const LINES: &str = r#"{"day":"2030-01-02","do":"add_location","key":"a","name":"A"}
 {"day":"2030-01-02","do":"add_part","flags":["component","purchaseable"],"key":"b","name":"Screw"}

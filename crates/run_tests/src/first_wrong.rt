@@ -1,12 +1,12 @@
 //! Runs that stop at the first line that is refused or faulty, and runs of the same lines that don't.
-use desk_app::{RunEnd, run_lines};
+use desk_app::run_lines;
 use desk_core::Shop;
-use desk_play::devices::{Sink, Source};
-use desk_play::outcomes::holds;
-use desk_play::play::plays_on;
+use desk_ends::RunEnd;
 use part_core::Limits;
 use std::alloc::Global;
 use std::test::Fail;
+use store_play::devices::{Sink, Source};
+use store_play::outcomes::holds;
 
 /// Five lines, of which the third is refused.
 const REFUSED: &str = r#"{"day":"2030-01-02","do":"add_location","name":"A"}
@@ -68,7 +68,12 @@ fn runs(
         sink.bytes.as_slice() == told[0].as_bytes(),
         "another answer",
     )?;
-    plays_on(alloc, &mut shop, NEXT, told[1])
+    let (mut next, mut sink) = (NEXT.as_bytes(), Sink::new(alloc, 4096));
+    run_lines(alloc, &mut next, &mut sink, &mut shop, false, false);
+    holds(
+        sink.bytes.as_slice() == told[1].as_bytes(),
+        "another answer to what comes next",
+    )
 }
 
 #[test]

@@ -1,4 +1,8 @@
-//! A purchase of screws and motors, and the file of their delivery.
+//! A purchase of screws and motors, and the file of their delivery, with the document and the day of an import.
+use desk_wire::Document;
+use part_core::Day;
+use std::alloc::Global;
+use std::test::Fail;
 
 /// A purchase of screws and motors, and its answers.
 pub const ORDERED: &str = r#"{"day":"2030-01-02","do":"add_location","name":"A"}
@@ -38,3 +42,19 @@ pub const STOCK: &str = "{\"of\":2,\"report\":\"stock\"}\n";
 
 pub const STOCK_OUT: &str =
     "{\"report\":[[\"7\",\"100\",\"OK\",\"at 1\",\"L1\",\"\"],[\"8\",\"50\",\"OK\",\"at 1\",\"\",\"\"]]}\n";
+
+/// The document that files are imported as.
+pub fn document(alloc: Global) -> Result<Document, Fail> {
+    match Document::new(String::from_str(alloc, "D1")?) {
+        Some(document) => Ok(document),
+        None => Err(Fail::from("it is a document")),
+    }
+}
+
+/// The day of that text.
+pub fn day(text: &str) -> Result<Day, Fail> {
+    match Day::parse(text) {
+        Some(day) => Ok(day),
+        None => Err(Fail::from("it is a day")),
+    }
+}

@@ -4,14 +4,15 @@ ghost use Rattle.std.specs.Prelude.{IfOk};
 ghost use Rattle.sqlite.specs.Files.{over_files};
 ghost use Rattle.desk_store.specs.Desks.{IsDesk};
 
-use crate::each_stop::{Fused, connected, filled, fused, tables_of};
-use crate::outcomes::holds;
 use desk_app::close_desk;
+use desk_play::play::filled;
 use desk_store::{Desk, OpenFault};
 use sqlite::{Alter, Connection, FileStore, Files};
 use sqlite_disk::{Crash, Disk, Memory};
 use std::alloc::Global;
 use std::test::Fail;
+use store_play::files::{Fused, connected, fused, tables_of};
+use store_play::outcomes::holds;
 
 /// Makes the tables those of version 1. What was spent is lost, so let nothing be spent.
 pub fn made_old<S: Alter>(conn: &mut Connection<S>) -> Result<(), Fail> {

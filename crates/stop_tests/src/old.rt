@@ -1,14 +1,14 @@
 //! Tables that an earlier program left, those of version 1: they are told from others, and brought along.
-use desk_play::devices::Sink;
-use desk_play::each_stop::connected;
-use desk_play::old::{OldFiles, made_old, stops_amid_migration};
-use desk_play::outcomes::holds;
-use desk_play::play::{created, plays_on};
+use desk_play::play::plays_on;
+use desk_stops::old::{OldFiles, made_old, stops_amid_migration};
 use desk_store::{Desk, OpenFault};
 use sqlite::{Alter, Connection, Files, MemStore};
 use sqlite_disk::Disk;
 use std::alloc::Global;
 use std::test::Fail;
+use store_play::devices::Sink;
+use store_play::files::{connected, created};
+use store_play::outcomes::holds;
 use table_store::TableName;
 
 /// Robots are built, and put into a cell, which is sold, comes back and is taken apart. Each request has a key.

@@ -90,7 +90,9 @@ fn ship_within(alloc: Global, numbers: u64, entries: u64) -> Result<(), Fail> {
 }
 
 /// A sale is shipped in two cuts and a rest.
-pub fn shipping(alloc: Global) -> Result<(), Fail> {
+#[test]
+fn shipping(rt: HostRuntime) -> Result<(), Fail> {
+    let alloc = rt.alloc();
     for numbers in 8..11u64 {
         for entries in 1..7u64 {
             ship_within(alloc, numbers, entries)?;
@@ -153,7 +155,9 @@ fn complete_within(alloc: Global, numbers: u64, entries: u64) -> Result<(), Fail
 }
 
 /// A build uses up two cuts and a rest.
-pub fn completing(alloc: Global) -> Result<(), Fail> {
+#[test]
+fn completing(rt: HostRuntime) -> Result<(), Fail> {
+    let alloc = rt.alloc();
     for numbers in 10..13u64 {
         for entries in 2..8u64 {
             complete_within(alloc, numbers, entries)?;
@@ -217,7 +221,9 @@ fn fit_within(alloc: Global, numbers: u64, entries: u64) -> Result<(), Fail> {
 }
 
 /// An output takes in two cuts and a rest.
-pub fn fitting(alloc: Global) -> Result<(), Fail> {
+#[test]
+fn fitting(rt: HostRuntime) -> Result<(), Fail> {
+    let alloc = rt.alloc();
     for numbers in 10..13u64 {
         for entries in 1..8u64 {
             fit_within(alloc, numbers, entries)?;
@@ -284,7 +290,9 @@ fn allocate_within(alloc: Global, numbers: u64) -> Result<(), Fail> {
 }
 
 /// A build is allocated three amounts at once.
-pub fn allocating(alloc: Global) -> Result<(), Fail> {
+#[test]
+fn allocating(rt: HostRuntime) -> Result<(), Fail> {
+    let alloc = rt.alloc();
     for numbers in 8..12u64 {
         allocate_within(alloc, numbers)?;
     }

@@ -1,9 +1,9 @@
 //! A stop at each call of the disk amid the import of a delivery.
-use crate::delivery::{DELIVERY, DELIVERY_OUT, ORDERED, ORDERED_OUT};
-use desk_play::outcomes::holds;
-use desk_play::stops::{Keyed, Sending, stops_in_groups};
+use desk_stops::stops::{Keyed, Sending, stops_in_groups};
 use std::alloc::Global;
 use std::test::Fail;
+use store_play::delivery::{DELIVERY, DELIVERY_OUT, ORDERED, ORDERED_OUT};
+use store_play::outcomes::holds;
 
 /// The delivery, with a stop at each call of the log or of the database.
 fn stops(alloc: Global, of_log: bool) -> Result<(), Fail> {

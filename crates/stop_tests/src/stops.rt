@@ -1,7 +1,7 @@
 //! A stop at each call of the disk amid requests on parts, bills and stock, in groups and alone.
-use desk_play::each_stop::{Unbroken, stops_amid_requests};
-use desk_play::stops::{Keyed, stops_at_each_call};
+use desk_stops::stops::{Keyed, stops_at_each_call};
 use std::test::Fail;
+use store_play::each_stop::{Unbroken, stops_amid_requests};
 
 const LINES: &str = r#"{"day":"2030-01-02","do":"add_location","name":"A"}
 {"day":"2030-01-02","do":"add_part","flags":["component","trackable"],"name":"Motor"}

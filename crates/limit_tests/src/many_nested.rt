@@ -84,21 +84,19 @@ fn push_content(text: &mut String, screws: u64) -> Result<(), Fail>
     Ok(())
 }
 
-fn a_thousand_screws(alloc: Global) -> Result<(), Fail> {
+#[test]
+fn a_thousand_screws(rt: HostRuntime) -> Result<(), Fail> {
+    let alloc = rt.alloc();
     let lines = lines(alloc, 1000)?;
     let answers = answers(alloc, 1000)?;
     let mut shop = Shop::new(alloc, Limits::LARGEST);
     plays_on_shop(alloc, &mut shop, lines.as_str(), answers.as_str())
 }
 
-fn thirty_screws(alloc: Global) -> Result<(), Fail> {
+#[test]
+fn thirty_screws(rt: HostRuntime) -> Result<(), Fail> {
+    let alloc = rt.alloc();
     let lines = lines(alloc, 30)?;
     let answers = answers(alloc, 30)?;
     plays(alloc, Limits::LARGEST, lines.as_str(), answers.as_str())
-}
-
-/// A thousand on a shop, and thirty on a desk too.
-pub fn play(alloc: Global) -> Result<(), Fail> {
-    a_thousand_screws(alloc)?;
-    thirty_screws(alloc)
 }

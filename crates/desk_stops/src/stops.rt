@@ -4,14 +4,11 @@
 ghost use Rattle.sqlite.specs.Files.{over_files};
 ghost use Rattle.desk_store.specs.Desks.{IsDesk};
 
-use crate::devices::{Sink, Source};
-use crate::each_stop::{Fused, filled, fresh, fused, opened, opened_again, tables_of};
-use crate::imports::imports;
-use crate::outcomes::holds;
-use crate::play::plays_on_shop;
-use crate::tables::tables_text;
-use desk_app::{Books, RunEnd, close_desk, run_lines};
+use desk_app::{Books, close_desk, run_lines};
 use desk_core::Shop;
+use desk_ends::RunEnd;
+use desk_play::imports::imports;
+use desk_play::play::{filled, lines_in, plays_on_shop};
 use desk_store::Desk;
 use desk_wire::ImportKind;
 use part_core::Limits;
@@ -19,6 +16,10 @@ use sqlite::{FileStore, Files};
 use sqlite_disk::{Disk, Memory};
 use std::alloc::Global;
 use std::test::Fail;
+use store_play::devices::{Sink, Source};
+use store_play::files::{Fused, fresh, fused, opened, opened_again, tables_of};
+use store_play::outcomes::holds;
+use store_play::tables::tables_text;
 
 /// So many bytes at once are all of a text.
 const WHOLE: usize = 65_536;
@@ -80,11 +81,6 @@ fn closed_files(alloc: Global, lines: &str, answers: &str) -> Result<Files<Memor
             Err(Fail::from("a desk that isn't closed"))
         }
     }
-}
-
-/// How many lines the text has, each with its LF.
-pub fn lines_in(text: &[u8]) -> usize {
-    text.iter().filter(|byte| **byte == b'\n').count()
 }
 
 impl Keyed {

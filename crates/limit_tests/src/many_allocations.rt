@@ -59,21 +59,19 @@ fn answers(alloc: Global, count: u64, cuts: u64) -> Result<String, Fail>
     Ok(text)
 }
 
-fn a_thousand_allocations(alloc: Global) -> Result<(), Fail> {
+#[test]
+fn a_thousand_allocations(rt: HostRuntime) -> Result<(), Fail> {
+    let alloc = rt.alloc();
     let lines = lines(alloc, 1000)?;
     let answers = answers(alloc, 1000, 999)?;
     let mut shop = Shop::new(alloc, Limits::LARGEST);
     plays_on_shop(alloc, &mut shop, lines.as_str(), answers.as_str())
 }
 
-fn many_allocations(alloc: Global) -> Result<(), Fail> {
+#[test]
+fn many_allocations(rt: HostRuntime) -> Result<(), Fail> {
+    let alloc = rt.alloc();
     let lines = lines(alloc, 30)?;
     let answers = answers(alloc, 30, 30)?;
     plays(alloc, Limits::LARGEST, lines.as_str(), answers.as_str())
-}
-
-/// A thousand on a shop, and thirty on a desk too.
-pub fn play(alloc: Global) -> Result<(), Fail> {
-    a_thousand_allocations(alloc)?;
-    many_allocations(alloc)
 }

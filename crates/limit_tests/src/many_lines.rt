@@ -171,7 +171,9 @@ fn answers(alloc: Global, size: Size) -> Result<String, Fail> {
     Ok(text)
 }
 
-fn fifty_lines(alloc: Global) -> Result<(), Fail> {
+#[test]
+fn fifty_lines(rt: HostRuntime) -> Result<(), Fail> {
+    let alloc = rt.alloc();
     let size = Size {
         kinds: 50,
         quarter: 500,
@@ -182,7 +184,9 @@ fn fifty_lines(alloc: Global) -> Result<(), Fail> {
     plays_on_shop(alloc, &mut shop, lines.as_str(), answers.as_str())
 }
 
-fn five_lines(alloc: Global) -> Result<(), Fail> {
+#[test]
+fn five_lines(rt: HostRuntime) -> Result<(), Fail> {
+    let alloc = rt.alloc();
     let size = Size {
         kinds: 5,
         quarter: 5,
@@ -190,10 +194,4 @@ fn five_lines(alloc: Global) -> Result<(), Fail> {
     let lines = lines(alloc, size)?;
     let answers = answers(alloc, size)?;
     plays(alloc, Limits::LARGEST, lines.as_str(), answers.as_str())
-}
-
-/// Fifty lines of two thousand items each on a shop, and five of twenty on a desk too.
-pub fn play(alloc: Global) -> Result<(), Fail> {
-    fifty_lines(alloc)?;
-    five_lines(alloc)
 }

@@ -1,5 +1,6 @@
 //! The statuses that the program ends with, and the files that its tasks name.
-use desk_app::{RunEnd, Task, early_status, status_of};
+use desk_cli::{Task, early_status, status_of};
+use desk_ends::RunEnd;
 use table_store::TableName;
 
 #[test]
@@ -29,6 +30,7 @@ fn run(file: Option<&str>) -> Task<'_> {
         names: false,
         stop: false,
         check: false,
+        explain: false,
     }
 }
 

@@ -169,21 +169,19 @@ fn push_ledger(
     Ok(())
 }
 
-fn a_thousand_outputs(alloc: Global) -> Result<(), Fail> {
+#[test]
+fn a_thousand_outputs(rt: HostRuntime) -> Result<(), Fail> {
+    let alloc = rt.alloc();
     let lines = lines(alloc, 1000)?;
     let answers = answers(alloc, 1000)?;
     let mut shop = Shop::new(alloc, Limits::LARGEST);
     plays_on_shop(alloc, &mut shop, lines.as_str(), answers.as_str())
 }
 
-fn many_outputs(alloc: Global) -> Result<(), Fail> {
+#[test]
+fn many_outputs(rt: HostRuntime) -> Result<(), Fail> {
+    let alloc = rt.alloc();
     let lines = lines(alloc, 30)?;
     let answers = answers(alloc, 30)?;
     plays(alloc, Limits::LARGEST, lines.as_str(), answers.as_str())
-}
-
-/// A thousand on a shop, and thirty on a desk too.
-pub fn play(alloc: Global) -> Result<(), Fail> {
-    a_thousand_outputs(alloc)?;
-    many_outputs(alloc)
 }
