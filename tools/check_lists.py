@@ -2,7 +2,7 @@
 """Tries `show` on the built program: each list of a small workshop, in columns and as comma-separated values, beside rows
 that were worked out by hand; locations, parts and items by number and by name; words that go with no list; rows that
 aren't there; and that no list changes the file. Then it types at a terminal: a greeting, a prompt, `help`, and the same
-answers as from a pipe.
+answers as from a pipe; and before a long file is read, it is said so.
 
 usage: tools/check_lists.py PROGRAM"""
 import contextlib
@@ -187,6 +187,23 @@ def try_terminal(program, path, ends):
     expect(piped.stdout == '{"fault":"NotJson","line":1}\n' and not piped.stderr, f"help from a pipe: {piped}")
 
 
+def try_long(program, top, ends):
+    """What is said at a terminal before a long file is read: the file is no workshop's, so that is the end of it."""
+    hand, seat = ends
+    path = os.path.join(top, "long.db")
+    with open(path, "wb") as file:
+        file.truncate(33 * 1024 * 1024)
+    words = [program, "show", "--db", path, "stock"]
+    done = subprocess.run(words, stdout=subprocess.PIPE, stderr=seat, timeout=20, check=False)
+    os.close(seat)
+    screen = os.read(hand, 65_536).decode()
+    os.close(hand)
+    expect(done.returncode == 3 and not done.stdout, f"a file of zeros is shown: {done}")
+    expect(screen.startswith(f"invdesk: {path} has 34 MB; reading it takes a moment\r\n"), f"of a long file: {screen!r}")
+    piped = show(program, path, "stock")
+    expect("moment" not in piped.stderr, f"away from a terminal: {piped}")
+
+
 def main():
     program = reader_of_words(__doc__).parse_args().program
     with tempfile.TemporaryDirectory() as top:
@@ -203,6 +220,7 @@ def main():
         ends = terminal()
         if ends:
             try_terminal(program, path, ends)
+            try_long(program, top, terminal())
     seen = "a terminal" if ends else "no terminal, as there is none here"
     print(f"check_lists: {len(WANTED)} lists, {len(WRONG) + len(NONE)} that aren't there, {seen}: all as they should be")
 

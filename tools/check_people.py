@@ -3,12 +3,20 @@
 refused or faulty, and `run --check`, which reads all lines first and runs none where one is faulty. Each is tried in
 memory and on a file, with names and without, alone and together, and by a pipe that brings the lines one by one. The
 lines that are run have to be answered as a plain run of them answers, and to leave the same rows.
+Then `--explain`, which says on the standard error why a line or a row isn't done, and changes nothing of the answers;
+so it is told at a terminal without the word. And `import --loose`, on the sheet of a stocktake and on deliveries that
+have their columns in another order, more of them, or something else between two fields; where LibreOffice's `soffice`
+is found, on the sheet as it saves it.
 
 usage: tools/check_people.py PROGRAM"""
+import csv
+import io
 import itertools
 import json
 import os
 import pathlib
+import pty
+import shutil
 import subprocess
 import tempfile
 
@@ -127,6 +135,152 @@ def try_long(program, top):
     expect_same("a text of over 16 MiB", done, '{"fault":"TooLong","line":0}\n', 1)
 
 
+# Lines behind `lpf`, each with what is told of it.
+REASONS = [
+    ({"do": "remove", "day": DAY, "item": 3, "quantity": 1000},
+     "Short: item 3 (Screw, A, 100, 100 free, OK), quantity 1000. There is less than that;"),
+    ({"do": "retire_part", "day": DAY, "part": 9}, "NoSuch: part 9 (no such row). A number, or a key,"),
+    ({"do": "add_part", "day": DAY, "name": "Screw", "flags": []}, "NameTaken: name Screw. Another part has the name,"),
+    ({"do": "transfer", "day": DAY, "item": 3, "location": 1, "quantity": 0},
+     "BadNumber: item 3 (Screw, A, 100, 100 free, OK), location 1 (A), quantity 0. A quantity is 0"),
+    ({"do": "merge", "day": DAY, "into": 3, "items": [3, 7]},
+     "NoSuch: into 3 (Screw, A, 100, 100 free, OK), items 3 (Screw, A, 100, 100 free, OK), items 7 (no such row). A "),
+    ({"report": "stock", "of": 99}, "NoSuch: of 99 (no such row). A number,"),
+    ({"do": "remove", "day": DAY, "item": 3, "quantity": "many"}, 'quantity: WrongType: "many". A field has something'),
+    ({"do": "remove", "day": DAY, "item": 3}, "quantity: NoField. A field is missing:"),
+    ({"do": "add_location", "day": DAY, "nome": "B"}, 'nome: UnknownField: "B" (did you mean name?). The command,'),
+    ({"do": "fond", "day": DAY}, 'do: UnknownCommand: "fond" (did you mean found?). There is no such command'),
+    ({"do": "add_part", "day": DAY, "name": "N", "flags": ["component", "purchasable"]},
+     'flags: BadWord: ["component","purchasable"] (did you mean purchaseable?). There is no such status,'),
+    ({"do": "add_location", "day": "2030-02-30", "name": "B"}, 'day: BadDay: "2030-02-30". The day isn\'t written'),
+    ({"do": "add_location", "day": DAY, "key": "a b", "name": "B"}, 'key: BadKey: "a b". The key isn\'t 1 to 80'),
+    ({"report": "stok", "of": 2}, 'report: BadWord: "stok" (did you mean stock?). There is no such status,'),
+    ([1], "NotObject. The line is JSON, but"),
+]
+
+
+def reasons_of(text):
+    """What is told on the standard error, a line each."""
+    return [line for line in text.replace("\r", "").split("\n") if line]
+
+
+def try_reasons(program, top):
+    """Each reason, in memory and on a file; with --check, those of the faults; at a terminal without the word."""
+    text = text_of("lpf") + "".join(json.dumps(line) + "\n" for line, _ in REASONS)
+    wanted = [f"line {number}: {told}" for number, (_, told) in enumerate(REASONS, 4)]
+    path = os.path.join(top, "reasons.db")
+    for words in [], ["--db", path], ["--stop"]:
+        answers = run(program, "run", *words, lines=text)
+        if "--db" in words:
+            os.remove(path)
+        done = run(program, "run", *words, "--explain", lines=text)
+        where = f"--explain {' '.join(words)}"
+        expect_same(where, done, answers.stdout, answers.returncode)
+        expect(not reasons_of(answers.stderr), f"{where}: without the word {answers.stderr!r} is told")
+        told = reasons_of(done.stderr)
+        for line, front in zip(told, wanted, strict="--stop" not in words):
+            expect(line.startswith(front), f"{where}: {line!r} is told, and not {front!r}")
+    told = reasons_of(run(program, "run", "--check", "--explain", lines=text).stderr)
+    faulty = [front for front in wanted if front.split(": ")[1] not in ("Short", "NoSuch", "NameTaken", "BadNumber")]
+    expect(len(told) == len(faulty), f"--check --explain: {told}")
+    expect(all(map(str.startswith, told, faulty)), f"--check --explain: {told}")
+    named = json.dumps({"do": "found", "day": DAY, "part": "Nut", "location": "A", "quantity": 7}) + "\n"
+    told = run(program, "run", "--names", "--explain", lines=named).stderr
+    expect(told.startswith('line 1: part: NoName: "Nut". Nothing is called so.'), f"a name: {told!r}")
+    master, slave = pty.openpty()
+    with subprocess.Popen([program, "run"], stdin=subprocess.PIPE, stdout=subprocess.PIPE, stderr=slave) as typed:
+        typed.communicate(b"[1]\n", timeout=10)
+        told = os.read(master, 65_536).decode()
+    os.close(slave)
+    os.close(master)
+    expect(reasons_of(told)[-1].startswith("line 1: NotObject. "), f"at a terminal {told!r} is told")
+
+
+# Deliveries that are read loosely, each with what is told of it: `P` is the line of the order, `S` the location.
+LOOSE = [
+    ("number,line,location,quantity,batch,serials\n1,P,S,5,L1,\n", None),
+    ("quantity;serials;batch;location;line;number\r\n5;;L1;S;P;1\r\n", None),
+    ("note\tnumber\tline\tlocation\tquantity\nwhat, came\t1\tP\tS\t5\n", None),
+    ("\ufeffnumber;line;location;quantity\n;;;\n\n1;P;S;5\n2;P;S;\n3;P\n", None),
+    ("number,line,location,quantity\n1,P,S,10.0\n", "record 2: quantity: WrongType: 10.0. A field has"),
+    ('number,line,location,quantity\n\n,,,\n1,P,S,"1,000"\n', "record 3: quantity: WrongType: 1,000. A field has"),
+    ("number;line;location;quantity\n1;P;S;5;6\n", "record 2: Csv. The record has more"),
+    ("number,line,location,amount\n1,P,S,5\n", "record 1: Header: number,line,location,quantity,batch,serials is"),
+    ("number,line,location,quantity,quantity\n1,P,S,5,5\n", "record 1: Header: number,line,location,quantity"),
+]
+ORDERED = [
+    {"do": "add_location", "day": DAY, "name": "A"},
+    {"do": "add_part", "day": DAY, "flags": ["component", "purchaseable"], "name": "Screw"},
+    {"do": "order", "day": DAY, "side": "purchase", "partner": "M"},
+    {"do": "order_line", "day": DAY, "order": 3, "part": 2, "quantity": 9},
+    {"do": "issue_order", "day": DAY, "order": 3},
+    {"do": "found", "day": DAY, "part": 2, "location": 1, "quantity": 100},
+    {"do": "found", "day": DAY, "part": 2, "location": 1, "quantity": 50},
+]
+
+
+def imported(program, path, kind, name, *words):
+    asked = ["--db", path, "--kind", kind, "--document", "D", "--day", DAY, *words]
+    return run(program, "import", *asked, name)
+
+
+def try_loose(program, top):
+    """Deliveries that are read loosely; the same without the word have a fault, or the same rows."""
+    for number, (text, told) in enumerate(LOOSE):
+        path, name = os.path.join(top, f"loose-{number}.db"), os.path.join(top, f"loose-{number}.csv")
+        run(program, "run", "--db", path, lines="".join(json.dumps(line) + "\n" for line in ORDERED))
+        pathlib.Path(name).write_text(text.replace("P", "4").replace("S", "1"), newline="")
+        where = f"--loose on {text!r}"
+        done = imported(program, path, "receipts", name, "--loose", "--explain")
+        if told:
+            expect(done.returncode == 1, f"{where}: ended with {done.returncode}")
+            expect(done.stderr.startswith(told), f"{where}: {done.stderr!r} is told, and not {told!r}")
+            continue
+        expect_same(where, done, '1\t{"entries":1,"ids":[7]}\n', 0)
+        expect(done.stderr == "", f"{where}: {done.stderr!r} is told")
+        strict = imported(program, path, "receipts", name)
+        expect(strict.returncode == (number > 0), f"{where}: without the word it ends with {strict.returncode}")
+
+
+def counted(sheet, separator=","):
+    """The sheet of a stocktake, in which the second row is counted, as 49."""
+    header, *rows = csv.reader(io.StringIO(sheet))
+    rows[1][-1] = "49"
+    text = io.StringIO()
+    csv.writer(text, delimiter=separator).writerows([header, *rows])
+    return text.getvalue()
+
+
+def saved_by_office(folder, sheet):
+    """The sheet as LibreOffice saves it with semicolons, once it read it."""
+    path = folder / "sheet.csv"
+    path.write_text(sheet)
+    profile = f"-env:UserInstallation={(folder / 'profile').as_uri()}"
+    out = folder / "out"
+    kind = "csv:Text - txt - csv (StarCalc):59,34,76,1"
+    words = ("soffice", profile, "--headless", "--convert-to", kind, "--outdir", str(out), str(path))
+    subprocess.run(words, capture_output=True, timeout=120, check=True)
+    return (out / "sheet.csv").read_text()
+
+
+def try_sheet(program, top):
+    """A stocktake goes by its sheet: what was counted is booked, and rows without a quantity are left out."""
+    sheets = {"by Python": counted, "with semicolons": lambda sheet: counted(sheet, ";")}
+    if shutil.which("soffice"):
+        sheets["by LibreOffice"] = lambda sheet: saved_by_office(pathlib.Path(top), counted(sheet))
+    for what, save in sheets.items():
+        path, name = os.path.join(top, "sheet.db"), os.path.join(top, "sheet-in.csv")
+        run(program, "run", "--db", path, lines="".join(json.dumps(line) + "\n" for line in ORDERED))
+        sheet = run(program, "show", "--db", path, "--csv", "count-sheet").stdout
+        pathlib.Path(name).write_text(save(sheet), newline="")
+        done = imported(program, path, "counts", name, "--loose")
+        expect_same(f"a sheet saved {what}", done, '2\t{"entries":1,"ids":[]}\n', 0)
+        items = list(csv.DictReader(io.StringIO(run(program, "export", "--db", path, "items").stdout)))
+        expect([row["quantity"] for row in items] == ["100", "49"], f"a sheet saved {what}: {items}")
+        os.remove(path)
+    return len(sheets)
+
+
 def main():
     program = reader_of_words(__doc__).parse_args().program
     texts = ["", "lpfs", "lpfr", "lprfs", "rlpf", "lpfws", "wlpf", "lpfwrxs", "lp_-fm", "lpfLs", "jlpf", "lpfr-"]
@@ -137,8 +291,12 @@ def main():
     with tempfile.TemporaryDirectory() as top:
         try_by_hand(program)
         try_long(program, top)
+        try_reasons(program, top)
+        try_loose(program, top)
+        sheets = try_sheet(program, top)
     count = len(texts) + len(texts + named)
-    print(f"check_people: {count} texts, each with --stop, with --check and with both: all as it should be")
+    print(f"check_people: {count} texts, each with --stop, with --check and with both, {len(REASONS)} reasons, "
+          f"{len(LOOSE)} deliveries that are read loosely, {sheets} sheets: all as it should be")
 
 
 if __name__ == "__main__":

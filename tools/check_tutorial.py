@@ -86,16 +86,16 @@ def texts(path, enum):
 def words_of_sections():
     """Under each heading of the list the words that its table has to have."""
     statuses = source("desk_http/src/rejection.rt") + source("desk_http/src/service.rt")
-    files = [("desk_app/src/database.rt", "FileFault"), ("desk_store/src/fault.rt", "OpenFault")]
+    files = [("desk_cli/src/database.rt", "FileFault"), ("desk_store/src/fault.rt", "OpenFault")]
     files += [("table_store/src/fault.rt", "Cause")]
     return {
         "Refusals": texts("part_core/src/refusal.rt", "Refusal"),
         "Faults of lines and of files that are imported": texts("desk_wire/src/fault.rt", "What"),
-        "Words of a report": set(re.findall(r'=> "([^"]*)"', source("desk_app/src/subject.rt"))),
+        "Words of a report": set(re.findall(r'=> "([^"]*)"', source("desk_cli/src/subject.rt"))),
         "Workshop files": set().union(*(texts(path, enum) for path, enum in files)),
         "Tokens": texts("invdesk/src/token.rt", "TokenFault"),
         "Statuses of HTTP": set(re.findall(r"///.*: (\d{3})[.,]", statuses)),
-        "Statuses that the program ends with": set(re.findall(r": u8 = (\d);", source("desk_app/src/status.rt"))),
+        "Statuses that the program ends with": set(re.findall(r": u8 = (\d);", source("desk_cli/src/status.rt"))),
     }
 
 

@@ -1,8 +1,8 @@
 #!/usr/bin/env python3
 """Writes what `help` tells at a terminal into the program: each command of `docs/MACHINE.md` with its fields, its
-refusals, what it does and a line of it, and each refusal of `docs/REFUSALS.md`. It is one text in
-`crates/desk_app/src/guide_text.rt`, in which an empty line stands between two entries, and each entry begins with a
-line of its name.
+refusals, what it does and a line of it, and each refusal and each fault of `docs/REFUSALS.md`. It is one text in
+`crates/desk_ends/src/guide_text.rt`, in which an empty line stands between two entries, and each entry begins with a
+line of its name. Beside it stand the words that a line may have, for whoever misspells one.
 
 usage: tools/make_guide.py [--check]     --check writes nothing, and tells whether the source is as it would be written"""
 import argparse
@@ -10,11 +10,11 @@ import json
 import re
 import textwrap
 
-from machine.lines import FIELDS
+from machine.lines import FIELDS, FLAGS, REPORTS, SIDES, STATUSES
 from make_page import section
 from shared import TOP, expect
 
-SOURCE = TOP / "crates" / "desk_app" / "src" / "guide_text.rt"
+SOURCE = TOP / "crates" / "desk_ends" / "src" / "guide_text.rt"
 HEAD = """\
 //! What `help` tells at a terminal. This file is written by `tools/make_guide.py` from `docs/MACHINE.md` and
 //! `docs/REFUSALS.md`.
@@ -48,23 +48,38 @@ def entries():
     names = " ".join(row[0] for row in rows)
     yield "\n".join([
         "help", "  A line of JSON is a request. These are the commands; help and a name says more of each:",
-        wrapped(names, 4), "  help refusals lists the words by which a request is refused. Ctrl-D ends the run."])
+        wrapped(names, 4), "  help refusals lists the words by which a request is refused, help faults those of a line",
+        "  that can't be read. Ctrl-D ends the run."])
+    yield "\n".join(["commands", *(wrapped(f"{do}: {plain(effect)}") for do, _, _, effect in rows)])
     for do, fields, refusals, effect in rows:
         lines = [do, "  Fields:"]
         for name, optional, kind in re.findall(r"`(\w+)`(\??)([^,`]*)", fields):
             lines.append(f"    {name}{optional}: {plain(kind) or 'a ' + name}")
         lines += [wrapped("Refused as " + plain(refusals) + "."), wrapped("Does: " + plain(effect) + ".")]
         yield "\n".join([*lines, "  Example: " + example(do)])
-    words = re.findall(r"^\| `(\w+)` \| (.*) \| (.*) \|$", section("REFUSALS.md", "Refusals"), re.M)
-    yield "\n".join(["refusals", *(wrapped(f"{word}: {plain(wrong)}") for word, wrong, _ in words)])
-    for word, wrong, mend in words:
-        yield "\n".join([word, wrapped(plain(wrong)), wrapped(plain(mend))])
+    for name, title in ("refusals", "Refusals"), ("faults", "Faults of lines and of files that are imported"):
+        words = re.findall(r"^\| `(\w+)` \| (.*) \| (.*) \|$", section("REFUSALS.md", title), re.M)
+        yield "\n".join([name, *(wrapped(f"{word}: {plain(wrong)}") for word, wrong, _ in words)])
+        for word, wrong, mend in words:
+            yield "\n".join([word, wrapped(plain(wrong)), wrapped(plain(mend))])
+
+
+def words_of(name, what, words):
+    """A list of words as the source has it."""
+    lines = "".join(f'    "{word}",\n' for word in words)
+    return f"/// {what}\npub const {name}: [&str; {len(words)}] = [\n{lines}];\n"
 
 
 def source():
     text = "\n\n".join(entries())
     expect('"#' not in text and "\n\n\n" not in text, "an entry has a quote with a number sign, or an empty line")
-    return f'{HEAD}/// The entries, an empty line between two.\npub const GUIDE: &str = r#"{text}"#;\n'
+    fields = dict.fromkeys(["do", "key", "day", "report", "of", *(name for it in FIELDS.values() for name, _, _ in it)])
+    return "\n".join([
+        f'{HEAD}/// The entries, an empty line between two.\npub const GUIDE: &str = r#"{text}"#;\n',
+        words_of("COMMANDS", "The names of the commands.", [*FIELDS]),
+        words_of("FIELDS", "The names of the fields of commands and reports.", [*fields]),
+        words_of("WORDS", "The words that may stand in a field: flags, statuses, sides and reports.",
+                 [*FLAGS, *STATUSES, *SIDES, *REPORTS])])
 
 
 def main():
