@@ -5,6 +5,7 @@ use Rattle.std.specs.Prelude.{filter}
 use Rattle.std.specs.Borrow.{Bor}
 use Rattle.std.specs.FinMap as table
 use Rattle.std.specs.List.{list_any}
+use mathlib.Core.Bool.{or-true}
 use Rattle.part_core.specs.Filled.{StandUnderKeys}
 use Rattle.part_core.specs.Sheet.{Table}
 use Rattle.part_core.proofs.Keys.{key_eq, key_eq-self, key_eq-true, keys_exact, keys_total}
@@ -46,12 +47,8 @@ any-stands : (p : Allocation → Bool) (xs : List Allocation) (x : Allocation) �
 any-stands p [] x h e = absurd h
 any-stands p (y ∷ ys) x h e = elim h [
   | inl same ↦ ap (λ b. b || list_any p ys) (ap p same ∙ e)
-  | inr later ↦ ap (λ b. p y || b) (any-stands p ys x later e) ∙ or_true (p y)
+  | inr later ↦ ap (λ b. p y || b) (any-stands p ys x later e) ∙ or-true (p y)
 ]
-  where
-    or_true : (b : Bool) → (b || true) ≡ true
-    or_true true = refl
-    or_true false = refl
 
 any-none : (p : Allocation → Bool) (xs : List Allocation) → ((x : Allocation) → Stands x xs → p x ≡ false)
     → list_any p xs ≡ false

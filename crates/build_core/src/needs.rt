@@ -53,7 +53,7 @@ pub(crate) fn has_tracked(catalogue: &Catalogue, boms: &Boms, part: Id) -> Resul
     Ok(any_tracked(catalogue, lines.as_slice()))
 }
 
-/// So much for each of so many.
+/// What that many units take, if each takes this quantity.
 fn times(quantity: Quantity, units: Quantity) -> u128
     ensures { result ≡ quantity * units }
 {

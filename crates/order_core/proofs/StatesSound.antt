@@ -4,7 +4,7 @@ use Rattle.std.proofs.Common.{Some, None, refl, sym, ap, ◌∙◌, subst, arith
 use Rattle.std.specs.Prelude.{◌==◌, ◌&&◌, nat_lt}
 use Rattle.std.specs.FinMap as table
 use Rattle.std.specs.List.{list_any}
-use Rattle.std.proofs.lemmas.Bool.{eqb-false, ltb-false}
+use Rattle.std.proofs.lemmas.Bool.{eqb-false, lt-ltb}
 use Rattle.part_core.specs.Catalogue.{Parts}
 use Rattle.part_core.specs.Checks.{first}
 use Rattle.part_core.specs.Rows.{IsThere}
@@ -97,13 +97,6 @@ none_stands test [] x none h = absurd h
 none_stands test (y ∷ ys) x none h =
     let both = or_none (test y) (list_any test ys) none in
     elim h [ inl same ↦ ap test (sym same) ∙ both.0 | inr later ↦ none_stands test ys x both.1 later ]
-
-lt-ltb : (a b : ℕ) → a < b → nat_lt a b ≡ true
-lt-ltb a b lt = go (nat_lt a b) refl
-  where
-    go : (d : Bool) → nat_lt a b ≡ d → d ≡ true
-    go true e = refl
-    go false e = absurd (omega (arith, ltb-false a b e, lt))
 
 -- an allocation of a sound sale, by its purpose
 pub sale-of : (b : OrderBooks) (item order line : ℕ) (p : Purpose) → p ≡ Sale order line → IsSoundPurpose b item p

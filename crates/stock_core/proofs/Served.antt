@@ -4,8 +4,9 @@ use Rattle.std.proofs.Common.{◌≡◌, ℕ, ◌+◌, ◌<◌, ◌≤◌, Bool,
 use Rattle.std.proofs.Common.{◌++◌, map, drop, length, get_or, None, refl, sym, ap, ◌∙◌, subst, arith}
 use Rattle.std.specs.Prelude.{nat_lt}
 use Rattle.std.specs.Borrow.{Bor}
-use Rattle.std.proofs.lemmas.Bool.{ltb-false, ltb-true}
+use Rattle.std.proofs.lemmas.Bool.{lt-ltb, ltb-false, ltb-true}
 use Rattle.std.proofs.lemmas.List.{drop_more}
+use mathlib.Core.Bool.{or-true}
 use Rattle.part_core.specs.Catalogue.{Parts}
 use Rattle.part_core.specs.Counter.{lacks, passes_limit}
 use Rattle.part_core.specs.Day.{CivilDay}
@@ -29,23 +30,12 @@ use Rattle.stock_core.proofs.Taking.{there-loose}
 use Rattle.stock_core.proofs.Upright.{Upright}
 use Rattle.stock_core.proofs.Uses.{Uses, full-used, take-part, uses-both, uses-change, uses-cut_off}
 
-pub lt-ltb : (a b : ℕ) → a < b → nat_lt a b ≡ true
-lt-ltb a b lt = go (nat_lt a b) refl
-  where
-    go : (d : Bool) → nat_lt a b ≡ d → d ≡ true
-    go true e = refl
-    go false e = absurd (omega (arith, ltb-false a b e, lt))
-
 not_less : (a b : ℕ) → b ≤ a → nat_lt a b ≡ false
 not_less a b le = go (nat_lt a b) refl
   where
     go : (d : Bool) → nat_lt a b ≡ d → d ≡ false
     go false e = refl
     go true e = absurd (omega (arith, ltb-true a b e, le))
-
-pub or_true : (b : Bool) → (b || true) ≡ true
-or_true true = refl
-or_true false = refl
 
 -- ---- what one of them uses
 
@@ -83,7 +73,7 @@ module _ (go : StockBooks × ℕ → StockBooks) (entries : StockBooks × ℕ �
             let lt = ltb-true b.counter.limits.entries (entries_in b + 1) r in
             ap (λ c. lacks 1 b.counter || c)
             (lt-ltb b.counter.limits.entries (entries_in b + (1 + entries t)) (omega (arith, lt)))
-            ∙ or_true (lacks 1 b.counter)
+            ∙ or-true (lacks 1 b.counter)
       ]
 
 -- ---- what is left midway
@@ -117,7 +107,7 @@ full-grows b c g full = elim (or_cases (passes_limit b.counter) (nat_lt b.counte
       let more : nat_lt c.counter.limits.entries (entries_in c) ≡ true =
       lt-ltb c.counter.limits.entries (entries_in c)
       (omega (arith, lt, g.entries, ap (λ (k : Limits). k.entries) g.limits)) in
-      ap (λ d. passes_limit c.counter || d) more ∙ or_true (passes_limit c.counter)
+      ap (λ d. passes_limit c.counter || d) more ∙ or-true (passes_limit c.counter)
 ]
 
 module _ (go : StockBooks × ℕ → StockBooks) (day : CivilDay) (Ready : List Allocation → StockBooks → Type 0)
