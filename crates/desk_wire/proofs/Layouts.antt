@@ -122,10 +122,6 @@ strict-rest names kind document day all first rest e h = (rw (e, h) refl, rw (e,
 
 -- ---- loosely
 
-pub layout-on : (kind : ImportKind) (text : List ℕ) (s : ℕ) (ss : List ℕ)
-    → first_columns kind (records (config_by s) text) ≡ None → layout_by kind text (s ∷ ss) ≡ layout_by kind text ss
-layout-on kind text s ss e = rw e refl
-
 pub layout-here : (kind : ImportKind) (text : List ℕ) (s : ℕ) (ss : List ℕ) (columns : Columns)
     → first_columns kind (records (config_by s) text) ≡ Some columns
     → layout_by kind text (s ∷ ss) ≡ Some (s, columns)
