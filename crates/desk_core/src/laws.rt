@@ -36,9 +36,9 @@ pub fn rows_stay()
 {}
 
 /// The law that what is one row's name stays that row's, and so does the key of a request that made one row, in a step
-/// from a sound state and over a list of requests: so a line that names rows asks for the same command when it is sent
-/// again. The serial of an item that is gone may be another's later: a line that names an item may then be another
-/// command, and under its key it changes nothing (`kept_keys_change_nothing`).
+/// from a sound state and over a list of requests: so what a line calls by a name or a key is the same row when the line
+/// is sent again. The serial of an item that is gone may be another's later: a line that names an item may then be
+/// another command, and under its key it changes nothing (`kept_keys_change_nothing`).
 pub fn names_stay()
     ensures step { NamesStay }
     ensures run { NamesStayInRuns }
