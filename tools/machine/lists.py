@@ -129,7 +129,7 @@ def find(m, word):
             yield "location", n, it.name, way(m.locations, n)
     for n, it in sorted(m.items.items()):
         if word in (it.serial, it.batch):
-            yield "item", n, m.parts[it.part].name, place_text(it.place)
+            yield "item", n, m.parts[it.part].name, where(m, it.place)
     for key, it in sorted(m.kept.items(), key=lambda kept: kept[0].encode()):
         if key.startswith(word):
             yield "key", it.answer["ids"][0] if it.answer["ids"] else "", key, ""

@@ -68,11 +68,19 @@ abbrev pub serial_words : Option (List ℕ) → List (List ℕ)
 serial_words None = []
 serial_words (Some serial) = (codes "serial " ++ serial) ∷ []
 
--- an item: its part, its serial, where it is, how much of it there is, how much of that is free, and its status
+abbrev pub batch_words : Option (List ℕ) → List (List ℕ)
+batch_words None = []
+batch_words (Some batch) = (codes "batch " ++ batch) ∷ []
+
+-- the batch and the serial of an item, where it has one
+abbrev pub lot_words : Item → List (List ℕ)
+lot_words item = batch_words item.lot.batch ++ serial_words item.lot.serial
+
+-- an item: its part, its batch, its serial, where it is, how much of it there is, how much of that is free, and its status
 abbrev pub item_words : State → Item → List (List ℕ)
 item_words s item =
     name_of (part_in item.part s.parts)
-    ∷ (serial_words item.lot.serial
+    ∷ (lot_words item
     ++ (where_text s item.place
     ∷ decimal item.quantity
     ∷ many (free_of s item) (codes "free")

@@ -9,11 +9,11 @@ use Rattle.part_core.specs.declared.named_row.NamedRow.{NamedRow}
 use Rattle.part_core.specs.declared.part.Part.{Part}
 use Rattle.forest.specs.declared.item.Item.{Item}
 use Rattle.bom_core.specs.Bills.{part_rows}
-use Rattle.yard_core.specs.EntryLines.{place_text}
 use Rattle.desk_core.specs.declared.kept.Kept.{Kept}
 use Rattle.desk_core.specs.Machine.{State}
 use Rattle.report_core.specs.Fields.{name_of}
 use Rattle.report_core.specs.Lines.{Lines}
+use Rattle.list_core.specs.ItemList.{where_text}
 use Rattle.list_core.specs.Ways.{way_text}
 
 -- whether a text begins with the word
@@ -47,9 +47,9 @@ abbrev pub found_location : State → NamedRow → List (List ℕ)
 found_location s location =
     codes "location" ∷ decimal location.number ∷ location.name ∷ way_text (Some location.number) s.stock.locations ∷ []
 
--- an item, its part's name, and its place
+-- an item, its part's name, and where it is
 abbrev pub found_item : State → Item → List (List ℕ)
-found_item s x = codes "item" ∷ decimal x.number ∷ name_of (part_in x.part s.parts) ∷ place_text x.place ∷ []
+found_item s x = codes "item" ∷ decimal x.number ∷ name_of (part_in x.part s.parts) ∷ where_text s x.place ∷ []
 
 -- the number of the first row that a request made, if it made one
 abbrev pub first_number : List ℕ → List ℕ

@@ -8,8 +8,8 @@ ghost use Rattle.part_core.specs.Forms.{shown_fields};
 ghost use Rattle.part_core.specs.Sheet.{now_of};
 ghost use Rattle.alloc_core.specs.Allocations.{allocation_in};
 ghost use Rattle.desk_core.specs.ShopView.{state_of};
-ghost use Rattle.list_core.specs.Facts.{allocation_words, build_words, by_order, commas, facts_from};
-ghost use Rattle.list_core.specs.Facts.{facts_of, field_facts, item_words, line_facts, many, numbered};
+ghost use Rattle.list_core.specs.Facts.{allocation_words, batch_words, build_words, by_order, commas, facts_from};
+ghost use Rattle.list_core.specs.Facts.{facts_of, field_facts, item_words, line_facts, lot_words, many, numbered};
 ghost use Rattle.list_core.specs.Facts.{order_line_words, order_words, output_words, part_words};
 ghost use Rattle.list_core.specs.Facts.{purpose_words, row_fact, row_words, serial_words, substitute_words};
 ghost use Rattle.list_core.specs.Facts.{text_fact, words_or_none};
@@ -25,9 +25,10 @@ use crate::ways::way_field;
 use alloc_core::{OutputNumber, Purpose};
 use desk_core::Shop;
 use order_core::{Order, OrderLine};
-use part_core::{Field, FieldKind, Formed, Id, NamedRow, RowKind, Serial, Sheet, Worded};
+use part_core::{Batch, Field, FieldKind, Formed, Id, NamedRow, RowKind, Serial, Sheet, Worded};
 use report_core::fields::{name_field, number_field, words_line};
 use std::alloc::{AllocError, Global};
+use yard_core::Item;
 
 /// The texts with a comma between two.
 fn commas(alloc: Global, texts: &[String]) -> Result<String, AllocError>
@@ -149,8 +150,30 @@ fn serial_words(alloc: Global, serial: &Option<Serial>) -> Result<Vec<String>, A
     }
 }
 
-/// What is said of the item of that number, if there is one: its part, its serial, where it is, how much of it there is,
-/// how much of that is free, and its status.
+fn batch_words(alloc: Global, batch: &Option<Batch>) -> Result<Vec<String>, AllocError>
+    ensures { IfOk result (λ words. fields_of words ≡ batch_words batch.now) }
+{
+    match batch {
+        Some(batch) => {
+            let text = text_fact(alloc, "batch", batch.as_str())?;
+            Ok(vec![in alloc; text]?)
+        }
+        None => Ok(Vec::new(alloc)),
+    }
+}
+
+/// The batch and the serial of an item, where it has one.
+fn lot_words(alloc: Global, item: &Item) -> Result<Vec<String>, AllocError>
+    ensures { IfOk result (λ words. fields_of words ≡ lot_words item.now) }
+{
+    let mut words = batch_words(alloc, &item.lot.batch)?;
+    let mut serial = serial_words(alloc, &item.lot.serial)?;
+    words.append(&mut serial)?;
+    Ok(words)
+}
+
+/// What is said of the item of that number, if there is one: its part, its batch, its serial, where it is, how much of it
+/// there is, how much of that is free, and its status.
 fn item_words(alloc: Global, shop: &Shop, number: Id) -> Result<Option<Vec<String>>, AllocError>
     ensures { IfOk result (λ words. let s = state_of shop.now in option_map fields_of words
         ≡ option_map (item_words s) (table.get s.stock.items (number ∷ []))) }
@@ -160,8 +183,8 @@ fn item_words(alloc: Global, shop: &Shop, number: Id) -> Result<Option<Vec<Strin
     };
     let part = name_field(alloc, shop.catalogue(), item.part)?;
     let mut words = vec![in alloc; part]?;
-    let mut serial = serial_words(alloc, &item.lot.serial)?;
-    words.append(&mut serial)?;
+    let mut lot = lot_words(alloc, item)?;
+    words.append(&mut lot)?;
     let place = where_field(alloc, shop, item.place)?;
     let quantity = number_field(alloc, item.quantity)?;
     let free = many(alloc, free_of(shop, item), "free")?;

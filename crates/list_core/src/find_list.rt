@@ -8,13 +8,14 @@ ghost use Rattle.list_core.specs.FindList.{begins_with, find_header, find_list, 
 ghost use Rattle.list_core.specs.FindList.{found_key, found_location, found_part, has_word, is_lot, is_word};
 ghost use Rattle.report_core.specs.Lines.{fields_of, lines_of};
 
+use crate::item_list::where_field;
 use crate::ways::way_field;
 use desk_core::{Kept, Shop};
 use part_core::{Batch, Id, NamedRow, Part, Serial};
 use report_core::Report;
 use report_core::fields::{name_field, number_field};
 use std::alloc::{AllocError, Global};
-use yard_core::{Item, place_text};
+use yard_core::Item;
 
 /// Whether the word stands in the text.
 fn has_word(word: &str, text: &str) -> bool
@@ -133,14 +134,14 @@ fn found_location(
     Ok(vec![in alloc; kind, number, name, way]?)
 }
 
-/// The line of an item: its number, its part's name, and its place.
+/// The line of an item: its number, its part's name, and where it is.
 fn found_item(alloc: Global, shop: &Shop, item: &Item) -> Result<Vec<String>, AllocError>
     ensures { IfOk result (λ line. fields_of line ≡ found_item (state_of shop.now) item.now) }
 {
     let kind = String::from_str(alloc, "item")?;
     let number = number_field(alloc, item.number)?;
     let name = name_field(alloc, shop.catalogue(), item.part)?;
-    let place = place_text(alloc, item.place)?;
+    let place = where_field(alloc, shop, item.place)?;
     Ok(vec![in alloc; kind, number, name, place]?)
 }
 

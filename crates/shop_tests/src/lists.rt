@@ -387,8 +387,8 @@ fn lists_what_a_word_finds(rt: HostRuntime) -> Result<(), Fail> {
             FOUND,
             "part\t8\tMotor A-1\tDrives / Motors",
             "location\t5\tBin A-1\tHall / Shelf / Bin A-1",
-            "item\t12\tScrew\tat 5",
-            "item\t13\tMotor A-1\tat 4",
+            "item\t12\tScrew\tHall / Shelf / Bin A-1",
+            "item\t13\tMotor A-1\tHall / Shelf",
             "key\t\tA-1/bolts\t",
             "key\t12\tA-1/screws\t",
         ]
