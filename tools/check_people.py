@@ -204,6 +204,8 @@ LOOSE = [
     ("\ufeffnumber;line;location;quantity\n;;;\n\n1;P;S;5\n2;P;S;\n3;P\n", None),
     ("number,line,location,quantity\n1,P,S,10.0\n", "record 2: quantity: WrongType: 10.0. A field has"),
     ('number,line,location,quantity\n\n,,,\n1,P,S,"1,000"\n', "record 3: quantity: WrongType: 1,000. A field has"),
+    ("number,line,location,quantity\n1,P,S,\x1b[2J5\n", "record 2: quantity: WrongType: \\u{1b}[2J5. A field has"),
+    ('number,line,location,quantity\n1,P,S,"5\nline 2: 5"\n', "record 2: quantity: WrongType: 5\\u{0a}line 2: 5. A"),
     ("number;line;location;quantity\n1;P;S;5;6\n", "record 2: Csv. The record has more"),
     ("number,line,location,amount\n1,P,S,5\n", "record 1: Header: number,line,location,quantity,batch,serials is"),
     ("number,line,location,quantity,quantity\n1,P,S,5,5\n", "record 1: Header: number,line,location,quantity"),

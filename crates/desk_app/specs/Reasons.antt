@@ -17,9 +17,11 @@ use Rattle.desk_wire.specs.Reading as reading
 use Rattle.desk_wire.specs.declared.fault.What.{What}
 use Rattle.desk_wire.specs.declared.fault.WireFault.{WireFault}
 use Rattle.desk_wire.specs.declared.fault.WrongField.{WrongField}
-use Rattle.desk_wire.specs.Faults.{fault_name}
+use Rattle.desk_wire.specs.Faults.{fault_name, shown_field}
+use Rattle.desk_wire.specs.Imports.{Wrong}
 use Rattle.desk_wire.specs.Reading.{table_of}
 use Rattle.desk_wire.specs.WrongFields.{TellsField, wrong_in_line}
+use Rattle.desk_ends.specs.Escaped.{escaped}
 use Rattle.desk_app.specs.Runs.{naming}
 use Rattle.desk_app.specs.declared.undone.Place.{Place}
 use Rattle.desk_app.specs.declared.undone.Place.TheVariants.{Line, Row}
@@ -63,8 +65,8 @@ abbrev pub Begins : List ℕ → List ℕ → Type 0
 Begins front text = (more : List ℕ) × (text ≡ front ++ more)
 
 -- What is told begins with the place, the answer's word and the facts in these books: of a request each row that it names
--- and what it asks for, of a report the row that it would be of, of a fault the field and what stands in it. Behind them
--- stands what the word means.
+-- and what it asks for, of a report the row that it would be of, of a fault the field and what stands in it, of which a
+-- terminal acts on nothing. Behind them stands what the word means.
 abbrev pub IsReason : State → Why → List ℕ → Type 0
 IsReason s (Refused place request refusal) text =
     Begins (colons (place_text place ∷ refusal_name refusal ∷ command_facts s request.now.command ∷ [])) text
@@ -72,9 +74,9 @@ IsReason s (NoReport line name of) text =
     Begins (colons (place_text (Line line) ∷ codes "NoSuch" ∷ row_fact s (codes "of") (table_of name) of ∷ [])) text
 IsReason s (FaultyLine names line fault) text =
     (field : Option WrongField) × TellsField field (wrong_in_line (naming names s) line.now)
-    × Begins (fault_words (place_text (Line fault.now.line)) fault.now.what field) text
+    × Begins (escaped (fault_words (place_text (Line fault.now.line)) fault.now.what field)) text
 IsReason s (FaultyFile kind fault field) text =
-    Begins (fault_words (codes "record " ++ decimal fault.now.line) fault.now.what field.now) text
+    Begins (escaped (fault_words (codes "record " ++ decimal fault.now.line) fault.now.what field.now)) text
 
 -- what waits to be told is as before, or such a text comes behind it
 abbrev pub Waits : (List ℕ → Type 0) → List ℕ → List ℕ → Type 0
@@ -102,12 +104,19 @@ NotesReport s line name of None old new =
 abbrev pub NotesFault : Bool → State → ℕ → List ℕ → What → List ℕ → List ℕ → Type 0
 NotesFault names s number line what old new =
     Waits (λ text. (field : Option WrongField) × TellsField field (wrong_in_line (naming names s) line)
-    × Begins (fault_words (place_text (Line number)) what field) text) old new
+    × Begins (escaped (fault_words (place_text (Line number)) what field)) text) old new
 
 abbrev pub NotesWish : Bool → State → ℕ → List ℕ → Result Wish What → List ℕ → List ℕ → Type 0
 NotesWish names s number line (Ok (Request request)) old new = NotesOutcome (Line number) request (step s request) old new
 NotesWish names s number line (Ok (Report name of)) old new = NotesReport s number name of (report_lines name of s) old new
 NotesWish names s number line (Err what) old new = NotesFault names s number line what old new
+
+-- of a file: of its first fault, and of the field that can't be read; of its rows, what is told of each
+abbrev pub NotesFile : {A : Type 0} → Result A WireFault → Option Wrong → List ℕ → List ℕ → Type 0
+NotesFile (Ok rows) wrong old new = Unit {0}
+NotesFile (Err fault) wrong old new =
+    Waits (λ text. (field : Option WrongField) × (option_map shown_field field ≡ wrong)
+    × Begins (escaped (fault_words (codes "record " ++ decimal fault.line) fault.what field)) text) old new
 
 -- of a line, by what it asks for
 abbrev pub NotesLine : Bool → State → ℕ → List ℕ → List ℕ → List ℕ → Type 0

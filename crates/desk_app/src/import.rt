@@ -3,13 +3,15 @@
 //! been run and kept: where a row wasn't answered there is none, and the rows before it stay, but for those of a group in
 //! which the database failed.
 ghost use Rattle.std.specs.Prelude.{◌≡◌, ◌≢◌, ◌≤◌, ◌⊎◌, [], Bool, None, IfOk, IfErr, IsSome, MatchResult, Ok};
+ghost use Rattle.std.specs.Prelude.{OnOk};
 ghost use Rattle.std.specs.String.{string_bytes};
 ghost use Rattle.sqlite.specs.Tree.{Trees};
 ghost use Rattle.desk_core.specs.Books.{AreInOrder};
 ghost use Rattle.desk_store.specs.StateTables.{TablesAre};
-ghost use Rattle.desk_wire.specs.Imports.{import};
+ghost use Rattle.desk_wire.specs.Imports.{import, wrong_in_file};
 ghost use Rattle.desk_ends.specs.declared.end.Stop.{Stop};
 ghost use Rattle.desk_ends.specs.Ends.{end_of};
+ghost use Rattle.desk_app.specs.Reasons.{NotesFile};
 ghost use Rattle.desk_app.specs.Runs.{EndsOpen, IsOfBooks, StaysOpen, naming};
 ghost use Rattle.desk_app.specs.ImportRuns.{import_told, rows_told, AreLeftByRows, ImportStopped};
 ghost use Rattle.desk_app.specs.ImportRuns.{ImportedWhole, IsLeftByImport, RanFront, RanSome};
@@ -137,6 +139,10 @@ fn tell_import<B: Books>(
         → B.may_leave books.new trees
         → IsLeftByImport (import loose (naming names (B.state_in books.old)) kind document.now day bytes.now)
         (B.state_in books.old) trees }
+    ensures reasons { OnOk result (NotesFile
+        (import loose (naming names (B.state_in books.old)) kind document.now day bytes.now)
+        (wrong_in_file loose (naming names (B.state_in books.old)) kind document.now day bytes.now)
+        (B.reasons_in books.old) (B.reasons_in books.new)) }
 {
     let named = named_shop(books, names)?;
     match import_rows(alloc, loose, named, bytes, kind, document, day) {

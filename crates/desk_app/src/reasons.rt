@@ -6,6 +6,7 @@ ghost use Rattle.part_core.specs.Refusal.{refusal_name};
 ghost use Rattle.desk_core.specs.Naming.{naming_in};
 ghost use Rattle.desk_core.specs.ShopView.{state_of};
 ghost use Rattle.list_core.specs.Facts.{row_fact};
+ghost use Rattle.desk_ends.specs.Escaped.{escaped};
 ghost use Rattle.desk_wire.specs.declared.fault.WrongField.{WrongField};
 ghost use Rattle.desk_wire.specs.Reading.{table_of};
 ghost use Rattle.desk_wire.specs.WrongFields.{wrong_in_line, TellsField};
@@ -15,7 +16,7 @@ ghost use Rattle.desk_app.specs.Runs.{naming};
 use crate::guesses::guess;
 use crate::undone::{Place, Why};
 use desk_core::{Names, Request, Shop};
-use desk_ends::guide_to;
+use desk_ends::{escaped, guide_to};
 use desk_wire::{ImportKind, What, WireFault, WrongField, table_of, wrong_field};
 use list_core::{facts, row_fact};
 use part_core::{Id, Refusal};
@@ -115,6 +116,20 @@ fn fault_words(
     Ok(text)
 }
 
+/// The same as a line for a person's terminal, which has nothing from a file or a line that a terminal would act on.
+fn told_fault(
+    alloc: Global,
+    place: &str,
+    what: &What,
+    field: &Option<WrongField>,
+) -> Result<String, AllocError>
+    ensures { IfOk result (λ text.
+        string_bytes text ≡ escaped (fault_words place.now what.now field.now)) }
+{
+    let words = fault_words(alloc, place, what, field)?;
+    escaped(alloc, words.as_str())
+}
+
 /// The names that a line was read with.
 fn names_of(shop: &Shop, names: bool) -> Option<&Shop>
     ensures { option_map (λ shop. naming_in (state_of shop.now)) result
@@ -159,12 +174,12 @@ pub(crate) fn why_faulty_line<N: Names>(
     ensures { IfOk result (λ text. (field : Option WrongField)
         × TellsField field
         (wrong_in_line (option_map (λ n. N.naming_of n.now) names.entry) line.now)
-        × Begins (fault_words (place_text (Place.Line fault.now.line)) fault.now.what field)
-        (string_bytes text)) }
+        × Begins (escaped (fault_words (place_text (Place.Line fault.now.line)) fault.now.what
+        field)) (string_bytes text)) }
 {
     let field = wrong_field(alloc, names, line)?;
     let place = place_text(alloc, Place::Line(fault.line))?;
-    let text = fault_words(alloc, place.as_str(), &fault.what, &field)?;
+    let text = told_fault(alloc, place.as_str(), &fault.what, &field)?;
     let more = behind_fault(alloc, &fault.what, field.as_ref())?;
     followed(text, more.as_str())
 }
@@ -194,12 +209,13 @@ fn why_faulty_file(
     fault: &WireFault,
     field: &Option<WrongField>,
 ) -> Result<String, AllocError>
-    ensures { IfOk result (λ text. Begins (fault_words (codes "record " ++ decimal fault.now.line)
-        fault.now.what field.now) (string_bytes text)) }
+    ensures { IfOk result (λ text.
+        Begins (escaped (fault_words (codes "record " ++ decimal fault.now.line) fault.now.what
+        field.now)) (string_bytes text)) }
 {
     let number = fault.line;
     let place = format!(in alloc; "record {number}")?;
-    let text = fault_words(alloc, place.as_str(), &fault.what, field)?;
+    let text = told_fault(alloc, place.as_str(), &fault.what, field)?;
     let more = behind_fault_of_file(alloc, kind, &fault.what)?;
     followed(text, more.as_str())
 }

@@ -248,6 +248,11 @@ fn add_line<B: Books>(
     ensures stays_open { StaysOpen (B.failure_of books.old) (B.failure_of books.new) result }
     ensures was_open { B.failure_of books.new ≡ None → B.failure_of books.old ≡ None }
     ensures left { (trees : Trees) → B.may_leave books.new trees → B.may_leave books.old trees }
+    ensures quiet { is_blank line.now ≡ true
+        → OnOk result (B.reasons_in books.new ≡ B.reasons_in books.old) }
+    ensures reasons { is_blank line.now ≡ false
+        → OnOk result (NotesLine names (B.state_in books.old) number line.now
+        (B.reasons_in books.old) (B.reasons_in books.new)) }
 {
     if is_blank(line) {
         return Ok(true);

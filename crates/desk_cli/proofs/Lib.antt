@@ -4,4 +4,3 @@ pub mod Parsed
 pub mod RunOn
 pub mod Told
 pub mod Taking
-pub mod Escaping

@@ -3,5 +3,4 @@ pub mod Words
 pub mod Statuses
 pub mod FileFaults
 pub mod Looks
-pub mod Escaped
 pub mod Subjects

@@ -3,7 +3,6 @@
 #![tactic(auto)]
 
 mod database;
-mod escape;
 mod file;
 mod look;
 mod show;
@@ -13,7 +12,6 @@ mod typed;
 mod words;
 
 pub use database::{FaultyFile, FileFault, connect, connect_to_old};
-pub use escape::{escaped, told_line};
 pub use file::{migrate_desk, print_export, print_migrated, print_report, take_desk};
 pub use show::{listing_of, print_list};
 pub use status::{DEVICE, MEMORY, NOT_ALL, WRONG_WORDS, early_status, status_of, status_of_fault};

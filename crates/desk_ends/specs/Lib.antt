@@ -2,3 +2,4 @@ pub mod Ends
 pub mod Printed
 pub mod Empty
 pub mod Named
+pub mod Escaped

@@ -1,4 +1,6 @@
 //! Tables and histories as text, whole and through writers that fail, and of a closed desk.
+ghost use Rattle.desk_store.specs.Desks.{IsDesk};
+
 use desk_app::run_lines;
 use desk_play::play::plays_on;
 use desk_store::{Desk, ExportFault};
@@ -190,13 +192,10 @@ fn histories_as_text(rt: HostRuntime) -> Result<(), Fail> {
     holds(sink.calls == 0, "something is written")
 }
 
-/// The desk of a file whose log fails after so many calls, while it runs the lines: whether that closed it. A closed desk
-/// writes nothing.
-fn closes(alloc: Global, calls: u64) -> Result<bool, Fail> {
-    let files = fused(alloc, &fresh(alloc)?, calls, true)?;
-    let Ok(mut desk) = opened(alloc, files, 8) else {
-        return Ok(false);
-    };
+/// Runs the lines on the desk, of which a call may fail: whether that closed it. A closed desk writes nothing.
+fn closes_amid_lines<S: Alter + Drop>(alloc: Global, mut desk: Desk<S>) -> Result<bool, Fail>
+    requires { IsDesk S.Store desk }
+{
     let mut sink = Sink::new(alloc, 4096);
     let mut lines = LINES.as_bytes();
     let _end = run_lines(alloc, &mut lines, &mut sink, &mut desk, false, false);
@@ -210,6 +209,15 @@ fn closes(alloc: Global, calls: u64) -> Result<bool, Fail> {
     holds(told == Err(ExportFault::Closed), "a history")?;
     holds(sink.calls == 0, "something is written")?;
     Ok(true)
+}
+
+/// Whether the desk of a file is closed as it runs the lines, whose log fails after so many calls.
+fn closes(alloc: Global, calls: u64) -> Result<bool, Fail> {
+    let files = fused(alloc, &fresh(alloc)?, calls, true)?;
+    match opened(alloc, files, 8) {
+        Ok(desk) => closes_amid_lines(alloc, desk),
+        Err(_) => Ok(false),
+    }
 }
 
 #[test]

@@ -5,8 +5,7 @@ use Rattle.table_store.specs.declared.fault.Failed.{Failed}
 use Rattle.sqlite.specs.Tree.{Trees}
 use Rattle.desk_http.specs.Sites.{PageView, SiteRules}
 use Rattle.desk_app.specs.declared.service.BooksService.{BooksService}
-use Rattle.desk_core.specs.Books.{AreInOrder}
-use Rattle.desk_core.specs.Machine.{State}
+use Rattle.desk_core.specs.Machine.{IsSoundState, State}
 use Rattle.desk_ends.specs.Empty.{IsEmpty}
 use Rattle.desk_ends.specs.Ends.{end_of}
 use Rattle.desk_app.specs.Runs.{Finished, Stopped}
@@ -60,9 +59,9 @@ unserved state_in failure_of may_leave names port has_token has_page count servi
 
 -- ---- a run in memory
 
--- from some empty state, and to one that is in order
+-- from some empty state, and to a sound one
 abbrev pub FromEmpty : (State → State → Type 0) → Type 0
-FromEmpty ran = (s : State) × IsEmpty s × (s' : State) × AreInOrder s' × ran s s'
+FromEmpty ran = (s : State) × IsEmpty s × (s' : State) × IsSoundState s' × ran s s'
 
 no_stop : (all : Bool) (stop : Stop) → Done all ≡ end_of stop → ⊥
 no_stop all stops.ReadFailed e = cc
@@ -121,22 +120,22 @@ runs_stopped names stop why s s' apart ran = record {
 
 finished_in_memory : (names stop all : Bool) → FromEmpty (λ s s'. Finished names stop None None None s s' all)
     → RunsInMemory names stop (Done all)
-finished_in_memory names stop all (s, empty, s', order, ran) = record {
+finished_in_memory names stop all (s, empty, s', sound, ran) = record {
   before = s;
   after = s';
   empty = empty;
   runs = runs_done names stop all s s' ran;
-  in_order = order;
+  sound = sound;
 }
 
 stopped_in_memory : (names stop : Bool) (why : Stop) → why ≢ stops.Store
     → FromEmpty (λ s s'. Stopped names stop why None None None s s' (λ _. ⊥)) → RunsInMemory names stop (end_of why)
-stopped_in_memory names stop why apart (s, empty, s', order, ran) = record {
+stopped_in_memory names stop why apart (s, empty, s', sound, ran) = record {
   before = s;
   after = s';
   empty = empty;
   runs = runs_stopped names stop why s s' apart ran;
-  in_order = order;
+  sound = sound;
 }
 
 pub runs_in_memory : (names stop : Bool) (end : RunEnd)

@@ -1,8 +1,7 @@
 -- What is done with new books in memory.
 use Rattle.std.specs.Prelude.{ℕ, Bool, true, false, Option, None, is_some}
 use Rattle.table_store.specs.declared.fault.Failed.{Failed}
-use Rattle.desk_core.specs.Books.{AreInOrder}
-use Rattle.desk_core.specs.Machine.{State}
+use Rattle.desk_core.specs.Machine.{IsSoundState, State}
 use Rattle.desk_core.specs.ShopView.{state_of}
 use Rattle.desk_core.specs.declared.shop.Shop.{Shop}
 use Rattle.desk_ends.specs.Empty.{IsEmpty}
@@ -20,7 +19,7 @@ pub record RunsInMemory (names stop : Bool) (end : RunEnd) : Type 0 where
   pub after : State
   pub empty : IsEmpty before
   pub runs : RunsLines {F = Failed} names stop None None (λ _. ⊥) before after end
-  pub in_order : AreInOrder after
+  pub sound : IsSoundState after
 
 -- they were all looked at before any was run
 pub record ChecksInMemory (names stop : Bool) (end : RunEnd) : Type 0 where
@@ -28,7 +27,7 @@ pub record ChecksInMemory (names stop : Bool) (end : RunEnd) : Type 0 where
   pub after : State
   pub empty : IsEmpty before
   pub checks : ChecksInput {F = Failed} names stop None None (λ _. ⊥) before after end
-  pub in_order : AreInOrder after
+  pub sound : IsSoundState after
 
 -- by whether they are to be
 abbrev pub AnswersInMemory : Bool → Bool → Bool → RunEnd → Type 0
@@ -41,6 +40,7 @@ pub record ServesInMemory (names : Bool) (port : ℕ) (has_token has_page : Bool
   pub before : BooksService Shop
   pub after : BooksService Shop
   pub empty : IsEmpty (state_of before.books)
+  pub sound : IsSoundState (state_of after.books)
   pub serves : ServesClients {F = Failed} state_of (λ _. None) (λ _ _. ⊥) names port has_token has_page count before
       after end
 

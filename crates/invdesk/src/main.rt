@@ -33,12 +33,11 @@ use desk_app::{
 };
 use desk_cli::{
     DEVICE, FaultyFile, FileFault, ListOf, MEMORY, NoRow, ReportOf, Task, TypedLines, connect,
-    connect_to_old, early_status, escaped, listing_of, migrate_desk, no_row_text, print_export,
-    print_list, print_migrated, print_report, read_words, row_of_report, status_of,
-    status_of_fault, take_desk, told_line,
+    connect_to_old, early_status, listing_of, migrate_desk, no_row_text, print_export, print_list,
+    print_migrated, print_report, read_words, row_of_report, status_of, status_of_fault, take_desk,
 };
 use desk_core::Shop;
-use desk_ends::{RunEnd, Stop, guide_to};
+use desk_ends::{RunEnd, Stop, escaped, guide_to, told_line};
 use desk_store::Desk;
 use desk_wire::{Document, ImportKind, What};
 use part_core::{Day, Limits};
@@ -220,14 +219,14 @@ fn tell_no_row(rt: &HostRuntime, word: Option<&str>, what: &What) -> RunEnd
 }
 
 /// Prints the list that the words ask for. Where a word says no row, it is told why.
-fn print_of_list<W: Write>(
+fn print_of_list<S: Alter, W: Write>(
     rt: &HostRuntime,
     list: ListOf<'_>,
     csv: bool,
-    desk: &Desk<FileStore<File>>,
+    desk: &Desk<S>,
     writer: &mut W,
 ) -> RunEnd
-    requires { IsDesk over_files desk.now }
+    requires { IsDesk S.Store desk.now }
     ensures { PrintsList csv (listing_by list.entry (state_of desk.now.shop))
         (state_of desk.now.shop) (W.contents writer.old) (W.contents writer.new) result }
 {
@@ -240,14 +239,14 @@ fn print_of_list<W: Write>(
 }
 
 /// Prints the report of that name, of the row that the words say. Where a word says none, it is told why.
-fn print_of_row<W: Write>(
+fn print_of_row<S: Alter, W: Write>(
     rt: &HostRuntime,
     name: ReportName,
     of: ReportOf<'_>,
-    desk: &Desk<FileStore<File>>,
+    desk: &Desk<S>,
     writer: &mut W,
 ) -> RunEnd
-    requires { IsDesk over_files desk.now }
+    requires { IsDesk S.Store desk.now }
     ensures { PrintsOfRow name (row_of_report name of.entry (state_of desk.now.shop))
         (state_of desk.now.shop) (W.contents writer.old) (W.contents writer.new) result }
 {
@@ -260,13 +259,13 @@ fn print_of_row<W: Write>(
 }
 
 /// Prints what the words ask for, of the desk.
-fn print<W: Write>(
+fn print<S: Alter, W: Write>(
     rt: &HostRuntime,
     task: &Task<'_>,
-    desk: &Desk<FileStore<File>>,
+    desk: &Desk<S>,
     writer: &mut W,
 ) -> RunEnd
-    requires { IsDesk over_files desk.now }
+    requires { IsDesk S.Store desk.now }
     ensures { Prints task.now (state_of desk.now.shop) (W.contents writer.old)
         (W.contents writer.new) result }
 {
@@ -284,8 +283,8 @@ const PRINTED_AT_ONCE: usize = 65_536;
 
 /// Prints what the words ask for, of the desk, on the standard output. Where there is no memory for a buffer, what is
 /// printed waits in none.
-fn print_out(rt: &HostRuntime, task: &Task<'_>, desk: &Desk<FileStore<File>>) -> RunEnd
-    requires { IsDesk over_files desk.now }
+fn print_out<S: Alter>(rt: &HostRuntime, task: &Task<'_>, desk: &Desk<S>) -> RunEnd
+    requires { IsDesk S.Store desk.now }
     ensures { Prints task.now (state_of desk.now.shop) None None result }
 {
     match BufWriter::with_capacity(rt.alloc(), PRINTED_AT_ONCE, io::writer(rt)) {
@@ -321,8 +320,9 @@ fn lines_in(rt: &HostRuntime) -> TypedLines<StdinLock<'static>, Stderr> {
 /// Greets whoever types the lines of a run, with what is said of its books.
 fn greet<T: Display + Drop>(rt: &HostRuntime, books: T) {
     if rt.stdin().is_terminal() {
-        let _ = eprintln!(rt; "invdesk: {books}");
-        let _ = eprintln!(rt; "One request a line; help tells more, and Ctrl-D ends.");
+        let _ = eprintln!(rt;
+            "invdesk: {books} One request a line; help tells more, and Ctrl-D ends."
+        );
     }
 }
 

@@ -17,6 +17,7 @@ returns-in-Serve c =
       before = c.new-service.result;
       after = c.serve.new.service;
       empty = empty_with _ _ (ap state_of c.new-service.ensures.books ∙ c.new-books.ensures.state) (refl, refl);
+      sound = c.serve.ensures.kept;
       serves =
           subst (λ names. ServesClients {F = Failed} state_of (λ _. None) (λ _ _. ⊥) names c.in-Serve.port
           (is_some c.in-Serve.token) c.in-Serve.page c.in-Serve.count c.new-service.result c.serve.new.service

@@ -2,7 +2,6 @@ use Rattle.std.proofs.Common.{refl, subst, sym}
 use Rattle.desk_core.specs.Machine.{IsSoundState}
 use Rattle.desk_core.specs.ShopView.{state_of}
 use Rattle.desk_core.specs.declared.shop.Shop.{Shop}
-use Rattle.desk_core.proofs.InOrder.{in_order}
 use Rattle.desk_ends.specs.Empty.{IsEmpty}
 use Rattle.desk_ends.proofs.Empty.{empty_with}
 use Rattle.invdesk.proofs.check_in_memory.Goals as goal
@@ -19,5 +18,5 @@ returns c = record {
       subst (λ (shop : Shop). IsEmpty (state_of shop)) (sym c.new-explained.ensures.books)
       (empty_with _ _ c.new-shop.ensures.state (refl, refl));
   checks = c.check-end.ensures.checks;
-  in_order = in_order _ c.check-end.ensures.kept;
+  sound = c.check-end.ensures.kept;
 }

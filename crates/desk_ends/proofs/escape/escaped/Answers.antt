@@ -3,9 +3,9 @@ use Rattle.std.specs.Str.{chars}
 use Rattle.std.proofs.lemmas.List.{at_drop_all, length_push}
 use Rattle.std.proofs.lemmas.Iterator.{YieldsList-from_chars}
 use Rattle.std.proofs.lemmas.Iterator.Consumers.{YieldsList-turn, YieldsList-end}
-use Rattle.desk_cli.specs.Escaped.{escaped_chars}
-use Rattle.desk_cli.proofs.Escaping.{nothing_escaped, one_escaped}
-use Rattle.desk_cli.proofs.escape.escaped.Goals as goal
+use Rattle.desk_ends.specs.Escaped.{escaped_chars}
+use Rattle.desk_ends.proofs.Escaping.{nothing_escaped, one_escaped}
+use Rattle.desk_ends.proofs.escape.escaped.Goals as goal
 
 pub loop-c-init : goal.loop-c-init
 loop-c-init c = nothing_escaped c.args.text.now (string_bytes c.new-line.result) (cc)

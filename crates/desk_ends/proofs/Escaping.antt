@@ -2,7 +2,7 @@
 use Rattle.std.proofs.Common.{◌≡◌, ℕ, ◌+◌, ◌<◌, List, [], ◌++◌, length, drop, get_or, ap, sym, ◌∙◌, append_assoc}
 use Rattle.std.proofs.lemmas.List.{at_drop_more}
 use Rattle.std.specs.Str.{chars}
-use Rattle.desk_cli.specs.Escaped.{escaped, escaped_char, escaped_chars}
+use Rattle.desk_ends.specs.Escaped.{escaped, escaped_char, escaped_chars}
 
 pub nothing_escaped : (text line : List ℕ) → line ≡ [] → line ++ escaped_chars (chars text) ≡ escaped text
 unfolding escaped

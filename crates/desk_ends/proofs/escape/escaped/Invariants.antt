@@ -1,7 +1,7 @@
 use Rattle.std.proofs.Common.{◌≡◌, ◌++◌, drop, length, string_bytes}
 use Rattle.std.specs.Str.{chars}
-use Rattle.desk_cli.specs.Escaped.{escaped, escaped_chars}
-use Rattle.desk_cli.proofs.escape.escaped.Given as goal
+use Rattle.desk_ends.specs.Escaped.{escaped, escaped_chars}
+use Rattle.desk_ends.proofs.escape.escaped.Given as goal
 
 -- what was written, and the characters that are left
 abbrev pub invariant-loop-c : goal.invariant-loop-c

@@ -2,7 +2,7 @@
 ghost use Rattle.std.specs.Prelude.{◌≡◌, ◌++◌, ◌<◌, IfOk, IfSome, OnOk};
 ghost use Rattle.std.specs.Char.{digit_char};
 ghost use Rattle.std.specs.String.{string_bytes};
-ghost use Rattle.desk_cli.specs.Escaped.{escaped, escaped_char};
+ghost use Rattle.desk_ends.specs.Escaped.{escaped, escaped_char};
 
 use std::alloc::{AllocError, Global};
 use std::fmt::Display;
