@@ -1,12 +1,13 @@
 #!/usr/bin/env python3
-"""Runs the program on files and looks at them with Python's sqlite3: that after each word the named file alone, copied
-away from its log, has the books; that the tables are STRICT and have their columns; that a file is kept between two
-runs, and not changed by a report or an export; that exports and reports are what the tables have; that a first start
-that was killed, or met a full disk, starts again; that a file is refused, with its name and the reason, that isn't a
-workshop's, or whose rows were changed, one change for each clause of what a sound state is; and that files of an
-earlier version of the program are recognised, and brought along with all that they have. That a look at a file that
-can't be opened makes nothing, and says what lies there; that a fault of the disk is reported once, with the file and
-the reason; that control characters are escaped; and what is said of wrong words.
+"""Runs the program on files and looks at them with Python's sqlite3: that after each word the named file alone,
+copied away from its log, has the books; that the tables are STRICT and have their columns; that a file is kept
+between two runs, and not changed by a report or an export; that exports and reports are what the tables have, and
+after the first example byte for byte what they should be; that a first start that was killed, or met a full disk,
+starts again; that a file is refused, with its name and the reason, that isn't a workshop's, or whose rows were
+changed, one change for each clause of what a sound state is; and that files of an earlier version of the program are
+recognised, and brought along with all that they have. That a look at a file that can't be opened makes nothing, and
+says what lies there; that a fault of the disk is reported once, with the file and the reason; that control characters
+are escaped; and what is said of wrong words.
 
 usage: tools/check_file.py PROGRAM"""
 import contextlib
@@ -235,6 +236,25 @@ def kept(program, path):
         expect(look(path) == tables, f"after {' '.join(words)} the file alone isn't the books")
     run(program, "run", "--db", path, lines='{"day":"2030-01-03","do":"add_location","name":"B"}\n')
     expect(len(look(path)["locations"]) == 2, "what a later run added isn't in the file alone")
+
+
+# What is printed after the first example.
+PRINTED = {
+    ("report", "stock", "2"): "3\t70\tOK\tat 1\t\t\n",
+    ("report", "history", "3"): "1\t2030-01-02\tfound\t100\tat 1\n2\t2030-01-03\twritten\t30\toff removed\n",
+    ("export", "parts"): "id,name,category,template,flags,retired\n2,Screw,,,20,0\n",
+    ("export", "items"): "id,part,batch,serial,status,quantity,place,ref\n3,2,,,0,70,0,1\n",
+    ("export", "history"): "n,day,kind,item,part,quantity,place,ref\n"
+                           "1,2030-01-02,1,3,2,100,0,1\n2,2030-01-03,6,3,2,30,5,0\n",
+}
+
+
+def printed(program, path):
+    """Reports and exports after the first example, byte for byte."""
+    run(program, "run", "--db", path, lines=(TOP / "crates/invdesk/stdin").read_text())
+    for (word, *what), wanted in PRINTED.items():
+        told = run(program, word, "--db", path, *what).stdout
+        expect(told == wanted, f"{word} {' '.join(what)} prints {told!r}")
 
 
 def exported(program, path, tables):
@@ -591,6 +611,7 @@ def main():
         path = str(folder / "workshop.db")
         made(program, path)
         exported(program, path, look(path))
+        printed(program, str(folder / "first.db"))
         kept(program, path)
         ledger = run(program, "report", "--db", path, "ledger", "3")
         expect(ledger.stdout.startswith("ledger\t3\tScrew\n") and ledger.returncode == 0, "no ledger")

@@ -230,8 +230,9 @@ def names(program):
         for line, location, told in (
             (5, "C", '"NoName","field":"location"'), (5, "B", '"NoName","field":"location"'), (5, "[]", '"WrongType"'),
             (5, "[", '"WrongType"'), (5, '["A","B","B"]', '"NoName","field":"location"'), ("A", "A", '"WrongType"'),
-            ('{"key":"receipts/D7/3"}', "A", '"Ambiguous","field":"line"'), ('{"key":"L","x":1}', "A", '"UnknownField"'),
-            ("", "A", '"WrongType"'), (5, "", '"NoName","field":"location"'), ('{"key":"a b"}', "A", '"BadKey"'),
+            ('{"key":"receipts/D7/3"}', "A", '"Ambiguous","field":"line"'),
+            ('{"key":"L","x":1}', "A", '"UnknownField"'), ("", "A", '"WrongType"'),
+            (5, "", '"NoName","field":"location"'), ('{"key":"a b"}', "A", '"BadKey"'),
         ):
             faulty = [[1, 5, "A", 1, "", ""], [2, line, location, 1, "", ""]]
             wanted = f'{{"fault":{told},"line":3}}\n'.encode()

@@ -1,8 +1,8 @@
 #!/usr/bin/env python3
-"""Tries `show` on the built program: each list of a small workshop, in columns and as comma-separated values, beside rows
-that were worked out by hand; locations, parts and items by number and by name; words that go with no list; rows that
-aren't there; and that no list changes the file. Then it types at a terminal: a greeting, a prompt, `help`, and the same
-answers as from a pipe; and before a long file is read, it is said so.
+"""Tries `show` on the built program: each list of a small workshop, in columns and as comma-separated values, beside
+rows that were worked out by hand; locations, parts and items by number and by name; words that go with no list; rows
+that aren't there; and that no list changes the file. Then it types at a terminal: a greeting, a prompt, `help`, and
+the same answers as from a pipe; and before a long file is read, it is said so.
 
 usage: tools/check_lists.py PROGRAM"""
 import contextlib
@@ -88,7 +88,8 @@ MOTOR = [
 ROBOT = [
     "kind number name quantity more".split(),
     ["part", "6", "Robot", "", "assembly trackable salable"],
-    ["sums", "", "", "0", "received 0 + found 0 + built 0 + returned 0 = present 0 + consumed 0 + shipped 0 + written off 0"],
+    ["sums", "", "", "0", "received 0 + found 0 + built 0 + returned 0"
+                          " = present 0 + consumed 0 + shipped 0 + written off 0"],
     ["line", "8", "Screw", "4", ""],
     ["substitute", "10", "Bölt", "", ""],
     ["line", "9", "Motor", "1", "variants"],
@@ -109,7 +110,7 @@ WANTED = [
     (["find", "ob"], [FOUND, ["part", "6", "Robot", ""]]),
     (["find", "t"], [FOUND, ["part", "5", "Motor", ""], ["part", "6", "Robot", ""], ["part", "7", "Bölt", ""],
                      ["location", "1", "Store", "Store"]]),
-    (["find", "L1"], [FOUND, ["item", "11", "Screw", "at 2"]]),
+    (["find", "L1"], [FOUND, ["item", "11", "Screw", "Store / Shelf A"]]),
     (["find", "s"], [FOUND, ["key", "11", "s1", ""]]),
     (["item", '{"part":"Motor","serial":"M1"}'], MOTOR),
     (["item", "12"], MOTOR),
@@ -124,8 +125,9 @@ number  name   category  present  free  allocated  items
 """
 # Words that go with no list, and rows that there aren't: what is printed, and the status.
 WRONG = [
-    ["stock", "Store"], ["stock", "--open"], ["stock", "--low", "few"], ["at"], ["at", "Store", "--open"], ["orders", "14"],
-    ["builds", "--low", "3"], ["find"], ["shortages", "x"], ["shortages", "--open"], ["count-sheet", "--low", "1"], ["parts"],
+    ["stock", "Store"], ["stock", "--open"], ["stock", "--low", "few"], ["at"], ["at", "Store", "--open"],
+    ["orders", "14"], ["builds", "--low", "3"], ["find"], ["shortages", "x"], ["shortages", "--open"],
+    ["count-sheet", "--low", "1"], ["parts"],
     []]
 NONE = [(["at", "99"], '{"refused":"NoSuch"}\n'), (["item", "99"], '{"refused":"NoSuch"}\n'), (["part", "Nut"], ""),
         (["at", "Nowhere"], ""), (["count-sheet", "99"], '{"refused":"NoSuch"}\n'), (["count-sheet", "[7]"], "")]
@@ -179,7 +181,8 @@ def try_terminal(program, path, ends):
     lines = ["help", report, "help found", "help Short", "help me", "help refusals"]
     out, screen, status = typed(program, path, lines, *ends)
     expect((out, status) == (wanted, 0), f"a typed line is answered {out!r}")
-    begins = [f"invdesk: {path} has 4 parts and 5 items.", "> help\n", "> found\n  Fields:", "> Short\n", "> refusals\n",
+    begins = [f"invdesk: {path} has 4 parts and 5 items. One request a line;", "> help\n",
+              "> found\n  Fields:", "> Short\n", "> refusals\n",
               "> There is no help on that"]
     for begin in begins:
         expect(begin in screen, f"{begin!r} isn't on the screen:\n{screen}")
@@ -199,7 +202,8 @@ def try_long(program, top, ends):
     screen = os.read(hand, 65_536).decode()
     os.close(hand)
     expect(done.returncode == 3 and not done.stdout, f"a file of zeros is shown: {done}")
-    expect(screen.startswith(f"invdesk: {path} has 34 MB; reading it takes a moment\r\n"), f"of a long file: {screen!r}")
+    told = f"invdesk: {path} has 34 MB; reading it takes a moment\r\n"
+    expect(screen.startswith(told), f"of a long file: {screen!r}")
     piped = show(program, path, "stock")
     expect("moment" not in piped.stderr, f"away from a terminal: {piped}")
 
@@ -222,7 +226,8 @@ def main():
             try_terminal(program, path, ends)
             try_long(program, top, terminal())
     seen = "a terminal" if ends else "no terminal, as there is none here"
-    print(f"check_lists: {len(WANTED)} lists, {len(WRONG) + len(NONE)} that aren't there, {seen}: all as they should be")
+    absent = len(WRONG) + len(NONE)
+    print(f"check_lists: {len(WANTED)} lists, {absent} that aren't there, {seen}: all as they should be")
 
 
 if __name__ == "__main__":

@@ -262,8 +262,8 @@ def difference(program, made):
         if fault or len(answers) != len(asked):
             return f"{len(answers)} answers to {len(asked)} lines; {fault}"
         if made.stops:
-            other = next((f"the table {it}" for it in HEADERS if table_of(program, path, it) != table(made.m, it)), None)
-            return other or list_fault(program, made, path)
+            others = (f"the table {it}" for it in HEADERS if table_of(program, path, it) != table(made.m, it))
+            return next(others, None) or list_fault(program, made, path)
     return None
 
 

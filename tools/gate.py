@@ -2,15 +2,15 @@
 """The gate: passes every proof and every test, and says how many passed.
 
 First it looks whether each wrong body still applies, whether each name that the documents cite stands where they say,
-whether the worked examples with names ask for what those with numbers do, and say each field in each form, and whether
-the page has what it takes from the documents, and the program the page. Then 'rt ci' proves every crate from nothing,
-tries the must-fail edits, and runs the tests and the program. The program that this built is then tried as its owner
-would: with the examples with names and the tutorial, with the words of a clerk, with lists, files, imports, clients of
-HTTP, what its page reads, and kills, and beside the rules written once more. Where a step fails, those behind it are not run.
-The last line is 'N passed, M failed': what 'rt ci' counts, and one for each script. It takes two to three hours, of
-which the scripts take five minutes.
+whether the worked examples with names ask for what those with numbers do, and say each field in each form, and
+whether the page has what it takes from the documents, and the program the page. Then 'rt ci' proves every crate from
+nothing, tries the must-fail edits, and runs the tests and the program. The program that this built is then tried as
+its owner would: with the examples with names and the tutorial, with the words of a clerk, with lists, files, imports,
+clients of HTTP, what its page reads, and kills, and beside the rules written once more. Where a step fails, those
+behind it are not run. The last line is 'N passed, M failed': what 'rt ci' counts, and one for each script. It takes
+two to three hours, of which the scripts take five minutes.
 
-usage: tools/gate.py [--jobs N]     N proofs side by side; without it as many as there are processors with 5.5 GB each"""
+usage: tools/gate.py [--jobs N]     N proofs side by side; else as many as there are processors with 5.5 GB each"""
 import argparse
 import os
 import re
@@ -49,8 +49,8 @@ def count_scripts(scripts):
 
 
 def proofs_at_once():
-    """How many proofs run side by side: one for each processor that has memory for it. Left to itself 'rt ci' reckons far
-    more for each, and leaves processors idle."""
+    """How many proofs run side by side: one for each processor that has memory for it. Left to itself 'rt ci' reckons
+    far more for each, and leaves processors idle."""
     memory = os.sysconf("SC_PAGE_SIZE") * os.sysconf("SC_PHYS_PAGES")
     return max(1, min(len(os.sched_getaffinity(0)), memory // FOR_EACH))
 

@@ -4,7 +4,7 @@ refusals, what it does and a line of it, and each refusal and each fault of `doc
 `crates/desk_ends/src/guide_text.rt`, in which an empty line stands between two entries, and each entry begins with a
 line of its name. Beside it stand the words that a line may have, for whoever misspells one.
 
-usage: tools/make_guide.py [--check]     --check writes nothing, and tells whether the source is as it would be written"""
+usage: tools/make_guide.py [--check]     --check writes nothing, and tells whether the source is as it would write it"""
 import argparse
 import json
 import re

@@ -68,7 +68,8 @@ class Caller:
         way = one(ways)
         return one([
             name, name, f"{name}s", "", "7", one(ways), one(ways), way[:-1], [*way, name], [*way, 1], [1, *way], [way],
-            [], [name], {}, {"key": key}, {"key": key}, {"key": key}, {"key": one(["", "a b", "k" * 81, "é", 5, None])},
+            [], [name], {}, {"key": key}, {"key": key}, {"key": key},
+            {"key": one(["", "a b", "k" * 81, "é", 5, None])},
             {"key": key, "part": part}, {"key": key, "x": None}, {"part": part}, {"serial": serial}, {"name": name},
             {"part": part, "serial": serial}, {"serial": serial, "part": part},
             {"part": part, "serial": serial, "x": 1}, {"part": one([*m.parts, name]), "serial": serial},

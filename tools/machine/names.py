@@ -71,8 +71,8 @@ class Names:
         return self.m.kept[key].answer["ids"] if key in self.m.kept else []
 
     def newest(self, held):
-        """The newest item of a part with a serial: of those that aren't gone or, where all are, of all. The part is said
-        by its number or its name."""
+        """The newest item of a part with a serial: of those that aren't gone or, where all are, of all. The part is
+        said by its number or its name."""
         if held.keys() - {"part", "serial"}:
             raise Fault("UnknownField")
         is_name = type(held.get("part")) is str
