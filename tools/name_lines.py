@@ -7,7 +7,7 @@ A number stays where the row has no such name, or none that is its alone. The an
 
 What stands in `data/names` alone is written by hand and has its answers beside it. All examples with names together say
 each field that says a row, of each command and of each report, in each form that such a row has, with the request done;
-and each with a name that is no row's and, where one key can be of several rows, with such a key.
+and each with a name that is no row's, and with a key that is several rows'.
 
 A line that is answered otherwise than its example says, with numbers or with names, ends the script.
 
@@ -29,8 +29,6 @@ DATA = EXAMPLES / "data"
 NAMED = DATA / "names"
 # The forms in which rows of a table are said, besides those of each: by number, and by key.
 FORMS = {"parts": {"name"}, "categories": {"name", "way"}, "locations": {"name", "way"}, "items": {"serial"}}
-# The tables of which one request may make several rows.
-MADE_TOGETHER = {"items", "allocations"}
 # Fields that take no item with a serial: where one is said, the request is refused as Serialised.
 WITHOUT_SERIAL = {
     ("add", "item"), ("split", "item"), ("merge", "into"), ("merge", "items"), ("serialise", "item")}
@@ -172,7 +170,7 @@ class Said:
         for word, tables in {**ROWS, **reports}.items():
             for name, table in tables.items():
                 forms = {"number", "key"} | FORMS.get(table, set())
-                faults = {"NoName", "Ambiguous"} if table in MADE_TOGETHER else {"NoName"}
+                faults = {"NoName", "Ambiguous"}
                 said = self.found[word, name]
                 yield from (f"{word}: no example says '{name}' by {it}" for it in sorted(forms - said))
                 yield from (f"{word}: no example has {it} for '{name}'" for it in sorted(faults - said))
