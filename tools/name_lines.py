@@ -1,8 +1,8 @@
 #!/usr/bin/env python3
 """Writes worked examples once more, with rows said by what they are called in the place of their numbers: a part by its
 name, a category or a location by its name or by the way to it from the top, an item by its part and its serial, and any
-other row, or an item that has no serial, by the key of the request that made it, where that had one and made no other.
-A number stays where the row has no such name, or none that is its alone. The answers are the same, so each
+other row, or an item that has no serial, by the key of the request that made it. A request that makes one row and has
+no key gets one. A number stays where the row has no such name, or none that is its alone. The answers are the same, so each
 `data/names/NAME.in` of the crate `worked_examples` has the answers of `data/NAME.out`.
 
 What stands in `data/names` alone is written by hand and has its answers beside it. All examples with names together say
@@ -113,14 +113,37 @@ def asked(line, names):
         return fault.answer(0)
 
 
+def keyed(line, key):
+    """The line under that key, or None where it is no request or has a key of its own."""
+    members = members_of(line)
+    if not isinstance(members.get("do"), str) or "key" in members:
+        return None
+    said = {**members, "key": key}
+    said = dict(sorted(said.items())) if list(members) == sorted(members) else said
+    return json.dumps(said, ensure_ascii=False, separators=(",", ":")).encode()
+
+
+def done(m, line, key, at):
+    """Does the line, under the key where it makes one row: whether it is so, and what it is answered."""
+    under = keyed(line, key)
+    answered = answer(m, under, at) if under else None
+    if answered is None or "ids" not in answered:
+        return False, answer(m, line, at)
+    if len(answered["ids"]) != 1:
+        del m.kept[key]
+        return False, answered
+    return True, answered
+
+
 def with_names(lines, answers, limits):
-    """The lines of an example with names."""
+    """The lines of an example with names. What makes one row has a key, and so has the row."""
     m, found, told = Machine(*limits), [], []
     for at, line in enumerate(lines.splitlines(), 1):
-        found.append(Writer(m).line(line))
-        if asked(found[-1], Names(m)) != asked(line, None):
+        named, key = Writer(m).line(line), f"line-{at}"
+        if asked(named, Names(m)) != asked(line, None):
             sys.exit(f"name_lines: with names this line asks for something else: {line.decode()}")
-        answered = answer(m, line, at)
+        has_key, answered = done(m, line, key, at)
+        found.append(keyed(named, key) if has_key else named)
         told += [answer_line(answered) + "\n"] if answered is not None else []
     if "".join(told).encode() != answers:
         sys.exit("name_lines: an example is answered otherwise than it says")
