@@ -149,6 +149,7 @@ REASONS = [
     ({"do": "remove", "day": DAY, "item": 3, "quantity": "many"}, 'quantity: WrongType: "many". A field has something'),
     ({"do": "remove", "day": DAY, "item": 3}, "quantity: NoField. A field is missing:"),
     ({"do": "add_location", "day": DAY, "nome": "B"}, 'nome: UnknownField: "B" (did you mean name?). The command,'),
+    ({"do": "add_location", "day": DAY, "\x1b[2J": "B"}, '\\u{1b}[2J: UnknownField: "B". The command,'),
     ({"do": "fond", "day": DAY}, 'do: UnknownCommand: "fond" (did you mean found?). There is no such command'),
     ({"do": "add_part", "day": DAY, "name": "N", "flags": ["component", "purchasable"]},
      'flags: BadWord: ["component","purchasable"] (did you mean purchaseable?). There is no such status,'),
@@ -187,6 +188,11 @@ def try_reasons(program, top):
     named = json.dumps({"do": "found", "day": DAY, "part": "Nut", "location": "A", "quantity": 7}) + "\n"
     told = run(program, "run", "--names", "--explain", lines=named).stderr
     expect(told.startswith('line 1: part: NoName: "Nut". Nothing is called so.'), f"a name: {told!r}")
+    lots = [{"do": "found", "day": DAY, "part": 2, "location": 1, "quantity": 5, **lot} for lot in ({"batch": "L1"}, {})]
+    lines = [*ORDERED[:2], *lots, {"do": "merge", "day": DAY, "into": 3, "items": [4]}]
+    told = run(program, "run", "--explain", lines="".join(json.dumps(line) + "\n" for line in lines)).stderr
+    wanted = "line 5: Mismatch: into 3 (Screw, batch L1, A, 5, 5 free, OK), items 4 (Screw, A, 5, 5 free, OK). "
+    expect(told.startswith(wanted), f"of batches: {told!r}")
     master, slave = pty.openpty()
     with subprocess.Popen([program, "run"], stdin=subprocess.PIPE, stdout=subprocess.PIPE, stderr=slave) as typed:
         typed.communicate(b"[1]\n", timeout=10)
