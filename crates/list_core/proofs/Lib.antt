@@ -3,6 +3,7 @@ pub mod BillTree
 pub mod Climbing
 pub mod Commas
 pub mod FactsLeft
+pub mod FreeKept
 pub mod Gathered
 pub mod Left
 pub mod Pushed

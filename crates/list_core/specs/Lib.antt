@@ -3,6 +3,7 @@ pub mod BuildList
 pub mod CountSheet
 pub mod Facts
 pub mod FindList
+pub mod FreeAmounts
 pub mod Gathered
 pub mod ItemList
 pub mod Listings

@@ -8,11 +8,12 @@ ghost use Rattle.build_core.specs.Builds.{is_open};
 ghost use Rattle.desk_core.specs.ShopView.{state_of};
 ghost use Rattle.list_core.specs.Amounts.{free_amount};
 ghost use Rattle.list_core.specs.BuildList.{bare_build_row, build_fields, build_header, build_line_row};
+ghost use Rattle.list_core.specs.FreeAmounts.{AreFree};
 ghost use Rattle.list_core.specs.BuildList.{build_list, build_rows, build_rows_by, build_state_name, wants_of};
 ghost use Rattle.report_core.specs.Fields.{name_of};
 ghost use Rattle.report_core.specs.Lines.{fields_of, lines_of};
 
-use crate::amounts::free_amount;
+use crate::free_amounts::{FreeAmount, free_amounts, free_in};
 use crate::rows::push_empty;
 use build_core::{Build, BuildState, Shortage, shortages};
 use desk_core::Shop;
@@ -20,6 +21,7 @@ use part_core::Sheet;
 use report_core::Report;
 use report_core::fields::{amount_field, name_field, number_field, words_line};
 use std::alloc::{AllocError, Global};
+use yard_core::rows_in_order;
 
 /// The word for a state.
 pub(crate) fn build_state_name(state: BuildState) -> &'static str
@@ -71,7 +73,13 @@ fn build_fields(alloc: Global, shop: &Shop, build: &Build) -> Result<Vec<String>
 }
 
 /// What is said of a line of a build's bill that counts.
-fn want_fields(alloc: Global, shop: &Shop, want: &Shortage) -> Result<Vec<String>, AllocError>
+fn want_fields(
+    alloc: Global,
+    shop: &Shop,
+    found: &Sheet<FreeAmount>,
+    want: &Shortage,
+) -> Result<Vec<String>, AllocError>
+    requires { AreFree (state_of shop.now) (now_of found.now) }
     ensures { IfOk result (λ row. fields_of row ≡
         decimal want.now.line
         ∷ name_of (part_in want.now.component (state_of shop.now).parts)
@@ -86,7 +94,7 @@ fn want_fields(alloc: Global, shop: &Shop, want: &Shortage) -> Result<Vec<String
     let required = amount_field(alloc, want.required)?;
     let allocated = amount_field(alloc, want.allocated)?;
     let missing = amount_field(alloc, want.missing)?;
-    let free = amount_field(alloc, free_amount(shop, want.component)?)?;
+    let free = amount_field(alloc, free_in(shop, found, want.component)?)?;
     Ok(vec![in alloc; line, component, required, allocated, missing, free]?)
 }
 
@@ -94,14 +102,16 @@ fn want_fields(alloc: Global, shop: &Shop, want: &Shortage) -> Result<Vec<String
 fn build_line_row(
     alloc: Global,
     shop: &Shop,
+    found: &Sheet<FreeAmount>,
     build: &Build,
     want: &Shortage,
 ) -> Result<Vec<String>, AllocError>
+    requires { AreFree (state_of shop.now) (now_of found.now) }
     ensures { IfOk result (λ row.
         fields_of row ≡ build_line_row (state_of shop.now) build.now want.now) }
 {
     let mut row = build_fields(alloc, shop, build)?;
-    let mut fields = want_fields(alloc, shop, want)?;
+    let mut fields = want_fields(alloc, shop, found, want)?;
     row.append(&mut fields)?;
     Ok(row)
 }
@@ -119,15 +129,17 @@ fn bare_build_row(alloc: Global, shop: &Shop, build: &Build) -> Result<Vec<Strin
 fn push_want_rows(
     alloc: Global,
     shop: &Shop,
+    found: &Sheet<FreeAmount>,
     build: &Build,
     wants: &[Shortage],
     rows: &mut Vec<Vec<String>>,
 ) -> Result<(), AllocError>
+    requires { AreFree (state_of shop.now) (now_of found.now) }
     ensures { OnOk result (lines_of rows.new.items ≡ lines_of rows.old.items
         ++ map (build_line_row (state_of shop.now) build.now) wants.now) }
 {
     for want in wants {
-        rows.push(build_line_row(alloc, shop, build, want)?)?;
+        rows.push(build_line_row(alloc, shop, found, build, want)?)?;
     }
     Ok(())
 }
@@ -136,10 +148,12 @@ fn push_want_rows(
 fn push_rows_by(
     alloc: Global,
     shop: &Shop,
+    found: &Sheet<FreeAmount>,
     build: &Build,
     wants: &[Shortage],
     rows: &mut Vec<Vec<String>>,
 ) -> Result<(), AllocError>
+    requires { AreFree (state_of shop.now) (now_of found.now) }
     ensures { OnOk result (lines_of rows.new.items ≡ lines_of rows.old.items
         ++ build_rows_by (state_of shop.now) build.now wants.now) }
 {
@@ -147,7 +161,7 @@ fn push_rows_by(
         rows.push(bare_build_row(alloc, shop, build)?)?;
         return Ok(());
     }
-    push_want_rows(alloc, shop, build, wants, rows)
+    push_want_rows(alloc, shop, found, build, wants, rows)
 }
 
 /// What the build of that number still wants.
@@ -168,28 +182,32 @@ fn wants_of(alloc: Global, shop: &Shop, number: u64) -> Result<Vec<Shortage>, Al
 fn push_build_rows(
     alloc: Global,
     shop: &Shop,
+    found: &Sheet<FreeAmount>,
     build: &Build,
     rows: &mut Vec<Vec<String>>,
 ) -> Result<(), AllocError>
+    requires { AreFree (state_of shop.now) (now_of found.now) }
     ensures { OnOk result (lines_of rows.new.items
         ≡ lines_of rows.old.items ++ build_rows (state_of shop.now) build.now) }
 {
     let wants = wants_of(alloc, shop, build.number)?;
-    push_rows_by(alloc, shop, build, wants.as_slice(), rows)
+    push_rows_by(alloc, shop, found, build, wants.as_slice(), rows)
 }
 
 /// The rows of these builds come behind the rows so far.
 fn push_builds(
     alloc: Global,
     shop: &Shop,
+    found: &Sheet<FreeAmount>,
     builds: &[&Build],
     rows: &mut Vec<Vec<String>>,
 ) -> Result<(), AllocError>
+    requires { AreFree (state_of shop.now) (now_of found.now) }
     ensures { OnOk result (lines_of rows.new.items ≡ lines_of rows.old.items
         ++ flat_map (build_rows (state_of shop.now)) (map (λ b. b.now) builds.now)) }
 {
     for build in builds {
-        push_build_rows(alloc, shop, build, rows)?;
+        push_build_rows(alloc, shop, found, build, rows)?;
     }
     Ok(())
 }
@@ -204,12 +222,14 @@ fn listed_builds(builds: &Sheet<Build>, only_open: bool) -> Result<Vec<&Build>, 
 
 /// The builds in order of number, each with what it still wants: a row for each line of its bill that counts, or one
 /// for the build alone where it wants nothing. If only open ones are asked for, those that are complete or cancelled
-/// are left out. An error is one of memory.
+/// are left out. It adds up once what is free of each part. An error is one of memory.
 pub fn build_list(alloc: Global, shop: &Shop, only_open: bool) -> Result<Report, AllocError>
     ensures { IfOk result (λ list. list ≡ build_list only_open (state_of shop.now)) }
 {
     let builds = listed_builds(shop.builds().rows(), only_open)?;
     let mut rows = vec![in alloc; header(alloc)?]?;
-    push_builds(alloc, shop, builds.as_slice(), &mut rows)?;
+    let parts = rows_in_order(shop.catalogue().parts())?;
+    let found = free_amounts(alloc, shop, parts.as_slice())?;
+    push_builds(alloc, shop, &found, builds.as_slice(), &mut rows)?;
     Ok(Report::new(rows))
 }

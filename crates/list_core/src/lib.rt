@@ -7,6 +7,7 @@ mod build_list;
 mod command_facts;
 mod count_sheet;
 mod find_list;
+mod free_amounts;
 mod item_list;
 mod listing;
 mod lists;
