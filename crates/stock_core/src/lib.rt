@@ -9,6 +9,7 @@
 mod arrivals;
 mod away;
 mod commands;
+mod ending;
 mod floor;
 mod halt;
 mod item_tests;
@@ -38,6 +39,7 @@ pub use commands::set_status::set_status;
 pub use commands::split::split;
 pub use commands::transfer::transfer;
 pub use commands::uninstall::uninstall;
+pub use ending::{BesideFloor, conclude, finish};
 pub use floor::Floor;
 pub use halt::Halt;
 pub use item_tests::{

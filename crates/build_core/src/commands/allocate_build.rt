@@ -13,7 +13,6 @@ ghost use Rattle.build_core.specs.AllocateBuild.{allocate_build, allocate_build_
 ghost use Rattle.build_core.specs.AllocateBuild.{is_no_named, is_other_output};
 ghost use Rattle.build_core.specs.BuildBooks.{AreSoundSomehow, Does, build_books, build_books_before};
 
-use crate::build_books::finish;
 use crate::builds::Builds;
 use crate::needs::{is_suited, needed};
 use crate::outputs::is_output_of;
@@ -21,7 +20,7 @@ use alloc_core::{Allocation, Allocations, OutputNumber, Purpose};
 use bom_core::Boms;
 use part_core::{Answer, Catalogue, CoreFault, Counter, Id, Quantity, Refusal, is_bad_quantity};
 use std::alloc::AllocError;
-use stock_core::{Floor, is_available, is_loose, is_no_item, part_at};
+use stock_core::{Floor, finish, is_available, is_loose, is_no_item, part_at};
 use yard_core::Yard;
 
 /// What is asked for: that an amount of an item is meant for a line of a build, and for which of its outputs where the

@@ -11,12 +11,11 @@ ghost use Rattle.build_core.specs.Spent.{spent_row};
 ghost use Rattle.stock_core.specs.declared.halt.Halt.TheVariants as halts;
 ghost use Rattle.build_core.specs.declared.spent.Spent.{Spent};
 
-use crate::build_books::conclude;
 use crate::builds::Builds;
 use crate::spent::Spent;
 use alloc_core::Purpose;
 use part_core::{Answer, CoreFault, Day, Id, Quantity, Refusal, Row};
-use stock_core::{Floor, Halt, take_away};
+use stock_core::{Floor, Halt, conclude, take_away};
 use yard_core::Place;
 
 /// Whether the build isn't in production. One that isn't there isn't.

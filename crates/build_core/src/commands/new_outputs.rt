@@ -13,14 +13,13 @@ ghost use Rattle.stock_core.specs.Steps.{make_new};
 ghost use Rattle.build_core.specs.BuildBooks.{AreSoundSomehow, Does, build_books, build_books_before};
 ghost use Rattle.build_core.specs.NewOutputs.{begun_at, new_outputs, new_outputs_checks};
 
-use crate::build_books::finish;
 use crate::builds::Builds;
 use crate::needs::has_tracked;
 use bom_core::Boms;
 use part_core::{Answer, Catalogue, CoreFault, Day, Id, Quantity, Refusal, is_bad_quantity};
 use std::alloc::AllocError;
 use stock_core::{
-    Arrival, Floor, NewStock, count_of, lacks_room, make_new, names_many, names_needless,
+    Arrival, Floor, NewStock, count_of, finish, lacks_room, make_new, names_many, names_needless,
     names_other_count, names_taken,
 };
 use yard_core::{Kind, Place, YardBooks};

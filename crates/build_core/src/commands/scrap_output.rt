@@ -12,13 +12,12 @@ ghost use Rattle.build_core.specs.BuildBooks.{AreSoundSomehow, Does, build_books
 ghost use Rattle.build_core.specs.ScrapOutput.{scrap_output, scrap_output_checks, scrapped};
 ghost use Rattle.build_core.specs.declared.builds.Builds.{Builds};
 
-use crate::build_books::finish;
 use crate::builds::Builds;
 use crate::outputs::is_no_output;
 use alloc_core::Owner;
 use part_core::{Answer, CoreFault, Day, Id, Refusal};
 use std::alloc::AllocError;
-use stock_core::{Floor, is_no_item, lacks_room};
+use stock_core::{Floor, finish, is_no_item, lacks_room};
 use yard_core::{Place, Reason, YardBooks};
 
 /// Whether the limits leave no room for it: each item of the tree needs two entries. An error is one of

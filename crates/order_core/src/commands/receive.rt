@@ -11,12 +11,11 @@ ghost use Rattle.yard_core.specs.BooksView.{books_now};
 ghost use Rattle.order_core.specs.Receive.{arrival_at, receive, receive_checks};
 ghost use Rattle.order_core.specs.OrderBooks.{AreSoundSomehow, Does, order_books, order_books_before};
 
-use crate::order_books::finish;
 use crate::orders::Orders;
 use part_core::{Answer, Catalogue, CoreFault, Day, Id, Quantity, Refusal, is_bad_quantity};
 use std::alloc::AllocError;
 use stock_core::{
-    Arrival, Floor, NewStock, count_of, is_no_location, lacks_room, make_new, names_many,
+    Arrival, Floor, NewStock, count_of, finish, is_no_location, lacks_room, make_new, names_many,
     names_needless, names_other_count, names_taken,
 };
 use yard_core::{Kind, Place, YardBooks};
