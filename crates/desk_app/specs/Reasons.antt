@@ -82,6 +82,10 @@ IsReason s (FaultyFile kind fault field) text =
 abbrev pub Waits : (List ℕ → Type 0) → List ℕ → List ℕ → Type 0
 Waits is_told old new = (new ≡ old) ⊎ ((text : List ℕ) × is_told text × (new ≡ old ++ text))
 
+-- such a text comes behind what waits
+abbrev pub AddsReason : State → Why → List ℕ → List ℕ → Type 0
+AddsReason s why old new = (text : List ℕ) × IsReason s why text × (new ≡ old ++ text)
+
 abbrev pub Notes : State → Why → List ℕ → List ℕ → Type 0
 Notes s why old new = Waits (IsReason s why) old new
 

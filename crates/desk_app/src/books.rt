@@ -14,13 +14,14 @@ ghost use Rattle.desk_store.specs.Desks.{IsDesk};
 ghost use Rattle.desk_store.specs.Groups.{IsGrouping};
 ghost use Rattle.desk_store.specs.Outcomes.{Tells};
 ghost use Rattle.desk_store.proofs.Grouping.{begins_group, closed_desk};
-ghost use Rattle.desk_app.specs.Reasons.{Notes};
+ghost use Rattle.desk_app.specs.Reasons.{AddsReason, Notes};
 
 use crate::undone::Why;
 use desk_core::{Request, Shop};
 use desk_store::{Desk, Fault};
 use part_core::Answer;
 use sqlite::Alter;
+use std::alloc::AllocError;
 
 /// Books that requests are run on, and reports are made of.
 pub trait Books {
@@ -41,6 +42,9 @@ pub trait Books {
 
     // what waits to be told of why lines and rows weren't done
     ghost reasons_in: { Self → List ℕ } = { λ _. [] };
+
+    // whether somebody is told
+    ghost are_explained: { Self → Type 0 } = { λ _. ⊥ };
 
     /// Runs one request. What it changes is kept before it is answered.
     fn run(&mut self, request: &Request) -> Result<Answer, Fault>
@@ -77,8 +81,9 @@ pub trait Books {
         ensures left { (trees : Trees) → may_leave self.new trees
             → may_leave self.old trees ⊎ TablesAre (state_in self.new) trees };
 
-    /// Is told why a line or a row wasn't done, for whoever is told of it. Nothing of what they hold changes.
-    fn explain(&mut self, why: &Why<'_>)
+    /// Is told why a line or a row wasn't done, for whoever is told of it. Nothing of what they hold changes. An error is one
+    /// of memory. Then, or where a fault has closed them, nobody is told.
+    fn explain(&mut self, why: &Why<'_>) -> Result<(), AllocError>
         requires { are_grouping self.old }
         ensures grouping { are_grouping self.new }
         ensures kept { are_kept self.old → are_kept self.new }
@@ -86,7 +91,10 @@ pub trait Books {
         ensures failure { failure_of self.new ≡ failure_of self.old }
         ensures left { (trees : Trees) → may_leave self.new trees → may_leave self.old trees }
         ensures notes { Notes (state_in self.old) why.now (reasons_in self.old)
-            (reasons_in self.new) };
+            (reasons_in self.new) }
+        ensures told { OnOk result (are_explained self.old → failure_of self.old ≡ None
+            → AddsReason (state_in self.old) why.now (reasons_in self.old)
+            (reasons_in self.new)) };
 
     /// The shop that holds their state: `Closed` where a fault has closed them.
     fn shop(&self) -> Result<&Shop, Fault>
@@ -135,7 +143,9 @@ impl<S: Alter> Books for Desk<S> {
         Desk::commit(self)
     }
 
-    fn explain(&mut self, _why: &Why<'_>) {}
+    fn explain(&mut self, _why: &Why<'_>) -> Result<(), AllocError> {
+        Ok(())
+    }
 
     fn shop(&self) -> Result<&Shop, Fault> {
         Desk::shop(self)
@@ -175,7 +185,9 @@ impl Books for Shop {
         Ok(())
     }
 
-    fn explain(&mut self, _why: &Why<'_>) {}
+    fn explain(&mut self, _why: &Why<'_>) -> Result<(), AllocError> {
+        Ok(())
+    }
 
     fn shop(&self) -> Result<&Shop, Fault> {
         Ok(self)

@@ -1,8 +1,8 @@
 //! Books that tell a person why a line or a row wasn't done. What is told is no part of the answers: it waits until what
 //! was done before it is kept, and where it can't be written it is left out.
-ghost use Rattle.std.specs.Prelude.{◌≡◌, [], None};
+ghost use Rattle.std.specs.Prelude.{◌≡◌, [], IsSome, None, OnOk};
 ghost use Rattle.std.specs.String.{string_bytes};
-ghost use Rattle.desk_app.specs.Reasons.{Notes};
+ghost use Rattle.desk_app.specs.Reasons.{AddsReason, Notes};
 
 use crate::books::Books;
 use crate::reasons::reason;
@@ -10,7 +10,7 @@ use crate::undone::Why;
 use desk_core::{Request, Shop};
 use desk_store::Fault;
 use part_core::Answer;
-use std::alloc::Global;
+use std::alloc::{AllocError, Global};
 use std::io::Write;
 
 /// Books, and the reasons that wait to be told. Where there is no writer, nobody is told.
@@ -63,23 +63,25 @@ impl<B: Books + Drop, W: Write + Drop> ExplainedBooks<B, W> {
         self.waits = String::new(self.alloc);
     }
 
-    // Adds a reason to those that wait, where it is told and there is memory for it.
-    fn note(&mut self, why: &Why<'_>)
+    // Adds a reason to those that wait, where it is told. An error is one of memory, and adds none.
+    fn note(&mut self, why: &Why<'_>) -> Result<(), AllocError>
         requires { B.are_grouping self.old.books }
         ensures books { self.new.books ≡ self.old.books }
         ensures notes { Notes (B.state_in self.old.books) why.now (string_bytes self.old.waits)
             (string_bytes self.new.waits) }
+        ensures told { OnOk result (IsSome self.old.writer → B.failure_of self.old.books ≡ None
+            → AddsReason (B.state_in self.old.books) why.now (string_bytes self.old.waits)
+            (string_bytes self.new.waits)) }
         ensures nobody { self.old.writer ≡ None → self.new ≡ self.old }
     {
         if self.writer.is_none() {
-            return;
+            return Ok(());
         }
         let Ok(shop) = self.books.shop() else {
-            return;
+            return Ok(());
         };
-        if let Ok(text) = reason(self.alloc, shop, why) {
-            let _ = self.waits.push_str(text.as_str());
-        }
+        let text = reason(self.alloc, shop, why)?;
+        self.waits.push_str(text.as_str())
     }
 }
 
@@ -96,6 +98,8 @@ impl<B: Books + Drop, W: Write + Drop> Books for ExplainedBooks<B, W> {
 
     ghost reasons_in = { λ explained. string_bytes explained.waits };
 
+    ghost are_explained = { λ explained. IsSome explained.writer };
+
     fn run(&mut self, request: &Request) -> Result<Answer, Fault> {
         self.books.run(request)
     }
@@ -110,8 +114,8 @@ impl<B: Books + Drop, W: Write + Drop> Books for ExplainedBooks<B, W> {
         kept
     }
 
-    fn explain(&mut self, why: &Why<'_>) {
-        self.note(why);
+    fn explain(&mut self, why: &Why<'_>) -> Result<(), AllocError> {
+        self.note(why)
     }
 
     fn shop(&self) -> Result<&Shop, Fault> {

@@ -148,7 +148,7 @@ fn tell_import<B: Books>(
     match import_rows(alloc, loose, named, bytes, kind, document, day) {
         Ok(rows) => tell_rows(alloc, &rows, books),
         Err(FileError::Wrong(fault, field)) => {
-            books.explain(&Why::FaultyFile {
+            let _ = books.explain(&Why::FaultyFile {
                 kind,
                 fault: &fault,
                 field: &field,

@@ -77,7 +77,7 @@ pub(crate) fn tell_outcome<B: Books>(
             fine: true,
         }),
         Err(Fault::Refused(refusal)) => {
-            books.explain(&Why::Refused {
+            let _ = books.explain(&Why::Refused {
                 place,
                 request,
                 refusal,
@@ -159,7 +159,7 @@ fn tell_report<B: Books>(
 {
     let told = tell_of_books(alloc, books, name, of)?;
     if !told.fine {
-        books.explain(&Why::NoReport { line, name, of });
+        let _ = books.explain(&Why::NoReport { line, name, of });
     }
     Ok(told)
 }
@@ -210,7 +210,7 @@ fn tell<B: Books>(
         Ok(Wish::Request(request)) => tell_outcome(alloc, books, Place::Line(number), &request),
         Ok(Wish::Report { name, of }) => tell_report(alloc, books, number, name, of),
         Err(ReadError::Wrong(fault)) => {
-            books.explain(&Why::FaultyLine {
+            let _ = books.explain(&Why::FaultyLine {
                 names,
                 line,
                 fault: &fault,

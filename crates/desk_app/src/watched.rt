@@ -15,6 +15,7 @@ use desk_core::{Request, Shop};
 use desk_store::{Desk, Fault};
 use part_core::Answer;
 use sqlite::Alter;
+use std::alloc::AllocError;
 use std::io::Write;
 
 /// A desk, the name of its file as it is told, and who is told of a fault. Where that can't be written it is left out.
@@ -106,7 +107,9 @@ impl<S: Alter, W: Write + Drop> Books for WatchedDesk<S, W> {
         outcome
     }
 
-    fn explain(&mut self, _why: &Why<'_>) {}
+    fn explain(&mut self, _why: &Why<'_>) -> Result<(), AllocError> {
+        Ok(())
+    }
 
     fn shop(&self) -> Result<&Shop, Fault> {
         Books::shop(&self.desk)
