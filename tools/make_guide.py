@@ -59,7 +59,7 @@ def entries():
         yield "\n".join([*lines, "  Example: " + example(do)])
     for name, title in ("refusals", "Refusals"), ("faults", "Faults of lines and of files that are imported"):
         words = re.findall(r"^\| `(\w+)` \| (.*) \| (.*) \|$", section("REFUSALS.md", title), re.M)
-        yield "\n".join([name, *(wrapped(f"{word}: {plain(wrong)}") for word, wrong, _ in words)])
+        yield "\n".join([name, *(wrapped(f"{word}: {plain(wrong)} {plain(mend)}") for word, wrong, mend in words)])
         for word, wrong, mend in words:
             yield "\n".join([word, wrapped(plain(wrong)), wrapped(plain(mend))])
 

@@ -494,46 +494,67 @@ release
   Example: {"do":"release","day":"2030-01-02","allocation":1}
 
 refusals
-  KeyTaken: Another request was done under this key.
+  KeyTaken: Another request was done under this key. If this one is new, give it a new key. If you
+    meant to send an old one again, send it as it was. A serial may say another piece by now: then
+    say the piece by its number.
   NoSuch: A number, or a key, says no row of the kind that belongs in that field; or there is
-    nothing to report of.
+    nothing to report of. Say the row by its name, with --names, or look its number up: invdesk
+    export prints each table.
   BadNumber: A quantity is 0 or above 1,000,000,000, or items to merge are none or more than 100.
-    Only a count may be 0.
-  NameTaken: Another part has the name, or another category or location under the same parent.
+    Only a count may be 0. Mend the quantity, or merge in smaller groups.
+  NameTaken: Another part has the name, or another category or location under the same parent. Use
+    that one, or take another name.
   WrongFlag: A part's flags don't allow it: it is to be bought and isn't purchaseable, has serials
-    and isn't trackable, is virtual and to be stocked.
-  Retired: The part is retired, and stays so.
+    and isn't trackable, is virtual and to be stocked. Use another part. Flags can't be changed:
+    where they were wrong from the start, add a new part and retire the old one.
+  Retired: The part is retired, and stays so. Use another part.
   WrongState: The order, the build or the item isn't in the state that this is for: an order isn't
-    issued yet or is complete, a build is on hold, an item that is to come back isn't away.
+    issued yet or is complete, a build is on hold, an item that is to come back isn't away. Issue
+    the order or the build first. Where it is complete or cancelled, make a new one.
   Mismatch: The order is a purchase and a sale is asked for, or the other way round; the allocation
     to be consumed is an order's or an output's; or items to merge differ in part, batch or status,
-    or one stands there twice.
-  OpenOutputs: The build has an output that isn't finished.
+    or one stands there twice. Say the right order, allocation or items.
+  OpenOutputs: The build has an output that isn't finished. Complete, cancel or scrap each of its
+    outputs first.
   InUse: An open build goes by this bill; or the line takes the part already, without a substitute.
-  Cycle: A part would be made of itself, by one step or many.
-  SelfInside: The item would lie in itself, as what it is to go into lies in it.
+    Complete or cancel the build first. A part that the line takes needs no substitute.
+  Cycle: A part would be made of itself, by one step or many. Look at the report where_used of the
+    assembly: it says which parts it goes into.
+  SelfInside: The item would lie in itself, as what it is to go into lies in it. Say another item,
+    or take the inner one out first.
   Unfit: No line of the bill takes this part in there, or the line that was named doesn't take it.
     Or it is for a build: a line whose component is trackable needs an output, and any other has
-    none.
+    none. Say the line that takes the part, with an output or without.
   NotLoose: The item isn't at a location by itself: it lies in another, was sent, was used or is off
-    the books. Or what it is to go into isn't at a location.
-  Serialised: The item has a serial, and this is for items without.
+    the books. Or what it is to go into isn't at a location. The report stock of its part says where
+    it is. Take it out, return it or reinstate it first.
+  Serialised: The item has a serial, and this is for items without. A piece with a serial is one
+    piece: it isn't added to, split or merged, and is counted as 0 or 1.
   NotSerialised: The item has no serial, and this is for pieces with one; or outputs are begun
-    without serials and have to have them.
-  HasContent: Something lies in the item.
-  Unavailable: The item's status isn't OK, Attention, Damaged or Returned.
+    without serials and have to have them. Give the item a serial by serialise, or send serials with
+    the outputs.
+  HasContent: Something lies in the item. Take it out by uninstall, or take the item apart by
+    disassemble.
+  Unavailable: The item's status isn't OK, Attention, Damaged or Returned. Take another item, or
+    give this one the right status by set_status.
   Short: There is less than that; of what is to be split there has to be more. To ship, nothing is
-    allocated; to close or complete, something is still missing.
-  Allocated: Too much of the item is allocated to orders or builds.
-  OverNeed: The order's line or the build doesn't want as much any more.
-  SerialCount: There are more or fewer serials than pieces.
+    allocated; to close or complete, something is still missing. Look at stock of the part or
+    shortage of the build, and allocate, receive or make the rest. A build has to make as many as it
+    says.
+  Allocated: Too much of the item is allocated to orders or builds. Take another item, or give an
+    allocation up by release.
+  OverNeed: The order's line or the build doesn't want as much any more. Mend the quantity. If more
+    goods came than were ordered, add a line to the order for the rest.
+  SerialCount: There are more or fewer serials than pieces. Count both again.
   SerialTaken: A serial stands twice in the list, or a piece of this part, of its template or of
-    another variant has it. A piece that was sent, used or written off keeps its own.
+    another variant has it. A piece that was sent, used or written off keeps its own. Read the
+    serials again. The report stock shows which piece has which. One that is back is returned or
+    reinstated.
   TooDeep: A chain of templates would have more than four parts, or items would lie in one another
-    more than sixteen deep.
-  TooLarge: The item would have more than 1,000,000,000 pieces.
+    more than sixteen deep. Name a template further up, or put the item in further up.
+  TooLarge: The item would have more than 1,000,000,000 pieces. Keep it as two items.
   Full: The numbers for rows, or for entries of the history, are used up: there are 10,000,000,000
-    of each.
+    of each. Nothing new fits into these books. Keep them, and begin new ones in another file.
 
 KeyTaken
   Another request was done under this key.
@@ -658,26 +679,37 @@ Full
 
 faults
   TooLong: The line has more than 65,536 bytes; or the file, or with run --check all lines together,
-    more than 16,777,216.
-  NotJson: The line is no JSON, or not UTF-8.
-  NotObject: The line is JSON, but doesn't stand in braces.
-  NoField: A field is missing: do, day, or one that the command needs.
+    more than 16,777,216. Send several requests, or cut the file up: its rows keep their numbers.
+    Send the lines in several runs, or without --check.
+  NotJson: The line is no JSON, or not UTF-8. Look for a quote, a comma or a brace that is missing.
+  NotObject: The line is JSON, but doesn't stand in braces. Write it as {"do":..}.
+  NoField: A field is missing: do, day, or one that the command needs. Add it. docs/MACHINE.md has
+    the fields of each command.
   WrongType: A field has something of another kind: a text where a number belongs, a number with a
     sign or a point, a name without --names. In a file it is a number that isn't written in digits.
-  UnknownCommand: There is no such command as do says.
-  UnknownField: The command, the report, or what says a row has no such field.
-  BadKey: The key isn't 1 to 80 visible characters of ASCII.
+    Write the field as its kind says in docs/MACHINE.md. To call rows by names, add --names.
+  UnknownCommand: There is no such command as do says. Mend its name.
+  UnknownField: The command, the report, or what says a row has no such field. Mend its name, or
+    leave it out.
+  BadKey: The key isn't 1 to 80 visible characters of ASCII. Take a shorter key, without spaces and
+    accents.
   BadDay: The day isn't written as 2030-03-04, isn't in the calendar, or isn't in the years 2000 to
-    2099.
+    2099. Mend the day.
   BadText: A name, a batch or a partner isn't 1 to 200 bytes, or has a tab or another control
-    character in it.
+    character in it. Shorten it, or take the character out.
   BadSerials: The serials can't be read: one is empty, has a wrong character or more than 24, a
-    range doesn't rise, or there are more than 1,000.
-  BadWord: There is no such status, side, flag or report; or a flag stands twice.
-  NoName: Nothing is called so. field says where the name stands.
-  Ambiguous: Several rows are called so, as the request of that key made several.
-  Csv: The record has more or fewer fields than the header, or isn't UTF-8.
-  Header: The first record isn't the header of this kind of file.
+    range doesn't rise, or there are more than 1,000. Write them as M1,M2 or 501-503, without
+    spaces: letters of ASCII, digits, ., _, / and -.
+  BadWord: There is no such status, side, flag or report; or a flag stands twice. Mend the word.
+    Large and small letters differ: OK, but purchase.
+  NoName: Nothing is called so. field says where the name stands. Mend the name, or make the row
+    first. A shelf needs the way to it, as ["Store","Shelf A"].
+  Ambiguous: Several rows are called so, as the request of that key made several. Say a piece by its
+    part and serial, or the row by its number.
+  Csv: The record has more or fewer fields than the header, or isn't UTF-8. Look for a comma or a
+    quote too many or too few. Save the file as UTF-8.
+  Header: The first record isn't the header of this kind of file. Write
+    number,line,location,quantity,batch,serials for receipts, number,item,quantity for counts.
 
 TooLong
   The line has more than 65,536 bytes; or the file, or with run --check all lines together, more
