@@ -51,11 +51,11 @@ STOCK = [
     ["7", "Bölt", "", "0", "0", "0", "0"],
 ]
 STORE = [
-    "way depth item part quantity free batch serial status".split(),
-    ["Store / Shelf A", "1", "11", "Screw", "100", "97", "L1", "", "OK"],
-    ["Store", "1", "12", "Motor", "1", "0", "", "M1", "OK"],
-    ["Store", "1", "13", "Motor", "1", "0", "", "M2", "Quarantined"],
-    ["Store", "1", "16", "Screw", "20", "20", "", "", "OK"],
+    "way depth item part name quantity free batch serial status".split(),
+    ["Store / Shelf A", "1", "11", "4", "Screw", "100", "97", "L1", "", "OK"],
+    ["Store", "1", "12", "5", "Motor", "1", "0", "", "M1", "OK"],
+    ["Store", "1", "13", "5", "Motor", "1", "0", "", "M2", "Quarantined"],
+    ["Store", "1", "16", "4", "Screw", "20", "20", "", "", "OK"],
 ]
 ORDERS = [
     "order side state partner line part name wanted done allocated outstanding".split(),
@@ -63,9 +63,10 @@ ORDERS = [
     ["21", "sale", "pending", "Bo, Ltd", "", "", "", "", "", "", ""],
 ]
 BUILDS = [
-    "build part name state wanted done line component required allocated missing free".split(),
-    ["17", "6", "Robot", "in production", "2", "0", "8", "Screw", "8", "3", "5", "117"],
-    ["17", "6", "Robot", "in production", "2", "0", "9", "Motor", "2", "1", "1", "0"],
+    [*"build part name state wanted done line component".split(), "component name",
+     *"required allocated missing free".split()],
+    ["17", "6", "Robot", "in production", "2", "0", "8", "4", "Screw", "8", "3", "5", "117"],
+    ["17", "6", "Robot", "in production", "2", "0", "9", "5", "Motor", "2", "1", "1", "0"],
 ]
 SHORTAGES = [
     "part name required allocated missing free buy".split(),
@@ -81,19 +82,19 @@ SHEET = [
 ]
 FOUND = ["kind", "number", "name", "where"]
 MOTOR = [
-    "kind number name quantity batch serial status where day".split(),
-    ["item", "12", "Motor", "1", "", "M1", "OK", "Store", ""],
-    ["history", "2", "found", "1", "", "", "", "Store", DAY],
+    "kind number part name quantity batch serial status where day".split(),
+    ["item", "12", "5", "Motor", "1", "", "M1", "OK", "Store", ""],
+    ["history", "2", "", "found", "1", "", "", "", "Store", DAY],
 ]
 ROBOT = [
-    "kind number name quantity more".split(),
-    ["part", "6", "Robot", "", "assembly trackable salable"],
-    ["sums", "", "", "0", "received 0 + found 0 + built 0 + returned 0"
+    "kind number part name quantity more".split(),
+    ["part", "6", "", "Robot", "", "assembly trackable salable"],
+    ["sums", "", "", "", "0", "received 0 + found 0 + built 0 + returned 0"
                           " = present 0 + consumed 0 + shipped 0 + written off 0"],
-    ["line", "8", "Screw", "4", ""],
-    ["substitute", "10", "Bölt", "", ""],
-    ["line", "9", "Motor", "1", "variants"],
-    ["item", "19", "OK", "1", "output 17"],
+    ["line", "8", "4", "Screw", "4", ""],
+    ["substitute", "10", "7", "Bölt", "", ""],
+    ["line", "9", "5", "Motor", "1", "variants"],
+    ["item", "19", "", "OK", "1", "output 17"],
 ]
 WANTED = [
     (["stock"], STOCK),

@@ -58,7 +58,7 @@ def loose(m, top=None):
 
 
 def at(m, location):
-    yield "way depth item part quantity free batch serial status".split()
+    yield "way depth item part name quantity free batch serial status".split()
     for n, it in loose(m, location):
         yield placed(m, n, 1, way(m.locations, it.place[1]))
         yield from inside(m, n, 2)
@@ -73,7 +73,7 @@ def inside(m, item, depth):
 def placed(m, n, depth, there):
     it = m.items[n]
     name = "  " * (depth - 1) + m.parts[it.part].name
-    return there, depth, n, name, it.quantity, free(m, n), it.batch, it.serial, it.status
+    return there, depth, n, it.part, name, it.quantity, free(m, n), it.batch, it.serial, it.status
 
 
 def orders(m, only_open=False):
@@ -93,16 +93,18 @@ def orders(m, only_open=False):
 
 
 def builds(m, only_open=False):
-    yield "build part name state wanted done line component required allocated missing free".split()
+    yield [*"build part name state wanted done line component".split(), "component name",
+           *"required allocated missing free".split()]
     for n, it in sorted(m.builds.items()):
         if only_open and it.state not in BUILD_STATES[:3]:
             continue
         head = n, it.part, m.parts[it.part].name, BUILD_WORDS[it.state], it.quantity, it.done
         wants = list(shortage(m, n))
         if not wants:
-            yield *head, *[""] * 6
+            yield *head, *[""] * 7
         for line, name, required, meant, missing in wants:
-            yield *head, line, name, required, meant, max(missing, 0), free_of_part(m, m.lines[line].component)
+            component = m.lines[line].component
+            yield *head, line, component, name, required, meant, max(missing, 0), free_of_part(m, component)
 
 
 def shortages(m):
@@ -146,13 +148,13 @@ def where(m, place):
 
 
 def item(m, number):
-    yield "kind number name quantity batch serial status where day".split()
+    yield "kind number part name quantity batch serial status where day".split()
     yield pieces(m, "item", number, 1)
     for n, depth in nested(m, number, 2):
         yield pieces(m, "inside", n, depth)
     for it in m.history:
         if it.item == number:
-            yield "history", it.n, it.kind, it.quantity, "", "", "", where(m, it.place), it.day
+            yield "history", it.n, "", it.kind, it.quantity, "", "", "", where(m, it.place), it.day
 
 
 def nested(m, number, depth):
@@ -164,24 +166,24 @@ def nested(m, number, depth):
 def pieces(m, heading, n, depth):
     it = m.items[n]
     name = "  " * (depth - 1) + m.parts[it.part].name
-    return heading, n, name, it.quantity, it.batch, it.serial, it.status, where(m, it.place), ""
+    return heading, n, it.part, name, it.quantity, it.batch, it.serial, it.status, where(m, it.place), ""
 
 
 def part(m, number):
     it = m.parts[number]
-    yield "kind number name quantity more".split()
+    yield "kind number part name quantity more".split()
     words = [flag for flag in FLAGS if flag in it.flags] + ["retired"] * it.retired
-    yield "part", number, it.name, "", " ".join(words)
+    yield "part", number, "", it.name, "", " ".join(words)
     _, *sums = ledger(m, number)
     sums = dict(sums)
     came = " + ".join(f"{name} {sums[name]}" for name in ("received", "found", "built", "returned"))
     went = " + ".join(f"{name} {sums[name]}" for name in ("present", "consumed", "shipped"))
-    yield "sums", "", "", sums["present"], f"{came} = {went} + written off {sums['written']}"
+    yield "sums", "", "", "", sums["present"], f"{came} = {went} + written off {sums['written']}"
     yield from bill(m, number, 1)
     for n, name in where_used(m, number):
-        yield "used in", n, name, "", ""
+        yield "used in", n, "", name, "", ""
     for n in items_of(m, number):
-        yield "item", n, m.items[n].status, m.items[n].quantity, where(m, m.items[n].place)
+        yield "item", n, "", m.items[n].status, m.items[n].quantity, where(m, m.items[n].place)
 
 
 def bill(m, number, depth):
@@ -189,10 +191,11 @@ def bill(m, number, depth):
     for n in m.effective(number) if depth <= 16 else ():
         line = m.lines[n]
         words = [name for name in LINE_FLAGS if line[name]]
-        yield "line", n, "  " * (depth - 1) + m.parts[line.component].name, line.quantity, " ".join(words)
+        name = "  " * (depth - 1) + m.parts[line.component].name
+        yield "line", n, line.component, name, line.quantity, " ".join(words)
         for other, it in sorted(m.substitutes.items()):
             if it.line == n:
-                yield "substitute", other, "  " * (depth - 1) + m.parts[it.part].name, "", ""
+                yield "substitute", other, it.part, "  " * (depth - 1) + m.parts[it.part].name, "", ""
         yield from bill(m, line.component, depth + 1)
 
 

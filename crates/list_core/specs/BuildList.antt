@@ -23,7 +23,8 @@ build_state_name Complete = codes "complete"
 abbrev pub build_header : List (List ℕ)
 build_header =
     codes "build" ∷ codes "part" ∷ codes "name" ∷ codes "state" ∷ codes "wanted" ∷ codes "done" ∷ codes "line"
-    ∷ codes "component" ∷ codes "required" ∷ codes "allocated" ∷ codes "missing" ∷ codes "free" ∷ []
+    ∷ codes "component" ∷ codes "component name" ∷ codes "required" ∷ codes "allocated" ∷ codes "missing"
+    ∷ codes "free" ∷ []
 
 -- what is said of the build itself
 abbrev pub build_fields : State → Build → List (List ℕ)
@@ -36,12 +37,13 @@ build_fields s build =
     ∷ decimal build.done
     ∷ []
 
--- a line of its bill that counts: its component's name, what is required, allocated and missing, and what is free of the
--- component
+-- a line of its bill that counts: its component, by number and by name, what is required, allocated and missing, and what
+-- is free of the component
 abbrev pub build_line_row : State → Build → Shortage → List (List ℕ)
 build_line_row s build row =
     build_fields s build
     ++ (decimal row.line
+    ∷ decimal row.component
     ∷ name_of (part_in row.component s.parts)
     ∷ decimal row.required
     ∷ decimal row.allocated
@@ -51,7 +53,7 @@ build_line_row s build row =
 
 -- a build that wants nothing
 abbrev pub bare_build_row : State → Build → List (List ℕ)
-bare_build_row s build = build_fields s build ++ ([] ∷ [] ∷ [] ∷ [] ∷ [] ∷ [] ∷ [])
+bare_build_row s build = build_fields s build ++ ([] ∷ [] ∷ [] ∷ [] ∷ [] ∷ [] ∷ [] ∷ [])
 
 -- the rows of a build that wants this
 abbrev pub build_rows_by : State → Build → List Shortage → Lines

@@ -19,19 +19,21 @@ use Rattle.list_core.specs.Ways.{way_text}
 
 abbrev pub item_header : List (List ℕ)
 item_header =
-    codes "kind" ∷ codes "number" ∷ codes "name" ∷ codes "quantity" ∷ codes "batch" ∷ codes "serial" ∷ codes "status"
-    ∷ codes "where" ∷ codes "day" ∷ []
+    codes "kind" ∷ codes "number" ∷ codes "part" ∷ codes "name" ∷ codes "quantity" ∷ codes "batch" ∷ codes "serial"
+    ∷ codes "status" ∷ codes "where" ∷ codes "day" ∷ []
 
 -- where something is: of a location its way
 abbrev pub where_text : State → Place → List ℕ
 where_text s (At location) = way_text (Some location) s.stock.locations
 where_text s place = place_text place
 
--- an item under that heading, its part's name after two spaces for each item that it lies in here
+-- an item under that heading, with its part by number and by name, the name after two spaces for each item that it lies
+-- in here
 abbrev pub item_fields : List ℕ → State → Item × ℕ → List (List ℕ)
 item_fields heading s node =
     heading
     ∷ decimal node.0.number
+    ∷ decimal node.0.part
     ∷ indented node.1 (name_of (part_in node.0.part s.parts))
     ∷ decimal node.0.quantity
     ∷ text_or_empty node.0.lot.batch
@@ -46,6 +48,7 @@ abbrev pub history_fields : State → Entry → List (List ℕ)
 history_fields s entry =
     codes "history"
     ∷ decimal entry.number
+    ∷ []
     ∷ kind_name entry.note.kind
     ∷ decimal entry.note.quantity
     ∷ []

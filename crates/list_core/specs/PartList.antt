@@ -22,7 +22,8 @@ use Rattle.list_core.specs.PlaceList.{indented}
 use Rattle.report_core.specs.WhereUsed.{uses}
 
 abbrev pub part_header : List (List ℕ)
-part_header = codes "kind" ∷ codes "number" ∷ codes "name" ∷ codes "quantity" ∷ codes "more" ∷ []
+part_header =
+    codes "kind" ∷ codes "number" ∷ codes "part" ∷ codes "name" ∷ codes "quantity" ∷ codes "more" ∷ []
 
 -- words with a space between two
 abbrev pub spaced : List (List ℕ) → List ℕ
@@ -39,6 +40,7 @@ abbrev pub part_row : Part → List (List ℕ)
 part_row part =
     codes "part"
     ∷ decimal part.number
+    ∷ []
     ∷ part.name
     ∷ []
     ∷ spaced (flag_words part.flags ++ word_if part.retired (codes "retired"))
@@ -65,7 +67,7 @@ abbrev pub equation : Sums → List ℕ
 equation sums = came sums ++ (codes " = " ++ went sums)
 
 abbrev pub sums_row : Sums → List (List ℕ)
-sums_row sums = codes "sums" ∷ [] ∷ [] ∷ decimal sums.present ∷ equation sums ∷ []
+sums_row sums = codes "sums" ∷ [] ∷ [] ∷ [] ∷ decimal sums.present ∷ equation sums ∷ []
 
 -- what a line of a bill asks for
 abbrev pub line_words : LineFlags → List (List ℕ)
@@ -75,11 +77,12 @@ line_words flags =
     ++ (word_if flags.inherited (codes "inherited")
     ++ word_if flags.variants (codes "variants")))
 
--- a line of a bill: its component, so deep in the bill, and how many go into one piece
+-- a line of a bill: its component, by number and, so deep in the bill, by name, and how many go into one piece
 abbrev pub line_row : State → ℕ → Line → List (List ℕ)
 line_row s depth line =
     codes "line"
     ∷ decimal line.number
+    ∷ decimal line.component
     ∷ indented depth (name_of (part_in line.component s.parts))
     ∷ decimal line.quantity
     ∷ spaced (line_words line.flags)
@@ -90,6 +93,7 @@ abbrev pub substitute_row : State → ℕ → Substitute → List (List ℕ)
 substitute_row s depth substitute =
     codes "substitute"
     ∷ decimal substitute.number
+    ∷ decimal substitute.part
     ∷ indented depth (name_of (part_in substitute.part s.parts))
     ∷ []
     ∷ []
@@ -107,12 +111,18 @@ bill_rows (suc d) s depth part =
 
 -- a part that contains it
 abbrev pub used_row : Part → List (List ℕ)
-used_row part = codes "used in" ∷ decimal part.number ∷ part.name ∷ [] ∷ [] ∷ []
+used_row part = codes "used in" ∷ decimal part.number ∷ [] ∷ part.name ∷ [] ∷ [] ∷ []
 
 -- an item of it, and where that is
 abbrev pub piece_row : State → Item → List (List ℕ)
 piece_row s x =
-    codes "item" ∷ decimal x.number ∷ status_name x.lot.status ∷ decimal x.quantity ∷ where_text s x.place ∷ []
+    codes "item"
+    ∷ decimal x.number
+    ∷ []
+    ∷ status_name x.lot.status
+    ∷ decimal x.quantity
+    ∷ where_text s x.place
+    ∷ []
 
 -- the part, its sums, its bill down to 16 levels, the parts that contain it, and its items that aren't gone; none where
 -- there is no such part

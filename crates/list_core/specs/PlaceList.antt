@@ -35,8 +35,8 @@ items_under top stock = filter (lies_under top stock) (table.values stock.items)
 
 abbrev pub place_header : List (List ℕ)
 place_header =
-    codes "way" ∷ codes "depth" ∷ codes "item" ∷ codes "part" ∷ codes "quantity" ∷ codes "free" ∷ codes "batch"
-    ∷ codes "serial" ∷ codes "status" ∷ []
+    codes "way" ∷ codes "depth" ∷ codes "item" ∷ codes "part" ∷ codes "name" ∷ codes "quantity" ∷ codes "free"
+    ∷ codes "batch" ∷ codes "serial" ∷ codes "status" ∷ []
 
 -- two spaces for each item that it lies in, before the name of its part
 abbrev pub indented : ℕ → List ℕ → List ℕ
@@ -48,6 +48,7 @@ placed_row s node =
     way_text (location_of node.0.place) s.stock.locations
     ∷ decimal node.1
     ∷ decimal node.0.number
+    ∷ decimal node.0.part
     ∷ indented node.1 (name_of (part_in node.0.part s.parts))
     ∷ decimal node.0.quantity
     ∷ decimal (free_of s node.0)

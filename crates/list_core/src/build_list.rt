@@ -51,6 +51,7 @@ fn header(alloc: Global) -> Result<Vec<String>, AllocError>
             "done",
             "line",
             "component",
+            "component name",
             "required",
             "allocated",
             "missing",
@@ -82,6 +83,7 @@ fn want_fields(
     requires { AreFree (state_of shop.now) (now_of found.now) }
     ensures { IfOk result (λ row. fields_of row ≡
         decimal want.now.line
+        ∷ decimal want.now.component
         ∷ name_of (part_in want.now.component (state_of shop.now).parts)
         ∷ decimal want.now.required
         ∷ decimal want.now.allocated
@@ -90,12 +92,13 @@ fn want_fields(
         ∷ []) }
 {
     let line = number_field(alloc, want.line)?;
-    let component = name_field(alloc, shop.catalogue(), want.component)?;
+    let component = number_field(alloc, want.component)?;
+    let name = name_field(alloc, shop.catalogue(), want.component)?;
     let required = amount_field(alloc, want.required)?;
     let allocated = amount_field(alloc, want.allocated)?;
     let missing = amount_field(alloc, want.missing)?;
     let free = amount_field(alloc, free_in(shop, found, want.component)?)?;
-    Ok(vec![in alloc; line, component, required, allocated, missing, free]?)
+    Ok(vec![in alloc; line, component, name, required, allocated, missing, free]?)
 }
 
 /// The row of what a build wants of a line.
@@ -121,7 +124,7 @@ fn bare_build_row(alloc: Global, shop: &Shop, build: &Build) -> Result<Vec<Strin
     ensures { IfOk result (λ row. fields_of row ≡ bare_build_row (state_of shop.now) build.now) }
 {
     let mut row = build_fields(alloc, shop, build)?;
-    push_empty(alloc, &mut row, 6)?;
+    push_empty(alloc, &mut row, 7)?;
     Ok(row)
 }
 

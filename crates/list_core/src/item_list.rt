@@ -53,7 +53,8 @@ fn item_header(alloc: Global) -> Result<Vec<String>, AllocError>
     words_line(
         alloc,
         &[
-            "kind", "number", "name", "quantity", "batch", "serial", "status", "where", "day",
+            "kind", "number", "part", "name", "quantity", "batch", "serial", "status", "where",
+            "day",
         ],
     )
 }
@@ -71,8 +72,9 @@ fn item_fields(
 {
     let heading = String::from_str(alloc, heading)?;
     let number = number_field(alloc, item.number)?;
+    let part = number_field(alloc, item.part)?;
     let name = name_field(alloc, shop.catalogue(), item.part)?;
-    let part = indented(alloc, depth, name.as_str())?;
+    let name = indented(alloc, depth, name.as_str())?;
     let quantity = number_field(alloc, item.quantity)?;
     let batch = batch_field(alloc, &item.lot.batch)?;
     let serial = serial_field(alloc, &item.lot.serial)?;
@@ -80,11 +82,11 @@ fn item_fields(
     let place = where_field(alloc, shop, item.place)?;
     let day = String::new(alloc);
     Ok(vec![in alloc;
-        heading, number, part, quantity, batch, serial, status, place, day,
+        heading, number, part, name, quantity, batch, serial, status, place, day,
     ]?)
 }
 
-/// An entry's row. It has no batch, serial or status.
+/// An entry's row. It has no part, batch, serial or status.
 fn history_fields(alloc: Global, shop: &Shop, entry: &Entry) -> Result<Vec<String>, AllocError>
     ensures { IfOk result (λ line. fields_of line
         ≡ history_fields (state_of shop.now) entry.now) }
@@ -92,6 +94,7 @@ fn history_fields(alloc: Global, shop: &Shop, entry: &Entry) -> Result<Vec<Strin
     let note = entry.note;
     let heading = String::from_str(alloc, "history")?;
     let number = number_field(alloc, entry.number)?;
+    let part = String::new(alloc);
     let kind = String::from_str(alloc, kind_name(note.kind))?;
     let quantity = number_field(alloc, note.quantity)?;
     let batch = String::new(alloc);
@@ -100,7 +103,7 @@ fn history_fields(alloc: Global, shop: &Shop, entry: &Entry) -> Result<Vec<Strin
     let place = where_field(alloc, shop, note.place)?;
     let day = entry.day.text(alloc)?;
     Ok(vec![in alloc;
-        heading, number, kind, quantity, batch, serial, status, place, day,
+        heading, number, part, kind, quantity, batch, serial, status, place, day,
     ]?)
 }
 

@@ -71,7 +71,10 @@ pub(crate) fn line_words(alloc: Global, flags: LineFlags) -> Result<Vec<&'static
 fn part_header(alloc: Global) -> Result<Vec<String>, AllocError>
     ensures { IfOk result (λ line. fields_of line ≡ part_header) }
 {
-    words_line(alloc, &["kind", "number", "name", "quantity", "more"])
+    words_line(
+        alloc,
+        &["kind", "number", "part", "name", "quantity", "more"],
+    )
 }
 
 /// The part's own row, with its flags, and whether it is retired.
@@ -80,12 +83,13 @@ fn part_row(alloc: Global, part: &Part) -> Result<Vec<String>, AllocError>
 {
     let kind = String::from_str(alloc, "part")?;
     let number = number_field(alloc, part.number)?;
+    let own = String::new(alloc);
     let name = String::from_str(alloc, part.name.as_str())?;
     let quantity = String::new(alloc);
     let mut words = part.flags.words(alloc)?;
     push_word_if(&mut words, part.retired, "retired")?;
     let more = spaced(alloc, words.as_slice())?;
-    Ok(vec![in alloc; kind, number, name, quantity, more]?)
+    Ok(vec![in alloc; kind, number, own, name, quantity, more]?)
 }
 
 /// What came in of a part.
@@ -133,10 +137,11 @@ fn sums_row(alloc: Global, sums: &Sums) -> Result<Vec<String>, AllocError>
 {
     let kind = String::from_str(alloc, "sums")?;
     let number = String::new(alloc);
+    let part = String::new(alloc);
     let name = String::new(alloc);
     let quantity = amount_field(alloc, sums.present)?;
     let more = equation(alloc, sums)?;
-    Ok(vec![in alloc; kind, number, name, quantity, more]?)
+    Ok(vec![in alloc; kind, number, part, name, quantity, more]?)
 }
 
 /// The row of a line of a bill that stands so deep in the part's bill.
@@ -145,12 +150,13 @@ fn line_row(alloc: Global, shop: &Shop, depth: u64, line: &Line) -> Result<Vec<S
 {
     let kind = String::from_str(alloc, "line")?;
     let number = number_field(alloc, line.number)?;
-    let component = name_field(alloc, shop.catalogue(), line.component)?;
-    let name = indented(alloc, depth, component.as_str())?;
+    let part = number_field(alloc, line.component)?;
+    let name = name_field(alloc, shop.catalogue(), line.component)?;
+    let name = indented(alloc, depth, name.as_str())?;
     let quantity = number_field(alloc, line.quantity)?;
     let words = line_words(alloc, line.flags)?;
     let more = spaced(alloc, words.as_slice())?;
-    Ok(vec![in alloc; kind, number, name, quantity, more]?)
+    Ok(vec![in alloc; kind, number, part, name, quantity, more]?)
 }
 
 /// The row of a substitute on a line that stands so deep in the part's bill.
@@ -165,11 +171,12 @@ fn substitute_row(
 {
     let kind = String::from_str(alloc, "substitute")?;
     let number = number_field(alloc, substitute.number)?;
-    let part = name_field(alloc, shop.catalogue(), substitute.part)?;
-    let name = indented(alloc, depth, part.as_str())?;
+    let part = number_field(alloc, substitute.part)?;
+    let name = name_field(alloc, shop.catalogue(), substitute.part)?;
+    let name = indented(alloc, depth, name.as_str())?;
     let quantity = String::new(alloc);
     let more = String::new(alloc);
-    Ok(vec![in alloc; kind, number, name, quantity, more]?)
+    Ok(vec![in alloc; kind, number, part, name, quantity, more]?)
 }
 
 /// Adds a row for each of the substitutes.
@@ -250,10 +257,11 @@ fn used_row(alloc: Global, part: &Part) -> Result<Vec<String>, AllocError>
 {
     let kind = String::from_str(alloc, "used in")?;
     let number = number_field(alloc, part.number)?;
+    let own = String::new(alloc);
     let name = String::from_str(alloc, part.name.as_str())?;
     let quantity = String::new(alloc);
     let more = String::new(alloc);
-    Ok(vec![in alloc; kind, number, name, quantity, more]?)
+    Ok(vec![in alloc; kind, number, own, name, quantity, more]?)
 }
 
 /// Adds a row for each of the parts.
@@ -273,10 +281,11 @@ fn piece_row(alloc: Global, shop: &Shop, item: &Item) -> Result<Vec<String>, All
 {
     let kind = String::from_str(alloc, "item")?;
     let number = number_field(alloc, item.number)?;
+    let part = String::new(alloc);
     let status = String::from_str(alloc, item.lot.status.word())?;
     let quantity = number_field(alloc, item.quantity)?;
     let place = where_field(alloc, shop, item.place)?;
-    Ok(vec![in alloc; kind, number, status, quantity, place]?)
+    Ok(vec![in alloc; kind, number, part, status, quantity, place]?)
 }
 
 /// Adds a row for each of the items that isn't gone.

@@ -70,15 +70,16 @@ fn placed_row(
     let way = way_field(alloc, shop.yard().locations(), location_of(item.place))?;
     let level = number_field(alloc, depth)?;
     let number = number_field(alloc, item.number)?;
+    let part = number_field(alloc, item.part)?;
     let name = name_field(alloc, shop.catalogue(), item.part)?;
-    let part = indented(alloc, depth, name.as_str())?;
+    let name = indented(alloc, depth, name.as_str())?;
     let quantity = number_field(alloc, item.quantity)?;
     let free = amount_field(alloc, free_of(shop, item))?;
     let batch = batch_field(alloc, &item.lot.batch)?;
     let serial = serial_field(alloc, &item.lot.serial)?;
     let status = String::from_str(alloc, item.lot.status.word())?;
     Ok(vec![in alloc;
-        way, level, number, part, quantity, free, batch, serial, status,
+        way, level, number, part, name, quantity, free, batch, serial, status,
     ]?)
 }
 
@@ -117,7 +118,7 @@ fn place_header(alloc: Global) -> Result<Vec<String>, AllocError>
     words_line(
         alloc,
         &[
-            "way", "depth", "item", "part", "quantity", "free", "batch", "serial", "status",
+            "way", "depth", "item", "part", "name", "quantity", "free", "batch", "serial", "status",
         ],
     )
 }

@@ -170,13 +170,13 @@ fn lists_stock(rt: HostRuntime) -> Result<(), Fail> {
     tells(alloc, &shop, Listing::Stock(Some(0)), [STOCK].as_slice())
 }
 
-const PLACE: &'static str = "way\tdepth\titem\tpart\tquantity\tfree\tbatch\tserial\tstatus";
+const PLACE: &'static str = "way\tdepth\titem\tpart\tname\tquantity\tfree\tbatch\tserial\tstatus";
 
-const BIN_12: &'static str = "Hall / Shelf / Bin A-1\t1\t12\tScrew\t10\t1\tA-1\t\tOK";
+const BIN_12: &'static str = "Hall / Shelf / Bin A-1\t1\t12\t7\tScrew\t10\t1\tA-1\t\tOK";
 
-const SHELF_13: &'static str = "Hall / Shelf\t1\t13\tMotor A-1\t1\t0\t\tA-1\tOK";
+const SHELF_13: &'static str = "Hall / Shelf\t1\t13\t8\tMotor A-1\t1\t0\t\tA-1\tOK";
 
-const SHELF_21: &'static str = "Hall / Shelf\t1\t21\tScrew\t8\t8\t\t\tOK";
+const SHELF_21: &'static str = "Hall / Shelf\t1\t21\t7\tScrew\t8\t8\t\t\tOK";
 
 /// What lies in an item stands below it, and has no way of its own.
 #[test]
@@ -191,9 +191,9 @@ fn lists_what_lies_at_a_location(rt: HostRuntime) -> Result<(), Fail> {
             PLACE,
             BIN_12,
             SHELF_13,
-            "Hall\t1\t14\tRobot\t1\t1\t\tA-10\tOK",
-            "\t2\t15\t  Motor A-1\t1\t0\t\tM-2\tOK",
-            "Hall\t1\t18\tScrew\t6\t0\t\t\tQuarantined",
+            "Hall\t1\t14\t9\tRobot\t1\t1\t\tA-10\tOK",
+            "\t2\t15\t8\t  Motor A-1\t1\t0\t\tM-2\tOK",
+            "Hall\t1\t18\t7\tScrew\t6\t0\t\t\tQuarantined",
             SHELF_21,
         ]
         .as_slice(),
@@ -208,12 +208,12 @@ fn lists_what_lies_at_a_location(rt: HostRuntime) -> Result<(), Fail> {
         alloc,
         &shop,
         Listing::At(6),
-        [PLACE, "Yard\t1\t16\tScrew\t5\t5\t\t\tDamaged"].as_slice(),
+        [PLACE, "Yard\t1\t16\t7\tScrew\t5\t5\t\t\tDamaged"].as_slice(),
     )?;
     finds_nothing(alloc, &shop, Listing::At(7))
 }
 
-const PART: &'static str = "kind\tnumber\tname\tquantity\tmore";
+const PART: &'static str = "kind\tnumber\tpart\tname\tquantity\tmore";
 
 /// An output is an item of its part too, but isn't present.
 #[test]
@@ -226,13 +226,13 @@ fn lists_what_there_is_of_a_part(rt: HostRuntime) -> Result<(), Fail> {
         Listing::Part(7),
         [
             PART,
-            "part\t7\tScrew\t\tcomponent purchaseable salable",
-            "sums\t\t\t29\treceived 8 + found 24 + built 0 + returned 0 = present 29 + consumed 0 + shipped 0 + written off 3",
-            "used in\t9\tRobot\t\t",
-            "item\t12\tOK\t10\tHall / Shelf / Bin A-1",
-            "item\t16\tDamaged\t5\tYard",
-            "item\t18\tQuarantined\t6\tHall",
-            "item\t21\tOK\t8\tHall / Shelf",
+            "part\t7\t\tScrew\t\tcomponent purchaseable salable",
+            "sums\t\t\t\t29\treceived 8 + found 24 + built 0 + returned 0 = present 29 + consumed 0 + shipped 0 + written off 3",
+            "used in\t9\t\tRobot\t\t",
+            "item\t12\t\tOK\t10\tHall / Shelf / Bin A-1",
+            "item\t16\t\tDamaged\t5\tYard",
+            "item\t18\t\tQuarantined\t6\tHall",
+            "item\t21\t\tOK\t8\tHall / Shelf",
         ]
         .as_slice(),
     )?;
@@ -242,19 +242,19 @@ fn lists_what_there_is_of_a_part(rt: HostRuntime) -> Result<(), Fail> {
         Listing::Part(9),
         [
             PART,
-            "part\t9\tRobot\t\tassembly trackable salable",
-            "sums\t\t\t1\treceived 0 + found 1 + built 0 + returned 0 = present 1 + consumed 0 + shipped 0 + written off 0",
-            "line\t10\tScrew\t6\t",
-            "line\t11\tMotor A-1\t2\t",
-            "item\t14\tOK\t1\tHall",
-            "item\t31\tOK\t1\toutput 29",
+            "part\t9\t\tRobot\t\tassembly trackable salable",
+            "sums\t\t\t\t1\treceived 0 + found 1 + built 0 + returned 0 = present 1 + consumed 0 + shipped 0 + written off 0",
+            "line\t10\t7\tScrew\t6\t",
+            "line\t11\t8\tMotor A-1\t2\t",
+            "item\t14\t\tOK\t1\tHall",
+            "item\t31\t\tOK\t1\toutput 29",
         ]
         .as_slice(),
     )?;
     finds_nothing(alloc, &shop, Listing::Part(14))
 }
 
-const ITEM: &'static str = "kind\tnumber\tname\tquantity\tbatch\tserial\tstatus\twhere\tday";
+const ITEM: &'static str = "kind\tnumber\tpart\tname\tquantity\tbatch\tserial\tstatus\twhere\tday";
 
 /// An item that is gone still has its history.
 #[test]
@@ -267,9 +267,9 @@ fn lists_what_there_is_of_an_item(rt: HostRuntime) -> Result<(), Fail> {
         Listing::Item(14),
         [
             ITEM,
-            "item\t14\tRobot\t1\t\tA-10\tOK\tHall\t",
-            "inside\t15\t  Motor A-1\t1\t\tM-2\tOK\tin 14\t",
-            "history\t3\tfound\t1\t\t\t\tHall\t2030-01-02",
+            "item\t14\t9\tRobot\t1\t\tA-10\tOK\tHall\t",
+            "inside\t15\t8\t  Motor A-1\t1\t\tM-2\tOK\tin 14\t",
+            "history\t3\t\tfound\t1\t\t\t\tHall\t2030-01-02",
         ]
         .as_slice(),
     )?;
@@ -279,9 +279,9 @@ fn lists_what_there_is_of_an_item(rt: HostRuntime) -> Result<(), Fail> {
         Listing::Item(15),
         [
             ITEM,
-            "item\t15\tMotor A-1\t1\t\tM-2\tOK\tin 14\t",
-            "history\t4\tfound\t1\t\t\t\tHall / Shelf\t2030-01-02",
-            "history\t5\tinstalled\t1\t\t\t\tin 14\t2030-01-02",
+            "item\t15\t8\tMotor A-1\t1\t\tM-2\tOK\tin 14\t",
+            "history\t4\t\tfound\t1\t\t\t\tHall / Shelf\t2030-01-02",
+            "history\t5\t\tinstalled\t1\t\t\t\tin 14\t2030-01-02",
         ]
         .as_slice(),
     )?;
@@ -291,9 +291,9 @@ fn lists_what_there_is_of_an_item(rt: HostRuntime) -> Result<(), Fail> {
         Listing::Item(17),
         [
             ITEM,
-            "item\t17\tScrew\t0\tOld\t\tOK\tgone\t",
-            "history\t8\tfound\t3\t\t\t\tYard\t2030-01-02",
-            "history\t9\twritten\t3\t\t\t\toff removed\t2030-01-02",
+            "item\t17\t7\tScrew\t0\tOld\t\tOK\tgone\t",
+            "history\t8\t\tfound\t3\t\t\t\tYard\t2030-01-02",
+            "history\t9\t\twritten\t3\t\t\t\toff removed\t2030-01-02",
         ]
         .as_slice(),
     )?;
@@ -328,18 +328,18 @@ fn lists_orders(rt: HostRuntime) -> Result<(), Fail> {
 }
 
 const BUILDS: &'static str =
-    "build\tpart\tname\tstate\twanted\tdone\tline\tcomponent\trequired\tallocated\tmissing\tfree";
+    "build\tpart\tname\tstate\twanted\tdone\tline\tcomponent\tcomponent name\trequired\tallocated\tmissing\tfree";
 
 /// A cancelled build wants nothing.
 #[test]
 fn lists_builds(rt: HostRuntime) -> Result<(), Fail> {
     let alloc = rt.alloc();
     let shop = filled(alloc)?;
-    let screws = "29\t9\tRobot\tin production\t3\t0\t10\tScrew\t18\t5\t13\t14";
-    let motors = "29\t9\tRobot\tin production\t3\t0\t11\tMotor A-1\t6\t1\t5\t0";
-    let more_screws = "33\t9\tRobot\tpending\t1\t0\t10\tScrew\t6\t0\t6\t14";
-    let more_motors = "33\t9\tRobot\tpending\t1\t0\t11\tMotor A-1\t2\t0\t2\t0";
-    let cancelled = "34\t9\tRobot\tcancelled\t5\t0\t\t\t\t\t\t";
+    let screws = "29\t9\tRobot\tin production\t3\t0\t10\t7\tScrew\t18\t5\t13\t14";
+    let motors = "29\t9\tRobot\tin production\t3\t0\t11\t8\tMotor A-1\t6\t1\t5\t0";
+    let more_screws = "33\t9\tRobot\tpending\t1\t0\t10\t7\tScrew\t6\t0\t6\t14";
+    let more_motors = "33\t9\tRobot\tpending\t1\t0\t11\t8\tMotor A-1\t2\t0\t2\t0";
+    let cancelled = "34\t9\tRobot\tcancelled\t5\t0\t\t\t\t\t\t\t";
     tells(
         alloc,
         &shop,
