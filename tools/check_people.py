@@ -140,7 +140,8 @@ REASONS = [
     ({"do": "remove", "day": DAY, "item": 3, "quantity": 1000},
      "Short: item 3 (Screw, A, 100, 100 free, OK), quantity 1000. There is less than that;"),
     ({"do": "retire_part", "day": DAY, "part": 9}, "NoSuch: part 9 (no such row). A number, or a key,"),
-    ({"do": "add_part", "day": DAY, "name": "Screw", "flags": []}, "NameTaken: name Screw. Another part has the name,"),
+    ({"do": "add_part", "day": DAY, "name": "Screw", "flags": []},
+     "NameTaken: name Screw, flags none. Another part has the name,"),
     ({"do": "transfer", "day": DAY, "item": 3, "location": 1, "quantity": 0},
      "BadNumber: item 3 (Screw, A, 100, 100 free, OK), location 1 (A), quantity 0. A quantity is 0"),
     ({"do": "merge", "day": DAY, "into": 3, "items": [3, 7]},
@@ -188,11 +189,10 @@ def try_reasons(program, top):
     named = json.dumps({"do": "found", "day": DAY, "part": "Nut", "location": "A", "quantity": 7}) + "\n"
     told = run(program, "run", "--names", "--explain", lines=named).stderr
     expect(told.startswith('line 1: part: NoName: "Nut". Nothing is called so.'), f"a name: {told!r}")
-    lots = [{"do": "found", "day": DAY, "part": 2, "location": 1, "quantity": 5, **lot} for lot in ({"batch": "L1"}, {})]
-    lines = [*ORDERED[:2], *lots, {"do": "merge", "day": DAY, "into": 3, "items": [4]}]
-    told = run(program, "run", "--explain", lines="".join(json.dumps(line) + "\n" for line in lines)).stderr
-    wanted = "line 5: Mismatch: into 3 (Screw, batch L1, A, 5, 5 free, OK), items 4 (Screw, A, 5, 5 free, OK). "
-    expect(told.startswith(wanted), f"of batches: {told!r}")
+    for lines, front in REFUSED:
+        told = run(program, "run", "--explain", lines="".join(json.dumps(line) + "\n" for line in lines)).stderr
+        wanted = f"line {len(lines)}: {front}"
+        expect(told.startswith(wanted), f"{told!r} is told, and not {wanted!r}")
     master, slave = pty.openpty()
     with subprocess.Popen([program, "run"], stdin=subprocess.PIPE, stdout=subprocess.PIPE, stderr=slave) as typed:
         typed.communicate(b"[1]\n", timeout=10)
@@ -224,6 +224,23 @@ ORDERED = [
     {"do": "issue_order", "day": DAY, "order": 3},
     {"do": "found", "day": DAY, "part": 2, "location": 1, "quantity": 100},
     {"do": "found", "day": DAY, "part": 2, "location": 1, "quantity": 50},
+]
+FOUND = {"do": "found", "day": DAY, "part": 2, "location": 1, "quantity": 5}
+TRACKED = {**FOUND, "key": "K", "quantity": 2, "serials": "M1,M2"}
+# Lines of which the last is refused, each with what is told of that.
+REFUSED = [
+    ([*ORDERED[:2], {**FOUND, "batch": "L1"}, FOUND, {"do": "merge", "day": DAY, "into": 3, "items": [4]}],
+     "Mismatch: into 3 (Screw, batch L1, A, 5, 5 free, OK), items 4 (Screw, A, 5, 5 free, OK). "),
+    ([*ORDERED[:5], ORDERED[4]], "WrongState: order 3 (purchase, in progress, M, 9 of Screw outstanding). "),
+    ([ORDERED[0], {**ORDERED[1], "flags": ["trackable"]}, TRACKED, {**TRACKED, "key": "L", "serials": "M1,M3"}],
+     "SerialTaken: part 2 (Screw, trackable), location 1 (A), quantity 2, 2 serials, serial M1 is taken. "),
+    ([ORDERED[0], {**ORDERED[1], "flags": ["trackable"]}, TRACKED, {**TRACKED, "serials": "M3,M4"}],
+     'KeyTaken: key K was used for {"batch":null,"do":"found","location":1,"part":2,"quantity":2,'
+     '"serials":["M1","M2"]}, part 2 (Screw, trackable), location 1 (A), quantity 2, 2 serials. '),
+    ([*ORDERED[:2], {"do": "add_part", "day": DAY, "flags": ["assembly"], "name": "Lamp"},
+      {"do": "add_line", "day": DAY, "assembly": 3, "component": 2, "quantity": 4},
+      {"do": "build", "day": DAY, "part": 3, "quantity": 2}, {"do": "complete_build", "day": DAY, "build": 5}],
+     "WrongState: build 5 (Lamp, pending, 2 wanted, 0 done, 8 of Screw missing). "),
 ]
 
 
@@ -302,8 +319,8 @@ def main():
         try_reasons(program, top)
         try_loose(program, top)
         sheets = try_sheet(program, top)
-    count = len(texts) + len(texts + named)
-    print(f"check_people: {count} texts, each with --stop, with --check and with both, {len(REASONS)} reasons, "
+    count, reasons = len(texts) + len(texts + named), len(REASONS) + len(REFUSED)
+    print(f"check_people: {count} texts, each with --stop, with --check and with both, {reasons} reasons, "
           f"{len(LOOSE)} deliveries that are read loosely, {sheets} sheets: all as it should be")
 
 

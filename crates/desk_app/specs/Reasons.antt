@@ -1,13 +1,11 @@
 -- Why a line or a row wasn't done, in words: what a person is told beside the answer.
 use Rattle.std.specs.Prelude.{◌≡◌, ℕ, List, [], ◌∷◌, ◌++◌, decimal, codes, Option, Some, None, option_map, string_bytes}
 use Rattle.std.specs.Prelude.{◌⊎◌, Bool, Result, Ok, Err}
-use Rattle.part_core.specs.FormTables.{forms_by}
 use Rattle.part_core.specs.Refusal.{refusal_name}
-use Rattle.desk_core.specs.CommandForms.{command_fields, command_forms, command_verb}
 use Rattle.desk_core.specs.Machine.{Outcome, State, step}
 use Rattle.desk_core.specs.declared.command.Request.{Request as Req}
-use Rattle.desk_core.specs.declared.command.Command.{Command}
-use Rattle.list_core.specs.Facts.{facts_of, row_fact}
+use Rattle.list_core.specs.Facts.{row_fact}
+use Rattle.list_core.specs.RequestFacts.{request_facts}
 use Rattle.report_core.specs.Lines.{Lines}
 use Rattle.report_core.specs.Reports.{report_lines}
 use Rattle.report_core.specs.declared.name.ReportName.{ReportName}
@@ -38,10 +36,6 @@ colons [] = []
 colons (w ∷ []) = w
 colons (w ∷ v ∷ vs) = w ++ (codes ": " ++ colons (v ∷ vs))
 
--- the facts of a command: each row that it names, as the tables have it, and what it asks for
-abbrev pub command_facts : State → Command → List ℕ
-command_facts s c = facts_of (forms_by command_forms) (command_verb c) (command_fields c) s
-
 -- the name of a field, where one is wrong
 abbrev pub field_words : Option WrongField → List (List ℕ)
 field_words None = []
@@ -64,12 +58,14 @@ fault_words place what field = colons (place ∷ (field_words field ++ (fault_na
 abbrev pub Begins : List ℕ → List ℕ → Type 0
 Begins front text = (more : List ℕ) × (text ≡ front ++ more)
 
--- What is told begins with the place, the answer's word and the facts in these books: of a request each row that it names
--- and what it asks for, of a report the row that it would be of, of a fault the field and what stands in it, of which a
--- terminal acts on nothing. Behind them stands what the word means.
+-- What is told begins with the place, the answer's word and the facts in these books: of a request what its key was used
+-- for, each row that it names, what it asks for, and which of its serials are taken, of a report the row that it would be
+-- of, of a fault the field and what stands in it, of which a terminal acts on nothing. Behind them stands what the word
+-- means.
 abbrev pub IsReason : State → Why → List ℕ → Type 0
 IsReason s (Refused place request refusal) text =
-    Begins (colons (place_text place ∷ refusal_name refusal ∷ command_facts s request.now.command ∷ [])) text
+    Begins (colons (place_text place ∷ refusal_name refusal
+    ∷ request_facts s request.now.key request.now.command ∷ [])) text
 IsReason s (NoReport line name of) text =
     Begins (colons (place_text (Line line) ∷ codes "NoSuch" ∷ row_fact s (codes "of") (table_of name) of ∷ [])) text
 IsReason s (FaultyLine names line fault) text =
@@ -95,7 +91,8 @@ Notes s why old new = Waits (IsReason s why) old new
 abbrev pub NotesOutcome : Place → Req → State × Outcome → List ℕ → List ℕ → Type 0
 NotesOutcome place request (s, Ok answer) old new = new ≡ old
 NotesOutcome place request (s, Err refusal) old new =
-    Waits (Begins (colons (place_text place ∷ refusal_name refusal ∷ command_facts s request.command ∷ []))) old new
+    Waits (Begins (colons (place_text place ∷ refusal_name refusal ∷ request_facts s request.key request.command ∷ [])))
+    old new
 
 -- of a line that asks for a report: of a row that isn't there, which row
 abbrev pub NotesReport : State → ℕ → ReportName → ℕ → Option Lines → List ℕ → List ℕ → Type 0

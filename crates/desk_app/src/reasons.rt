@@ -1,16 +1,17 @@
 //! What a person is told of a line or a row that wasn't done: where it stands, the word that was answered, the facts of the
-//! rows that it names, and what the word means.
+//! request, and what the word means.
 ghost use Rattle.std.specs.Prelude.{◌≡◌, ◌∷◌, ◌++◌, [], ℕ, List, codes, decimal, Option, option_map, IfOk};
 ghost use Rattle.std.specs.String.{string_bytes};
 ghost use Rattle.part_core.specs.Refusal.{refusal_name};
 ghost use Rattle.desk_core.specs.Naming.{naming_in};
 ghost use Rattle.desk_core.specs.ShopView.{state_of};
 ghost use Rattle.list_core.specs.Facts.{row_fact};
+ghost use Rattle.list_core.specs.RequestFacts.{request_facts};
 ghost use Rattle.desk_ends.specs.Escaped.{escaped};
 ghost use Rattle.desk_wire.specs.declared.fault.WrongField.{WrongField};
 ghost use Rattle.desk_wire.specs.Reading.{table_of};
 ghost use Rattle.desk_wire.specs.WrongFields.{wrong_in_line, TellsField};
-ghost use Rattle.desk_app.specs.Reasons.{colons, command_facts, fault_words, place_text, Begins, IsReason};
+ghost use Rattle.desk_app.specs.Reasons.{colons, fault_words, place_text, Begins, IsReason};
 ghost use Rattle.desk_app.specs.Runs.{naming};
 
 use crate::guesses::guess;
@@ -18,7 +19,7 @@ use crate::undone::{Place, Why};
 use desk_core::{Names, Request, Shop};
 use desk_ends::{escaped, guide_to};
 use desk_wire::{ImportKind, What, WireFault, WrongField, table_of, wrong_field};
-use list_core::{facts, row_fact};
+use list_core::{request_facts, row_fact};
 use part_core::{Id, Refusal};
 use report_core::ReportName;
 use std::alloc::{AllocError, Global};
@@ -63,10 +64,11 @@ fn why_refused(
     refusal: Refusal,
 ) -> Result<String, AllocError>
     ensures { IfOk result (λ text. Begins (colons (place_text place ∷ refusal_name refusal
-        ∷ command_facts (state_of shop.now) request.now.command ∷ [])) (string_bytes text)) }
+        ∷ request_facts (state_of shop.now) request.now.key request.now.command ∷ []))
+        (string_bytes text)) }
 {
     let (place, name) = (place_text(alloc, place)?, refusal.name());
-    let facts = facts(alloc, shop, &request.command)?;
+    let facts = request_facts(alloc, shop, request)?;
     let text = format!(in alloc; "{place}: {name}: {facts}")?;
     let meaning = meaning(alloc, name)?;
     followed(text, meaning.as_str())

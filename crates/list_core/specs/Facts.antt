@@ -1,5 +1,6 @@
 -- What a reason says of the rows that a command names, and of the amounts that it asks for: facts of the tables.
-use Rattle.std.specs.Prelude.{ℕ, List, [], ◌∷◌, ◌++◌, map, decimal, codes, Option, Some, None, option_map}
+use Rattle.std.specs.Prelude.{ℕ, nat_lt, ◌==◌, Bool, List, [], ◌∷◌, ◌++◌, length, map, filter, decimal, codes}
+use Rattle.std.specs.Prelude.{Option, Some, None, option_map}
 use Rattle.std.specs.FinMap as table
 use Rattle.part_core.specs.Catalogue.{category_in, part_in}
 use Rattle.part_core.specs.Flags.{flag_words}
@@ -23,13 +24,14 @@ use Rattle.alloc_core.specs.declared.purpose.Purpose.TheVariants.{Sale, Build}
 use Rattle.order_core.specs.declared.line.OrderLine.{OrderLine}
 use Rattle.order_core.specs.declared.order.Order.{Order}
 use Rattle.build_core.specs.declared.build.Build as builds
+use Rattle.build_core.specs.declared.shortage.Shortage.{Shortage}
 use Rattle.desk_core.specs.Machine.{State}
 use Rattle.list_core.specs.Amounts.{free_of}
-use Rattle.list_core.specs.BuildList.{build_state_name}
+use Rattle.list_core.specs.BuildList.{build_state_name, wants_of}
 use Rattle.report_core.specs.Fields.{name_of}
 use Rattle.list_core.specs.ItemList.{where_text}
 use Rattle.list_core.specs.OrderList.{order_state_name, outstanding}
-use Rattle.list_core.specs.PartList.{line_words, word_if}
+use Rattle.list_core.specs.PartList.{line_words, spaced, word_if}
 use Rattle.list_core.specs.Ways.{way_text}
 
 -- ---- words
@@ -43,6 +45,10 @@ commas (w ∷ v ∷ vs) = w ++ (codes ", " ++ commas (v ∷ vs))
 -- so many of something
 abbrev pub many : ℕ → List ℕ → List ℕ
 many n what = decimal n ++ (codes " " ++ what)
+
+-- so many of a part, as outstanding or missing
+abbrev pub many_of : ℕ → List ℕ → List ℕ → List ℕ
+many_of n part what = decimal n ++ (codes " of " ++ (part ++ (codes " " ++ what)))
 
 -- something with its number
 abbrev pub numbered : List ℕ → ℕ → List ℕ
@@ -90,6 +96,22 @@ item_words s item =
 abbrev pub order_words : Order → List (List ℕ)
 order_words order = side_name order.side ∷ order_state_name order.state ∷ order.partner ∷ []
 
+-- whether something of a line is outstanding
+abbrev pub is_left : Order → OrderLine → Bool
+is_left order line = nat_lt 0 (outstanding order line)
+
+-- how much of a line is
+abbrev pub left_fact : State → Order → OrderLine → List ℕ
+left_fact s order line =
+    many_of (outstanding order line) (name_of (part_in line.part s.parts)) (codes "outstanding")
+
+-- of an order: what is said of it, and what is outstanding of each of its lines of which something is, by number
+abbrev pub order_facts : State → Order → List (List ℕ)
+order_facts s order =
+    order_words order
+    ++ map (left_fact s order)
+    (filter (is_left order) (filter (λ l. l.order == order.number) (table.values s.order_lines)))
+
 -- what is said of the order that a line is of, and how many are still outstanding
 abbrev pub by_order : OrderLine → Option Order → List (List ℕ)
 by_order line None = []
@@ -112,6 +134,18 @@ build_words s build =
     ∷ many build.quantity (codes "wanted")
     ∷ many build.done (codes "done")
     ∷ []
+
+-- whether something is missing of what a build wants of a line
+abbrev pub is_missing : Shortage → Bool
+is_missing want = nat_lt 0 want.missing
+
+-- how much is
+abbrev pub missing_fact : State → Shortage → List ℕ
+missing_fact s want = many_of want.missing (name_of (part_in want.component s.parts)) (codes "missing")
+
+-- of a build: what is said of it, and what is missing of each line of which something is, by number
+abbrev pub build_facts : State → builds.Build → List (List ℕ)
+build_facts s build = build_words s build ++ map (missing_fact s) (filter is_missing (wants_of build.number s))
 
 abbrev pub output_words : Option ℕ → List (List ℕ)
 output_words None = []
@@ -137,9 +171,9 @@ row_words s table_of.Substitute n = option_map (substitute_words s) (table.get s
 row_words s table_of.Location n =
     option_map (λ _. way_text (Some n) s.stock.locations ∷ []) (table.get s.stock.locations (n ∷ []))
 row_words s table_of.Item n = option_map (item_words s) (table.get s.stock.items (n ∷ []))
-row_words s table_of.Order n = option_map order_words (table.get s.orders (n ∷ []))
+row_words s table_of.Order n = option_map (order_facts s) (table.get s.orders (n ∷ []))
 row_words s table_of.OrderLine n = option_map (order_line_words s) (table.get s.order_lines (n ∷ []))
-row_words s table_of.Build n = option_map (build_words s) (table.get s.builds (n ∷ []))
+row_words s table_of.Build n = option_map (build_facts s) (table.get s.builds (n ∷ []))
 row_words s table_of.Allocation n = option_map allocation_words (allocation_in n s.allocations)
 
 abbrev pub words_or_none : Option (List (List ℕ)) → List ℕ
@@ -156,8 +190,13 @@ row_fact s name kind n =
 abbrev pub text_fact : List ℕ → List ℕ → List ℕ
 text_fact name text = name ++ (codes " " ++ text)
 
--- A field of a command: each row that it names, an amount, a text, a status or a side. Of flags and serials nothing is
--- said.
+-- the words of flags, or that there are none
+abbrev pub words_or_nothing : List (List ℕ) → List ℕ
+words_or_nothing [] = codes "none"
+words_or_nothing (w ∷ ws) = spaced (w ∷ ws)
+
+-- A field of a command: each row that it names, an amount, a text, flags, a status, a side, or how many serials there
+-- are.
 abbrev pub field_facts : State → List ℕ → FieldKind → Field → List (List ℕ)
 field_facts s name kind.Number (field.Number n) = numbered name n ∷ []
 field_facts s name (kind.Row of) (field.Number n) = row_fact s name of n ∷ []
@@ -165,8 +204,11 @@ field_facts s name (kind.MaybeRow of) (field.MaybeNumber (Some n)) = row_fact s 
 field_facts s name (kind.Rows of) (field.Numbers ns) = map (row_fact s name of) ns
 field_facts s name kind.Text (field.Text text) = text_fact name text ∷ []
 field_facts s name kind.MaybeText (field.MaybeText (Some text)) = text_fact name text ∷ []
+field_facts s name kind.Flags (field.Flags flags) = text_fact name (words_or_nothing (flag_words flags)) ∷ []
 field_facts s name kind.Status (field.Status status) = text_fact name (status_name status) ∷ []
 field_facts s name kind.Side (field.Side side) = text_fact name (side_name side) ∷ []
+field_facts s name kind.Serials (field.Serials serials) = many (length serials) name ∷ []
+field_facts s name kind.MaybeSerials (field.MaybeSerials (Some serials)) = many (length serials) name ∷ []
 field_facts s name _ _ = []
 
 abbrev pub facts_from : State → Blanks → List Field → List (List ℕ)
@@ -178,5 +220,5 @@ facts_by s fields None = []
 facts_by s fields (Some form) = facts_from s form.fields fields
 
 -- the facts of a command of that verb with these fields, in the order of the verb's form
-abbrev pub facts_of : List Form → List ℕ → List Field → State → List ℕ
-facts_of forms verb fields s = commas (facts_by s fields (form_named verb forms))
+abbrev pub facts_of : List Form → List ℕ → List Field → State → List (List ℕ)
+facts_of forms verb fields s = facts_by s fields (form_named verb forms)

@@ -10,6 +10,7 @@ pub mod Listings
 pub mod OrderList
 pub mod PartList
 pub mod PlaceList
+pub mod RequestFacts
 pub mod ShortageList
 pub mod StockList
 pub mod Ways

@@ -168,7 +168,7 @@ fn push_rows_by(
 }
 
 /// What the build of that number still wants.
-fn wants_of(alloc: Global, shop: &Shop, number: u64) -> Result<Vec<Shortage>, AllocError>
+pub(crate) fn wants_of(alloc: Global, shop: &Shop, number: u64) -> Result<Vec<Shortage>, AllocError>
     ensures { IfOk result (λ wants. wants.items ≡ wants_of number (state_of shop.now)) }
 {
     shortages(

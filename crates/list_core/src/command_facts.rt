@@ -1,37 +1,43 @@
 //! Facts of the rows that a command names, for whoever is told why it was refused: the state of each row as the tables
 //! have it, and the amounts that were asked for.
-ghost use Rattle.std.specs.Prelude.{◌≡◌, ◌++◌, ◌∷◌, [], Some, codes, map, option_map, IfOk};
+ghost use Rattle.std.specs.Prelude.{◌≡◌, ◌++◌, ◌∷◌, [], Some, codes, filter, length, map, option_map};
+ghost use Rattle.std.specs.Prelude.{IfOk, OnOk};
 ghost use Rattle.std.specs.FinMap as table;
 ghost use Rattle.std.specs.String.{string_bytes};
 ghost use Rattle.part_core.specs.Catalogue.{part_in};
+ghost use Rattle.part_core.specs.Flags.{flag_words};
 ghost use Rattle.part_core.specs.Forms.{shown_fields};
 ghost use Rattle.part_core.specs.Sheet.{now_of};
 ghost use Rattle.alloc_core.specs.Allocations.{allocation_in};
 ghost use Rattle.desk_core.specs.ShopView.{state_of};
-ghost use Rattle.list_core.specs.Facts.{allocation_words, batch_words, build_words, by_order, commas, facts_from};
-ghost use Rattle.list_core.specs.Facts.{facts_of, field_facts, item_words, line_facts, lot_words, many, numbered};
-ghost use Rattle.list_core.specs.Facts.{order_line_words, order_words, output_words, part_words};
+ghost use Rattle.list_core.specs.Facts.{allocation_words, batch_words, build_facts, build_words, by_order, commas};
+ghost use Rattle.list_core.specs.Facts.{facts_from, facts_of, field_facts, is_left, is_missing, item_words};
+ghost use Rattle.list_core.specs.Facts.{left_fact, line_facts, lot_words, many, many_of, missing_fact, numbered};
+ghost use Rattle.list_core.specs.Facts.{order_facts, order_line_words, order_words, output_words, part_words};
 ghost use Rattle.list_core.specs.Facts.{purpose_words, row_fact, row_words, serial_words, substitute_words};
-ghost use Rattle.list_core.specs.Facts.{text_fact, words_or_none};
+ghost use Rattle.list_core.specs.Facts.{text_fact, words_or_none, words_or_nothing};
 ghost use Rattle.report_core.specs.Lines.{fields_of};
 ghost use Rattle.list_core.specs.Ways.{way_text};
 
 use crate::amounts::free_of;
-use crate::build_list::build_state_name;
+use crate::build_list::{build_state_name, wants_of};
 use crate::item_list::where_field;
 use crate::order_list::{order_state_name, outstanding};
-use crate::part_list::{line_words, push_word_if};
+use crate::part_list::{line_words, push_word_if, spaced};
 use crate::ways::way_field;
 use alloc_core::{OutputNumber, Purpose};
+use build_core::{Build, Shortage};
 use desk_core::Shop;
 use order_core::{Order, OrderLine};
-use part_core::{Batch, Field, FieldKind, Formed, Id, NamedRow, RowKind, Serial, Sheet, Worded};
+use part_core::{
+    Batch, Field, FieldKind, Flags, Formed, Id, NamedRow, RowKind, Serial, Sheet, Worded,
+};
 use report_core::fields::{name_field, number_field, words_line};
 use std::alloc::{AllocError, Global};
 use yard_core::Item;
 
 /// The texts with a comma between two.
-fn commas(alloc: Global, texts: &[String]) -> Result<String, AllocError>
+pub(crate) fn commas(alloc: Global, texts: &[String]) -> Result<String, AllocError>
     ensures { IfOk result (λ text. string_bytes text ≡ commas (map string_bytes texts.now)) }
 {
     let mut text = String::new(alloc);
@@ -51,6 +57,13 @@ fn many(alloc: Global, amount: u128, what: &str) -> Result<String, AllocError>
     ensures { IfOk result (λ text. string_bytes text ≡ many amount what.now) }
 {
     format!(in alloc; "{amount} {what}")
+}
+
+/// So many of a part.
+fn many_of(alloc: Global, amount: u128, part: &str, what: &str) -> Result<String, AllocError>
+    ensures { IfOk result (λ text. string_bytes text ≡ many_of amount part.now what.now) }
+{
+    format!(in alloc; "{amount} of {part} {what}")
 }
 
 /// Something with its number.
@@ -204,6 +217,67 @@ fn order_words(alloc: Global, order: &Order) -> Result<Vec<String>, AllocError>
     Ok(vec![in alloc; side, state, partner]?)
 }
 
+/// How much of a line is outstanding.
+fn left_fact(
+    alloc: Global,
+    shop: &Shop,
+    order: &Order,
+    line: &OrderLine,
+) -> Result<String, AllocError>
+    ensures { IfOk result (λ fact.
+        string_bytes fact ≡ left_fact (state_of shop.now) order.now line.now) }
+{
+    let part = name_field(alloc, shop.catalogue(), line.part)?;
+    let left = u128::from(outstanding(order, line));
+    many_of(alloc, left, part.as_str(), "outstanding")
+}
+
+/// Adds what is outstanding of each of the lines of which something is.
+fn push_left(
+    alloc: Global,
+    shop: &Shop,
+    order: &Order,
+    lines: &[&OrderLine],
+    facts: &mut Vec<String>,
+) -> Result<(), AllocError>
+    ensures { OnOk result (fields_of facts.new ≡ fields_of facts.old
+        ++ map (left_fact (state_of shop.now) order.now)
+        (filter (is_left order.now) (map (λ l. l.now) lines.now))) }
+{
+    for line in lines {
+        if outstanding(order, line) > 0 {
+            facts.push(left_fact(alloc, shop, order, line)?)?;
+        }
+    }
+    Ok(())
+}
+
+/// What is said of an order, and what is outstanding of its lines, in order of number. It looks at those alone.
+fn order_facts(alloc: Global, shop: &Shop, order: &Order) -> Result<Vec<String>, AllocError>
+    ensures { IfOk result (λ facts.
+        fields_of facts ≡ order_facts (state_of shop.now) order.now) }
+{
+    let mut facts = order_words(alloc, order)?;
+    let lines = shop.orders().lines_of(order.number)?;
+    push_left(alloc, shop, order, lines.as_slice(), &mut facts)?;
+    Ok(facts)
+}
+
+/// What is said of the order of that number, if there is one.
+fn order_row_words(
+    alloc: Global,
+    shop: &Shop,
+    number: Id,
+) -> Result<Option<Vec<String>>, AllocError>
+    ensures { IfOk result (λ words. let s = state_of shop.now in option_map fields_of words
+        ≡ option_map (order_facts s) (table.get s.orders (number ∷ []))) }
+{
+    let Some(order) = shop.orders().order(number) else {
+        return Ok(None);
+    };
+    Ok(Some(order_facts(alloc, shop, order)?))
+}
+
 /// What is said of the order that a line is of, and how many are still outstanding.
 fn by_order(alloc: Global, shop: &Shop, line: &OrderLine) -> Result<Vec<String>, AllocError>
     ensures { IfOk result (λ words. let s = state_of shop.now in fields_of words
@@ -244,19 +318,68 @@ fn order_line_words(
     Ok(Some(words))
 }
 
-/// What is said of the build of that number, if there is one: its part, its state, and how many are wanted and done.
-fn build_words(alloc: Global, shop: &Shop, number: Id) -> Result<Option<Vec<String>>, AllocError>
-    ensures { IfOk result (λ words. let s = state_of shop.now in option_map fields_of words
-        ≡ option_map (build_words s) (table.get s.builds (number ∷ []))) }
+/// What is said of a build itself: its part, its state, and how many are wanted and done.
+fn build_words(alloc: Global, shop: &Shop, build: &Build) -> Result<Vec<String>, AllocError>
+    ensures { IfOk result (λ words. fields_of words ≡ build_words (state_of shop.now) build.now) }
 {
-    let Some(build) = shop.builds().build(number) else {
-        return Ok(None);
-    };
     let part = name_field(alloc, shop.catalogue(), build.part)?;
     let state = String::from_str(alloc, build_state_name(build.state))?;
     let wanted = many(alloc, u128::from(build.quantity), "wanted")?;
     let done = many(alloc, u128::from(build.done), "done")?;
-    Ok(Some(vec![in alloc; part, state, wanted, done]?))
+    Ok(vec![in alloc; part, state, wanted, done]?)
+}
+
+/// How much is missing of what a build wants of a line.
+fn missing_fact(alloc: Global, shop: &Shop, want: &Shortage) -> Result<String, AllocError>
+    ensures { IfOk result (λ fact.
+        string_bytes fact ≡ missing_fact (state_of shop.now) want.now) }
+{
+    let part = name_field(alloc, shop.catalogue(), want.component)?;
+    many_of(alloc, want.missing, part.as_str(), "missing")
+}
+
+/// Adds what is missing of each of the lines of which something is.
+fn push_missing(
+    alloc: Global,
+    shop: &Shop,
+    wants: &[Shortage],
+    facts: &mut Vec<String>,
+) -> Result<(), AllocError>
+    ensures { OnOk result (fields_of facts.new ≡ fields_of facts.old
+        ++ map (missing_fact (state_of shop.now)) (filter is_missing wants.now)) }
+{
+    for want in wants {
+        if want.missing > 0 {
+            facts.push(missing_fact(alloc, shop, want)?)?;
+        }
+    }
+    Ok(())
+}
+
+/// What is said of a build, and what is missing of the lines of its bill, in order of number.
+fn build_facts(alloc: Global, shop: &Shop, build: &Build) -> Result<Vec<String>, AllocError>
+    ensures { IfOk result (λ facts.
+        fields_of facts ≡ build_facts (state_of shop.now) build.now) }
+{
+    let mut facts = build_words(alloc, shop, build)?;
+    let wants = wants_of(alloc, shop, build.number)?;
+    push_missing(alloc, shop, wants.as_slice(), &mut facts)?;
+    Ok(facts)
+}
+
+/// What is said of the build of that number, if there is one.
+fn build_row_words(
+    alloc: Global,
+    shop: &Shop,
+    number: Id,
+) -> Result<Option<Vec<String>>, AllocError>
+    ensures { IfOk result (λ words. let s = state_of shop.now in option_map fields_of words
+        ≡ option_map (build_facts s) (table.get s.builds (number ∷ []))) }
+{
+    let Some(build) = shop.builds().build(number) else {
+        return Ok(None);
+    };
+    Ok(Some(build_facts(alloc, shop, build)?))
 }
 
 /// An output of a build, where one is named.
@@ -334,12 +457,9 @@ fn row_words(
         RowKind::Substitute => substitute_words(alloc, shop, number),
         RowKind::Location => way_words(alloc, shop.yard().locations(), number),
         RowKind::Item => item_words(alloc, shop, number),
-        RowKind::Order => match shop.orders().order(number) {
-            Some(order) => Ok(Some(order_words(alloc, order)?)),
-            None => Ok(None),
-        },
+        RowKind::Order => order_row_words(alloc, shop, number),
         RowKind::OrderLine => order_line_words(alloc, shop, number),
-        RowKind::Build => build_words(alloc, shop, number),
+        RowKind::Build => build_row_words(alloc, shop, number),
         RowKind::Allocation => allocation_words(alloc, shop, number),
     }
 }
@@ -391,7 +511,36 @@ fn row_facts(
     Ok(facts)
 }
 
-/// What is said of a field of that name and kind: each row that it names, or an amount, a text, a status or a side.
+/// The words of flags, or that there are none.
+fn words_or_nothing(alloc: Global, words: &[&str]) -> Result<String, AllocError>
+    ensures { IfOk result (λ text.
+        string_bytes text ≡ words_or_nothing (map (λ w. w.now) words.now)) }
+{
+    if words.is_empty() {
+        return String::from_str(alloc, "none");
+    }
+    spaced(alloc, words)
+}
+
+/// A field of flags, with their words.
+fn flags_fact(alloc: Global, name: &str, flags: Flags) -> Result<String, AllocError>
+    ensures { IfOk result (λ fact.
+        string_bytes fact ≡ text_fact name.now (words_or_nothing (flag_words flags))) }
+{
+    let words = flags.words(alloc)?;
+    let words = words_or_nothing(alloc, words.as_slice())?;
+    text_fact(alloc, name, words.as_str())
+}
+
+/// A field of serials, with how many there are.
+fn count_fact(alloc: Global, name: &str, serials: &[Serial]) -> Result<String, AllocError>
+    ensures { IfOk result (λ fact. string_bytes fact ≡ many (length serials.now) name.now) }
+{
+    many(alloc, serials.len() as u128, name)
+}
+
+/// What is said of a field of that name and kind: each row that it names, or an amount, a text, flags, a status, a side,
+/// or how many serials there are.
 fn field_facts(
     alloc: Global,
     shop: &Shop,
@@ -414,6 +563,11 @@ fn field_facts(
         (FieldKind::Text, Field::Text(text))
         | (FieldKind::MaybeText, Field::MaybeText(Some(text))) => {
             text_fact(alloc, name, text.as_str())?
+        }
+        (FieldKind::Flags, Field::Flags(flags)) => flags_fact(alloc, name, *flags)?,
+        (FieldKind::Serials, Field::Serials(serials))
+        | (FieldKind::MaybeSerials, Field::MaybeSerials(Some(serials))) => {
+            count_fact(alloc, name, serials.as_slice())?
         }
         (FieldKind::Status, Field::Status(status)) => text_fact(alloc, name, status.word())?,
         (FieldKind::Side, Field::Side(side)) => text_fact(alloc, name, side.word())?,
@@ -440,17 +594,20 @@ fn facts_from(
     Ok(facts)
 }
 
-/// The facts of a command, in the order of its verb's form, with a comma between two: each row that it names, and each
-/// amount, text, status or side that it says. Of flags and serials nothing is said. An error is one of memory.
-pub fn facts<C: Formed>(alloc: Global, shop: &Shop, command: &C) -> Result<String, AllocError>
-    ensures { IfOk result (λ text. string_bytes text
+/// The facts of a command, in the order of its verb's form: each row that it names, each amount, text, status or side that
+/// it says, its flags, and how many serials it has. An error is one of memory.
+pub(crate) fn facts<C: Formed>(
+    alloc: Global,
+    shop: &Shop,
+    command: &C,
+) -> Result<Vec<String>, AllocError>
+    ensures { IfOk result (λ facts. fields_of facts
         ≡ facts_of C.forms_of (C.verb_of command.now) (C.fields_of command.now)
         (state_of shop.now)) }
 {
     let fields = command.fields(alloc)?;
     let Some(form) = C::form(command.verb()) else {
-        return Ok(String::new(alloc));
+        return Ok(Vec::new(alloc));
     };
-    let facts = facts_from(alloc, shop, form.fields, fields.as_slice())?;
-    commas(alloc, facts.as_slice())
+    facts_from(alloc, shop, form.fields, fields.as_slice())
 }

@@ -1,5 +1,5 @@
 //! Lists of what a shop has, each a report whose first line names its columns; and what the tables say of the rows that a
-//! command names.
+//! request names, of its key and of its serials.
 #![tactic(auto)]
 
 mod amounts;
@@ -14,11 +14,13 @@ mod lists;
 mod order_list;
 mod part_list;
 mod place_list;
+mod requests;
 mod rows;
 mod shortage_list;
 mod stock_list;
 mod ways;
 
-pub use command_facts::{facts, row_fact};
+pub use command_facts::row_fact;
 pub use listing::Listing;
 pub use lists::listed;
+pub use requests::request_facts;

@@ -26,7 +26,7 @@ use std::alloc::{AllocError, Global};
 use yard_core::{Item, Sums};
 
 /// The words with a space between two.
-fn spaced(alloc: Global, words: &[&str]) -> Result<String, AllocError>
+pub(crate) fn spaced(alloc: Global, words: &[&str]) -> Result<String, AllocError>
     ensures { IfOk result (λ text. string_bytes text ≡ spaced (map (λ w. w.now) words.now)) }
 {
     let mut text = String::new(alloc);

@@ -99,7 +99,8 @@ fn builds(alloc: Global) -> Result<Vec<Request>, Fail> {
     Ok(requests)
 }
 
-fn filled(alloc: Global) -> Result<Shop, Fail>
+/// The shop that all of these requests make.
+pub fn filled(alloc: Global) -> Result<Shop, Fail>
     ensures { IfOk result (λ shop. IsSoundState (state_of shop)) }
 {
     let mut shop = Shop::new(alloc, Limits::LARGEST);

@@ -166,15 +166,39 @@ pub fn found_batch(
     found_of(part, location, new)
 }
 
-/// A piece with a serial.
-pub fn found_one(alloc: Global, part: u64, location: u64, serial: &str) -> Result<Request, Fail> {
-    let serials = read_serials(alloc, serial).ok().ok_or("a serial")?;
-    let new = NewStock {
-        quantity: 1,
+/// So many pieces, with these serials.
+fn pieces(alloc: Global, quantity: u64, list: &str) -> Result<NewStock, Fail> {
+    let serials = read_serials(alloc, list).ok().ok_or("serials")?;
+    Ok(NewStock {
+        quantity,
         batch: None,
         serials: Some(Serials::new(serials)),
-    };
-    found_of(part, location, new)
+    })
+}
+
+/// Pieces with these serials.
+pub fn found_serials(
+    alloc: Global,
+    part: u64,
+    location: u64,
+    quantity: u64,
+    list: &str,
+) -> Result<Request, Fail> {
+    found_of(part, location, pieces(alloc, quantity, list)?)
+}
+
+/// A piece with a serial.
+pub fn found_one(alloc: Global, part: u64, location: u64, serial: &str) -> Result<Request, Fail> {
+    found_serials(alloc, part, location, 1, serial)
+}
+
+pub fn serialise(alloc: Global, item: u64, quantity: u64, list: &str) -> Result<Request, Fail> {
+    let serials = read_serials(alloc, list).ok().ok_or("serials")?;
+    of_stock(StockCommand::Serialise {
+        item,
+        quantity,
+        serials: Serials::new(serials),
+    })
 }
 
 pub fn remove(item: u64, quantity: u64) -> Result<Request, Fail> {
@@ -247,6 +271,21 @@ pub fn receive(line: u64, location: u64, quantity: u64) -> Result<Request, Fail>
     })
 }
 
+/// A piece with a serial comes by a line of a purchase.
+pub fn received_one(
+    alloc: Global,
+    line: u64,
+    location: u64,
+    serial: &str,
+) -> Result<Request, Fail> {
+    let new = pieces(alloc, 1, serial)?;
+    of_order(OrderCommand::Receive {
+        line,
+        location,
+        new,
+    })
+}
+
 pub fn allocate_sale(line: u64, item: u64, quantity: u64) -> Result<Request, Fail> {
     of_order(OrderCommand::AllocateSale {
         line,
@@ -287,12 +326,7 @@ pub fn cancel_build(build: u64) -> Result<Request, Fail> {
 
 /// Outputs with these serials.
 pub fn serialised(alloc: Global, build: u64, quantity: u64, list: &str) -> Result<Request, Fail> {
-    let serials = read_serials(alloc, list).ok().ok_or("serials")?;
-    let new = NewStock {
-        quantity,
-        batch: None,
-        serials: Some(Serials::new(serials)),
-    };
+    let new = pieces(alloc, quantity, list)?;
     of_build(BuildCommand::NewOutputs { build, new })
 }
 
