@@ -165,10 +165,11 @@ def terminal():
         return None
 
 
-def typed(program, path, lines, hand, seat):
+def typed(program, path, lines, ends, *words):
     """What the program writes to its output and to its screen where these lines are typed at a terminal."""
+    hand, seat = ends
     how = {"stdout": subprocess.PIPE, "stderr": subprocess.PIPE, "stdin": seat}
-    with subprocess.Popen([program, "run", "--names", "--db", path], **how) as process:
+    with subprocess.Popen([program, "run", "--names", *words, "--db", path], **how) as process:
         os.close(seat)
         os.write(hand, "".join(line + "\n" for line in lines).encode() + b"\x04")
         out, screen = process.communicate(timeout=20)
@@ -176,11 +177,11 @@ def typed(program, path, lines, hand, seat):
     return out.decode(), screen.decode(), process.returncode
 
 
-def try_terminal(program, path, ends):
+def try_terminal(program, path, ends, *words):
     report = '{"report":"stock","of":"Screw"}'
     wanted = run(program, "run", "--names", "--db", path, lines=report + "\n").stdout
     lines = ["help", report, "help found", "help Short", "help me", "help refusals"]
-    out, screen, status = typed(program, path, lines, *ends)
+    out, screen, status = typed(program, path, lines, ends, *words)
     expect((out, status) == (wanted, 0), f"a typed line is answered {out!r}")
     begins = [f"invdesk: {path} has 4 parts and 5 items. One request a line;", "> help\n",
               "> found\n  Fields:", "> Short\n", "> refusals\n",
@@ -225,6 +226,7 @@ def main():
         ends = terminal()
         if ends:
             try_terminal(program, path, ends)
+            try_terminal(program, path, terminal(), "--check")
             try_long(program, top, terminal())
     seen = "a terminal" if ends else "no terminal, as there is none here"
     absent = len(WRONG) + len(NONE)

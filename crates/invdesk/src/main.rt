@@ -326,6 +326,18 @@ fn greet<T: Display + Drop>(rt: &HostRuntime, books: T) {
     }
 }
 
+/// Greets whoever types the lines of a run on a desk, whose file is told by that name.
+fn greet_at<S: Alter>(rt: &HostRuntime, desk: &Desk<S>, name: &str) {
+    if let Ok(shop) = desk.shop() {
+        let parts = shop.catalogue().parts().len();
+        let items = shop.yard().items().len();
+        greet(
+            rt,
+            format_args!("{name} has {parts} parts and {items} items."),
+        );
+    }
+}
+
 /// A desk after work on it, and how the work ended. What wraps a desk twice leaves its store open: with that of files put
 /// in, its proof is too long.
 type Worked<S> = (Desk<S>, RunEnd);
@@ -344,14 +356,6 @@ fn run_on<S: Alter + Drop>(
     ensures desk { IsDesk S.Store result.0 }
     ensures runs { RunsOnDesk S.Store names stop desk result.0 result.1 }
 {
-    if let Ok(shop) = desk.shop() {
-        let parts = shop.catalogue().parts().len();
-        let items = shop.yard().items().len();
-        greet(
-            rt,
-            format_args!("{name} has {parts} parts and {items} items."),
-        );
-    }
     let watched = WatchedDesk::new(desk, name, "", rt.stderr());
     let mut explained = ExplainedBooks::new(rt.alloc(), watched, reasons(rt, explain));
     let (mut lines, mut writer) = (lines_in(rt), io::writer(rt));
@@ -380,7 +384,7 @@ fn check<B: Books>(
     ensures checks { ChecksInput names stop (B.failure_of books.old) (B.failure_of books.new)
         (B.may_leave books.new) (B.state_in books.old) (B.state_in books.new) result }
 {
-    match all_of(rt.alloc(), &mut rt.reader()) {
+    match all_of(rt.alloc(), &mut lines_in(rt)) {
         Ok(bytes) => {
             let end = run_checked(rt.alloc(), &bytes, &mut io::writer(rt), books, names, stop);
             if let Some(mut told) = reasons(rt, explain) {
@@ -426,6 +430,7 @@ fn answer_on<S: Alter + Drop>(
     ensures desk { IsDesk S.Store result.0 }
     ensures answers { AnswersOnDesk S.Store names stop check desk result.0 result.1 }
 {
+    greet_at(rt, &desk, name.as_str());
     if check {
         return check_on(rt, names, stop, explain, desk, name);
     }
@@ -630,10 +635,10 @@ fn check_in_memory(rt: &HostRuntime, names: bool, stop: bool, explain: bool) -> 
 fn answer_in_memory(rt: &HostRuntime, names: bool, stop: bool, check: bool, explain: bool) -> RunEnd
     ensures { AnswersInMemory names stop check result }
 {
+    greet(rt, "no file is named, so nothing is kept.");
     if check {
         return check_in_memory(rt, names, stop, explain);
     }
-    greet(rt, "no file is named, so nothing is kept.");
     run_in_memory(
         rt.alloc(),
         &mut lines_in(rt),
