@@ -1,5 +1,7 @@
 -- Equations between sums, part by part.
 use Rattle.std.specs.Prelude.{◌≡◌, ℕ, ◌+◌, ◌==◌, if◌then◌else◌, List, [], ◌∷◌, Option, Some, None}
+use Rattle.std.specs.BTreeMap as tree
+use Rattle.std.specs.Ordering.{nat_cmp}
 use Rattle.yard_core.specs.declared.opening.shares.Share.{Share}
 use Rattle.yard_core.specs.declared.opening.shares.Total.{Total}
 
@@ -21,3 +23,8 @@ Agree ss = (p : ℕ) → lefts p ss ≡ rights p ss
 abbrev pub total_or_none : Option Total → Total
 total_or_none None = record { left = 0; right = 0 }
 total_or_none (Some t) = t
+
+-- a table has what the shares add to the two sides for each part
+pub record AreTotals (totals : tree.BTreeMap ℕ Total) (ss : List Share) : Type 0 where
+  pub left : (p : ℕ) → (total_or_none (tree.get nat_cmp totals p)).left ≡ lefts p ss
+  pub right : (p : ℕ) → (total_or_none (tree.get nat_cmp totals p)).right ≡ rights p ss

@@ -6,10 +6,11 @@ ghost use Rattle.yard_core.specs.Shares.{Agree};
 ghost use Rattle.yard_core.specs.Equations.{AreBalanced, entry_share, is_counted, is_left};
 ghost use Rattle.yard_core.specs.Equations.{is_right, item_share, place_up, shares_of};
 
-use crate::opening::shares::{Share, agree};
+use crate::opening::shares::{Share, add_share, are_even};
 use crate::opening::trees::row_of;
 use forest::{Entry, Item, Kind, Place};
 use std::alloc::{AllocError, Global};
+use std::collections::BTreeMap;
 
 /// One of the three equations.
 #[derive(Clone, Copy)]
@@ -121,28 +122,8 @@ fn item_share(equation: Equation, rows: &[&Item], item: &Item) -> Share
     }
 }
 
-/// What the entries and the items add to the two sides. An error is one of memory.
-fn shares_of(
-    alloc: Global,
-    equation: Equation,
-    rows: &[&Item],
-    entries: &[Entry],
-) -> Result<Vec<Share>, AllocError>
-    requires { IsByNumber (map (λ x. x.now) rows.now) }
-    ensures { IfOk result (λ shares. shares.items ≡ shares_of equation
-        (map (λ x. x.now) rows.now) entries.now) }
-{
-    let mut shares = Vec::new(alloc);
-    for entry in entries {
-        shares.push(entry_share(equation, entry))?;
-    }
-    for item in rows {
-        shares.push(item_share(equation, rows, item))?;
-    }
-    Ok(shares)
-}
-
-/// Whether one of the equations holds for each part. An error is one of memory.
+/// Whether one of the equations holds for each part. It keeps two sums for each part that occurs, and no list of what
+/// is added. An error is one of memory.
 fn holds(
     alloc: Global,
     equation: Equation,
@@ -153,9 +134,14 @@ fn holds(
     ensures { IfOk result (λ same. IsTrue same ↔ Agree (shares_of equation
         (map (λ x. x.now) rows.now) entries.now)) }
 {
-    let shares = shares_of(alloc, equation, rows, entries)?;
-    let same = agree(alloc, shares.as_slice())?;
-    Ok(same)
+    let mut totals = BTreeMap::new(alloc);
+    for entry in entries {
+        add_share(&mut totals, entry_share(equation, entry))?;
+    }
+    for item in rows {
+        add_share(&mut totals, item_share(equation, rows, item))?;
+    }
+    Ok(are_even(&totals))
 }
 
 /// Whether the three equations hold for each part. An error is one of memory.

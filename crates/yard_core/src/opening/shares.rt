@@ -1,11 +1,11 @@
 //! Whether what goes in and what comes out is the same, part by part.
-ghost use Rattle.std.specs.Prelude.{◌≡◌, ◌↔◌, ℕ, IsTrue, IfOk};
+ghost use Rattle.std.specs.Prelude.{◌≡◌, ◌↔◌, ◌+◌, ◌++◌, ◌∷◌, [], List, IsTrue, IfOk, OnOk};
 ghost use Rattle.std.specs.Ordering.{nat_cmp};
 ghost use Rattle.std.specs.BTreeMap as tree;
-ghost use Rattle.yard_core.specs.Shares.{Agree, total_or_none};
+ghost use Rattle.yard_core.specs.Shares.{Agree, AreTotals, total_or_none};
 
 use part_core::Id;
-use std::alloc::{AllocError, Global};
+use std::alloc::AllocError;
 use std::collections::BTreeMap;
 
 /// What a row adds to the two sides of an equation for its part.
@@ -18,7 +18,7 @@ pub struct Share {
 
 /// The two sides for a part so far.
 #[derive(Clone, Copy)]
-struct Total {
+pub struct Total {
     left: u128,
     right: u128,
 }
@@ -33,25 +33,34 @@ fn total_of(totals: &BTreeMap<Id, Total>, part: Id) -> Total
     }
 }
 
-/// Whether the two sides are the same for each part. It keeps a pair of sums for each part that occurs. An error is
-/// one of memory.
-pub fn agree(alloc: Global, shares: &[Share]) -> Result<bool, AllocError>
-    ensures { IfOk result (λ same. IsTrue same ↔ Agree shares.now) }
+/// The sum of the two. An error stands for one beyond 128 bits, which no rows in memory come near.
+fn raised(sum: u128, amount: u64) -> Result<u128, AllocError>
+    ensures { IfOk result (λ raised. raised ≡ sum + amount) }
 {
-    let mut totals = BTreeMap::new(alloc);
-    for share in shares {
-        let more_left: u64 = share.left;
-        let more_right: u64 = share.right;
-        let before = total_of(&totals, share.part);
-        let left = before.left + u128::from(more_left);
-        let right = before.right + u128::from(more_right);
-        totals.insert(share.part, Total { left, right })?;
-    }
-    for share in shares {
-        let total = total_of(&totals, share.part);
+    sum.checked_add(u128::from(amount)).ok_or(AllocError)
+}
+
+/// Adds the share to the two sides for its part. An error is one of memory.
+pub fn add_share(totals: &mut BTreeMap<Id, Total>, share: Share) -> Result<(), AllocError>
+    ensures { OnOk result ((ss : List Share)
+        → AreTotals totals.old ss → AreTotals totals.new (ss ++ share ∷ [])) }
+{
+    let before = total_of(totals, share.part);
+    let left = raised(before.left, share.left)?;
+    let right = raised(before.right, share.right)?;
+    totals.insert(share.part, Total { left, right })?;
+    Ok(())
+}
+
+/// Whether the two sides are the same for each part, whatever shares these are the totals of.
+pub fn are_even(totals: &BTreeMap<Id, Total>) -> bool
+    ensures { (ss : List Share) → AreTotals totals.now ss → IsTrue result ↔ Agree ss }
+{
+    for part in totals.keys() {
+        let total = total_of(totals, *part);
         if total.left != total.right {
-            return Ok(false);
+            return false;
         }
     }
-    Ok(true)
+    true
 }
