@@ -15,7 +15,8 @@ file   20,000 and 40,000 finds and removals on a file, on a disk and on a memory
        kit's `sqlite` is proved and built in a folder of its own, in some minutes.
 history  Books of 100,000 and of 200,000 items with one entry each, and with five: how long they take to be opened,
        beside Python's sqlite3, which reads the same rows; what is held in memory then, and the most until then; the
-       history exported, and that of one item; and so how many bytes an entry takes, an item with one, and a key.
+       history exported, and that of one item. And how many bytes an entry takes, an item with one, and a key: by books
+       that requests made in memory, and once more by the files, whose opening leaves memory with the C library.
 http   2,000 and 20,000 finds by POST /run, a connection for each, in memory and with a file on a memory disk; and
        beside them, in the same run, as many requests to a server of Python's http.server that reads the body and does
        nothing. The client is a C program where there is a C compiler, so that little of what is timed is the client's;

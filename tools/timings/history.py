@@ -9,10 +9,12 @@ import tempfile
 import time
 
 from timings.file import DAY, START, found, measured, timed
+from timings.names import Clerk
 
 # Items, and entries on each of them.
 SIZES = ((100_000, 1), (200_000, 1), (100_000, 5), (200_000, 5))
 KEYED = 50_000
+KEY = '"key":"k{:05}",'
 
 
 def first_books(program, path, entries):
@@ -44,16 +46,40 @@ def many_books(program, path, items, entries):
     return path
 
 
+def memory_of(process):
+    """What the process holds in memory, and the most that it held until now, in KiB."""
+    status = pathlib.Path(f"/proc/{process.pid}/status").read_text()
+    told = dict(line.split(":", 1) for line in status.splitlines())
+    return tuple(int(told[name].split()[0]) for name in ("VmRSS", "VmHWM"))
+
+
 def held(program, path):
     """What the program holds in memory once it has opened the file, and the most that it held until then, in KiB."""
     with subprocess.Popen([program, "run", "--db", path], stdin=subprocess.PIPE, stdout=subprocess.PIPE) as child:
         child.stdin.write(b'{"report":"stock","of":1}\n')
         child.stdin.flush()
         child.stdout.readline()
-        status = pathlib.Path(f"/proc/{child.pid}/status").read_text()
+        told = memory_of(child)
         child.stdin.close()
-    told = dict(line.split(":", 1) for line in status.splitlines())
-    return tuple(int(told[name].split()[0]) for name in ("VmRSS", "VmHWM"))
+    return told
+
+
+def finds(items, key=""):
+    """Finds of so many items, whose requests have such keys or none."""
+    lines = (f'{{{DAY},{key.format(i)}"do":"found","location":1,"part":2,"quantity":10}}\n' for i in range(items))
+    return START + "".join(lines)
+
+
+def made(program, items, entries, key=""):
+    """What the program holds, in KiB, of books that requests made in memory: so many items, each with so many entries."""
+    clerk = Clerk(program)
+    clerk.send(finds(items, key).encode())
+    for _ in range(entries - 1):
+        taken = (f'{{{DAY},"do":"remove","item":{3 + i},"quantity":1}}\n' for i in range(items))
+        clerk.send("".join(taken).encode())
+    told, _ = memory_of(clerk.process)
+    clerk.end()
+    return told
 
 
 def read_by_python(path):
@@ -68,11 +94,23 @@ def read_by_python(path):
 
 
 def keyed_books(program, folder, key):
-    """Books of found items, whose requests have keys of six letters or none, and what the program holds of them."""
+    """What the program holds, in KiB, once it has opened a file of found items, whose requests have such keys or none."""
     path = str(folder / f"keyed-{bool(key)}.db")
-    lines = (f'{{{DAY},{key.format(i)}"do":"found","location":1,"part":2,"quantity":10}}\n' for i in range(KEYED))
-    timed(program, ("run", "--db", path), START + "".join(lines))
+    timed(program, ("run", "--db", path), finds(KEYED, key))
     return held(program, path)[0]
+
+
+def per_row(held_of, keyed, keyless):
+    """The bytes of an entry, of an item with one, and of a key, by what is held of books of these sizes, in KiB."""
+    (few, single), (many, _), _, (_, several) = SIZES
+    return tuple(
+        more * 1024 / rows
+        for more, rows in (
+            (held_of[many, several] - held_of[many, single], many * (several - single)),
+            (held_of[many, single] - held_of[few, single], many - few),
+            (keyed - keyless, KEYED),
+        )
+    )
 
 
 def time_history(program):
@@ -94,8 +132,14 @@ def time_history(program):
         print(f"    its history exported: {lines - seconds:.2f} s more, {most - peak} KiB above opening", flush=True)
         one, _ = measured(program, folder, ("report", "--db", path, "history", "3"))
         print(f"    the history of one item: {one - seconds:.2f} s more", flush=True)
-        (few, single), (many, _), _, (_, several) = SIZES
-        of_item = (rss[many, single] - rss[few, single]) * 1024 / (many - few)
-        of_entry = (rss[many, several] - rss[many, single]) * 1024 / (many * (several - single))
-        of_key = (keyed_books(program, folder, '"key":"k{:05}",') - keyed_books(program, folder, "")) * 1024 / KEYED
-        print(f"bytes of memory: {of_entry:.0f} an entry, {of_item:.0f} an item with one, {of_key:.0f} more for a key")
+        opened = per_row(rss, *(keyed_books(program, folder, key) for key in (KEY, "")))
+    grown = per_row({size: made(program, *size) for size in SIZES}, *(made(program, KEYED, 1, key) for key in (KEY, "")))
+    for told, of_books in (
+        (grown, "of books that requests made in memory"),
+        (opened, "of a file that was opened, with what the C library keeps of the opening"),
+    ):
+        of_entry, of_item, of_key = told
+        print(
+            f"bytes of memory, {of_books}: {of_entry:.0f} an entry, {of_item:.0f} an item with one, {of_key:.0f} more for"
+            " a key of six letters"
+        )
