@@ -1,6 +1,7 @@
 -- What the laws of a database tell of the tables that a connection over it finds.
-use Rattle.std.proofs.Common.{◌≡◌, ◌≢◌, ◌⊎◌, ◌<◌, ◌≤◌, ℕ, suc, List, [], ◌∷◌, Bool, true, false, IsTrue, inl, inr}
+use Rattle.std.proofs.Common.{◌≡◌, ◌≢◌, ◌<◌, ◌≤◌, ℕ, suc, List, [], ◌∷◌, Bool, true, false, IsTrue, inl, inr}
 use Rattle.std.proofs.Common.{Result, Ok, Err, IfOk, IfErr, refl, sym, ap, subst, ◌∙◌, arith}
+use Rattle.sqlite.specs.Held.{Held, IsConnected, state}
 use Rattle.sqlite.specs.State.{State, HasCleanDisk}
 use Rattle.sqlite.specs.Table.{Table}
 use Rattle.sqlite.specs.Schema.{Schema}
@@ -12,6 +13,7 @@ use Rattle.sqlite_rules.specs.Lists.{Has}
 use Rattle.sqlite_trees.specs.Objects.{catalog_tree, IsListed}
 use Rattle.sqlite_trees.specs.View.{View, doubt, IsClean, IsOrdered, IsShaped}
 use Rattle.sqlite_trees.specs.declared.store.Shape.TheVariants as shape
+use Rattle.sqlite_trees.specs.declared.store.Store.{Ghosts}
 use Rattle.table_store.specs.Opened.{IsForeign}
 use Rattle.table_store.specs.Schema.{IsOwn, desk_schema, old_schema, position, tree_number}
 use Rattle.table_store.specs.Values.{HasOldTables, HasTables}
@@ -36,6 +38,10 @@ pub open_if_sound : (is_open is_broken : Bool) → (is_open ≡ false → IsTrue
 open_if_sound true is_broken shut sound = refl
 open_if_sound false is_broken shut sound = let clash : true ≡ false = sym (shut refl) ∙ sound in cc
 
+-- what a connection keeps true of the database that it holds
+abbrev pub Connects : {S : Type 0} → Ghosts S → Held S → Type 0
+Connects g h = IsConnected (g.view h.store) (g.recovers h.store) h.schema h.saved h.in_transaction
+
 -- ---- the desk's tables
 
 abbrev IsPlaced : TableName → Type 0
@@ -57,10 +63,19 @@ placed Allocations = (_, inr (inr (inr (inr (inr (inr (inr (inr (inr (inr (inr (
 placed Kept = (_, inr (inr (inr (inr (inr (inr (inr (inr (inr (inr (inr (inr (inl refl)))))))))))), refl)
 placed Spent = (_, inr (inr (inr (inr (inr (inr (inr (inr (inr (inr (inr (inr (inr (inl refl))))))))))))), refl)
 
-abbrev AreShaped : State → Type 0
+abbrev pub AreShaped : State → Type 0
 AreShaped s = (table : Table) → Has s.now.schema.tables table → IsShaped shape.Table (s.now.trees table.tree)
 
-desk_shaped : (s : State) → s.now.schema ≡ desk_schema → AreShaped s → HasTables s
+-- an open connection's transaction isn't broken, so its database has them in order
+pub in_order : {S : Type 0} (g : Ghosts S) (h : Held S)
+    → ((s : S) → (g.view s).is_broken ≡ false → IsOrdered (g.view s).shape (g.view s).trees)
+    → ((s : S) → (g.view s).is_broken ≡ false → IsListed ((g.view s).trees catalog_tree) (g.view s).shape (g.view s).reals)
+    → Connects g h → IsTrue (state g h).is_open → AreShaped (state g h)
+in_order g h ordered listed connected is_open =
+    let it = connected.serves is_open in
+    tables_ordered (g.view h.store) h.schema (ordered h.store it.unbroken) (listed h.store it.unbroken) it.sound
+
+pub desk_shaped : (s : State) → s.now.schema ≡ desk_schema → AreShaped s → HasTables s
 desk_shaped s desk shaped = record {
   schema = desk;
   shaped = λ name.
@@ -89,7 +104,7 @@ placed_old Allocations low = (_, inr (inr (inr (inr (inr (inr (inr (inr (inr (in
 placed_old Kept low = (_, inr (inr (inr (inr (inr (inr (inr (inr (inr (inr (inr (inr (inl refl)))))))))))), refl)
 placed_old Spent low = absurd (omega (arith, low))
 
-old_shaped : (s : State) → s.now.schema ≡ old_schema → AreShaped s → HasOldTables s
+pub old_shaped : (s : State) → s.now.schema ≡ old_schema → AreShaped s → HasOldTables s
 old_shaped s old shaped = record {
   schema = old;
   shaped = λ name low.
@@ -97,12 +112,6 @@ old_shaped s old shaped = record {
       subst (λ t. IsShaped shape.Table (s.now.trees t)) it.2
       (shaped it.0 (subst (λ (d : Schema). Has d.tables it.0) (sym old) it.1));
 }
-
-either_shaped : (s : State) → IsOwn s.now.schema → AreShaped s → HasTables s ⊎ HasOldTables s
-either_shaped s own shaped = elim own [
-  | inl desk ↦ inl (desk_shaped s desk shaped)
-  | inr old ↦ inr (old_shaped s old shaped)
-]
 
 -- trees list one schema
 pub one_schema : (trees : Trees) (a b : Schema) → IsSound a trees → IsSound b trees → a ≡ b
@@ -133,17 +142,6 @@ module _ {C E : Type 0} (shows : C → State) where
       not_foreign trees (shows conn).now.schema (subst (IsSound (shows conn).now.schema) (is here) (sound here))
       (subst (λ x. IsOwn (shows x).now.schema) same desk)
   own_told (Err e) conn trees same desk sound is = tt
-
-  -- a connection whose schema was found to be one of the desk's has its tables
-  pub tables_told : (r : Result C E) (conn : C) → IfOk r (λ c. c ≡ conn)
-      → IfOk r (λ c. IsOwn (shows c).now.schema)
-      → (HasCleanDisk (shows conn) → (table : Table) → Has (shows conn).now.schema.tables table
-      → IsShaped shape.Table ((shows conn).now.trees table.tree))
-      → IfOk r (λ c. HasCleanDisk (shows c) → HasTables (shows c) ⊎ HasOldTables (shows c))
-  tables_told (Ok c) conn same own shaped =
-      λ clean.
-      either_shaped (shows c) own (subst (λ x. HasCleanDisk (shows x) → AreShaped (shows x)) (sym same) shaped clean)
-  tables_told (Err e) conn same own shaped = tt
 
   -- the trees of a connection that was handed on are those of its schema
   pub sound_told : (r : Result C E) (conn : C) → IfOk r (λ c. c ≡ conn)

@@ -1,17 +1,15 @@
 //! Whether a file's tables are the desk's.
 //!
 //! A database may be anyone's until its schema has been compared, table by table and column by column, with that which
-//! `create_tables` makes, and with that of version 1. A connection says nothing of the order of its rows: so a database is taken from it, and
-//! opened once more, by which what holds of the database's trees is known of the tables too.
+//! `create_tables` makes, and with that of version 1. What a connection keeps true of its database tells that the
+//! tables are in order, so a connection that answers is used as it is. One that doesn't gives its database up, which is
+//! opened once more: that reads all rows.
 ghost use Rattle.std.specs.Prelude.{◌≡◌, ◌↔◌, ◌⊎◌, ◌≤◌, false, IsTrue, IfOk, IfErr};
 ghost use Rattle.sqlite.specs.Held.{state};
 ghost use Rattle.sqlite.specs.State.{HasCleanDisk};
-ghost use Rattle.sqlite.specs.Table.{Table};
 ghost use Rattle.sqlite.specs.Tree.{Trees};
 ghost use Rattle.sqlite_catalog.specs.Listing.{IsSound};
-ghost use Rattle.sqlite_rules.specs.Lists.{Has};
-ghost use Rattle.sqlite_trees.specs.View.{doubt, IsClean, IsShaped};
-ghost use Rattle.sqlite_trees.specs.declared.store.Shape.TheVariants as shape;
+ghost use Rattle.sqlite_trees.specs.View.{doubt, IsClean};
 ghost use Rattle.sqlite.specs.Steps.{IsFresh};
 ghost use Rattle.table_store.specs.Opened.{IsAtRest, IsForeign, FailsToOpen};
 ghost use Rattle.table_store.specs.Schema.{IsOwn, desk_schema, old_schema, schema_up_to};
@@ -20,6 +18,7 @@ ghost use Rattle.table_store.specs.Values.{HasOldTables, HasTables};
 
 use crate::fault::{Failed, TableFault};
 use crate::shape::{is_old, odd_table};
+use crate::transaction::rollback;
 use sqlite::{Alter, Connection, Error, ErrorCode};
 use std::alloc::Global;
 
@@ -51,6 +50,8 @@ fn given_back<S: Alter + Drop>(conn: Connection<S>) -> S
         → IsFresh (S.Store.view result) }
     ensures trees { IsTrue (S.Store.view result).is_open
         → (S.Store.view result).trees ≡ (state S.Store conn).committed.trees }
+    ensures live { IsClean (S.Store.view result) → IsTrue (S.Store.view result).is_open
+        → IsTrue (state S.Store conn).is_open }
     ensures clean { doubt (state S.Store conn).is_clean ≤ doubt (S.Store.view result).is_clean }
     ensures left { (trees : Trees) → S.Store.recovers result trees
         → (state S.Store conn).may_leave trees }
@@ -58,7 +59,7 @@ fn given_back<S: Alter + Drop>(conn: Connection<S>) -> S
     conn.into_store()
 }
 
-/// A connection over the database, which tells that the trees of its tables are in order.
+/// A connection over the database, of which all rows are read and checked.
 fn opened<S: Alter + Drop>(alloc: Global, database: S) -> Result<Connection<S>, (TableFault, S)>
     requires { IsClean (S.Store.view database) → (S.Store.view database).is_broken ≡ false
         → IsFresh (S.Store.view database) }
@@ -66,9 +67,6 @@ fn opened<S: Alter + Drop>(alloc: Global, database: S) -> Result<Connection<S>, 
         → IsAtRest (state S.Store c)) }
     ensures sound { IfOk result (λ c. HasCleanDisk (state S.Store c)
         → IsSound (state S.Store c).now.schema (state S.Store c).now.trees) }
-    ensures shaped { IfOk result (λ c. HasCleanDisk (state S.Store c)
-        → (table : Table) → Has (state S.Store c).now.schema.tables table
-        → IsShaped shape.Table ((state S.Store c).now.trees table.tree)) }
     ensures live { IfOk result (λ c. HasCleanDisk (state S.Store c)
         → IsTrue (S.Store.view database).is_open) }
     ensures same { IfOk result (λ c. HasCleanDisk (state S.Store c)
@@ -78,6 +76,8 @@ fn opened<S: Alter + Drop>(alloc: Global, database: S) -> Result<Connection<S>, 
     ensures left { IfOk result (λ c. HasCleanDisk (state S.Store c) → (trees : Trees)
         → (state S.Store c).may_leave trees → S.Store.recovers database trees) }
     ensures fault { IfErr result (λ e. IsOfStore e.0) }
+    ensures unspoilt { IfErr result (λ e.
+        doubt (S.Store.view database).is_clean ≤ doubt (S.Store.view e.1).is_clean) }
     ensures kept { IfErr result (λ e. IsClean (S.Store.view e.1)
         → IsTrue (S.Store.view e.1).is_open
         → IsTrue (S.Store.view database).is_open
@@ -95,6 +95,35 @@ fn opened<S: Alter + Drop>(alloc: Global, database: S) -> Result<Connection<S>, 
     }
 }
 
+/// The connection with nothing begun: as it is where it answers, since another open reads all rows again, and opened
+/// once more where it doesn't.
+fn at_rest<S: Alter + Drop>(
+    alloc: Global,
+    mut conn: Connection<S>,
+) -> Result<Connection<S>, (TableFault, S)>
+    ensures rest { IfOk result (λ c. HasCleanDisk (state S.Store c)
+        → IsAtRest (state S.Store c)) }
+    ensures sound { IfOk result (λ c. HasCleanDisk (state S.Store c)
+        → IsSound (state S.Store c).now.schema (state S.Store c).now.trees) }
+    ensures same { IfOk result (λ c. HasCleanDisk (state S.Store c)
+        → (state S.Store c).now.trees ≡ (state S.Store conn).committed.trees) }
+    ensures clean { IfOk result (λ c. HasCleanDisk (state S.Store c)
+        → HasCleanDisk (state S.Store conn)) }
+    ensures left { IfOk result (λ c. HasCleanDisk (state S.Store c) → (trees : Trees)
+        → (state S.Store c).may_leave trees → (state S.Store conn).may_leave trees) }
+    ensures fault { IfErr result (λ e. IsOfStore e.0) }
+    ensures kept { IfErr result (λ e. IsClean (S.Store.view e.1)
+        → IsTrue (S.Store.view e.1).is_open
+        → (S.Store.view e.1).trees ≡ (state S.Store conn).committed.trees) }
+    ensures harmless { IfErr result (λ e. IsClean (S.Store.view e.1) → (trees : Trees)
+        → S.Store.recovers e.1 trees → (state S.Store conn).may_leave trees) }
+{
+    match rollback(&mut conn) {
+        Ok(()) => Ok(conn),
+        Err(_) => opened(alloc, given_back(conn)),
+    }
+}
+
 /// The connection, where its tables are the desk's, or those of version 1.
 fn compared<S: Alter + Drop>(conn: Connection<S>) -> Result<Connection<S>, (TableFault, S)>
     requires rest { HasCleanDisk (state S.Store conn) → IsAtRest (state S.Store conn) }
@@ -102,6 +131,8 @@ fn compared<S: Alter + Drop>(conn: Connection<S>) -> Result<Connection<S>, (Tabl
         → IsSound (state S.Store conn).now.schema (state S.Store conn).now.trees }
     ensures same { IfOk result (λ c. c ≡ conn) }
     ensures own { IfOk result (λ c. IsOwn (state S.Store c).now.schema) }
+    ensures tables { IfOk result (λ c. HasCleanDisk (state S.Store c)
+        → HasTables (state S.Store c) ⊎ HasOldTables (state S.Store c)) }
     ensures foreign { IfErr result (λ e. IsClean (S.Store.view e.1)
         → FailsToOpen (state S.Store conn).now.trees e.0) }
     ensures kept { IfErr result (λ e. IsClean (S.Store.view e.1)
@@ -122,9 +153,8 @@ fn compared<S: Alter + Drop>(conn: Connection<S>) -> Result<Connection<S>, (Tabl
     }
 }
 
-/// The connection opened once more, where its tables are the desk's, or those of version 1: `NoTable` where they are
-/// neither. What isn't committed is rolled back. The database that is handed back after a fault has the tables of the
-/// last commit.
+/// The connection, where its tables are the desk's, or those of version 1: `NoTable` where they are neither. What isn't
+/// committed is rolled back. The database that is handed back after a fault has the tables of the last commit.
 pub fn open_tables<S: Alter + Drop>(
     alloc: Global,
     conn: Connection<S>,
@@ -151,7 +181,7 @@ pub fn open_tables<S: Alter + Drop>(
     ensures harmless { IfErr result (λ e. IsClean (S.Store.view e.1) → (trees : Trees)
         → S.Store.recovers e.1 trees → (state S.Store conn).may_leave trees) }
 {
-    match opened(alloc, given_back(conn)) {
+    match at_rest(alloc, conn) {
         Ok(conn) => compared(conn),
         Err(failed) => Err(failed),
     }

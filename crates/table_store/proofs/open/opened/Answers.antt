@@ -1,24 +1,8 @@
 use Rattle.std.proofs.Common.{sym, ap, subst, ◌∙◌, arith}
-use Rattle.sqlite.specs.Held.{state}
 use Rattle.sqlite.specs.Effect.{Database}
-use Rattle.sqlite.specs.Tree.{Trees}
-use Rattle.sqlite_catalog.specs.Listing.{IsSound}
-use Rattle.sqlite_trees.specs.View.{IsClean, IsShaped}
-use Rattle.sqlite_trees.specs.declared.store.Shape.TheVariants as shape
-use Rattle.table_store.proofs.Opening.{tables_ordered, open_if_sound}
+use Rattle.sqlite_trees.specs.View.{IsClean}
+use Rattle.table_store.proofs.Opening.{open_if_sound}
 use Rattle.table_store.proofs.open.opened.Goals as goal
-
-pub returns-in-Ok-clause-shaped : goal.returns-in-Ok-clause-shaped
-returns-in-Ok-clause-shaped g c clean table there =
-    let database = c.args.database in
-    let sound = sym (c.if-is_broken.ensures (omega (arith, clean, c.in-Ok.ensures.clean))) in
-    let same = c.in-Ok.ensures.trees clean in
-    let opens = c.in-Ok.ensures.opens clean in
-    let schema = (state g.S.Store c.in-Ok.conn).now.schema in
-    let lists = subst (IsSound schema) same (opens.1 opens.0.is_open).0 in
-    subst (λ (trees : Trees). IsShaped shape.Table (trees table.tree)) (sym same)
-    (tables_ordered (g.S.Store.view database) schema (g.met.S.Store.ordered database sound)
-    (g.met.S.Alter.listed database sound) lists table there)
 
 pub returns-in-Ok-clause-left : goal.returns-in-Ok-clause-left
 returns-in-Ok-clause-left g c clean db leaves =
