@@ -26,6 +26,7 @@ impl<B: Books + Drop, W: Write + Drop> ExplainedBooks<B, W> {
     /// These books, of which nothing was told yet.
     pub fn new(alloc: Global, books: B, writer: Option<W>) -> Self
         ensures books { result.books ≡ books }
+        ensures writer { result.writer ≡ writer }
         ensures none { string_bytes result.waits ≡ [] }
     {
         ExplainedBooks {

@@ -1,6 +1,6 @@
 //! A desk whose fault of the database is told when it happens. The desk is closed then, and nothing more is done: so it is
 //! told once, with the file and the reason, to whoever reads the standard error.
-ghost use Rattle.std.specs.Prelude.{◌≡◌, true, None, IsSome};
+ghost use Rattle.std.specs.Prelude.{◌≡◌, true, false, None, IsSome};
 ghost use Rattle.sqlite.specs.Held.{state};
 ghost use Rattle.sqlite.specs.State.{HasCleanDisk};
 ghost use Rattle.desk_core.specs.ShopView.{state_of};
@@ -31,7 +31,11 @@ pub struct WatchedDesk<S: Alter, W> {
 impl<S: Alter, W: Write + Drop> WatchedDesk<S, W> {
     /// This desk, of whose fault nothing was told yet. The advice is what the line ends with.
     pub fn new(desk: Desk<S>, name: String, advice: &'static str, writer: W) -> Self
-        ensures { result.desk ≡ desk }
+        ensures desk { result.desk ≡ desk }
+        ensures name { result.name ≡ name }
+        ensures advice { result.advice.now ≡ advice.now }
+        ensures writer { result.writer ≡ writer }
+        ensures untold { result.told ≡ false }
     {
         WatchedDesk {
             desk,

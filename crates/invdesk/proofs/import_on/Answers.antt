@@ -7,7 +7,7 @@ use Rattle.invdesk.proofs.import_on.Goals as goal
 
 pub import-end-requires : goal.import-end-requires
 import-end-requires g c =
-    rw (c.new-counted.ensures.books, c.new-explained.ensures.books, c.new-watched.ensures) c.requires
+    rw (c.new-counted.ensures.books, c.new-explained.ensures.books, c.new-watched.ensures.desk) c.requires
 
 pub returns-clause-desk : goal.returns-clause-desk
 returns-clause-desk g c =
@@ -19,7 +19,7 @@ returns-clause-imports g c =
     (λ old new. ImportsFile c.args.loose c.args.names c.args.kind c.args.document.now c.args.day old.failed new.failed
     (may_leave g.S.Store new) (state_of old.shop) (state_of new.shop) c.import-end.result)
     (ap (λ explained. explained.books.desk) c.new-counted.ensures.books
-    ∙ (ap (λ watched. watched.desk) c.new-explained.ensures.books ∙ c.new-watched.ensures))
+    ∙ (ap (λ watched. watched.desk) c.new-explained.ensures.books ∙ c.new-watched.ensures.desk))
     (c.into_desk.ensures
     ∙ (ap (λ watched. watched.desk) c.into_books-2.ensures ∙ ap (λ explained. explained.books.desk) c.into_books.ensures))
     c.import-end.ensures.imports

@@ -8,7 +8,7 @@ use Rattle.invdesk.specs.Works.{may_leave}
 use Rattle.invdesk.proofs.serve_on.Goals as goal
 
 pub serve-end-requires : goal.serve-end-requires
-serve-end-requires c = rw (c.new-service.ensures.books, c.new-watched.ensures) c.requires
+serve-end-requires c = rw (c.new-service.ensures.books, c.new-watched.ensures.desk) c.requires
 
 pub returns-clause-desk : goal.returns-clause-desk
 returns-clause-desk c = rw c.into_desk.ensures c.serve-end.ensures.kept
@@ -17,7 +17,7 @@ pub returns-clause-serves : goal.returns-clause-serves
 returns-clause-serves c = record {
   before = c.new-service.result;
   after = c.serve-end.new.service;
-  was = ap (λ books. books.desk) c.new-service.ensures.books ∙ c.new-watched.ensures;
+  was = ap (λ books. books.desk) c.new-service.ensures.books ∙ c.new-watched.ensures.desk;
   is = sym c.into_desk.ensures;
   serves =
       subst (λ names. ServesClients {F = Failed} (λ watched. state_of watched.desk.shop)
