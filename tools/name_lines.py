@@ -2,8 +2,8 @@
 """Writes worked examples once more, with rows said by what they are called in the place of their numbers: a part by its
 name, a category or a location by its name or by the way to it from the top, an item by its part and its serial, and any
 other row, or an item that has no serial, by the key of the request that made it. A request that makes one row and has
-no key gets one. A number stays where the row has no such name, or none that is its alone. The answers are the same, so each
-`data/names/NAME.in` of the crate `worked_examples` has the answers of `data/NAME.out`.
+no key gets one. A number stays where the row has no such name, or none that is its alone. The answers are the same, so
+each `data/names/NAME.in` of the crate `worked_examples` has the answers of `data/NAME.out`.
 
 What stands in `data/names` alone is written by hand and has its answers beside it. All examples with names together say
 each field that says a row, of each command and of each report, in each form that such a row has, with the request done;

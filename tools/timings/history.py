@@ -71,7 +71,7 @@ def finds(items, key=""):
 
 
 def made(program, items, entries, key=""):
-    """What the program holds, in KiB, of books that requests made in memory: so many items, each with so many entries."""
+    """What the program holds, in KiB, of books in memory that requests made: so many items, and entries of each."""
     clerk = Clerk(program)
     clerk.send(finds(items, key).encode())
     for _ in range(entries - 1):
@@ -94,7 +94,7 @@ def read_by_python(path):
 
 
 def keyed_books(program, folder, key):
-    """What the program holds, in KiB, once it has opened a file of found items, whose requests have such keys or none."""
+    """What the program holds, in KiB, once it has opened a file of finds, whose requests have such keys or none."""
     path = str(folder / f"keyed-{bool(key)}.db")
     timed(program, ("run", "--db", path), finds(KEYED, key))
     return held(program, path)[0]
@@ -133,13 +133,15 @@ def time_history(program):
         one, _ = measured(program, folder, ("report", "--db", path, "history", "3"))
         print(f"    the history of one item: {one - seconds:.2f} s more", flush=True)
         opened = per_row(rss, *(keyed_books(program, folder, key) for key in (KEY, "")))
-    grown = per_row({size: made(program, *size) for size in SIZES}, *(made(program, KEYED, 1, key) for key in (KEY, "")))
+    grown = per_row(
+        {size: made(program, *size) for size in SIZES}, *(made(program, KEYED, 1, key) for key in (KEY, ""))
+    )
     for told, of_books in (
         (grown, "of books that requests made in memory"),
         (opened, "of a file that was opened, with what the C library keeps of the opening"),
     ):
         of_entry, of_item, of_key = told
         print(
-            f"bytes of memory, {of_books}: {of_entry:.0f} an entry, {of_item:.0f} an item with one, {of_key:.0f} more for"
-            " a key of six letters"
+            f"bytes of memory, {of_books}: {of_entry:.0f} an entry, {of_item:.0f} an item with one, {of_key:.0f} more"
+            " for a key of six letters"
         )
