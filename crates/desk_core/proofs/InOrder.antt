@@ -1,8 +1,9 @@
 -- The books of a sound state are in order, a sound state steps to one, and a refusal changes nothing.
 use Rattle.std.proofs.Common.{◌≡◌, ◌≤◌, ℕ, Bool, true, false, List, [], ◌∷◌, Option, Some, None, Err, refl, sym, ap}
-use Rattle.std.proofs.Common.{◌∙◌, subst, is_ok, true≢false}
+use Rattle.std.proofs.Common.{◌∙◌, subst, arith, is_ok, true≢false}
 use Rattle.std.specs.Prelude.{◌==◌, if◌then◌else◌, IsSome, IsSomeAnd, IfSome}
 use Rattle.std.specs.FinMap as table
+use Rattle.part_core.specs.Rows.{EachRow}
 use Rattle.part_core.specs.Sheet.{Table}
 use Rattle.part_core.specs.Catalogue.{Parts}
 use Rattle.part_core.specs.declared.answer.Answer.{Answer}
@@ -20,8 +21,9 @@ use Rattle.alloc_core.specs.Allocations.{allocated_for_line}
 use Rattle.build_core.specs.Builds.{BuildBooks, build_at}
 use Rattle.build_core.specs.Needs.{line_in, required}
 use Rattle.build_core.specs.Sound.{IsSoundFor}
-use Rattle.desk_core.specs.Books.{AreInOrder, HaveDrawnNumbers, RunsStaySound, StepsStaySound}
+use Rattle.desk_core.specs.Books.{AreInOrder, HaveDrawnNumbers, IsWithinWish, RunsStaySound, StepsStaySound}
 use Rattle.desk_core.specs.Machine.{State, IsSoundState, by_check, by_repeat, check, effect, repeated, step}
+use Rattle.desk_core.proofs.SpentInAll.{spent-in_all}
 use Rattle.desk_core.proofs.Steps.{step-sound}
 use Rattle.desk_core.specs.declared.command.Request.{Request}
 
@@ -81,6 +83,12 @@ needed-of : {parts : Parts} {bills : Bills} {b : BuildBooks} {item build line : 
     b.books.stock)
 needed-of h = (h.row, h.there, h.needed)
 
+within-wish : (s : State) → IsSoundState s → EachRow (IsWithinWish s) s.spent
+within-wish s sound k x is =
+    let spending = sound.builds.spending in
+    let h = spending.each k x is in
+    (h.row, h.there, omega (arith, spent-in_all s.spent s.counter.next spending.rows spending.once k x is, h.within))
+
 have_drawn_numbers : (s : State) → IsSoundState s → HaveDrawnNumbers s
 have_drawn_numbers s sound = record {
   categories = sound.bills.catalogue.categories;
@@ -107,7 +115,7 @@ in_order s sound = record {
   loose = λ k a is. (sound.allocations.each k a is).loose;
   ordered = λ k l is. (sound.orders.each_line k l is).needed;
   needed = λ k a is build line output for. needed-of (sound.builds.each_allocation k a is build line output for);
-  spent = λ k x is. (let h = sound.builds.spending.each k x is in (h.row, h.there, h.within));
+  spent = within-wish s sound;
   made = λ k b is. (sound.builds.each_build k b is).within;
   serials = sound.stock.once;
   acyclic = sound.bills.acyclic;

@@ -20,6 +20,7 @@ use Rattle.alloc_core.specs.declared.purpose.Purpose.TheVariants.{Build as For}
 use Rattle.stock_core.specs.Sound.{SerialsStandOnce}
 use Rattle.build_core.specs.Builds.{build_at}
 use Rattle.build_core.specs.Needs.{line_in, required, wanted_whole}
+use Rattle.build_core.specs.Spent.{spent_on}
 use Rattle.build_core.specs.declared.spent.Spent.{Spent}
 use Rattle.desk_core.specs.Key.{is_key}
 use Rattle.desk_core.specs.Machine.{State, IsSoundState, build_books_in, entries_in, run, step}
@@ -33,11 +34,11 @@ IsWithinNeed s a =
     × (allocated_for_line build line output s.allocations
     ≤ required row (build_at build (build_books_in s)) output s.spent s.stock)
 
--- what was spent on a line of a build is no more than it wants of the whole build
+-- what was spent on a line of a build: in all it is no more than the line wants of the whole build
 abbrev pub IsWithinWish : State → Spent → Type 0
 IsWithinWish s x =
     (row : Line) × (line_in x.line s.bills ≡ Some row)
-    × (x.quantity ≤ wanted_whole row (build_at x.build (build_books_in s)))
+    × (spent_on x.build x.line s.spent ≤ wanted_whole row (build_at x.build (build_books_in s)))
 
 -- what the item lies in, if it lies in an item, is there, has a serial and is one piece
 abbrev pub LiesInOne : State → Item → Type 0
