@@ -42,6 +42,10 @@ fewer-numbers k c e = go (lacks 1 c) refl
         (arith, ltb-true (c.limits.numbers + 1) (c.next + 1) f, ltb-false (c.limits.numbers + 1) (c.next + (1 + k)) e))
     go false f = refl
 
+-- the next number is none past the largest and the one behind it
+pub room-within : (k : ℕ) (b : StockBooks) → HasRoom k b → b.counter.next ≤ b.counter.limits.numbers + 1
+room-within k b room = omega (arith, ltb-false (b.counter.limits.numbers + 1) (b.counter.next + k) room.numbers)
+
 -- an entry at most
 few-made : (k : Kind) (q : Place) (n : Node) → length (make_change k q n).notes ≤ 1
 few-made k q n = go (is_at q)

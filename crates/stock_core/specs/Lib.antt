@@ -2,6 +2,7 @@ pub mod Add
 pub mod Arrives
 pub mod Count
 pub mod Disassemble
+pub mod Drawing
 pub mod Endings
 pub mod FloorView
 pub mod Found

@@ -1,16 +1,19 @@
 //! Stock that comes, and the new items that it is.
-ghost use Rattle.std.specs.Prelude.{◌≡◌, ◌≤◌, IfOk, IfSome, OnOk, length, not};
+ghost use Rattle.std.specs.Prelude.{◌≡◌, ◌≤◌, ◌+◌, IfOk, IfSome, OnErr, OnOk, length, not};
 ghost use Rattle.part_core.specs.Catalogue.{is_trackable, part_in};
 ghost use Rattle.part_core.specs.CatalogueView.{parts_of};
+ghost use Rattle.part_core.specs.Counter.{numbering_of};
 ghost use Rattle.forest.specs.Moves.{largest};
 ghost use Rattle.yard_core.specs.BooksView.{books_before, books_now};
 ghost use Rattle.yard_core.specs.Stock.{IsSound};
 ghost use Rattle.yard_core.specs.YardView.{stock_of};
 ghost use Rattle.stock_core.specs.Arrives.{HasRoom, IsArrival, count_of};
+ghost use Rattle.stock_core.specs.Drawing.{books_at};
 ghost use Rattle.stock_core.specs.Serials.{are_many, are_taken, given, is_other_count};
 ghost use Rattle.stock_core.specs.Steps.{make_each, make_new, make_one, new_item};
 
 use crate::serials::{are_many, are_taken, is_other_count};
+use alloc_core::draw_up_to;
 use part_core::{Batch, Catalogue, Day, Id, Quantity, Serial, Serials, Status};
 use std::alloc::{AllocError, Global};
 use yard_core::{Item, Kind, Lot, Place, Yard, YardBooks, copy_batch};
@@ -119,58 +122,64 @@ fn new_item(
     })
 }
 
-/// Makes a new item under the next number.
+/// Makes a new item under this number, after which the next one comes. None is drawn.
 fn make_one(
     books: &mut YardBooks,
+    next: &mut Id,
     arrival: Arrival,
     quantity: Quantity,
     batch: &Option<Batch>,
     serial: Option<Serial>,
     day: Day,
 ) -> Result<(), AllocError>
-    requires room { HasRoom 1 (books_now books.old) }
+    requires room { HasRoom 1 (books_at next.old books.old.yard books.old.counter) }
     requires arrival { IsArrival arrival }
     requires quantity { (1 ≤ quantity) × (quantity ≤ largest) × IfSome serial (λ _. quantity ≡ 1) }
-    ensures ok { OnOk result (books_now books.new
-        ≡ make_one arrival quantity batch.now serial day (books_now books.old)) }
+    ensures ok { OnOk result (books_at next.new books.new.yard books.new.counter
+        ≡ make_one arrival quantity batch.now serial day
+        (books_at next.old books.old.yard books.old.counter)) }
     ensures sound { OnOk result (IsSound (stock_of books.new.yard)) }
+    ensures from { next.old ≤ next.new }
+    ensures within { OnOk result (next.new ≤ books.new.counter.limits.numbers + 1) }
+    ensures undrawn { books.new.counter ≡ books.old.counter }
     ensures before { books_before books.new ≡ books_before books.old }
 {
-    let item = new_item(
-        books.alloc,
-        books.counter.next(),
-        arrival,
-        quantity,
-        batch,
-        serial,
-    )?;
+    let item = new_item(books.alloc, *next, arrival, quantity, batch, serial)?;
     books.yard.make(arrival.kind, item, day)?;
-    let _ = books.counter.draw();
+    // There is a number for it, so that the next is none past the largest.
+    let _ = books.counter.largest();
+    *next += 1;
     Ok(())
 }
 
-/// Makes a new item of a single piece for each serial, in their order.
+/// Makes a new item of a single piece for each serial, in their order, under this number and those after it. None is drawn.
 fn make_each(
     books: &mut YardBooks,
+    next: &mut Id,
     arrival: Arrival,
     batch: &Option<Batch>,
     serials: &[Serial],
     day: Day,
 ) -> Result<(), AllocError>
-    requires room { HasRoom (length serials.now) (books_now books.old) }
+    requires room { HasRoom (length serials.now)
+        (books_at next.old books.old.yard books.old.counter) }
     requires arrival { IsArrival arrival }
-    ensures ok { OnOk result (books_now books.new
-        ≡ make_each arrival batch.now serials.now day (books_now books.old)) }
+    ensures ok { OnOk result (books_at next.new books.new.yard books.new.counter
+        ≡ make_each arrival batch.now serials.now day
+        (books_at next.old books.old.yard books.old.counter)) }
+    ensures from { next.old ≤ next.new }
+    ensures within { OnOk result (next.new ≤ books.new.counter.limits.numbers + 1) }
+    ensures undrawn { books.new.counter ≡ books.old.counter }
     ensures before { books_before books.new ≡ books_before books.old }
 {
     for serial in serials {
         let own = serial.copy(books.alloc)?;
-        make_one(books, arrival, 1, batch, Some(own), day)?;
+        make_one(books, next, arrival, 1, batch, Some(own), day)?;
     }
     Ok(())
 }
 
-/// Makes the new items, under the next numbers.
+/// Makes the new items, under the next numbers. Where memory runs out, some of them may be there, but no number is drawn.
 pub fn make_new(
     books: &mut YardBooks,
     arrival: Arrival,
@@ -182,10 +191,26 @@ pub fn make_new(
     requires quantity { (1 ≤ new.now.quantity) × (new.now.quantity ≤ largest) }
     ensures ok { OnOk result (books_now books.new
         ≡ make_new arrival new.now day (books_now books.old)) }
+    ensures undrawn { OnErr result
+        (numbering_of books.new.counter ≡ numbering_of books.old.counter) }
     ensures before { books_before books.new ≡ books_before books.old }
 {
+    let mut next = books.counter.next();
     match &new.serials {
-        None => make_one(books, arrival, new.quantity, &new.batch, None, day),
-        Some(serials) => make_each(books, arrival, &new.batch, serials.as_slice(), day),
+        None => make_one(
+            books,
+            &mut next,
+            arrival,
+            new.quantity,
+            &new.batch,
+            None,
+            day,
+        )?,
+        Some(serials) => {
+            let serials = serials.as_slice();
+            make_each(books, &mut next, arrival, &new.batch, serials, day)?;
+        }
     }
+    draw_up_to(&mut books.counter, next);
+    Ok(())
 }
