@@ -16,7 +16,7 @@ use Rattle.list_core.specs.ShortageList.{want_row, wanted_of}
 use Rattle.list_core.specs.declared.shortage_list.Want.{Want}
 
 -- a test of two numbers, as keys
-same_key : (n m : ℕ) → (m == n) ≡ key_eq (n ∷ []) (m ∷ [])
+pub same_key : (n m : ℕ) → (m == n) ≡ key_eq (n ∷ []) (m ∷ [])
 same_key n m =
     key_eq_is (m == n) (n ∷ []) (m ∷ []) (λ e. ap (λ x. x ∷ []) (sym (eqb-true m n e)))
     (λ e. eq-eqb m n (sym (same_digit n m e)))

@@ -10,6 +10,8 @@ use Rattle.build_core.specs.declared.state.BuildState.{BuildState}
 use Rattle.build_core.specs.declared.state.BuildState.TheVariants.{Pending, Production, OnHold, Cancelled, Complete}
 use Rattle.desk_core.specs.Machine.{State}
 use Rattle.list_core.specs.Amounts.{free_amount}
+use Rattle.list_core.specs.Past.{past_of}
+use Rattle.list_core.specs.declared.past.Subject.TheVariants.{Builds}
 use Rattle.report_core.specs.Fields.{name_of}
 use Rattle.report_core.specs.Lines.{Lines}
 
@@ -24,7 +26,7 @@ abbrev pub build_header : List (List ℕ)
 build_header =
     codes "build" ∷ codes "part" ∷ codes "name" ∷ codes "state" ∷ codes "wanted" ∷ codes "done" ∷ codes "line"
     ∷ codes "component" ∷ codes "component name" ∷ codes "required" ∷ codes "allocated" ∷ codes "missing"
-    ∷ codes "free" ∷ []
+    ∷ codes "free" ∷ codes "key" ∷ codes "day" ∷ codes "last" ∷ []
 
 -- what is said of the build itself
 abbrev pub build_fields : State → Build → List (List ℕ)
@@ -36,6 +38,10 @@ build_fields s build =
     ∷ decimal build.quantity
     ∷ decimal build.done
     ∷ []
+
+-- the key of the request that made the build, the day of that key, and the last day on which an output of it was completed
+abbrev pub build_past : State → Build → List (List ℕ)
+build_past s build = past_of Builds s build.number
 
 -- a line of its bill that counts: its component, by number and by name, what is required, allocated and missing, and what
 -- is free of the component
@@ -50,10 +56,12 @@ build_line_row s build row =
     ∷ decimal row.missing
     ∷ decimal (free_amount row.component s)
     ∷ [])
+    ++ build_past s build
 
 -- a build that wants nothing
 abbrev pub bare_build_row : State → Build → List (List ℕ)
-bare_build_row s build = build_fields s build ++ ([] ∷ [] ∷ [] ∷ [] ∷ [] ∷ [] ∷ [] ∷ [])
+bare_build_row s build =
+    build_fields s build ++ ([] ∷ [] ∷ [] ∷ [] ∷ [] ∷ [] ∷ [] ∷ []) ++ build_past s build
 
 -- the rows of a build that wants this
 abbrev pub build_rows_by : State → Build → List Shortage → Lines

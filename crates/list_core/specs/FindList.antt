@@ -13,6 +13,7 @@ use Rattle.desk_core.specs.declared.kept.Kept.{Kept}
 use Rattle.desk_core.specs.Machine.{State}
 use Rattle.report_core.specs.Fields.{name_of}
 use Rattle.report_core.specs.Lines.{Lines}
+use Rattle.list_core.specs.Folds.{case_fold}
 use Rattle.list_core.specs.ItemList.{where_text}
 use Rattle.list_core.specs.Ways.{way_text}
 
@@ -25,14 +26,25 @@ abbrev pub has_word : List ℕ → List ℕ → Bool
 has_word word [] = begins_with word []
 has_word word (c ∷ cs) = begins_with word (c ∷ cs) || has_word word cs
 
--- whether there is a text, and it is the word
+-- Below a word is in folded case.
+
+-- whether the word stands in a name or a key, letters of either case being alike
+abbrev pub is_in : List ℕ → List ℕ → Bool
+is_in word text = has_word word (case_fold text)
+
+-- whether there is a serial, and the word is its front
+abbrev pub is_front : List ℕ → Option (List ℕ) → Bool
+is_front word None = false
+is_front word (Some text) = begins_with word (case_fold text)
+
+-- whether there is a batch, and it is the word
 abbrev pub is_word : List ℕ → Option (List ℕ) → Bool
 is_word word None = false
-is_word word (Some text) = bytes_eq text word
+is_word word (Some text) = bytes_eq (case_fold text) word
 
--- whether the word is an item's serial or its batch
+-- whether the word is the front of an item's serial, or its batch
 abbrev pub is_lot : List ℕ → Item → Bool
-is_lot word x = is_word word x.lot.serial || is_word word x.lot.batch
+is_lot word x = is_front word x.lot.serial || is_word word x.lot.batch
 
 abbrev pub find_header : List (List ℕ)
 find_header = codes "kind" ∷ codes "number" ∷ codes "name" ∷ codes "where" ∷ []
@@ -60,11 +72,16 @@ first_number (n ∷ ns) = decimal n
 abbrev pub found_key : Kept → List (List ℕ)
 found_key kept = codes "key" ∷ first_number kept.answer.ids ∷ kept.word ∷ [] ∷ []
 
--- parts and locations in whose names the word stands, items whose serial or batch it is, and keys that begin with it
-abbrev pub find_list : List ℕ → State → Lines
-find_list word s =
+-- parts and locations in whose names the word stands, items whose serial begins with it or whose batch it is, and keys in
+-- which it stands
+abbrev pub found_lines : List ℕ → State → Lines
+found_lines word s =
     find_header
-    ∷ (map (found_part s) (filter (λ p. has_word word p.name) (part_rows s.parts))
-    ++ (map (found_location s) (filter (λ l. has_word word l.name) (table.values s.stock.locations))
+    ∷ (map (found_part s) (filter (λ p. is_in word p.name) (part_rows s.parts))
+    ++ (map (found_location s) (filter (λ l. is_in word l.name) (table.values s.stock.locations))
     ++ (map (found_item s) (filter (is_lot word) (table.values s.stock.items))
-    ++ map found_key (filter (λ k. begins_with word k.word) (table.values s.answers)))))
+    ++ map found_key (filter (λ k. is_in word k.word) (table.values s.answers)))))
+
+-- the same of a word in whatever case
+abbrev pub find_list : List ℕ → State → Lines
+find_list word s = found_lines (case_fold word) s

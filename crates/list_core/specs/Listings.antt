@@ -12,6 +12,9 @@ use Rattle.list_core.specs.PartList.{part_list}
 use Rattle.list_core.specs.PlaceList.{place_list}
 use Rattle.list_core.specs.ShortageList.{shortage_list}
 use Rattle.list_core.specs.StockList.{stock_list}
+use Rattle.list_core.specs.Trace.{batch_items, item_roots}
+use Rattle.list_core.specs.TraceList.{trace_list}
+use Rattle.list_core.specs.declared.walk.Direction.TheVariants.{Forward, Back}
 use Rattle.list_core.specs.declared.listing.Listing.{Listing}
 use Rattle.list_core.specs.declared.listing.Listing.TheVariants as listing
 
@@ -25,6 +28,9 @@ listing_lines (listing.Orders only_open) s = Some (order_list only_open s)
 listing_lines (listing.Builds only_open) s = Some (build_list only_open s)
 listing_lines (listing.Find word) s = Some (find_list word.now s)
 listing_lines listing.Shortages s = Some (shortage_list s)
+listing_lines (listing.TraceBatch batch) s = trace_list Forward s (batch_items batch.now s)
+listing_lines (listing.TraceForward item) s = trace_list Forward s (item_roots item s)
+listing_lines (listing.TraceBack item) s = trace_list Back s (item_roots item s)
 listing_lines (listing.CountSheet location) s = count_sheet location s
 
 -- what is told is the list's lines; or NoSuch where there is no such row; or it ran out of memory

@@ -11,6 +11,8 @@ use Rattle.order_core.specs.declared.order.Order.{Order}
 use Rattle.order_core.specs.declared.state.OrderState.{OrderState}
 use Rattle.order_core.specs.declared.state.OrderState.TheVariants.{Pending, InProgress, Complete, Cancelled}
 use Rattle.desk_core.specs.Machine.{State}
+use Rattle.list_core.specs.Past.{past_of}
+use Rattle.list_core.specs.declared.past.Subject.TheVariants.{Orders}
 use Rattle.report_core.specs.Fields.{name_of}
 use Rattle.report_core.specs.Lines.{Lines}
 
@@ -23,7 +25,8 @@ order_state_name Cancelled = codes "cancelled"
 abbrev pub order_header : List (List ℕ)
 order_header =
     codes "order" ∷ codes "side" ∷ codes "state" ∷ codes "partner" ∷ codes "line" ∷ codes "part" ∷ codes "name"
-    ∷ codes "wanted" ∷ codes "done" ∷ codes "allocated" ∷ codes "outstanding" ∷ []
+    ∷ codes "wanted" ∷ codes "done" ∷ codes "allocated" ∷ codes "outstanding" ∷ codes "key" ∷ codes "day"
+    ∷ codes "last" ∷ []
 
 -- what is said of the order itself
 abbrev pub order_fields : Order → List (List ℕ)
@@ -33,6 +36,11 @@ order_fields order =
 -- what is still to come or to go of a line: what isn't done, while its order is open
 abbrev pub outstanding : Order → OrderLine → ℕ
 outstanding order line = if is_open order.state then line.quantity - line.done else 0
+
+-- the key of the request that made the order, the day of that key, and the last day on which something of the order was
+-- delivered or sent
+abbrev pub order_past : State → Order → List (List ℕ)
+order_past s order = past_of Orders s order.number
 
 -- a line of the order: how many are wanted, how many were received or shipped, how many are allocated for it, and how
 -- many are outstanding
@@ -47,14 +55,15 @@ order_line_row s order line =
     ∷ decimal (allocated_for_sale_line line.number s.allocations)
     ∷ decimal (outstanding order line)
     ∷ [])
+    ++ order_past s order
 
 -- an order that has no line
-abbrev pub bare_order_row : Order → List (List ℕ)
-bare_order_row order = order_fields order ++ ([] ∷ [] ∷ [] ∷ [] ∷ [] ∷ [] ∷ [] ∷ [])
+abbrev pub bare_order_row : State → Order → List (List ℕ)
+bare_order_row s order = order_fields order ++ ([] ∷ [] ∷ [] ∷ [] ∷ [] ∷ [] ∷ [] ∷ []) ++ order_past s order
 
 -- the rows of an order with these lines
 abbrev pub order_rows_by : State → Order → List OrderLine → Lines
-order_rows_by s order [] = bare_order_row order ∷ []
+order_rows_by s order [] = bare_order_row s order ∷ []
 order_rows_by s order (l ∷ ls) = map (order_line_row s order) (l ∷ ls)
 
 -- a row for each line of an order, by number, or one for the order alone

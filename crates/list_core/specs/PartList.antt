@@ -15,15 +15,17 @@ use Rattle.yard_core.specs.declared.sums.Sums.{Sums}
 use Rattle.alloc_core.specs.Candidates.{substitutes_on}
 use Rattle.desk_core.specs.Machine.{State}
 use Rattle.list_core.specs.Amounts.{items_of}
-use Rattle.report_core.specs.Fields.{name_of}
+use Rattle.report_core.specs.Fields.{name_of, text_or_empty}
 use Rattle.list_core.specs.ItemList.{where_text}
+use Rattle.list_core.specs.Origins.{key_text, origin_at, origins_in}
 use Rattle.report_core.specs.Lines.{Lines}
 use Rattle.list_core.specs.PlaceList.{indented}
 use Rattle.report_core.specs.WhereUsed.{uses}
 
 abbrev pub part_header : List (List ℕ)
 part_header =
-    codes "kind" ∷ codes "number" ∷ codes "part" ∷ codes "name" ∷ codes "quantity" ∷ codes "more" ∷ []
+    codes "kind" ∷ codes "number" ∷ codes "part" ∷ codes "name" ∷ codes "quantity" ∷ codes "more"
+    ∷ codes "batch" ∷ codes "serial" ∷ codes "key" ∷ []
 
 -- words with a space between two
 abbrev pub spaced : List (List ℕ) → List ℕ
@@ -44,6 +46,9 @@ part_row part =
     ∷ part.name
     ∷ []
     ∷ spaced (flag_words part.flags ++ word_if part.retired (codes "retired"))
+    ∷ []
+    ∷ []
+    ∷ []
     ∷ []
 
 -- what came in
@@ -67,7 +72,7 @@ abbrev pub equation : Sums → List ℕ
 equation sums = came sums ++ (codes " = " ++ went sums)
 
 abbrev pub sums_row : Sums → List (List ℕ)
-sums_row sums = codes "sums" ∷ [] ∷ [] ∷ [] ∷ decimal sums.present ∷ equation sums ∷ []
+sums_row sums = codes "sums" ∷ [] ∷ [] ∷ [] ∷ decimal sums.present ∷ equation sums ∷ [] ∷ [] ∷ [] ∷ []
 
 -- what a line of a bill asks for
 abbrev pub line_words : LineFlags → List (List ℕ)
@@ -87,6 +92,9 @@ line_row s depth line =
     ∷ decimal line.quantity
     ∷ spaced (line_words line.flags)
     ∷ []
+    ∷ []
+    ∷ []
+    ∷ []
 
 -- a part that may go in for it
 abbrev pub substitute_row : State → ℕ → Substitute → List (List ℕ)
@@ -95,6 +103,9 @@ substitute_row s depth substitute =
     ∷ decimal substitute.number
     ∷ decimal substitute.part
     ∷ indented depth (name_of (part_in substitute.part s.parts))
+    ∷ []
+    ∷ []
+    ∷ []
     ∷ []
     ∷ []
     ∷ []
@@ -111,9 +122,9 @@ bill_rows (suc d) s depth part =
 
 -- a part that contains it
 abbrev pub used_row : Part → List (List ℕ)
-used_row part = codes "used in" ∷ decimal part.number ∷ [] ∷ part.name ∷ [] ∷ [] ∷ []
+used_row part = codes "used in" ∷ decimal part.number ∷ [] ∷ part.name ∷ [] ∷ [] ∷ [] ∷ [] ∷ [] ∷ []
 
--- an item of it, and where that is
+-- an item of it, where that is, and the key of the request that made it
 abbrev pub piece_row : State → Item → List (List ℕ)
 piece_row s x =
     codes "item"
@@ -122,6 +133,9 @@ piece_row s x =
     ∷ status_name x.lot.status
     ∷ decimal x.quantity
     ∷ where_text s x.place
+    ∷ text_or_empty x.lot.batch
+    ∷ text_or_empty x.lot.serial
+    ∷ key_text (origin_at x.number (origins_in s))
     ∷ []
 
 -- the part, its sums, its bill down to 16 levels, the parts that contain it, and its items that aren't gone; none where

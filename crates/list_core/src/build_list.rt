@@ -10,10 +10,12 @@ ghost use Rattle.list_core.specs.Amounts.{free_amount};
 ghost use Rattle.list_core.specs.BuildList.{bare_build_row, build_fields, build_header, build_line_row};
 ghost use Rattle.list_core.specs.FreeAmounts.{AreFree};
 ghost use Rattle.list_core.specs.BuildList.{build_list, build_rows, build_rows_by, build_state_name, wants_of};
+ghost use Rattle.list_core.specs.Past.{IsPast};
 ghost use Rattle.report_core.specs.Fields.{name_of};
 ghost use Rattle.report_core.specs.Lines.{fields_of, lines_of};
 
 use crate::free_amounts::{FreeAmount, free_amounts, free_in};
+use crate::past::{Past, Subject, past_fields, past_of};
 use crate::rows::push_empty;
 use build_core::{Build, BuildState, Shortage, shortages};
 use desk_core::Shop;
@@ -56,6 +58,9 @@ fn header(alloc: Global) -> Result<Vec<String>, AllocError>
             "allocated",
             "missing",
             "free",
+            "key",
+            "day",
+            "last",
         ],
     )
 }
@@ -106,25 +111,37 @@ fn build_line_row(
     alloc: Global,
     shop: &Shop,
     found: &Sheet<FreeAmount>,
+    past: &Past,
     build: &Build,
     want: &Shortage,
 ) -> Result<Vec<String>, AllocError>
-    requires { AreFree (state_of shop.now) (now_of found.now) }
+    requires free { AreFree (state_of shop.now) (now_of found.now) }
+    requires past { IsPast Subject.Builds (state_of shop.now) past.now }
     ensures { IfOk result (λ row.
         fields_of row ≡ build_line_row (state_of shop.now) build.now want.now) }
 {
     let mut row = build_fields(alloc, shop, build)?;
     let mut fields = want_fields(alloc, shop, found, want)?;
     row.append(&mut fields)?;
+    let mut told = past_fields(alloc, past, build.number)?;
+    row.append(&mut told)?;
     Ok(row)
 }
 
 /// The row of a build that wants nothing.
-fn bare_build_row(alloc: Global, shop: &Shop, build: &Build) -> Result<Vec<String>, AllocError>
+fn bare_build_row(
+    alloc: Global,
+    shop: &Shop,
+    past: &Past,
+    build: &Build,
+) -> Result<Vec<String>, AllocError>
+    requires { IsPast Subject.Builds (state_of shop.now) past.now }
     ensures { IfOk result (λ row. fields_of row ≡ bare_build_row (state_of shop.now) build.now) }
 {
     let mut row = build_fields(alloc, shop, build)?;
     push_empty(alloc, &mut row, 7)?;
+    let mut told = past_fields(alloc, past, build.number)?;
+    row.append(&mut told)?;
     Ok(row)
 }
 
@@ -133,16 +150,18 @@ fn push_want_rows(
     alloc: Global,
     shop: &Shop,
     found: &Sheet<FreeAmount>,
+    past: &Past,
     build: &Build,
     wants: &[Shortage],
     rows: &mut Vec<Vec<String>>,
 ) -> Result<(), AllocError>
-    requires { AreFree (state_of shop.now) (now_of found.now) }
+    requires free { AreFree (state_of shop.now) (now_of found.now) }
+    requires past { IsPast Subject.Builds (state_of shop.now) past.now }
     ensures { OnOk result (lines_of rows.new.items ≡ lines_of rows.old.items
         ++ map (build_line_row (state_of shop.now) build.now) wants.now) }
 {
     for want in wants {
-        rows.push(build_line_row(alloc, shop, found, build, want)?)?;
+        rows.push(build_line_row(alloc, shop, found, past, build, want)?)?;
     }
     Ok(())
 }
@@ -152,19 +171,21 @@ fn push_rows_by(
     alloc: Global,
     shop: &Shop,
     found: &Sheet<FreeAmount>,
+    past: &Past,
     build: &Build,
     wants: &[Shortage],
     rows: &mut Vec<Vec<String>>,
 ) -> Result<(), AllocError>
-    requires { AreFree (state_of shop.now) (now_of found.now) }
+    requires free { AreFree (state_of shop.now) (now_of found.now) }
+    requires past { IsPast Subject.Builds (state_of shop.now) past.now }
     ensures { OnOk result (lines_of rows.new.items ≡ lines_of rows.old.items
         ++ build_rows_by (state_of shop.now) build.now wants.now) }
 {
     if wants.is_empty() {
-        rows.push(bare_build_row(alloc, shop, build)?)?;
+        rows.push(bare_build_row(alloc, shop, past, build)?)?;
         return Ok(());
     }
-    push_want_rows(alloc, shop, found, build, wants, rows)
+    push_want_rows(alloc, shop, found, past, build, wants, rows)
 }
 
 /// What the build of that number still wants.
@@ -186,15 +207,17 @@ fn push_build_rows(
     alloc: Global,
     shop: &Shop,
     found: &Sheet<FreeAmount>,
+    past: &Past,
     build: &Build,
     rows: &mut Vec<Vec<String>>,
 ) -> Result<(), AllocError>
-    requires { AreFree (state_of shop.now) (now_of found.now) }
+    requires free { AreFree (state_of shop.now) (now_of found.now) }
+    requires past { IsPast Subject.Builds (state_of shop.now) past.now }
     ensures { OnOk result (lines_of rows.new.items
         ≡ lines_of rows.old.items ++ build_rows (state_of shop.now) build.now) }
 {
     let wants = wants_of(alloc, shop, build.number)?;
-    push_rows_by(alloc, shop, found, build, wants.as_slice(), rows)
+    push_rows_by(alloc, shop, found, past, build, wants.as_slice(), rows)
 }
 
 /// The rows of these builds come behind the rows so far.
@@ -202,15 +225,17 @@ fn push_builds(
     alloc: Global,
     shop: &Shop,
     found: &Sheet<FreeAmount>,
+    past: &Past,
     builds: &[&Build],
     rows: &mut Vec<Vec<String>>,
 ) -> Result<(), AllocError>
-    requires { AreFree (state_of shop.now) (now_of found.now) }
+    requires free { AreFree (state_of shop.now) (now_of found.now) }
+    requires past { IsPast Subject.Builds (state_of shop.now) past.now }
     ensures { OnOk result (lines_of rows.new.items ≡ lines_of rows.old.items
         ++ flat_map (build_rows (state_of shop.now)) (map (λ b. b.now) builds.now)) }
 {
     for build in builds {
-        push_build_rows(alloc, shop, found, build, rows)?;
+        push_build_rows(alloc, shop, found, past, build, rows)?;
     }
     Ok(())
 }
@@ -223,16 +248,35 @@ fn listed_builds(builds: &Sheet<Build>, only_open: bool) -> Result<Vec<&Build>, 
     builds.select(|build| !only_open || build.state.is_open())
 }
 
+/// The header, and the rows of these builds.
+fn rows_of(
+    alloc: Global,
+    shop: &Shop,
+    found: &Sheet<FreeAmount>,
+    past: &Past,
+    builds: &[&Build],
+) -> Result<Vec<Vec<String>>, AllocError>
+    requires free { AreFree (state_of shop.now) (now_of found.now) }
+    requires past { IsPast Subject.Builds (state_of shop.now) past.now }
+    ensures { IfOk result (λ rows. lines_of rows.items ≡ build_header
+        ∷ flat_map (build_rows (state_of shop.now)) (map (λ b. b.now) builds.now)) }
+{
+    let mut rows = vec![in alloc; header(alloc)?]?;
+    push_builds(alloc, shop, found, past, builds, &mut rows)?;
+    Ok(rows)
+}
+
 /// The builds in order of number, each with what it still wants: a row for each line of its bill that counts, or one
 /// for the build alone where it wants nothing. If only open ones are asked for, those that are complete or cancelled
-/// are left out. It adds up once what is free of each part. An error is one of memory.
+/// are left out. It adds up once what is free of each part, and goes over what is kept and over the history once. An
+/// error is one of memory.
 pub fn build_list(alloc: Global, shop: &Shop, only_open: bool) -> Result<Report, AllocError>
     ensures { IfOk result (λ list. list ≡ build_list only_open (state_of shop.now)) }
 {
     let builds = listed_builds(shop.builds().rows(), only_open)?;
-    let mut rows = vec![in alloc; header(alloc)?]?;
     let parts = rows_in_order(shop.catalogue().parts())?;
     let found = free_amounts(alloc, shop, parts.as_slice())?;
-    push_builds(alloc, shop, &found, builds.as_slice(), &mut rows)?;
+    let past = past_of(alloc, shop, Subject::Builds)?;
+    let rows = rows_of(alloc, shop, &found, &past, builds.as_slice())?;
     Ok(Report::new(rows))
 }

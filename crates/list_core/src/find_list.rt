@@ -5,9 +5,12 @@ ghost use Rattle.std.specs.String.{string_bytes};
 ghost use Rattle.bom_core.specs.Bills.{part_rows};
 ghost use Rattle.desk_core.specs.ShopView.{state_of};
 ghost use Rattle.list_core.specs.FindList.{begins_with, find_header, find_list, first_number, found_item};
-ghost use Rattle.list_core.specs.FindList.{found_key, found_location, found_part, has_word, is_lot, is_word};
+ghost use Rattle.list_core.specs.FindList.{found_key, found_lines, found_location, found_part};
+ghost use Rattle.list_core.specs.FindList.{has_word, is_front, is_in, is_lot, is_word};
+ghost use Rattle.list_core.specs.Folds.{case_fold};
 ghost use Rattle.report_core.specs.Lines.{fields_of, lines_of};
 
+use crate::folds::case_fold;
 use crate::item_list::where_field;
 use crate::ways::way_field;
 use desk_core::{Kept, Shop};
@@ -15,7 +18,9 @@ use part_core::{Batch, Id, NamedRow, Part, Serial};
 use report_core::Report;
 use report_core::fields::{name_field, number_field};
 use std::alloc::{AllocError, Global};
-use yard_core::Item;
+use yard_core::{Item, rows_in_order};
+
+// A word is in folded case, so each text is folded before it is held beside it.
 
 /// Whether the word stands in the text.
 fn has_word(word: &str, text: &str) -> bool
@@ -31,69 +36,76 @@ fn begins_with(word: &str, text: &str) -> bool
     text.starts_with(word)
 }
 
-/// Whether the word is this serial.
-fn is_serial(word: &str, serial: &Option<Serial>) -> bool
-    ensures { result ≡ is_word word.now serial.now }
+/// Whether the word stands in this name or key. An error is one of memory.
+fn is_in(alloc: Global, word: &str, text: &str) -> Result<bool, AllocError>
+    ensures { IfOk result (λ stands. stands ≡ is_in word.now text.now) }
 {
-    match serial {
-        Some(serial) => serial.as_str() == word,
-        None => false,
+    let folded = case_fold(alloc, text)?;
+    Ok(has_word(word, folded.as_str()))
+}
+
+/// Whether the word is the front of this serial. An error is one of memory.
+fn is_front(alloc: Global, word: &str, serial: &Option<Serial>) -> Result<bool, AllocError>
+    ensures { IfOk result (λ front. front ≡ is_front word.now serial.now) }
+{
+    let Some(serial) = serial else {
+        return Ok(false);
+    };
+    let folded = case_fold(alloc, serial.as_str())?;
+    Ok(begins_with(word, folded.as_str()))
+}
+
+/// Whether the word is this batch. An error is one of memory.
+fn is_batch(alloc: Global, word: &str, batch: &Option<Batch>) -> Result<bool, AllocError>
+    ensures { IfOk result (λ same. same ≡ is_word word.now batch.now) }
+{
+    let Some(batch) = batch else {
+        return Ok(false);
+    };
+    let folded = case_fold(alloc, batch.as_str())?;
+    Ok(folded.as_str() == word)
+}
+
+/// Whether the word is the front of the item's serial, or its batch. An error is one of memory.
+fn is_lot(alloc: Global, word: &str, item: &Item) -> Result<bool, AllocError>
+    ensures { IfOk result (λ found. found ≡ is_lot word.now item.now) }
+{
+    if is_front(alloc, word, &item.lot.serial)? {
+        return Ok(true);
     }
+    is_batch(alloc, word, &item.lot.batch)
 }
 
-/// Whether the word is this batch.
-fn is_batch(word: &str, batch: &Option<Batch>) -> bool
-    ensures { result ≡ is_word word.now batch.now }
+/// All parts, in order of number.
+fn all_parts(shop: &Shop) -> Result<Vec<&Part>, AllocError>
+    ensures { IfOk result (λ parts.
+        map (λ p. p.now) parts.items ≡ part_rows (state_of shop.now).parts) }
 {
-    match batch {
-        Some(batch) => batch.as_str() == word,
-        None => false,
-    }
+    rows_in_order(shop.catalogue().parts())
 }
 
-/// Whether the word is the item's serial or its batch.
-fn is_lot(word: &str, item: &Item) -> bool
-    ensures { result ≡ is_lot word.now item.now }
+/// All locations, in order of number.
+fn all_locations(shop: &Shop) -> Result<Vec<&NamedRow>, AllocError>
+    ensures { IfOk result (λ locations.
+        map (λ l. l.now) locations.items ≡ table.values (state_of shop.now).stock.locations) }
 {
-    is_serial(word, &item.lot.serial) || is_batch(word, &item.lot.batch)
+    rows_in_order(shop.yard().locations())
 }
 
-/// The parts in whose names the word stands. It looks at all parts.
-fn parts_with<'a>(shop: &'a Shop, word: &str) -> Result<Vec<&'a Part>, AllocError>
-    ensures { IfOk result (λ parts. map (λ p. p.now) parts.items
-        ≡ filter (λ p. has_word word.now p.name) (part_rows (state_of shop.now).parts)) }
+/// All items, in order of number, also those that are gone.
+fn all_items(shop: &Shop) -> Result<Vec<&Item>, AllocError>
+    ensures { IfOk result (λ items.
+        map (λ i. i.now) items.items ≡ table.values (state_of shop.now).stock.items) }
 {
-    shop.catalogue()
-        .parts()
-        .select(|part| has_word(word, part.name.as_str()))
+    rows_in_order(shop.yard().items())
 }
 
-/// The locations in whose names the word stands. It looks at all locations.
-fn locations_with<'a>(shop: &'a Shop, word: &str) -> Result<Vec<&'a NamedRow>, AllocError>
-    ensures { IfOk result (λ locations. map (λ l. l.now) locations.items
-        ≡ filter (λ l. has_word word.now l.name)
-        (table.values (state_of shop.now).stock.locations)) }
+/// All answers that are kept, in order of their keys.
+fn all_answers(shop: &Shop) -> Result<Vec<&Kept>, AllocError>
+    ensures { IfOk result (λ answers.
+        map (λ k. k.now) answers.items ≡ table.values (state_of shop.now).answers) }
 {
-    shop.yard()
-        .locations()
-        .select(|location| has_word(word, location.name.as_str()))
-}
-
-/// The items whose serial or batch the word is. It looks at all items, also those that are gone.
-fn items_with<'a>(shop: &'a Shop, word: &str) -> Result<Vec<&'a Item>, AllocError>
-    ensures { IfOk result (λ items. map (λ i. i.now) items.items
-        ≡ filter (is_lot word.now) (table.values (state_of shop.now).stock.items)) }
-{
-    shop.yard().items().select(|item| is_lot(word, item))
-}
-
-/// The answers that are kept under a key that begins with the word. It looks at all of them.
-fn keys_with<'a>(shop: &'a Shop, word: &str) -> Result<Vec<&'a Kept>, AllocError>
-    ensures { IfOk result (λ answers. map (λ k. k.now) answers.items
-        ≡ filter (λ k. begins_with word.now k.word) (table.values (state_of shop.now).answers)) }
-{
-    shop.answers()
-        .select(|kept| begins_with(word, kept.word.as_str()))
+    rows_in_order(shop.answers())
 }
 
 /// The names of the columns.
@@ -174,11 +186,13 @@ fn push_parts(
 ) -> Result<(), AllocError>
     ensures { OnOk result (lines_of lines.new.items ≡ lines_of lines.old.items
         ++ map (found_part (state_of shop.now))
-        (filter (λ p. has_word word.now p.name) (part_rows (state_of shop.now).parts))) }
+        (filter (λ p. is_in word.now p.name) (part_rows (state_of shop.now).parts))) }
 {
-    let parts = parts_with(shop, word)?;
+    let parts = all_parts(shop)?;
     for part in &parts {
-        lines.push(found_part(alloc, shop, part)?)?;
+        if is_in(alloc, word, part.name.as_str())? {
+            lines.push(found_part(alloc, shop, part)?)?;
+        }
     }
     Ok(())
 }
@@ -191,12 +205,14 @@ fn push_locations(
     lines: &mut Vec<Vec<String>>,
 ) -> Result<(), AllocError>
     ensures { OnOk result (lines_of lines.new.items ≡ lines_of lines.old.items
-        ++ map (found_location (state_of shop.now)) (filter (λ l. has_word word.now l.name)
+        ++ map (found_location (state_of shop.now)) (filter (λ l. is_in word.now l.name)
         (table.values (state_of shop.now).stock.locations))) }
 {
-    let locations = locations_with(shop, word)?;
+    let locations = all_locations(shop)?;
     for location in &locations {
-        lines.push(found_location(alloc, shop, location)?)?;
+        if is_in(alloc, word, location.name.as_str())? {
+            lines.push(found_location(alloc, shop, location)?)?;
+        }
     }
     Ok(())
 }
@@ -212,9 +228,11 @@ fn push_items(
         ++ map (found_item (state_of shop.now))
         (filter (is_lot word.now) (table.values (state_of shop.now).stock.items))) }
 {
-    let items = items_with(shop, word)?;
+    let items = all_items(shop)?;
     for item in &items {
-        lines.push(found_item(alloc, shop, item)?)?;
+        if is_lot(alloc, word, item)? {
+            lines.push(found_item(alloc, shop, item)?)?;
+        }
     }
     Ok(())
 }
@@ -227,26 +245,38 @@ fn push_keys(
     lines: &mut Vec<Vec<String>>,
 ) -> Result<(), AllocError>
     ensures { OnOk result (lines_of lines.new.items ≡ lines_of lines.old.items
-        ++ map found_key (filter (λ k. begins_with word.now k.word)
+        ++ map found_key (filter (λ k. is_in word.now k.word)
         (table.values (state_of shop.now).answers))) }
 {
-    let answers = keys_with(shop, word)?;
+    let answers = all_answers(shop)?;
     for kept in &answers {
-        lines.push(found_key(alloc, kept)?)?;
+        if is_in(alloc, word, kept.word.as_str())? {
+            lines.push(found_key(alloc, kept)?)?;
+        }
     }
     Ok(())
 }
 
-/// What the word finds, behind a line with the names of the columns: the parts and locations in whose names it stands,
-/// the items whose serial or batch it is, and the keys that begin with it. Upper and lower case count as different. It
-/// looks at all rows of each kind.
-pub fn find_list(alloc: Global, shop: &Shop, word: &str) -> Result<Report, AllocError>
-    ensures { IfOk result (λ list. list ≡ find_list word.now (state_of shop.now)) }
+/// The header, and the lines of all that the word finds.
+fn found_lines(alloc: Global, shop: &Shop, word: &str) -> Result<Vec<Vec<String>>, AllocError>
+    ensures { IfOk result (λ lines. lines_of lines.items
+        ≡ found_lines word.now (state_of shop.now)) }
 {
     let mut lines = vec![in alloc; find_header(alloc)?]?;
     push_parts(alloc, shop, word, &mut lines)?;
     push_locations(alloc, shop, word, &mut lines)?;
     push_items(alloc, shop, word, &mut lines)?;
     push_keys(alloc, shop, word, &mut lines)?;
+    Ok(lines)
+}
+
+/// What the word finds, behind a line with the names of the columns: the parts and locations in whose names it stands,
+/// the items whose serial begins with it or whose batch it is, and the keys in which it stands. Letters of either case
+/// are alike. It looks at all rows of each kind. An error is one of memory.
+pub fn find_list(alloc: Global, shop: &Shop, word: &str) -> Result<Report, AllocError>
+    ensures { IfOk result (λ list. list ≡ find_list word.now (state_of shop.now)) }
+{
+    let folded = case_fold(alloc, word)?;
+    let lines = found_lines(alloc, shop, folded.as_str())?;
     Ok(Report::new(lines))
 }

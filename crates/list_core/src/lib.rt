@@ -1,5 +1,5 @@
 //! Lists of what a shop has, each a report whose first line names its columns; and what the tables say of the rows that a
-//! request names, of its key and of its serials.
+//! request names, of its key and of its serials, and of a name that is near a new one.
 #![tactic(auto)]
 
 mod amounts;
@@ -7,20 +7,34 @@ mod build_list;
 mod command_facts;
 mod count_sheet;
 mod find_list;
+mod folds;
 mod free_amounts;
 mod item_list;
+mod laws;
 mod listing;
 mod lists;
+mod lives;
+mod near_names;
 mod order_list;
+mod origins;
 mod part_list;
+mod past;
 mod place_list;
 mod requests;
 mod rows;
 mod shortage_list;
+mod shown;
 mod stock_list;
+mod trace_list;
+mod trace_tables;
+mod used;
+mod walk;
 mod ways;
 
 pub use command_facts::row_fact;
+pub use laws::{back_lists_are_complete, forward_lists_are_complete};
 pub use listing::Listing;
 pub use lists::listed;
+pub use near_names::NearNames;
 pub use requests::request_facts;
+pub use trace_list::{has_batch, is_item};

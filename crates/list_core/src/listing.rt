@@ -11,17 +11,23 @@ pub enum Listing<'a> {
     At(Id),
     /// A part: its flags, its sums, its bill, where it is used, and its items.
     Part(Id),
-    /// An item: where it is, what lies in it, and its history.
+    /// An item: where it is, what lies in it, what made it, and its history.
     Item(Id),
     /// The orders with their lines; where it is true, those alone that are neither complete nor cancelled.
     Orders(bool),
     /// The builds with what they want; where it is true, those alone that are neither complete nor cancelled.
     Builds(bool),
-    /// The parts and locations in whose names this word stands, the items whose serial or batch it is, and the keys that
-    /// begin with it.
+    /// The parts and locations in whose names this word stands, the items whose serial begins with it or whose batch it is,
+    /// and the keys in which it stands.
     Find(&'a str),
     /// The parts that open builds lack, over all of them.
     Shortages,
+    /// The items of this batch, and where each went.
+    TraceBatch(&'a str),
+    /// An item, and where it went.
+    TraceForward(Id),
+    /// An item, and where it came from.
+    TraceBack(Id),
     /// What is to be counted at this location and below it, or everywhere.
     CountSheet(Option<Id>),
 }

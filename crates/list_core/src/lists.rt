@@ -13,6 +13,8 @@ use crate::part_list::part_list;
 use crate::place_list::place_list;
 use crate::shortage_list::shortage_list;
 use crate::stock_list::stock_list;
+use crate::trace_list::{batch_list, item_trace};
+use crate::walk::Direction;
 use desk_core::Shop;
 use part_core::CoreFault;
 use report_core::Report;
@@ -33,6 +35,9 @@ pub fn listed(alloc: Global, shop: &Shop, listing: Listing<'_>) -> Result<Report
         Listing::Builds(open) => Ok(build_list(alloc, shop, open)?),
         Listing::Find(word) => Ok(find_list(alloc, shop, word)?),
         Listing::Shortages => Ok(shortage_list(alloc, shop)?),
+        Listing::TraceBatch(batch) => batch_list(alloc, shop, batch),
+        Listing::TraceForward(item) => item_trace(alloc, shop, Direction::Forward, item),
+        Listing::TraceBack(item) => item_trace(alloc, shop, Direction::Back, item),
         Listing::CountSheet(location) => count_sheet(alloc, shop, location),
     }
 }

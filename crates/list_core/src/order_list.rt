@@ -11,7 +11,9 @@ ghost use Rattle.report_core.specs.Fields.{name_of};
 ghost use Rattle.report_core.specs.Lines.{fields_of, lines_of};
 ghost use Rattle.list_core.specs.OrderList.{bare_order_row, order_fields, order_header, order_line_row};
 ghost use Rattle.list_core.specs.OrderList.{order_list, order_rows, order_rows_by, order_state_name, outstanding};
+ghost use Rattle.list_core.specs.Past.{IsPast};
 
+use crate::past::{Past, Subject, past_fields, past_of};
 use crate::rows::push_empty;
 use desk_core::Shop;
 use order_core::{Order, OrderLine, OrderState};
@@ -61,6 +63,9 @@ fn header(alloc: Global) -> Result<Vec<String>, AllocError>
             "done",
             "allocated",
             "outstanding",
+            "key",
+            "day",
+            "last",
         ],
     )
 }
@@ -108,24 +113,36 @@ fn line_fields(
 fn order_line_row(
     alloc: Global,
     shop: &Shop,
+    past: &Past,
     order: &Order,
     line: &OrderLine,
 ) -> Result<Vec<String>, AllocError>
+    requires { IsPast Subject.Orders (state_of shop.now) past.now }
     ensures { IfOk result (λ row.
         fields_of row ≡ order_line_row (state_of shop.now) order.now line.now) }
 {
     let mut row = order_fields(alloc, order)?;
     let mut fields = line_fields(alloc, shop, order, line)?;
     row.append(&mut fields)?;
+    let mut told = past_fields(alloc, past, order.number)?;
+    row.append(&mut told)?;
     Ok(row)
 }
 
 /// The row of an order that has no line.
-fn bare_order_row(alloc: Global, order: &Order) -> Result<Vec<String>, AllocError>
-    ensures { IfOk result (λ row. fields_of row ≡ bare_order_row order.now) }
+fn bare_order_row(
+    alloc: Global,
+    shop: &Shop,
+    past: &Past,
+    order: &Order,
+) -> Result<Vec<String>, AllocError>
+    requires { IsPast Subject.Orders (state_of shop.now) past.now }
+    ensures { IfOk result (λ row. fields_of row ≡ bare_order_row (state_of shop.now) order.now) }
 {
     let mut row = order_fields(alloc, order)?;
     push_empty(alloc, &mut row, 7)?;
+    let mut told = past_fields(alloc, past, order.number)?;
+    row.append(&mut told)?;
     Ok(row)
 }
 
@@ -133,15 +150,17 @@ fn bare_order_row(alloc: Global, order: &Order) -> Result<Vec<String>, AllocErro
 fn push_line_rows(
     alloc: Global,
     shop: &Shop,
+    past: &Past,
     order: &Order,
     lines: &[&OrderLine],
     rows: &mut Vec<Vec<String>>,
 ) -> Result<(), AllocError>
+    requires { IsPast Subject.Orders (state_of shop.now) past.now }
     ensures { OnOk result (lines_of rows.new.items ≡ lines_of rows.old.items
         ++ map (order_line_row (state_of shop.now) order.now) (map (λ l. l.now) lines.now)) }
 {
     for line in lines {
-        rows.push(order_line_row(alloc, shop, order, line)?)?;
+        rows.push(order_line_row(alloc, shop, past, order, line)?)?;
     }
     Ok(())
 }
@@ -150,46 +169,52 @@ fn push_line_rows(
 fn push_rows_by(
     alloc: Global,
     shop: &Shop,
+    past: &Past,
     order: &Order,
     lines: &[&OrderLine],
     rows: &mut Vec<Vec<String>>,
 ) -> Result<(), AllocError>
+    requires { IsPast Subject.Orders (state_of shop.now) past.now }
     ensures { OnOk result (lines_of rows.new.items ≡ lines_of rows.old.items
         ++ order_rows_by (state_of shop.now) order.now (map (λ l. l.now) lines.now)) }
 {
     if lines.is_empty() {
-        rows.push(bare_order_row(alloc, order)?)?;
+        rows.push(bare_order_row(alloc, shop, past, order)?)?;
         return Ok(());
     }
-    push_line_rows(alloc, shop, order, lines, rows)
+    push_line_rows(alloc, shop, past, order, lines, rows)
 }
 
 /// The rows of an order come behind the rows so far. It looks at the order's lines alone.
 fn push_order_rows(
     alloc: Global,
     shop: &Shop,
+    past: &Past,
     order: &Order,
     rows: &mut Vec<Vec<String>>,
 ) -> Result<(), AllocError>
+    requires { IsPast Subject.Orders (state_of shop.now) past.now }
     ensures { OnOk result (lines_of rows.new.items
         ≡ lines_of rows.old.items ++ order_rows (state_of shop.now) order.now) }
 {
     let lines = shop.orders().lines_of(order.number)?;
-    push_rows_by(alloc, shop, order, lines.as_slice(), rows)
+    push_rows_by(alloc, shop, past, order, lines.as_slice(), rows)
 }
 
 /// The rows of these orders come behind the rows so far.
 fn push_orders(
     alloc: Global,
     shop: &Shop,
+    past: &Past,
     orders: &[&Order],
     rows: &mut Vec<Vec<String>>,
 ) -> Result<(), AllocError>
+    requires { IsPast Subject.Orders (state_of shop.now) past.now }
     ensures { OnOk result (lines_of rows.new.items ≡ lines_of rows.old.items
         ++ flat_map (order_rows (state_of shop.now)) (map (λ o. o.now) orders.now)) }
 {
     for order in orders {
-        push_order_rows(alloc, shop, order, rows)?;
+        push_order_rows(alloc, shop, past, order, rows)?;
     }
     Ok(())
 }
@@ -202,14 +227,30 @@ fn listed_orders(orders: &Sheet<Order>, only_open: bool) -> Result<Vec<&Order>, 
     orders.select(|order| !only_open || order.state.is_open())
 }
 
+/// The header, and the rows of these orders.
+fn rows_of(
+    alloc: Global,
+    shop: &Shop,
+    past: &Past,
+    orders: &[&Order],
+) -> Result<Vec<Vec<String>>, AllocError>
+    requires { IsPast Subject.Orders (state_of shop.now) past.now }
+    ensures { IfOk result (λ rows. lines_of rows.items ≡ order_header
+        ∷ flat_map (order_rows (state_of shop.now)) (map (λ o. o.now) orders.now)) }
+{
+    let mut rows = vec![in alloc; header(alloc)?]?;
+    push_orders(alloc, shop, past, orders, &mut rows)?;
+    Ok(rows)
+}
+
 /// The orders in order of number, each with its lines: a row for each line, in order of number, or one for the order
-/// alone where it has none. If only open ones are asked for, those that are complete or cancelled are left out. An
-/// error is one of memory.
+/// alone where it has none. If only open ones are asked for, those that are complete or cancelled are left out. It goes
+/// over what is kept and over the history once. An error is one of memory.
 pub fn order_list(alloc: Global, shop: &Shop, only_open: bool) -> Result<Report, AllocError>
     ensures { IfOk result (λ list. list ≡ order_list only_open (state_of shop.now)) }
 {
     let orders = listed_orders(shop.orders().orders(), only_open)?;
-    let mut rows = vec![in alloc; header(alloc)?]?;
-    push_orders(alloc, shop, orders.as_slice(), &mut rows)?;
+    let past = past_of(alloc, shop, Subject::Orders)?;
+    let rows = rows_of(alloc, shop, &past, orders.as_slice())?;
     Ok(Report::new(rows))
 }

@@ -1,12 +1,14 @@
 //! The list of all that there is of a part: its flags, its sums, its bill, where it is used, and its items.
 ghost use Rattle.std.specs.Prelude.{◌≡◌, ◌+◌, ◌++◌, ◌∷◌, ◌<◌, ◌^◌, [], filter, map, not, IfOk, OnOk};
 ghost use Rattle.std.specs.String.{string_bytes};
+ghost use Rattle.part_core.specs.Sheet.{now_of};
 ghost use Rattle.bom_core.specs.Bills.{effective, part_rows};
 ghost use Rattle.yard_core.specs.Stock.{is_gone};
 ghost use Rattle.alloc_core.specs.Candidates.{substitutes_on};
 ghost use Rattle.desk_core.specs.Machine.{IsSoundState};
 ghost use Rattle.desk_core.specs.ShopView.{state_of};
 ghost use Rattle.list_core.specs.Amounts.{items_of};
+ghost use Rattle.list_core.specs.Origins.{origins_in};
 ghost use Rattle.report_core.specs.Lines.{Gives, fields_of, lines_of};
 ghost use Rattle.list_core.specs.PartList.{bill_rows, came, equation, line_row, line_rows, line_words};
 ghost use Rattle.list_core.specs.PartList.{part_header, part_list, part_row, piece_row, spaced};
@@ -14,12 +16,16 @@ ghost use Rattle.list_core.specs.PartList.{substitute_row, sums_row, used_row, w
 ghost use Rattle.report_core.specs.WhereUsed.{uses};
 
 use crate::item_list::where_field;
+use crate::origins::{Origin, key_field, origins};
 use crate::place_list::indented;
+use crate::rows::push_empty;
 use bom_core::{Line, LineFlags, Substitute};
 use desk_core::Shop;
-use part_core::{CoreFault, Id, Part, Refusal, Worded};
+use part_core::{CoreFault, Id, IndexedSheet, Part, Refusal, Worded};
 use report_core::Report;
-use report_core::fields::{amount_field, name_field, number_field, words_line};
+use report_core::fields::{
+    amount_field, batch_field, name_field, number_field, serial_field, words_line,
+};
 use report_core::stock::is_gone;
 use report_core::where_used::parts_using;
 use std::alloc::{AllocError, Global};
@@ -73,7 +79,9 @@ fn part_header(alloc: Global) -> Result<Vec<String>, AllocError>
 {
     words_line(
         alloc,
-        &["kind", "number", "part", "name", "quantity", "more"],
+        &[
+            "kind", "number", "part", "name", "quantity", "more", "batch", "serial", "key",
+        ],
     )
 }
 
@@ -89,7 +97,9 @@ fn part_row(alloc: Global, part: &Part) -> Result<Vec<String>, AllocError>
     let mut words = part.flags.words(alloc)?;
     push_word_if(&mut words, part.retired, "retired")?;
     let more = spaced(alloc, words.as_slice())?;
-    Ok(vec![in alloc; kind, number, own, name, quantity, more]?)
+    let mut row = vec![in alloc; kind, number, own, name, quantity, more]?;
+    push_empty(alloc, &mut row, 3)?;
+    Ok(row)
 }
 
 /// What came in of a part.
@@ -141,7 +151,9 @@ fn sums_row(alloc: Global, sums: &Sums) -> Result<Vec<String>, AllocError>
     let name = String::new(alloc);
     let quantity = amount_field(alloc, sums.present)?;
     let more = equation(alloc, sums)?;
-    Ok(vec![in alloc; kind, number, part, name, quantity, more]?)
+    let mut row = vec![in alloc; kind, number, part, name, quantity, more]?;
+    push_empty(alloc, &mut row, 3)?;
+    Ok(row)
 }
 
 /// The row of a line of a bill that stands so deep in the part's bill.
@@ -156,7 +168,9 @@ fn line_row(alloc: Global, shop: &Shop, depth: u64, line: &Line) -> Result<Vec<S
     let quantity = number_field(alloc, line.quantity)?;
     let words = line_words(alloc, line.flags)?;
     let more = spaced(alloc, words.as_slice())?;
-    Ok(vec![in alloc; kind, number, part, name, quantity, more]?)
+    let mut row = vec![in alloc; kind, number, part, name, quantity, more]?;
+    push_empty(alloc, &mut row, 3)?;
+    Ok(row)
 }
 
 /// The row of a substitute on a line that stands so deep in the part's bill.
@@ -176,7 +190,9 @@ fn substitute_row(
     let name = indented(alloc, depth, name.as_str())?;
     let quantity = String::new(alloc);
     let more = String::new(alloc);
-    Ok(vec![in alloc; kind, number, part, name, quantity, more]?)
+    let mut row = vec![in alloc; kind, number, part, name, quantity, more]?;
+    push_empty(alloc, &mut row, 3)?;
+    Ok(row)
 }
 
 /// Adds a row for each of the substitutes.
@@ -261,7 +277,9 @@ fn used_row(alloc: Global, part: &Part) -> Result<Vec<String>, AllocError>
     let name = String::from_str(alloc, part.name.as_str())?;
     let quantity = String::new(alloc);
     let more = String::new(alloc);
-    Ok(vec![in alloc; kind, number, own, name, quantity, more]?)
+    let mut row = vec![in alloc; kind, number, own, name, quantity, more]?;
+    push_empty(alloc, &mut row, 3)?;
+    Ok(row)
 }
 
 /// Adds a row for each of the parts.
@@ -275,8 +293,14 @@ fn push_used(alloc: Global, parts: &[&Part], lines: &mut Vec<Vec<String>>) -> Re
     Ok(())
 }
 
-/// The row of an item of the part, with its status where other rows have a name.
-fn piece_row(alloc: Global, shop: &Shop, item: &Item) -> Result<Vec<String>, AllocError>
+/// The row of an item of the part, with its status where other rows have a name, and the key of the request that made it.
+fn piece_row(
+    alloc: Global,
+    shop: &Shop,
+    origins: &IndexedSheet<Origin>,
+    item: &Item,
+) -> Result<Vec<String>, AllocError>
+    requires { now_of origins.now ≡ origins_in (state_of shop.now) }
     ensures { IfOk result (λ row. fields_of row ≡ piece_row (state_of shop.now) item.now) }
 {
     let kind = String::from_str(alloc, "item")?;
@@ -285,23 +309,30 @@ fn piece_row(alloc: Global, shop: &Shop, item: &Item) -> Result<Vec<String>, All
     let status = String::from_str(alloc, item.lot.status.word())?;
     let quantity = number_field(alloc, item.quantity)?;
     let place = where_field(alloc, shop, item.place)?;
-    Ok(vec![in alloc; kind, number, part, status, quantity, place]?)
+    let batch = batch_field(alloc, &item.lot.batch)?;
+    let serial = serial_field(alloc, &item.lot.serial)?;
+    let key = key_field(alloc, origins, item.number)?;
+    Ok(vec![in alloc;
+        kind, number, part, status, quantity, place, batch, serial, key,
+    ]?)
 }
 
 /// Adds a row for each of the items that isn't gone.
 fn push_left(
     alloc: Global,
     shop: &Shop,
+    origins: &IndexedSheet<Origin>,
     items: &[&Item],
     lines: &mut Vec<Vec<String>>,
 ) -> Result<(), AllocError>
+    requires { now_of origins.now ≡ origins_in (state_of shop.now) }
     ensures { OnOk result (lines_of lines.new.items ≡ lines_of lines.old.items
         ++ map (piece_row (state_of shop.now))
         (filter (λ i. not (is_gone i.place)) (map (λ i. i.now) items.now))) }
 {
     for item in items {
         if !is_gone(item) {
-            lines.push(piece_row(alloc, shop, item)?)?;
+            lines.push(piece_row(alloc, shop, origins, item)?)?;
         }
     }
     Ok(())
@@ -311,14 +342,16 @@ fn push_left(
 fn push_pieces(
     alloc: Global,
     shop: &Shop,
+    origins: &IndexedSheet<Origin>,
     part: Id,
     lines: &mut Vec<Vec<String>>,
 ) -> Result<(), AllocError>
+    requires { now_of origins.now ≡ origins_in (state_of shop.now) }
     ensures { let s = state_of shop.now in OnOk result (lines_of lines.new.items
         ≡ lines_of lines.old.items ++ map (piece_row s) (items_of part s)) }
 {
     let items = shop.yard().items_of(part)?;
-    push_left(alloc, shop, items.as_slice(), lines)
+    push_left(alloc, shop, origins, items.as_slice(), lines)
 }
 
 /// Adds a row for each part that contains the part.
@@ -367,12 +400,14 @@ fn part_lines(
     let mut lines = head_lines(alloc, part, sums)?;
     push_bill(alloc, shop, 16, 1, number, &mut lines)?;
     push_users(alloc, shop, number, &mut lines)?;
-    push_pieces(alloc, shop, number, &mut lines)?;
+    let origins = origins(alloc, shop)?;
+    push_pieces(alloc, shop, &origins, number, &mut lines)?;
     Ok(lines)
 }
 
 /// The part of that number with its flags, its sums, its bill down to 16 levels, the parts that contain it, and its items
-/// that aren't gone. NoSuch where there is no such part. The sums look at every item and every entry.
+/// that aren't gone, each with the key of the request that made it. NoSuch where there is no such part. The sums look at
+/// every item and every entry, and what is kept is gone over once.
 pub fn part_list(alloc: Global, shop: &Shop, number: Id) -> Result<Report, CoreFault>
     requires { IsSoundState (state_of shop.now) }
     ensures { Gives (part_list number (state_of shop.now)) result }

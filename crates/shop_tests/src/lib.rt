@@ -10,6 +10,8 @@ mod lists;
 #[cfg(test)]
 mod outcomes;
 #[cfg(test)]
+mod pasts;
+#[cfg(test)]
 mod reports;
 #[cfg(test)]
 mod requests;
@@ -19,3 +21,5 @@ mod rows;
 mod sheets;
 #[cfg(test)]
 mod texts;
+#[cfg(test)]
+mod traces;

@@ -112,7 +112,7 @@ pub fn filled(alloc: Global) -> Result<Shop, Fail>
 }
 
 /// That the list is these lines.
-fn tells(
+pub fn tells(
     alloc: Global,
     shop: &Shop,
     listing: Listing<'_>,
@@ -214,7 +214,7 @@ fn lists_what_lies_at_a_location(rt: HostRuntime) -> Result<(), Fail> {
     finds_nothing(alloc, &shop, Listing::At(7))
 }
 
-const PART: &'static str = "kind\tnumber\tpart\tname\tquantity\tmore";
+pub const PART: &'static str = "kind\tnumber\tpart\tname\tquantity\tmore\tbatch\tserial\tkey";
 
 /// An output is an item of its part too, but isn't present.
 #[test]
@@ -227,13 +227,13 @@ fn lists_what_there_is_of_a_part(rt: HostRuntime) -> Result<(), Fail> {
         Listing::Part(7),
         [
             PART,
-            "part\t7\t\tScrew\t\tcomponent purchaseable salable",
-            "sums\t\t\t\t29\treceived 8 + found 24 + built 0 + returned 0 = present 29 + consumed 0 + shipped 0 + written off 3",
-            "used in\t9\t\tRobot\t\t",
-            "item\t12\t\tOK\t10\tHall / Shelf / Bin A-1",
-            "item\t16\t\tDamaged\t5\tYard",
-            "item\t18\t\tQuarantined\t6\tHall",
-            "item\t21\t\tOK\t8\tHall / Shelf",
+            "part\t7\t\tScrew\t\tcomponent purchaseable salable\t\t\t",
+            "sums\t\t\t\t29\treceived 8 + found 24 + built 0 + returned 0 = present 29 + consumed 0 + shipped 0 + written off 3\t\t\t",
+            "used in\t9\t\tRobot\t\t\t\t\t",
+            "item\t12\t\tOK\t10\tHall / Shelf / Bin A-1\tA-1\t\tA-1/screws",
+            "item\t16\t\tDamaged\t5\tYard\t\t\t",
+            "item\t18\t\tQuarantined\t6\tHall\t\t\t",
+            "item\t21\t\tOK\t8\tHall / Shelf\t\t\t",
         ]
         .as_slice(),
     )?;
@@ -243,21 +243,22 @@ fn lists_what_there_is_of_a_part(rt: HostRuntime) -> Result<(), Fail> {
         Listing::Part(9),
         [
             PART,
-            "part\t9\t\tRobot\t\tassembly trackable salable",
-            "sums\t\t\t\t1\treceived 0 + found 1 + built 0 + returned 0 = present 1 + consumed 0 + shipped 0 + written off 0",
-            "line\t10\t7\tScrew\t6\t",
-            "line\t11\t8\tMotor A-1\t2\t",
-            "item\t14\t\tOK\t1\tHall",
-            "item\t31\t\tOK\t1\toutput 29",
+            "part\t9\t\tRobot\t\tassembly trackable salable\t\t\t",
+            "sums\t\t\t\t1\treceived 0 + found 1 + built 0 + returned 0 = present 1 + consumed 0 + shipped 0 + written off 0\t\t\t",
+            "line\t10\t7\tScrew\t6\t\t\t\t",
+            "line\t11\t8\tMotor A-1\t2\t\t\t\t",
+            "item\t14\t\tOK\t1\tHall\t\tA-10\trobot/A-1",
+            "item\t31\t\tOK\t1\toutput 29\t\tR-2\t",
         ]
         .as_slice(),
     )?;
     finds_nothing(alloc, &shop, Listing::Part(14))
 }
 
-const ITEM: &'static str = "kind\tnumber\tpart\tname\tquantity\tbatch\tserial\tstatus\twhere\tday";
+pub const ITEM: &'static str =
+    "kind\tnumber\tpart\tname\tquantity\tbatch\tserial\tstatus\twhere\tday\tkey";
 
-/// An item that is gone still has its history.
+/// An item that is gone still has its history. The robot alone was found by a request that is kept.
 #[test]
 fn lists_what_there_is_of_an_item(rt: HostRuntime) -> Result<(), Fail> {
     let alloc = rt.alloc();
@@ -268,9 +269,10 @@ fn lists_what_there_is_of_an_item(rt: HostRuntime) -> Result<(), Fail> {
         Listing::Item(14),
         [
             ITEM,
-            "item\t14\t9\tRobot\t1\t\tA-10\tOK\tHall\t",
-            "inside\t15\t8\t  Motor A-1\t1\t\tM-2\tOK\tin 14\t",
-            "history\t3\t\tfound\t1\t\t\t\tHall\t2030-01-02",
+            "item\t14\t9\tRobot\t1\t\tA-10\tOK\tHall\t\t",
+            "inside\t15\t8\t  Motor A-1\t1\t\tM-2\tOK\tin 14\t\t",
+            "made\t\t\tfound\t\t\t\t\t\t\trobot/A-1",
+            "history\t3\t\tfound\t1\t\t\t\tHall\t2030-01-02\t",
         ]
         .as_slice(),
     )?;
@@ -280,9 +282,9 @@ fn lists_what_there_is_of_an_item(rt: HostRuntime) -> Result<(), Fail> {
         Listing::Item(15),
         [
             ITEM,
-            "item\t15\t8\tMotor A-1\t1\t\tM-2\tOK\tin 14\t",
-            "history\t4\t\tfound\t1\t\t\t\tHall / Shelf\t2030-01-02",
-            "history\t5\t\tinstalled\t1\t\t\t\tin 14\t2030-01-02",
+            "item\t15\t8\tMotor A-1\t1\t\tM-2\tOK\tin 14\t\t",
+            "history\t4\t\tfound\t1\t\t\t\tHall / Shelf\t2030-01-02\t",
+            "history\t5\t\tinstalled\t1\t\t\t\tin 14\t2030-01-02\t",
         ]
         .as_slice(),
     )?;
@@ -292,28 +294,28 @@ fn lists_what_there_is_of_an_item(rt: HostRuntime) -> Result<(), Fail> {
         Listing::Item(17),
         [
             ITEM,
-            "item\t17\t7\tScrew\t0\tOld\t\tOK\tgone\t",
-            "history\t8\t\tfound\t3\t\t\t\tYard\t2030-01-02",
-            "history\t9\t\twritten\t3\t\t\t\toff removed\t2030-01-02",
+            "item\t17\t7\tScrew\t0\tOld\t\tOK\tgone\t\t",
+            "history\t8\t\tfound\t3\t\t\t\tYard\t2030-01-02\t",
+            "history\t9\t\twritten\t3\t\t\t\toff removed\t2030-01-02\t",
         ]
         .as_slice(),
     )?;
     finds_nothing(alloc, &shop, Listing::Item(9))
 }
 
-const ORDERS: &'static str =
-    "order\tside\tstate\tpartner\tline\tpart\tname\twanted\tdone\tallocated\toutstanding";
+pub const ORDERS: &'static str =
+    "order\tside\tstate\tpartner\tline\tpart\tname\twanted\tdone\tallocated\toutstanding\tkey\tday\tlast";
 
 /// What is allocated is still outstanding, and nothing is of a cancelled order.
 #[test]
 fn lists_orders(rt: HostRuntime) -> Result<(), Fail> {
     let alloc = rt.alloc();
     let shop = filled(alloc)?;
-    let bolts = "19\tpurchase\tin progress\tBolts\t20\t7\tScrew\t20\t8\t0\t12";
-    let screws = "22\tsale\tin progress\tAcme\t23\t7\tScrew\t6\t0\t4\t6";
-    let robot = "22\tsale\tin progress\tAcme\t24\t9\tRobot\t1\t0\t0\t1";
-    let nuts = "26\tpurchase\tcancelled\tNuts\t27\t7\tScrew\t50\t0\t0\t0";
-    let later = "28\tsale\tpending\tLater\t\t\t\t\t\t\t";
+    let bolts = "19\tpurchase\tin progress\tBolts\t20\t7\tScrew\t20\t8\t0\t12\t\t\t";
+    let screws = "22\tsale\tin progress\tAcme\t23\t7\tScrew\t6\t0\t4\t6\t\t\t";
+    let robot = "22\tsale\tin progress\tAcme\t24\t9\tRobot\t1\t0\t0\t1\t\t\t";
+    let nuts = "26\tpurchase\tcancelled\tNuts\t27\t7\tScrew\t50\t0\t0\t0\t\t\t";
+    let later = "28\tsale\tpending\tLater\t\t\t\t\t\t\t\t\t\t";
     tells(
         alloc,
         &shop,
@@ -328,19 +330,19 @@ fn lists_orders(rt: HostRuntime) -> Result<(), Fail> {
     )
 }
 
-const BUILDS: &'static str =
-    "build\tpart\tname\tstate\twanted\tdone\tline\tcomponent\tcomponent name\trequired\tallocated\tmissing\tfree";
+pub const BUILDS: &'static str =
+    "build\tpart\tname\tstate\twanted\tdone\tline\tcomponent\tcomponent name\trequired\tallocated\tmissing\tfree\tkey\tday\tlast";
 
 /// A cancelled build wants nothing.
 #[test]
 fn lists_builds(rt: HostRuntime) -> Result<(), Fail> {
     let alloc = rt.alloc();
     let shop = filled(alloc)?;
-    let screws = "29\t9\tRobot\tin production\t3\t0\t10\t7\tScrew\t18\t5\t13\t14";
-    let motors = "29\t9\tRobot\tin production\t3\t0\t11\t8\tMotor A-1\t6\t1\t5\t0";
-    let more_screws = "33\t9\tRobot\tpending\t1\t0\t10\t7\tScrew\t6\t0\t6\t14";
-    let more_motors = "33\t9\tRobot\tpending\t1\t0\t11\t8\tMotor A-1\t2\t0\t2\t0";
-    let cancelled = "34\t9\tRobot\tcancelled\t5\t0\t\t\t\t\t\t\t";
+    let screws = "29\t9\tRobot\tin production\t3\t0\t10\t7\tScrew\t18\t5\t13\t14\t\t\t";
+    let motors = "29\t9\tRobot\tin production\t3\t0\t11\t8\tMotor A-1\t6\t1\t5\t0\t\t\t";
+    let more_screws = "33\t9\tRobot\tpending\t1\t0\t10\t7\tScrew\t6\t0\t6\t14\t\t\t";
+    let more_motors = "33\t9\tRobot\tpending\t1\t0\t11\t8\tMotor A-1\t2\t0\t2\t0\t\t\t";
+    let cancelled = "34\t9\tRobot\tcancelled\t5\t0\t\t\t\t\t\t\t\t\t\t";
     tells(
         alloc,
         &shop,
@@ -375,7 +377,7 @@ fn lists_shortages(rt: HostRuntime) -> Result<(), Fail> {
 
 const FOUND: &'static str = "kind\tnumber\tname\twhere";
 
-/// A word stands in a name, is a serial or a batch, or begins a key, in its own case.
+/// A word stands in a name or a key, is the front of a serial, or is a batch, in either case.
 #[test]
 fn lists_what_a_word_finds(rt: HostRuntime) -> Result<(), Fail> {
     let alloc = rt.alloc();
@@ -390,8 +392,10 @@ fn lists_what_a_word_finds(rt: HostRuntime) -> Result<(), Fail> {
             "location\t5\tBin A-1\tHall / Shelf / Bin A-1",
             "item\t12\tScrew\tHall / Shelf / Bin A-1",
             "item\t13\tMotor A-1\tHall / Shelf",
+            "item\t14\tRobot\tHall",
             "key\t\tA-1/bolts\t",
             "key\t12\tA-1/screws\t",
+            "key\t14\trobot/A-1\t",
         ]
         .as_slice(),
     )?;
@@ -410,10 +414,28 @@ fn lists_what_a_word_finds(rt: HostRuntime) -> Result<(), Fail> {
     tells(
         alloc,
         &shop,
-        Listing::Find("crew"),
-        [FOUND, "part\t7\tScrew\t"].as_slice(),
+        Listing::Find("OLD"),
+        [FOUND, "item\t17\tScrew\tgone"].as_slice(),
     )?;
-    tells(alloc, &shop, Listing::Find("a-1"), [FOUND].as_slice())
+    tells(
+        alloc,
+        &shop,
+        Listing::Find("Crew"),
+        [FOUND, "part\t7\tScrew\t", "key\t12\tA-1/screws\t"].as_slice(),
+    )?;
+    tells(
+        alloc,
+        &shop,
+        Listing::Find("m-"),
+        [FOUND, "item\t15\tMotor A-1\tin 14"].as_slice(),
+    )?;
+    tells(alloc, &shop, Listing::Find("-2"), [FOUND].as_slice())?;
+    tells(
+        alloc,
+        &shop,
+        Listing::Find("Ol"),
+        [FOUND, "key\t\tA-1/bolts\t"].as_slice(),
+    )
 }
 
 const SHEET: &'static str = "number\titem\tpart\tway\tbatch\tserial\texpected\tquantity";

@@ -271,6 +271,27 @@ pub fn receive(line: u64, location: u64, quantity: u64) -> Result<Request, Fail>
     })
 }
 
+/// Pieces of a batch come by a line of a purchase.
+pub fn received_batch(
+    alloc: Global,
+    line: u64,
+    location: u64,
+    quantity: u64,
+    batch: &str,
+) -> Result<Request, Fail> {
+    let batch = name(alloc, batch)?;
+    let new = NewStock {
+        quantity,
+        batch: Some(batch),
+        serials: None,
+    };
+    of_order(OrderCommand::Receive {
+        line,
+        location,
+        new,
+    })
+}
+
 /// A piece with a serial comes by a line of a purchase.
 pub fn received_one(
     alloc: Global,
