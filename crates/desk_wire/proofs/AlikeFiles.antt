@@ -1,5 +1,5 @@
 -- Names change how a file is read only where a value is of a wrong type.
-use Rattle.std.proofs.Common.{◌≡◌, inl, inr, ℕ, ◌+◌, ◌==◌, Bool, true, false, List, [], ◌∷◌, ◌++◌, length, drop}
+use Rattle.std.proofs.Common.{◌≡◌, inl, inr, ℕ, ◌+◌, ◌==◌, Bool, true, false, List, [], ◌∷◌, ◌++◌, length}
 use Rattle.std.proofs.Common.{refl, ap, sym, subst}
 use Rattle.std.specs.Prelude.{Option, Some, None, Result, Ok, Err, codes, nat_le}
 use Rattle.std.specs.Str.{bytes_eq}
@@ -22,10 +22,12 @@ use Rattle.desk_wire.specs.declared.row.ImportRow.{ImportRow}
 use Rattle.desk_wire.specs.Steps.{◌>>=◌, at, must, or_fault}
 use Rattle.desk_wire.specs.Numbers.{number_in, row_number_in}
 use Rattle.desk_wire.specs.Reading.{AreAlike}
+use Rattle.desk_wire.specs.Quotes.{but_last, ends_in_quotes}
 use Rattle.desk_wire.specs.Records.{Fields, are_texts, config_by}
 use Rattle.desk_wire.specs.RowWords.{number_of, row_at_word}
 use Rattle.desk_wire.specs.Imports.{AreAlikeFiles, Columns, NamesChangeFilesLittle, Reads, arranged, batch_of, command_of}
 use Rattle.desk_wire.specs.Imports.{field, key_of, layout_by, loosely, names_of, quantity_at, row_list, row_of, rows_by}
+use Rattle.desk_wire.specs.Imports.{records_under, rows_under, unless_other}
 use Rattle.desk_wire.specs.Imports.{rows_in, rows_of_text, separators, serials_of, strictly, with_rows}
 use Rattle.desk_wire.proofs.Alike.{both, later, same}
 
@@ -144,13 +146,24 @@ rows_alike names kind document day (r ∷ rs) =
     (λ header. with_rows_alike (strictly None kind document day) (strictly (Some names) kind document day)
     (strictly_alike names kind document day) 2 [] rs)
 
+rows_under_alike : (unclosed : Bool) (off on : Reads) → AreAlikeReads off on → (rs : List Fields)
+    → AreAlikeFiles (rows_under unclosed off rs) (rows_under unclosed on rs)
+rows_under_alike false off on alike rs = with_rows_alike off on alike 2 [] rs
+rows_under_alike true off on alike rs =
+    both_rows (with_rows off 2 [] (but_last rs)) (with_rows on 2 [] (but_last rs)) _ _
+    (with_rows_alike off on alike 2 [] (but_last rs)) (λ rows. inr refl)
+
 rows_by_alike : (names : Naming) (kind : ImportKind) (document : List ℕ) (day : CivilDay) (text : List ℕ)
     (layout : Option (ℕ × Columns))
     → AreAlikeFiles (rows_by None kind document day text layout) (rows_by (Some names) kind document day text layout)
 rows_by_alike names kind document day text None = inr refl
 rows_by_alike names kind document day text (Some layout) =
-    with_rows_alike (loosely None kind document day layout.1) (loosely (Some names) kind document day layout.1)
-    (loosely_alike names kind document day layout.1) 2 [] (drop 1 (records (config_by layout.0) text))
+    let unclosed = ends_in_quotes (config_by layout.0) text in
+    let off = loosely None kind document day layout.1 in
+    let on = loosely (Some names) kind document day layout.1 in
+    let rs = records_under layout.0 text in
+    both_rows (rows_under unclosed off rs) (rows_under unclosed on rs) (unless_other text layout) (unless_other text layout)
+    (rows_under_alike unclosed off on (loosely_alike names kind document day layout.1) rs) (λ rows. inr refl)
 
 text_alike : (loose : Bool) (names : Naming) (kind : ImportKind) (document : List ℕ) (day : CivilDay) (text : List ℕ)
     → AreAlikeFiles (rows_of_text loose None kind document day text)

@@ -1,5 +1,5 @@
 -- What the code reads of a file at a time, and all of the file.
-use Rattle.std.proofs.Common.{◌≡◌, ℕ, ◌==◌, Bool, true, false, List, [], ◌∷◌, length, refl, sym, ap, ◌∙◌}
+use Rattle.std.proofs.Common.{◌≡◌, ℕ, ◌==◌, Bool, true, false, List, [], ◌∷◌, drop, length, refl, sym, ap, ◌∙◌}
 use Rattle.std.proofs.Common.{inl, inr}
 use Rattle.std.specs.Prelude.{Option, Some, None, Ok, Err, nat_le}
 use Rattle.std.specs.Str.{bytes_eq}
@@ -18,10 +18,11 @@ use Rattle.desk_wire.specs.declared.layout.Layout.TheVariants.{Strict, Loose}
 use Rattle.desk_wire.specs.Imports.{Columns, arranged, field, first_columns, first_wrong}
 use Rattle.desk_wire.specs.Imports.{layout_by, loosely, names_of, quantity_at, row_of, rows_by, rows_in}
 use Rattle.desk_wire.specs.Imports.{rows_of_text, strictly, with_rows, wrong_by, wrong_in_file, wrong_in_row, wrong_in_text}
-use Rattle.desk_wire.specs.Imports.{import, wrong_loosely, wrong_strictly, wrong_under}
+use Rattle.desk_wire.specs.Imports.{import, rows_under, unless_other, wrong_loosely, wrong_strictly, wrong_under}
 use Rattle.desk_wire.specs.Layouts.{ReadsRow, reads_by, wrong_in}
+use Rattle.desk_wire.specs.Quotes.{closed_of, ends_in_quotes}
 use Rattle.desk_wire.specs.Records.{BytesReader, Fields, ReadsRecord, are_texts, config_by, left}
-use Rattle.desk_wire.specs.Steps.{at}
+use Rattle.desk_wire.specs.Steps.{◌>>=◌, at}
 use Rattle.desk_wire.proofs.Rows.{no-header}
 
 -- ---- one record that isn't all text
@@ -65,10 +66,10 @@ strict-long names kind document day fields h = elim (cases_Bool (are_texts field
 ]
 
 pub loose-out : (names : Option Naming) (kind : ImportKind) (document : List ℕ) (day : CivilDay) (columns : Columns)
-    (fields : Fields) → are_texts fields ≡ true → field (quantity_at kind) (arranged columns fields) ≡ []
-    → loosely names kind document day columns fields ≡ Ok None
+    (fields : Fields) → are_texts fields ≡ true → nat_le (length fields) columns.width ≡ true
+    → field (quantity_at kind) (arranged columns fields) ≡ [] → loosely names kind document day columns fields ≡ Ok None
 unfolding loosely
-loose-out names kind document day columns fields t e = rw (t, e) refl
+loose-out names kind document day columns fields t fits e = rw (t, fits, e) refl
 
 pub not-empty : (xs : List ℕ) → (length xs == 0) ≡ false → (b : ℕ) × (bs : List ℕ) × (xs ≡ b ∷ bs)
 not-empty [] h = absurd (true≢false h)
@@ -81,14 +82,13 @@ pub loose-in : (names : Option Naming) (kind : ImportKind) (document : List ℕ)
     → (loosely names kind document day columns fields ≡ strictly names kind document day (arranged columns fields))
     × (wrong_loosely names kind columns (Some fields) ≡ wrong_in_row names kind (arranged columns fields))
 unfolding loosely
-loose-in names kind document day columns fields b bs t e fits = (rw (t, e, fits) refl, rw (t, fits) refl)
+loose-in names kind document day columns fields b bs t e fits = (rw (t, fits, e) refl, rw (t, fits) refl)
 
 pub loose-long : (names : Option Naming) (kind : ImportKind) (document : List ℕ) (day : CivilDay) (columns : Columns)
-    (fields : Fields) (b : ℕ) (bs : List ℕ) → are_texts fields ≡ true
-    → field (quantity_at kind) (arranged columns fields) ≡ b ∷ bs → nat_le (length fields) columns.width ≡ false
+    (fields : Fields) → are_texts fields ≡ true → nat_le (length fields) columns.width ≡ false
     → (loosely names kind document day columns fields ≡ Err Csv) × (wrong_loosely names kind columns (Some fields) ≡ None)
 unfolding loosely
-loose-long names kind document day columns fields b bs t e wide = (rw (t, e, wide) refl, rw (t, wide) refl)
+loose-long names kind document day columns fields t wide = (rw (t, wide) refl, rw (t, wide) refl)
 
 -- ---- all records
 
@@ -130,10 +130,21 @@ layout-here kind text s ss columns e = rw e refl
 pub loose-rest : (names : Option Naming) (kind : ImportKind) (document : List ℕ) (day : CivilDay) (text : List ℕ)
     (o : Option (ℕ × Columns)) (layout : ℕ × Columns) (first : Fields) (rest : List Fields) → Some layout ≡ o
     → records (config_by layout.0) text ≡ first ∷ rest
-    → (rows_by names kind document day text o ≡ with_rows (loosely names kind document day layout.1) 2 [] rest)
+    → (rows_by names kind document day text o
+    ≡ (rows_under (ends_in_quotes (config_by layout.0) text) (loosely names kind document day layout.1) rest
+    >>= unless_other text layout))
     × (wrong_by names kind document day text o
-    ≡ wrong_loosely names kind layout.1 (first_wrong (loosely names kind document day layout.1) rest))
-loose-rest names kind document day text o layout first rest e is = rw (← e) (rw is refl, rw is refl)
+    ≡ wrong_loosely names kind layout.1
+    (first_wrong (loosely names kind document day layout.1)
+    (closed_of (ends_in_quotes (config_by layout.0) text) rest)))
+loose-rest names kind document day text o layout first rest e is =
+    rw (← e) (
+      ap (λ all. rows_under (ends_in_quotes (config_by layout.0) text) (loosely names kind document day layout.1)
+          (drop 1 all) >>= unless_other text layout) is,
+      ap (λ all. wrong_loosely names kind layout.1
+          (first_wrong (loosely names kind document day layout.1)
+          (closed_of (ends_in_quotes (config_by layout.0) text) (drop 1 all)))) is,
+    )
 
 -- ---- a whole file
 

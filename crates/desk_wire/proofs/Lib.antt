@@ -17,3 +17,13 @@ pub mod Layouts
 pub mod ColumnFacts
 pub mod RowFaults
 pub mod LooseFiles
+pub mod OpenQuotes
+pub mod ReadBack
+pub mod WholeValues
+pub mod OneLine
+pub mod SheetFacts
+pub mod SheetLines
+pub mod SheetKeys
+pub mod SheetReads
+pub mod SheetTexts
+pub mod ClosedRecords

@@ -1,7 +1,7 @@
--- A file that is read strictly is read so loosely.
-use Rattle.std.proofs.Common.{◌≡◌, ℕ, ◌+◌, ◌++◌, ◌==◌, ◌&&◌, Bool, true, false, List, [], ◌∷◌, length, arith, refl, sym, ap}
+-- A file that is read strictly, and has no quote open at its end, is read so loosely.
+use Rattle.std.proofs.Common.{◌≡◌, ℕ, ◌+◌, ◌++◌, ◌==◌, ◌&&◌, true, false, List, [], ◌∷◌, length, arith, refl, sym, ap}
 use Rattle.std.proofs.Common.{◌∙◌, inl, inr}
-use Rattle.std.specs.Prelude.{Option, Some, None, Result, Ok, Err, is_err, nat_le}
+use Rattle.std.specs.Prelude.{Option, Some, Result, Ok, Err, is_err, nat_le}
 use Rattle.std.specs.Str.{bytes_eq}
 use Rattle.std.specs.Cmp.Lexicographic.{pointwise}
 use Rattle.std.proofs.lemmas.Bool.{and_parts, cases_Bool, eqb-true, false≢true, le-leb}
@@ -14,17 +14,18 @@ use Rattle.desk_core.specs.Naming.{Naming}
 use Rattle.std.specs.Prelude.{codes}
 use Rattle.desk_wire.specs.declared.fault.What.{What}
 use Rattle.desk_wire.specs.declared.fault.What.TheVariants.{Csv, WrongType}
-use Rattle.desk_wire.specs.declared.fault.WireFault.{WireFault}
 use Rattle.desk_wire.specs.declared.kind.ImportKind.{ImportKind}
 use Rattle.desk_wire.specs.declared.kind.ImportKind.TheVariants.{Receipts, Counts}
 use Rattle.desk_wire.specs.declared.row.ImportRow.{ImportRow}
-use Rattle.desk_wire.specs.Imports.{Columns, LooseReadsStrict, Reads, arranged, columns_of, command_of, field, import}
+use Rattle.desk_wire.specs.Imports.{Columns, LooseReadsStrict, Reads, arranged, columns_of, command_of, field}
 use Rattle.desk_wire.specs.Imports.{layout_by, loosely, names_of, quantity_at, row_list, row_of, rows_by, rows_in}
-use Rattle.desk_wire.specs.Imports.{rows_of_text, separators, strictly, with_rows}
+use Rattle.desk_wire.specs.Imports.{has_other_separator, rows_under, separators, strictly, unless_other}
+use Rattle.desk_wire.specs.Imports.{with_rows}
 use Rattle.desk_wire.specs.Numbers.{row_number_in}
-use Rattle.desk_wire.specs.Records.{Fields, are_texts, config_by}
+use Rattle.desk_wire.specs.Quotes.{ends_in_quotes}
+use Rattle.desk_wire.specs.Records.{Fields, are_texts}
 use Rattle.desk_wire.specs.RowWords.{row_at_word}
-use Rattle.desk_wire.specs.Steps.{◌>>=◌, at, must, or_fault}
+use Rattle.desk_wire.specs.Steps.{◌>>=◌, must, or_fault}
 use Rattle.desk_wire.proofs.ColumnFacts.{columns-are}
 use Rattle.desk_wire.proofs.Layouts.{import-fits, import-long, layout-here, loose-in, loose-rest, strict-long, strict-none}
 use Rattle.desk_wire.proofs.Layouts.{strict-other, strict-rest, untold}
@@ -174,10 +175,37 @@ with-same one other same number rows (r ∷ rs) all h =
     go (Ok row) e more = rw (same r row e) (more row (rw e at h))
     go (Err what) e more = let bad = rw e at h in cc
 
+-- a first record that is read strictly is as wide as the header, so that it has no other separator
+no-other : (kind : ImportKind) (text : List ℕ) (first : Fields) (rest : List Fields)
+    → records default_config text ≡ first ∷ rest
+    → ((r : Fields) (rs : List Fields) → rest ≡ r ∷ rs → (length r == length (names_of kind)) ≡ true)
+    → has_other_separator text 44 (length (names_of kind)) ≡ false
+no-other kind text first [] is long = rw is refl
+no-other kind text first (r ∷ rs) is long = elim (cases_Bool (are_texts first && are_texts r)) [
+  | inl t ↦ rw (is, t, long r rs refl) refl
+  | inr f ↦ rw (is, f) refl
+]
+
+rows-same : (text : List ℕ) (columns : Columns) (rows : List ImportRow)
+    → has_other_separator text 44 columns.width ≡ false → unless_other text (44, columns) rows ≡ Ok rows
+rows-same text columns [] h = rw h refl
+rows-same text columns (row ∷ rows) h = refl
+
+first-long : (names : Option Naming) (kind : ImportKind) (document : List ℕ) (day : CivilDay) (rest : List Fields)
+    (rows : List ImportRow) → with_rows (strictly names kind document day) 2 [] rest ≡ Ok rows
+    → (r : Fields) (rs : List Fields) → rest ≡ r ∷ rs → (length r == length (names_of kind)) ≡ true
+first-long names kind document day rest rows h r rs is = go (strictly names kind document day r) refl
+  where
+    go : (read : Result (Option ImportRow) What) → strictly names kind document day r ≡ read
+        → (length r == length (names_of kind)) ≡ true
+    go (Ok row) e = as-long names kind document day r row e
+    go (Err what) e = let bad = rw (is, e) at h in cc
+
 text-same : (names : Option Naming) (kind : ImportKind) (document : List ℕ) (day : CivilDay) (text : List ℕ)
     (rows : List ImportRow) → rows_in names kind document day (records default_config text) ≡ Ok rows
+    → ends_in_quotes default_config text ≡ false
     → rows_by names kind document day text (layout_by kind text separators) ≡ Ok rows
-text-same names kind document day text rows h = go (records default_config text) refl
+text-same names kind document day text rows h closed = go (records default_config text) refl
   where
     under : (first : Fields) (rest : List Fields) → records default_config text ≡ first ∷ rest
         → pointwise bytes_eq (names_of kind) first ≡ true
@@ -187,11 +215,18 @@ text-same names kind document day text rows h = go (records default_config text)
         ap (columns_of kind) (same-names (names_of kind) first t) ∙ header-columns kind in
         let found : layout_by kind text separators ≡ Some (44, strict_columns kind) =
         layout-here kind text 44 (59 ∷ 9 ∷ []) (strict_columns kind) (rw is columns) in
+        let strict : with_rows (strictly names kind document day) 2 [] rest ≡ Ok rows =
+        sym (strict-rest names kind document day (records default_config text) first rest is t).0 ∙ h in
+        let loose : with_rows (loosely names kind document day (strict_columns kind)) 2 [] rest ≡ Ok rows =
+        with-same (strictly names kind document day) (loosely names kind document day (strict_columns kind))
+        (loosely-same names kind document day) 2 [] rest rows strict in
         (loose-rest names kind document day text (layout_by kind text separators) (44, strict_columns kind) first rest
         (sym found) is).0
-        ∙ with-same (strictly names kind document day) (loosely names kind document day (strict_columns kind))
-        (loosely-same names kind document day) 2 [] rest rows
-        (sym (strict-rest names kind document day (records default_config text) first rest is t).0 ∙ h)
+        ∙ ap (λ unclosed. rows_under unclosed (loosely names kind document day (strict_columns kind)) rest
+        >>= unless_other text (44, strict_columns kind)) closed
+        ∙ ap (λ reading. reading >>= unless_other text (44, strict_columns kind)) loose
+        ∙ rows-same text (strict_columns kind) rows
+        (no-other kind text first rest is (first-long names kind document day rest rows strict))
 
     go : (all : List Fields) → records default_config text ≡ all
         → rows_by names kind document day text (layout_by kind text separators) ≡ Ok rows
@@ -206,11 +241,11 @@ text-same names kind document day text rows h = go (records default_config text)
     ]
 
 pub loose_reads_strict : LooseReadsStrict
-loose_reads_strict names kind document day bytes rows h = elim (cases_Bool (nat_le (length bytes) 16777216)) [
+loose_reads_strict names kind document day bytes rows h closed = elim (cases_Bool (nat_le (length bytes) 16777216)) [
   | inl t ↦
       (import-fits true names kind document day bytes t).0
       ∙ text-same names kind document day (strip_bom bytes) rows
-      (sym (import-fits false names kind document day bytes t).0 ∙ h)
+      (sym (import-fits false names kind document day bytes t).0 ∙ h) closed
   | inr f ↦
       let bad = sym (import-long false names kind document day bytes f).0 ∙ h in
       cc

@@ -1,7 +1,8 @@
 -- What a file of comma-separated values asks, or its first fault.
-use Rattle.std.specs.Prelude.{ℕ, ◌≡◌, ◌⊎◌, ◌+◌, ◌==◌, ◌&&◌, ◌||◌, ◌++◌, ◌∷◌, List, [], length, map, drop, nat_le, codes}
-use Rattle.std.specs.Prelude.{decimal, Bool, true, false, if◌then◌else◌, Option, Some, None, option_map, option_and_then}
+use Rattle.std.specs.Prelude.{ℕ, ◌≡◌, ◌⊎◌, ◌+◌, ◌==◌, ◌&&◌, ◌||◌, ◌++◌, ◌∷◌, List, [], length, map, drop, nat_le, not}
+use Rattle.std.specs.Prelude.{codes, decimal, Bool, true, false, if◌then◌else◌, Option, Some, None, option_map, option_and_then}
 use Rattle.std.specs.Prelude.{unwrap_or, Result, Ok, Err}
+use Rattle.std.specs.List.{list_any}
 use Rattle.std.specs.Str.{bytes_eq}
 use Rattle.std.specs.Cmp.Lexicographic.{pointwise}
 use Rattle.csv.specs.Reading.{default_config, records, strip_bom}
@@ -28,6 +29,7 @@ use Rattle.desk_wire.specs.Texts.{row_text_from, listed}
 use Rattle.desk_wire.specs.Numbers.{row_number_in}
 use Rattle.desk_wire.specs.RowWords.{number_of, row_at_word}
 use Rattle.desk_wire.specs.Kinds.{import_kind_name}
+use Rattle.desk_wire.specs.Quotes.{but_last, closed_of, ends_in_quotes}
 use Rattle.desk_wire.specs.Records.{Fields, are_texts, config_by}
 
 -- ---- one record
@@ -150,18 +152,17 @@ strictly names kind document day fields = do
   row ← row_of names kind document day fields
   Ok (Some row)
 
--- A record without a quantity is left out, and so is an empty one. Any other is a row by its columns: `Csv` where it has
--- more fields than the header.
+-- `Csv` is a record of more fields than the header. Of the others one without a quantity is left out, and so is an empty
+-- one. Any other is a row by its columns.
 unfoldable pub loosely : Option Naming → ImportKind → List ℕ → CivilDay → Columns → Reads
 loosely names kind document day columns fields = do
   texts ← must Csv (are_texts fields)
+  fits ← must Csv (nat_le (length fields) columns.width)
   by_quantity (field (quantity_at kind) (arranged columns fields))
   where
     by_quantity : List ℕ → Result (Option ImportRow) What
     by_quantity [] = Ok None
-    by_quantity (b ∷ bs) = do
-      fits ← must Csv (nat_le (length fields) columns.width)
-      strictly names kind document day (arranged columns fields)
+    by_quantity (b ∷ bs) = strictly names kind document day (arranged columns fields)
 
 -- ---- all records
 
@@ -201,12 +202,54 @@ layout_by kind text (s ∷ ss) =
     by_columns None others = others
     by_columns (Some columns) others = Some (s, columns)
 
+-- the records under the header
+abbrev pub records_under : ℕ → List ℕ → List Fields
+records_under separator text = drop 1 (records (config_by separator) text)
+
+-- The rows that the records under the header are. Where a quote is open at the end of the text, the last record of all is
+-- `Csv`, after the others.
+abbrev pub rows_under : Bool → Reads → List Fields → Result (List ImportRow) WireFault
+rows_under false reads rs = with_rows reads 2 [] rs
+rows_under true reads rs = do
+  rows ← with_rows reads 2 [] (but_last rs)
+  at (length rs + 1) (Err Csv)
+
+-- how many fields the first record under the header has, if there is one, where both are texts
+abbrev pub first_width : List Fields → Option ℕ
+first_width [] = None
+first_width (header ∷ []) = None
+first_width (header ∷ r ∷ rs) = if are_texts header && are_texts r then Some (length r) else None
+
+abbrev pub is_width : Option ℕ → ℕ → Bool
+is_width None width = false
+is_width (Some n) width = n == width
+
+abbrev pub is_other_width : Option ℕ → ℕ → Bool
+is_other_width None width = false
+is_other_width (Some n) width = not (n == width)
+
+-- Another separator stands in the records than in the header: by the header's the first record under it hasn't as many
+-- fields as the header, and by another it has.
+abbrev pub has_other_separator : List ℕ → ℕ → ℕ → Bool
+has_other_separator text separator width =
+    is_other_width (first_width (records (config_by separator) text)) width
+    && list_any (λ other. is_width (first_width (records (config_by other) text)) width) separators
+
+-- these rows of a file; where there are none, it is `Csv` if another separator stands in the records than in the header
+abbrev pub unless_other : List ℕ → ℕ × Columns → List ImportRow → Result (List ImportRow) WireFault
+unless_other text layout [] = do
+  same ← at 2 (must Csv (not (has_other_separator text layout.0 layout.1.width)))
+  Ok []
+unless_other text layout (row ∷ rows) = Ok (row ∷ rows)
+
 -- the rows under the header, by the columns that it names
 abbrev pub rows_by : Option Naming → ImportKind → List ℕ → CivilDay → List ℕ → Option (ℕ × Columns)
     → Result (List ImportRow) WireFault
 rows_by names kind document day text None = at 1 (Err Header)
-rows_by names kind document day text (Some layout) =
-    with_rows (loosely names kind document day layout.1) 2 [] (drop 1 (records (config_by layout.0) text))
+rows_by names kind document day text (Some layout) = do
+  rows ← rows_under (ends_in_quotes (config_by layout.0) text) (loosely names kind document day layout.1)
+      (records_under layout.0 text)
+  unless_other text layout rows
 
 -- the rows of a text, strictly or loosely
 abbrev pub rows_of_text : Bool → Option Naming → ImportKind → List ℕ → CivilDay → List ℕ
@@ -266,7 +309,8 @@ abbrev pub wrong_by : Option Naming → ImportKind → List ℕ → CivilDay →
 wrong_by names kind document day text None = None
 wrong_by names kind document day text (Some layout) =
     wrong_loosely names kind layout.1
-    (first_wrong (loosely names kind document day layout.1) (drop 1 (records (config_by layout.0) text)))
+    (first_wrong (loosely names kind document day layout.1)
+    (closed_of (ends_in_quotes (config_by layout.0) text) (records_under layout.0 text)))
 
 -- under the header, where it is one
 abbrev pub wrong_under : Option Naming → ImportKind → List ℕ → CivilDay → List Fields → Option Wrong
@@ -298,12 +342,12 @@ Imports loose names kind document day bytes (Ok rows) = import loose names kind 
 Imports loose names kind document day bytes (Err e) =
     Tells (import loose names kind document day bytes) (wrong_in_file loose names kind document day bytes) e
 
--- a file that is read strictly is read so loosely
+-- a file that is read strictly is read so loosely, unless a quote is open at its end
 abbrev pub LooseReadsStrict : Type 0
 LooseReadsStrict =
     (names : Option Naming) (kind : ImportKind) (document : List ℕ) (day : CivilDay) (bytes : List ℕ)
     (rows : List ImportRow) → import false names kind document day bytes ≡ Ok rows
-    → import true names kind document day bytes ≡ Ok rows
+    → ends_in_quotes default_config (strip_bom bytes) ≡ false → import true names kind document day bytes ≡ Ok rows
 
 -- ---- what names change
 

@@ -1,22 +1,69 @@
 -- What the code reads of a file at a time.
-use Rattle.std.specs.Prelude.{ℕ, ◌≡◌, ◌∷◌, List, [], Option, Some, None, Result, Ok, Err, option_map}
+use Rattle.std.specs.Prelude.{ℕ, ◌≡◌, ◌≤◌, ◌+◌, ◌&&◌, ◌∷◌, List, [], length, Bool, true, false, not, Option, Some, None, Result, Ok, Err}
+use Rattle.std.specs.Prelude.{option_map}
+use Rattle.csv.specs.declared.parser.State.{State}
+use Rattle.csv.specs.declared.parser.State.TheVariants as st
 use Rattle.part_core.specs.Day.{CivilDay}
 use Rattle.desk_core.specs.Naming.{Naming}
 use Rattle.desk_wire.specs.declared.columns.HeaderColumns.{HeaderColumns}
 use Rattle.desk_wire.specs.declared.fault.FileError.{FileError}
 use Rattle.desk_wire.specs.declared.fault.FileError.TheVariants.{Memory, Wrong}
 use Rattle.desk_wire.specs.declared.fault.What.{What}
-use Rattle.desk_wire.specs.declared.fault.WireFault.{WireFault}
 use Rattle.desk_wire.specs.declared.kind.ImportKind.{ImportKind}
 use Rattle.desk_wire.specs.declared.layout.Layout.{Layout}
 use Rattle.desk_wire.specs.declared.layout.Layout.TheVariants.{Strict, Loose}
+use Rattle.desk_wire.specs.declared.quotes.Place.{Place}
+use Rattle.desk_wire.specs.declared.quotes.Place.TheVariants as place
 use Rattle.desk_wire.specs.declared.row.ImportRow.{ImportRow}
 use Rattle.desk_wire.specs.declared.row_faults.WrongPlace.{WrongPlace}
 use Rattle.desk_wire.specs.Faults.{shown_field}
 use Rattle.desk_wire.specs.Imports as imports
 use Rattle.desk_wire.specs.Imports.{Columns, Reads, Tells, field, loosely, strictly, wrong_loosely, wrong_strictly}
-use Rattle.desk_wire.specs.Records.{Fields}
+use Rattle.desk_wire.specs.Records.{BytesReader, Fields, IsReading, are_texts, left}
 use Rattle.desk_wire.specs.Steps.{at}
+
+-- the place at which a reader of a file stands, in each state that it comes to
+abbrev pub place_of : State → Option Place
+place_of st.StartRecord = Some place.Between
+place_of st.StartField = Some place.Start
+place_of st.InField = Some place.Plain
+place_of st.InQuoted = Some place.Quoted
+place_of st.AfterQuote = Some place.Closing
+place_of st.InEscape = None
+place_of st.InComment = None
+place_of st.AfterCr = Some place.Between
+
+-- between two records
+abbrev pub is_between : Place → Bool
+is_between place.Between = true
+is_between place.Start = false
+is_between place.Plain = false
+is_between place.Quoted = false
+is_between place.Closing = false
+
+-- a byte that leads from the one place to the other ends a record
+abbrev pub ends_record : Place → Place → Bool
+ends_record old new = not (is_between old) && is_between new
+
+-- these records begin with one that is text
+abbrev pub begin_text : List Fields → Bool
+begin_text [] = false
+begin_text (r ∷ rs) = are_texts r
+
+-- the next record was read, if there is one, and it is text
+abbrev pub ReadsText : BytesReader → BytesReader → Fields → Bool → Type 0
+ReadsText old new fields true = IsReading new × (left old ≡ fields ∷ left new) × (are_texts fields ≡ true)
+ReadsText old new fields false = begin_text (left old) ≡ false
+
+-- the last of these records, of which the first has the number, has that one, if a quote is open there
+abbrev pub IsLast : Option ℕ → ℕ → List Fields → Type 0
+IsLast None number rs = Unit {0}
+IsLast (Some last) number rs = (number ≤ last) × (last + 1 ≡ number + length rs)
+
+-- a quote is open in the record of that number, or in none
+abbrev pub EndsAt : Option ℕ → ℕ → Type 0
+EndsAt None number = Unit {0}
+EndsAt (Some last) number = last ≡ number
 
 -- the columns, as the code keeps them
 abbrev pub columns_in : HeaderColumns → Columns

@@ -15,8 +15,13 @@ pub mod Numbers
 pub mod Records
 pub mod Imports
 pub mod ImportReports
+pub mod Quotes
 pub mod SerialLists
 pub mod RowCommands
 pub mod NumberedRequests
 pub mod ImportRows
 pub mod Layouts
+pub mod Sheets
+pub mod SheetViews
+pub mod SheetForms
+pub mod SheetLaws

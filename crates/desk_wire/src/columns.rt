@@ -5,15 +5,15 @@ ghost use Rattle.csv.specs.Reading.{records, strip_bom};
 ghost use Rattle.csv.specs.Records.{fields_of};
 ghost use Rattle.desk_wire.specs.Imports.{arranged, column_by, columns_of, field_at_place};
 ghost use Rattle.desk_wire.specs.Imports.{first_columns, layout_by, may_lack, places_from};
-ghost use Rattle.desk_wire.specs.Imports.{separators};
-ghost use Rattle.desk_wire.specs.Layouts.{columns_in, layout_in};
-ghost use Rattle.desk_wire.specs.Records.{are_texts, config_by};
+ghost use Rattle.desk_wire.specs.Imports.{first_width, has_other_separator, separators};
+ghost use Rattle.desk_wire.specs.Layouts.{ReadsText, columns_in, layout_in};
+ghost use Rattle.desk_wire.specs.Records.{IsReading, are_texts, config_by};
 
 use crate::fault::Unread;
 use crate::kind::ImportKind;
 use crate::records::{next_record, records_of};
 use crate::row::{field, header};
-use csv::StringRecord;
+use csv::{Reader, StringRecord};
 use std::alloc::{AllocError, Global};
 
 /// What may stand between two fields, in the order in which they are tried.
@@ -113,6 +113,60 @@ pub fn layout_of(
         }
     }
     Ok(None)
+}
+
+/// Reads the next record: whether there is one, and it is text.
+fn reads_text(reader: &mut Reader<&[u8]>, fields: &mut StringRecord) -> Result<bool, AllocError>
+    requires { IsReading reader.old }
+    ensures { IfOk result (λ found. ReadsText reader.old reader.new (fields_of fields.new) found) }
+{
+    match next_record(reader, fields) {
+        Ok(found) => Ok(found),
+        Err(Unread::Wrong(_)) => Ok(false),
+        Err(Unread::Memory) => Err(AllocError),
+    }
+}
+
+/// How many fields the first record under the header has, where that separator stands between two
+/// fields, both records are there, and they are text.
+#[tactic(auto, using(crate::proofs::ClosedRecords::no_first, crate::proofs::ClosedRecords::no_second, crate::proofs::ClosedRecords::second_there))]
+fn first_width(alloc: Global, separator: u8, bytes: &[u8]) -> Result<Option<usize>, AllocError>
+    ensures { IfOk result (λ width. width
+        ≡ first_width (records (config_by separator) (strip_bom bytes.now))) }
+{
+    let mut reader = records_of(alloc, separator, bytes);
+    let mut header = StringRecord::new(alloc);
+    if !reads_text(&mut reader, &mut header)? {
+        return Ok(None);
+    }
+    let mut fields = StringRecord::new(alloc);
+    if !reads_text(&mut reader, &mut fields)? {
+        return Ok(None);
+    }
+    Ok(Some(fields.len()))
+}
+
+/// Whether another separator stands in the records than in the header, which has that one between two fields and is so
+/// wide: by the header's the first record under it hasn't as many fields, and by another it has.
+pub fn has_other_separator(
+    alloc: Global,
+    separator: u8,
+    width: usize,
+    bytes: &[u8],
+) -> Result<bool, AllocError>
+    ensures { IfOk result (λ other. other
+        ≡ has_other_separator (strip_bom bytes.now) separator width) }
+{
+    match first_width(alloc, separator, bytes)? {
+        Some(own) if own != width => {}
+        _ => return Ok(false),
+    }
+    for other in SEPARATORS {
+        if first_width(alloc, other, bytes)? == Some(width) {
+            return Ok(true);
+        }
+    }
+    Ok(false)
 }
 
 fn field_at_place(place: Option<usize>, fields: &StringRecord) -> &str

@@ -39,10 +39,11 @@ pub enum What {
     /// Several rows have the name that stands in that field.
     Ambiguous(FieldName),
     /// A record of a file isn't text in UTF-8, or has another number of fields than the header:
-    /// where the file is read loosely, more fields.
+    /// where the file is read loosely, or is of any command, more fields.
     Csv,
     /// The first record of a file isn't the header, or there is none. Where the file is read
-    /// loosely, it doesn't name each column just once.
+    /// loosely, it doesn't name each column just once; where the file is of any command, it doesn't name a column that
+    /// a line has to have, or names one twice.
     Header,
 }
 
@@ -145,6 +146,17 @@ impl From<What> for Unread {
 
     fn from(what: What) -> Self {
         Unread::Wrong(what)
+    }
+}
+
+impl From<AllocError> for ReadError {
+    ghost use Rattle.std.specs.Prelude.{◌≡◌};
+    ghost use Rattle.desk_wire.specs.declared.fault.ReadError.TheVariants.{Memory};
+
+    ghost from_gives = { λ _ error. error ≡ Memory };
+
+    fn from(_: AllocError) -> Self {
+        ReadError::Memory
     }
 }
 

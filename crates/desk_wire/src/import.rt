@@ -1,21 +1,23 @@
 //! A file of comma-separated values, as the rows that it is.
-ghost use Rattle.std.specs.Prelude.{◌≡◌, [], IfOk, IsSome, MatchResult, None, Ok, Err};
-ghost use Rattle.std.specs.Prelude.{false, true, option_map};
-ghost use Rattle.csv.specs.Reading.{strip_bom};
+ghost use Rattle.std.specs.Prelude.{◌≡◌, ◌+◌, ◌∷◌, IfOk, IsSome, MatchResult, None, Some, Ok, Err};
+ghost use Rattle.std.specs.Prelude.{false, true, is_some, option_map};
+ghost use Rattle.csv.specs.Reading.{records, strip_bom};
 ghost use Rattle.desk_wire.specs.declared.fault.FileError.TheVariants.{Wrong};
 ghost use Rattle.desk_wire.specs.declared.fault.What.TheVariants.{Header};
 ghost use Rattle.desk_wire.specs.declared.kind.ImportKind.TheVariants as kinds;
-ghost use Rattle.desk_wire.specs.Records.{IsReading, left};
-ghost use Rattle.desk_wire.specs.Layouts.{ReadsRow, reads_by, wrong_in};
+ghost use Rattle.desk_wire.specs.Records.{Fields, IsReading, config_by, left};
+ghost use Rattle.desk_wire.specs.Quotes.{closed_of};
+ghost use Rattle.desk_wire.specs.Layouts.{EndsAt, IsLast, ReadsRow, columns_in, reads_by, wrong_in};
 ghost use Rattle.desk_wire.specs.Imports.{Imports, LooseReadsStrict, NamesChangeFilesLittle, Tells};
-ghost use Rattle.desk_wire.specs.Imports.{first_wrong, import, rows_of_text, with_rows};
-ghost use Rattle.desk_wire.specs.Imports.{wrong_in_text};
+ghost use Rattle.desk_wire.specs.Imports.{first_wrong, import, rows_by, rows_of_text, rows_under};
+ghost use Rattle.desk_wire.specs.Imports.{wrong_by, wrong_in_text};
 
-use crate::columns::layout_of;
+use crate::columns::{HeaderColumns, has_other_separator, layout_of};
 use crate::document::Document;
 use crate::fault::{FileError, Unread, What, WireFault};
 use crate::kind::ImportKind;
-use crate::layout::{Layout, row_by};
+use crate::layout::{Layout, bad_record, row_by};
+use crate::quotes::open_record;
 use crate::records::{next_record, records_of};
 use crate::row::{ImportRow, is_header};
 use csv::{Reader, StringRecord};
@@ -69,32 +71,70 @@ fn next_row<N: Names>(
     Ok(Some(row))
 }
 
-/// Reads the records that are left, the first of which is the second of the file, as rows.
+/// Reads the next record, of that number, where there is one without an open quote: as a row, or as one that is left out.
+/// In the last record of the file a quote is open, where `unclosed` is its number.
+fn next_closed_row<N: Names>(
+    alloc: Global,
+    names: Option<&N>,
+    layout: &Layout,
+    reader: &mut Reader<&[u8]>,
+    fields: &mut StringRecord,
+    unclosed: Option<u64>,
+    number: u64,
+    kind: ImportKind,
+    document: &Document,
+    day: Day,
+) -> Result<Option<Option<ImportRow>>, FileError>
+    requires reading { IsReading reader.old }
+    requires last { IsLast unclosed number (left reader.old) }
+    ensures row { let naming = option_map (λ n. N.naming_of n.now) names.entry in
+        ReadsRow (reads_by naming kind document.now day layout.now)
+        (wrong_in naming kind layout.now) number (closed_of (is_some unclosed) (left reader.old))
+        (closed_of (is_some unclosed) (left reader.new)) result }
+    ensures reading { IfOk result (λ row. IsSome row → IsReading reader.new) }
+    ensures last { IfOk result (λ row. IsSome row
+        → IsLast unclosed (number + 1) (left reader.new)) }
+    ensures end { IfOk result (λ row. row ≡ None → EndsAt unclosed number) }
+{
+    if unclosed == Some(number) {
+        return Ok(None);
+    }
+    next_row(
+        alloc, names, layout, reader, fields, number, kind, document, day,
+    )
+}
+
+/// Reads the records that are left, the first of which is the second of the file, as rows. In that of the number `unclosed`
+/// a quote is open.
 fn rows<N: Names>(
     alloc: Global,
     names: Option<&N>,
     layout: &Layout,
     reader: &mut Reader<&[u8]>,
+    unclosed: Option<u64>,
     kind: ImportKind,
     document: &Document,
     day: Day,
 ) -> Result<Vec<ImportRow>, FileError>
-    requires { IsReading reader.old }
+    requires reading { IsReading reader.old }
+    requires last { IsLast unclosed 2 (left reader.old) }
     ensures { let naming = option_map (λ n. N.naming_of n.now) names.entry in
         let reads = reads_by naming kind document.now day layout.now in
-        MatchResult result (λ rows. with_rows reads 2 [] (left reader.old) ≡ Ok rows.items)
-        (Tells (with_rows reads 2 [] (left reader.old))
-        (wrong_in naming kind layout.now (first_wrong reads (left reader.old)))) }
+        let reading = rows_under (is_some unclosed) reads (left reader.old) in
+        MatchResult result (λ rows. reading ≡ Ok rows.items)
+        (Tells reading (wrong_in naming kind layout.now
+        (first_wrong reads (closed_of (is_some unclosed) (left reader.old))))) }
 {
     let mut rows = Vec::new(alloc);
     let mut fields = StringRecord::new(alloc);
     for number in 2..u64::MAX {
-        match next_row(
+        match next_closed_row(
             alloc,
             names,
             layout,
             reader,
             &mut fields,
+            unclosed,
             number,
             kind,
             document,
@@ -102,6 +142,7 @@ fn rows<N: Names>(
         )? {
             Some(Some(row)) => rows.push(row)?,
             Some(None) => {}
+            None if unclosed.is_some() => return Err(bad_record(number)),
             None => return Ok(rows),
         }
     }
@@ -134,7 +175,51 @@ fn strict_rows<N: Names>(
         return Err(no_header());
     }
     let layout = Layout::Strict;
-    rows(alloc, names, &layout, &mut reader, kind, document, day)
+    rows(
+        alloc,
+        names,
+        &layout,
+        &mut reader,
+        None,
+        kind,
+        document,
+        day,
+    )
+}
+
+/// The rows of a file by the columns of its header, which was read.
+fn rows_by<N: Names>(
+    alloc: Global,
+    names: Option<&N>,
+    bytes: &[u8],
+    separator: u8,
+    columns: HeaderColumns,
+    reader: &mut Reader<&[u8]>,
+    kind: ImportKind,
+    document: &Document,
+    day: Day,
+) -> Result<Vec<ImportRow>, FileError>
+    requires reading { IsReading reader.old }
+    requires header { (header : Fields)
+        × (records (config_by separator) (strip_bom bytes.now) ≡ header ∷ left reader.old) }
+    ensures { let naming = option_map (λ n. N.naming_of n.now) names.entry in
+        let text = strip_bom bytes.now in
+        let layout = Some (separator, columns_in columns) in
+        let reading = rows_by naming kind document.now day text layout in
+        MatchResult result (λ rows. reading ≡ Ok rows.items)
+        (Tells reading (wrong_by naming kind document.now day text layout)) }
+{
+    let unclosed = open_record(separator, bytes);
+    if unclosed == Some(1) {
+        return Err(bad_record(1));
+    }
+    let width = columns.width();
+    let layout = Layout::Loose(columns);
+    let rows = rows(alloc, names, &layout, reader, unclosed, kind, document, day)?;
+    if rows.is_empty() && has_other_separator(alloc, separator, width, bytes)? {
+        return Err(bad_record(2));
+    }
+    Ok(rows)
 }
 
 /// The rows of a file by the columns that its header names.
@@ -163,8 +248,17 @@ fn loose_rows<N: Names>(
         Err(Unread::Wrong(_)) => return Err(no_header()),
         Err(Unread::Memory) => return Err(FileError::Memory),
     }
-    let layout = Layout::Loose(columns);
-    rows(alloc, names, &layout, &mut reader, kind, document, day)
+    rows_by(
+        alloc,
+        names,
+        bytes,
+        separator,
+        columns,
+        &mut reader,
+        kind,
+        document,
+        day,
+    )
 }
 
 /// The rows of a file, each a request of the day with a key of its own, or the file's first fault
@@ -178,8 +272,9 @@ fn loose_rows<N: Names>(
 /// A file that is read loosely has a comma, a semicolon or a tab between two fields, and its
 /// columns in any order, beside others. `batch` and `serials` may have no column. A record without
 /// a quantity is left out, one may end before its last fields, and `Csv` is one of more fields than
-/// the header. `Header` is the fault where no separator makes the first record name each column
-/// just once.
+/// the header, and the last one where a quote is open at the end of the file. `Header` is the fault
+/// where no separator makes the first record name each column just once. A file without a row is
+/// `Csv`, with 2, where another separator stands in the first record under the header.
 pub fn import_rows<N: Names>(
     alloc: Global,
     loose: bool,

@@ -53,8 +53,8 @@ fn told_row<N: Names>(
     }
 }
 
-/// The record has another number of fields than the header, or more.
-fn not_so_many(number: u64) -> FileError
+/// The record is `Csv`, and no field of it.
+pub fn bad_record(number: u64) -> FileError
     ensures { result ≡ Wrong (record { line = number; what = Csv }) None }
 {
     FileError::Wrong(
@@ -82,7 +82,7 @@ fn strict_row<N: Names>(
         (wrong_strictly naming kind (Some (fields_of fields.now))) number result }
 {
     if fields.len() != header(kind).len() {
-        return Err(not_so_many(number));
+        return Err(bad_record(number));
     }
     told_row(alloc, names, number, kind, document, day, fields)
 }
@@ -104,12 +104,12 @@ fn loose_row<N: Names>(
         IsReadAs (loosely naming kind document.now day header (fields_of fields.now))
         (wrong_loosely naming kind header (Some (fields_of fields.now))) number result }
 {
+    if fields.len() > columns.width() {
+        return Err(bad_record(number));
+    }
     let arranged = columns.arranged(alloc, fields)?;
     if field(&arranged, quantity_at(kind)).is_empty() {
         return Ok(None);
-    }
-    if fields.len() > columns.width() {
-        return Err(not_so_many(number));
     }
     told_row(alloc, names, number, kind, document, day, &arranged)
 }

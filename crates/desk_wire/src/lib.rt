@@ -38,8 +38,13 @@
 //! first of these by which the first record names each wanted column just once. The columns stand
 //! in any order, beside others, and `batch` and `serials` may have none. A record whose quantity is
 //! empty is left out, and one that ends before its last fields has them empty. `Csv` is a record
-//! that isn't text, or is to be a row and has more fields than the header. What is read strictly is
-//! read so loosely too.
+//! that isn't text, has more fields than the header, or has a quote that is open at the end of the
+//! file; and, where no record is a row, the first one under the header if another separator stands
+//! there. What is read strictly is read so loosely too, unless a quote is open at its end.
+//!
+//! A file may be of any other command: then it is a text of lines, of which line n is record n, and what the lines ask is
+//! read as of any line. Its columns are the fields of the command, its number, key and day, and its faults those of a
+//! file that is read loosely.
 //!
 //! Where names are allowed, the line of a receipt, its location and the item of a count may be words that say what the
 //! row is called, in the books as they are before the first row of the file; so may a word of the command line. Such
@@ -57,6 +62,7 @@ mod layout;
 mod line_faults;
 mod members;
 mod number;
+mod quotes;
 mod read;
 mod records;
 mod report;
@@ -67,8 +73,12 @@ mod row_names;
 mod row_words;
 mod serial_count;
 mod serial_list;
+mod sheet;
+mod sheet_columns;
+mod sheet_values;
 mod texts;
 mod values;
+mod verbs;
 mod write;
 
 pub use document::Document;
@@ -84,4 +94,9 @@ pub use read::{Wish, lines_are_commands, names_change_little, read_line, read_re
 pub use report::{import_report, push_report_line};
 pub use row::ImportRow;
 pub use row_words::{row_at_word, words_are_numbers};
+pub use sheet::{
+    Sheet, keys_tell_records, lines_ask_under_keys, records_have_keys, sheet_text, sheets_are_lines,
+};
+pub use sheet_columns::{Said, may_lack};
+pub use verbs::sheet_form;
 pub use write::{answer_text, fault_text, refused_text, report_text};

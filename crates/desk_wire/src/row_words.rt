@@ -17,7 +17,7 @@ use serde_json::Value;
 use std::alloc::Global;
 
 /// Whether a word is to be JSON.
-fn is_json(word: &str) -> bool
+pub fn is_json(word: &str) -> bool
     ensures { result ≡ is_json word.now }
 {
     let bytes = word.as_bytes();
@@ -25,7 +25,7 @@ fn is_json(word: &str) -> bool
 }
 
 /// The value that such a word is.
-fn json(alloc: Global, word: &str) -> Result<Value, Unread>
+pub fn json(alloc: Global, word: &str) -> Result<Value, Unread>
     ensures { MatchResult result (λ value. json_of word.now ≡ Ok (view value))
         (λ unread. Fails unread (json_of word.now)) }
 {

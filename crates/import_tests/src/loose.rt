@@ -51,7 +51,7 @@ fn leaves_out_rows_without_a_quantity(rt: HostRuntime) -> Result<(), Fail> {
 #[test]
 fn finds_what_is_wrong_with_it(rt: HostRuntime) -> Result<(), Fail> {
     let alloc = rt.alloc();
-    let cases: [(&[u8], &str); 11] = [
+    let cases: [(&[u8], &str); 15] = [
         (b"", "Header 1"),
         (b"number,item\n1,7\n", "Header 1"),
         (b"number,item,quantity,quantity\n1,7,5,5\n", "Header 1"),
@@ -59,6 +59,13 @@ fn finds_what_is_wrong_with_it(rt: HostRuntime) -> Result<(), Fail> {
         (b"number|item|quantity\n1|7|5\n", "Header 1"),
         (b"number,item,quantity\n1,7,5,6\n", "Csv 2"),
         (b"number,item,quantity,note\n1,7,5,\xff\n", "Csv 2"),
+        (b"number,item,quantity\n1,7,,\n", "Csv 2"),
+        (
+            b"number,item,quantity,note\n1,7,5,\n2,8,6,\"x\n3,9,7,\n",
+            "Csv 3",
+        ),
+        (b"number,item,quantity,\"note\n1,7,5,\n", "Csv 1"),
+        (b"number,item,quantity\n1;7;5\n", "Csv 2"),
         (
             b"number,item,quantity\n1,7,10.0\n",
             "WrongType 2: quantity is 10.0",

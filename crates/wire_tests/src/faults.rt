@@ -1,7 +1,7 @@
 //! What is wrong with lines.
 use desk_core::Shop;
 use desk_wire::{ReadError, read_line};
-use std::alloc::Global;
+use std::alloc::{AllocError, Global};
 use std::test::Fail;
 
 /// The name of the fault that is told of that line.
@@ -21,6 +21,8 @@ fn finds_what_is_wrong_with_a_line(rt: HostRuntime) -> Result<(), Fail> {
         ("{", "NotJson"),
         ("{}{}", "NotJson"),
         (r#"{"do":"fly","item":1e999}"#, "NotJson"),
+        (r#"{"do":"fly","item":"\ud800"}"#, "NotJson"),
+        (r#"{"do":"fly","item":"\ud83d\udd29"}"#, "UnknownCommand"),
         (r#"{"do":"fly","item":01}"#, "NotJson"),
         ("[]", "NotObject"),
         ("1", "NotObject"),
@@ -62,6 +64,23 @@ fn finds_what_is_wrong_with_a_line(rt: HostRuntime) -> Result<(), Fail> {
     assert_eq!(rt; fault_of(alloc, &long, 7), "NotJson");
     long.push(b' ')?;
     assert_eq!(rt; fault_of(alloc, &long, 7), "TooLong");
+    Ok(())
+}
+
+/// So many arrays in one another.
+fn nested(alloc: Global, depth: usize) -> Result<Vec<u8>, AllocError> {
+    let mut line = vec![in alloc; b'['; depth]?;
+    for _ in 0..depth {
+        line.push(b']')?;
+    }
+    Ok(line)
+}
+
+#[test]
+fn finds_what_stands_too_deep(rt: HostRuntime) -> Result<(), Fail> {
+    let alloc = rt.alloc();
+    assert_eq!(rt; fault_of(alloc, &nested(alloc, 127)?, 7), "NotObject");
+    assert_eq!(rt; fault_of(alloc, &nested(alloc, 128)?, 7), "NotJson");
     Ok(())
 }
 

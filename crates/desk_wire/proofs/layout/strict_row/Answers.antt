@@ -16,4 +16,4 @@ returns-then-len-header g c =
     let h : (length fields == length (names_of c.args.kind)) ≡ false = grind (arith, nat_tests, length-map) in
     let t = strict-long names c.args.kind c.args.document.now c.args.day fields h in
     subst (Tells (at c.args.number (strictly names c.args.kind c.args.document.now c.args.day fields))
-    (wrong_strictly names c.args.kind (Some fields))) (sym c.not_so_many.ensures) (ap (at c.args.number) t.0, sym t.1)
+    (wrong_strictly names c.args.kind (Some fields))) (sym c.bad_record.ensures) (ap (at c.args.number) t.0, sym t.1)
