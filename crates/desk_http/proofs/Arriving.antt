@@ -1,14 +1,15 @@
 -- What has come, and what is still to come.
 use Rattle.std.proofs.Common.{◌≡◌, ◌+◌, ◌-◌, ◌≤◌, ◌<◌, ℕ, Bool, true, false, cond, List, [], ◌∷◌, ◌++◌}
 use Rattle.std.proofs.Common.{take, length, arith, ap, sym, refl, ◌∙◌, append-nil, length-append, zero}
-use Rattle.std.proofs.Common.{suc, nat_eq, ◌==◌, get_or, drop, drop-cons, add-one}
+use Rattle.std.proofs.Common.{suc, subst, nat_eq, ◌==◌, get_or, drop, drop-cons, add-one}
 use Rattle.std.specs.Prelude.{Option, Some, None, option_map, nat_lt, IfSome, ◌||◌, ◌&&◌}
 use Rattle.std.specs.List.{starts_with}
+use Rattle.std.specs.Io.{StartsWith}
 use Rattle.std.specs.Io.KnownBytes.{IsAtEnd}
 use Rattle.std.proofs.lemmas.List.{take_all}
 use Rattle.std.proofs.lemmas.Bool.{le-ltb, lt-ltb}
 use Rattle.desk_http.specs.declared.receive.HeadArrival.TheVariants.{Head, TooLong, Incomplete}
-use Rattle.desk_http.specs.HeadEnds.{empty_line_end, head_end, front, arrival, arrival_at, all_of}
+use Rattle.desk_http.specs.HeadEnds.{empty_line_end, head_end, front, arrival, arrival_at, all_of, EndsWithHead}
 
 pub all_short : (n : ℕ) (bs : List ℕ) → length bs < n → bs ≡ take n bs
 all_short n bs h = sym (take_all n bs (omega arith))
@@ -138,6 +139,18 @@ too_long_here bs h l = sym (ap (arrival_at bs) h ∙ unless_short (length bs) l)
 
 pub incomplete_here : (bs : List ℕ) → head_end (front bs) ≡ None → length bs < 8192 → Incomplete ≡ arrival bs
 incomplete_here bs h l = sym (ap (arrival_at bs) h ∙ if_short (length bs) l)
+
+-- ---- a head that comes, comes with the last read
+
+pub nothing_read : (bs : List ℕ) → bs ≡ [] → EndsWithHead bs
+unfolding head_end front
+nothing_read bs e =
+    subst EndsWithHead (sym e) (record { before = 0; last_read = omega arith; not_yet = sym (incomplete_here [] refl (omega arith)) })
+
+pub read_once_more : (bs bs' : List ℕ) → head_end (front bs) ≡ None → length bs < 8192 → StartsWith bs' bs
+    → length bs' ≤ length bs + 4096 → EndsWithHead bs'
+read_once_more bs bs' h l more most =
+    record { before = length bs; last_read = most; not_yet = ap arrival more ∙ sym (incomplete_here bs h l) }
 
 -- ---- what has come of a head is what the whole bytes begin with
 

@@ -1,11 +1,11 @@
 -- What connections do to a service.
-use Rattle.std.proofs.Common.{◌≡◌, ◌+◌, ℕ, zero, suc, List, inl, inr, arith, subst}
+use Rattle.std.proofs.Common.{◌≡◌, ◌+◌, ℕ, Bool, zero, suc, List, inl, inr, arith, subst}
 use Rattle.std.specs.Prelude.{Option, Some, None, Result, Ok, Err}
 use Rattle.desk_http.specs.Sites.{SiteRules}
 use Rattle.desk_http.specs.Responses.{Response}
 use Rattle.desk_http.specs.Services.{Operation, ReplyView}
 use Rattle.desk_http.specs.Serving.{AreSteps, IsOneStep, IsOneOperation, Answers, Received, Incomplete, Rejected}
-use Rattle.desk_http.specs.Serving.{ForPage, Complete, Responds, Serves, IsReceived}
+use Rattle.desk_http.specs.Serving.{ForPage, Complete, Responds, Serves, ServesOne, IsReceived, Waits}
 use Rattle.desk_http.specs.declared.service.NoReply.{NoReply}
 use Rattle.desk_http.specs.declared.service.NoReply.TheVariants.{Failed}
 use Rattle.desk_http.specs.declared.served.Stop.{Stop}
@@ -31,17 +31,23 @@ module _ {D : Type 0} (performs : D → Operation → Result ReplyView NoReply �
   answers : (are : Received → Type 0) (d d' : D) (p : Response) → Answers performs site are d d' p → IsOneOperation performs d d'
   answers are d d' p h = responds d d' h.0 p h.2
 
-  -- a connection does one operation at most
-  one_operation : (are : Received → Type 0) (d d' : D) (w w' : Option (List ℕ)) (r : Result ℕ Stop)
+  served : (are : Received → Type 0) (d d' : D) (w w' : Option (List ℕ)) (r : Result ℕ Stop)
       → Serves performs site are d d' w w' r → IsOneOperation performs d d'
-  one_operation are d d' w w' (Ok status) h = answers are d d' h.0 h.1
-  one_operation are d d' w w' (Err Ended) h = inl h.1
-  one_operation are d d' w w' (Err ReadFailed) h = inl h.0
-  one_operation are d d' w w' (Err WriteFailed) h = answers are d d' h.0 h.1
-  one_operation are d d' w w' (Err Memory) h = elim h.0 [
+  served are d d' w w' (Ok status) h = answers are d d' h.0 h.1
+  served are d d' w w' (Err Ended) h = inl h.1
+  served are d d' w w' (Err ReadFailed) h = inl h.0
+  served are d d' w w' (Err WriteFailed) h = answers are d d' h.0 h.1
+  served are d d' w w' (Err Memory) h = elim h.0 [
     | inl same ↦ inl same
     | inr done ↦ inr (done.0, done.2, done.3)
   ]
+
+  -- a connection does one operation at most
+  one_operation : (wait : Bool → Type 0) (are : Received → Type 0) (d d' : D) (w w' : Option (List ℕ)) (r : Result ℕ Stop)
+      → ServesOne performs site wait are d d' w w' r → IsOneOperation performs d d'
+  one_operation wait are d d' w w' r (inl early) = inl early.1
+  one_operation wait are d d' w w' r (inr (inl fails)) = inl fails.2
+  one_operation wait are d d' w w' r (inr (inr (b, h, between, told, serves))) = served are d d' between w' r serves
 
   -- and so many connections so many
   pub operations : (n : ℕ) (d d' : D) → AreSteps (IsOneStep performs site) n d d'
@@ -50,5 +56,5 @@ module _ {D : Type 0} (performs : D → Operation → Result ReplyView NoReply �
   operations (suc n) d d' (middle, steps, (xs, r, serves)) = (
     middle,
     operations n d middle steps,
-    one_operation (IsReceived site (Some xs)) middle d' None None r serves,
+    one_operation (Waits site (Some xs)) (IsReceived site (Some xs)) middle d' None None r serves,
   )

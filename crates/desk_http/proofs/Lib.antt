@@ -5,6 +5,7 @@ pub mod Arriving
 pub mod Known
 pub mod Tokens
 pub mod Serving
+pub mod Waiting
 pub mod Connections
 pub mod Built
 pub mod Days

@@ -4,7 +4,7 @@ use Rattle.std.specs.Prelude.{[], Option, Some, None}
 use Rattle.std.specs.Str.{bytes_eq}
 use Rattle.std.proofs.lemmas.Slice.Eq.{bytes_eq-Decides}
 use Rattle.desk_http.specs.Services.{Machine, Operation, RunLine, ImportFile, ShowReport, ShowTable, ShowBooks, ShowHistory}
-use Rattle.desk_http.specs.Services.{IsReading, ReplyView, Stops, books_reply, step, tag_text}
+use Rattle.desk_http.specs.Services.{ImportSheet, IsReading, ReplyView, Stops, books_reply, step, tag_text}
 use Rattle.desk_http.specs.declared.service.Failure.{Failure}
 use Rattle.desk_http.specs.declared.service.NoReply.{NoReply}
 use Rattle.desk_http.specs.declared.service.NoReply.TheVariants.{Failed, Untold}
@@ -18,6 +18,7 @@ replied m s (ShowReport name number) h = refl
 replied m s (ShowTable name) h = refl
 replied m s (ShowBooks known) h = refl
 replied m s (ShowHistory from) h = refl
+replied m s (ImportSheet command document day file) h = absurd h
 
 one_of_three : {S : Type 0} (s s' : S) → (s' ≡ s) ⊎ ((s' ≡ s) ⊎ (s' ≡ s)) → s' ≡ s
 one_of_three s s' (inl e) = e
@@ -36,6 +37,7 @@ stopped m left (Failed f) s s' (ShowBooks known) h e = e
 stopped m left Untold s s' (ShowBooks known) h e = one_of_three s s' e
 stopped m left (Failed f) s s' (ShowHistory from) h e = e
 stopped m left Untold s s' (ShowHistory from) h e = one_of_three s s' e
+stopped m left why s s' (ImportSheet command document day file) h e = absurd h
 
 apart : (has : Option Tag) (tag : Tag) → Shown has ≡ Unchanged tag → ⊥
 apart has tag e = absurd (cc)

@@ -11,14 +11,15 @@ use Rattle.httparse.specs.declared.spans.RequestSpans.{RequestSpans}
 use Rattle.desk_http.specs.Heads.{Class, IsHead, WellFormed, TooManyFields, Malformed, HeadParts, head_parts_of}
 use Rattle.desk_http.specs.Spans.{head_parts_at}
 
-same_parts : (m m' t t' : List ℕ) (f f' : List (List ℕ × List ℕ)) → m ≡ m' → t ≡ t' → f ≡ f'
-    → let p : HeadParts = record { method = m; target = t; fields = f } in
-    let q : HeadParts = record { method = m'; target = t'; fields = f' } in p ≡ q
-same_parts m m' t t' f f' e e' e'' =
-    let a : List ℕ → HeadParts = λ x. record { method = x; target = t; fields = f } in
-    let b : List ℕ → HeadParts = λ x. record { method = m'; target = x; fields = f } in
-    let c : List (List ℕ × List ℕ) → HeadParts = λ x. record { method = m'; target = t'; fields = x } in
-    ap a e ∙ ap b e' ∙ ap c e''
+same_parts : (m m' t t' : List ℕ) (v v' : ℕ) (f f' : List (List ℕ × List ℕ)) → m ≡ m' → t ≡ t' → v ≡ v' → f ≡ f'
+    → let p : HeadParts = record { method = m; target = t; version = v; fields = f } in
+    let q : HeadParts = record { method = m'; target = t'; version = v'; fields = f' } in p ≡ q
+same_parts m m' t t' v v' f f' e e' e'' e''' =
+    let a : List ℕ → HeadParts = λ x. record { method = x; target = t; version = v; fields = f } in
+    let b : List ℕ → HeadParts = λ x. record { method = m'; target = x; version = v; fields = f } in
+    let c : ℕ → HeadParts = λ x. record { method = m'; target = t'; version = x; fields = f } in
+    let d : List (List ℕ × List ℕ) → HeadParts = λ x. record { method = m'; target = t'; version = v'; fields = x } in
+    ap a e ∙ ap b e' ∙ ap c e'' ∙ ap d e'''
 
 pub whole : (bytes : List ℕ) (spans : List HeaderSpan) (r : RequestSpans) → IsRequestOf bytes spans r
     → IsRequestWithin bytes spans r
@@ -35,7 +36,7 @@ whole bytes spans r (h, at) within room all =
         length-map h.fields name_and_value,
         length-take r.headers spans,
       ),
-      same_parts _ _ _ _ _ _ at.method at.path at.fields,
+      same_parts _ _ _ _ _ _ _ _ at.method at.path at.version at.fields,
     )
 
 -- a head that leaves bytes behind it isn't all of them

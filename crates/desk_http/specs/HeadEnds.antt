@@ -1,5 +1,5 @@
 -- Where the head of a request ends.
-use Rattle.std.specs.Prelude.{◌+◌, ◌==◌, ◌||◌, ◌≤◌, nat_lt, nat_eq, length, take, ℕ, List}
+use Rattle.std.specs.Prelude.{◌≡◌, ◌+◌, ◌==◌, ◌||◌, ◌≤◌, nat_lt, nat_eq, length, take, ℕ, List}
 use Rattle.std.specs.Prelude.{[], ◌∷◌, Option, Some, None, option_map, if◌then◌else◌}
 use Rattle.std.specs.List.{starts_with}
 use Rattle.std.specs.Io.KnownBytes.{prepend_known}
@@ -30,6 +30,12 @@ arrival_at bytes None = if nat_lt (length bytes) 8192 then Incomplete else TooLo
 -- whether the bytes begin with a head
 abbrev pub arrival : List ℕ → HeadArrival
 arrival bytes = arrival_at bytes (head_end (front bytes))
+
+-- the bytes are read until a head has come: before the last read, which gives 4,096 of them at most, it hadn't
+pub record EndsWithHead (bytes : List ℕ) : Type 0 where
+  pub before : ℕ
+  pub last_read : length bytes ≤ before + 4096
+  pub not_yet : arrival (take before bytes) ≡ Incomplete
 
 -- what was read, and then what the reader still has
 abbrev pub all_of : Option (List ℕ) → List ℕ → Option (List ℕ)

@@ -3,10 +3,12 @@ use Rattle.std.specs.Prelude.{◌≡◌, ◌≤◌, ◌<◌, ℕ, List, [], leng
 use Rattle.httparse.specs.Grammar.{RequestHead, ReadsRequest}
 use Rattle.httparse.specs.Spans.{RequestExceeds, name_and_value}
 
--- what counts of a head: each field's name, and its value without the white space around it
+-- what counts of a head: the version, of which 1 is HTTP/1.1 and 0 is HTTP/1.0; and each field's name, and its value
+-- without the white space around it
 pub record HeadParts : Type 0 where
   pub method : List ℕ
   pub target : List ℕ
+  pub version : ℕ
   pub fields : List (List ℕ × List ℕ)
 
 pub data Class : Type 0 where
@@ -14,7 +16,12 @@ pub data Class : Type 0 where
   TooManyFields Malformed : Class
 
 abbrev pub head_parts_of : RequestHead → HeadParts
-head_parts_of h = record { method = h.method; target = h.target; fields = map name_and_value h.fields }
+head_parts_of h = record {
+  method = h.method;
+  target = h.target;
+  version = h.minor;
+  fields = map name_and_value h.fields;
+}
 
 -- The bytes are a head of the grammar with at most 64 fields; or they are none with so few, and begin with more
 -- field lines; or they are no head. Of bytes that are no head and begin with more than 64 field lines both may be said.

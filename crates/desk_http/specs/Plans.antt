@@ -1,13 +1,14 @@
 -- What a head asks for, by the checks in their order.
-use Rattle.std.specs.Prelude.{nat_lt, ℕ, List, Option, Some, None, Result, Ok, Err, if◌then◌else◌, codes}
+use Rattle.std.specs.Prelude.{◌==◌, ◌&&◌, nat_lt, ℕ, Bool, false, List, Option, Some, None, Result, Ok, Err}
+use Rattle.std.specs.Prelude.{length, if◌then◌else◌, codes}
 use Rattle.std.specs.List.{list_any}
-use Rattle.std.specs.Str.{bytes_eq}
-use Rattle.desk_http.specs.AccessRules.{access_fault, page_fault}
+use Rattle.std.specs.Str.{bytes_eq, str_eq_ignore_ascii_case}
+use Rattle.desk_http.specs.AccessRules.{access_fault, has_to_say, page_fault}
 use Rattle.desk_http.specs.Fields.{Said, Nothing, One, Several, said, is_named}
 use Rattle.desk_http.specs.Heads.{HeadParts, Class, WellFormed, TooManyFields, Malformed}
 use Rattle.desk_http.specs.Sites.{PageView, SiteRules, page_view}
-use Rattle.desk_http.specs.Targets.{Resource, Run, Import, Report, Export, Books, HistoryFrom, resource, resource_at}
-use Rattle.desk_http.specs.Targets.{page_at, number_of, some_text, IsProper}
+use Rattle.desk_http.specs.Targets.{Resource, Run, Import, Report, Export, Books, HistoryFrom, Sheet, resource}
+use Rattle.desk_http.specs.Targets.{resource_at, page_at, number_of, some_text, IsProper}
 use Rattle.desk_http.specs.declared.plan.Work.{Work}
 use Rattle.desk_http.specs.declared.plan.Work.TheVariants as work
 use Rattle.desk_http.specs.declared.rejection.Rejection.{Rejection}
@@ -49,6 +50,7 @@ method_fault method (Report name number) = unless_get method
 method_fault method (Export table) = unless_get method
 method_fault method Books = unless_get method
 method_fault method (HistoryFrom number) = unless_get method
+method_fault method (Sheet command document day) = unless_post method
 
 -- how many bytes of body are read for a resource: for what is only read none
 abbrev pub length_for : Resource → List (List ℕ × List ℕ) → Result ℕ Rejection
@@ -58,6 +60,7 @@ length_for (Report name number) fields = Ok 0
 length_for (Export table) fields = Ok 0
 length_for Books fields = Ok 0
 length_for (HistoryFrom number) fields = Ok 0
+length_for (Sheet command document day) fields = body_length fields
 
 abbrev pub unless : {A : Type 0} → Option Rejection → Result A Rejection → Result A Rejection
 unless (Some rejection) result = Err rejection
@@ -117,11 +120,31 @@ IsOfProgram (Report name number) = Unit {0}
 IsOfProgram (Export table) = ⊥
 IsOfProgram Books = ⊥
 IsOfProgram (HistoryFrom number) = ⊥
+IsOfProgram (Sheet command document day) = ⊥
 
 abbrev pub ShowsNoPage : Result Plan Rejection → Type 0
 ShowsNoPage (Ok (ShowPage page)) = ⊥
 ShowsNoPage (Ok (Ask resource known n)) = IsOfProgram resource
 ShowsNoPage (Err rejection) = Unit {0}
+
+-- ---- what is waited for
+
+-- whatever its case
+abbrev pub is_continue : List ℕ → Bool
+is_continue text = str_eq_ignore_ascii_case text (codes "100-continue")
+
+-- a head of HTTP/1.1 asks to be told that its body may come, by the one field Expect
+abbrev pub expects_continue : Class → Bool
+expects_continue TooManyFields = false
+expects_continue Malformed = false
+expects_continue (WellFormed parts) = parts.version == 1 && has_to_say is_continue (said (codes "expect") parts.fields)
+
+-- a client of whom so much has come behind the head waits to be told: it asks for that, and its body is to be read and
+-- hasn't come whole
+abbrev pub waits : Class → Result Plan Rejection → List ℕ → Bool
+waits class (Err rejection) rest = false
+waits class (Ok (ShowPage page)) rest = false
+waits class (Ok (Ask resource known n)) rest = nat_lt (length rest) n && expects_continue class
 
 -- ---- the same as code has it
 

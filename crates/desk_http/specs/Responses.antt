@@ -1,5 +1,6 @@
 -- Responses, byte by byte.
-use Rattle.std.specs.Prelude.{◌≡◌, ◌++◌, ℕ, List, [], ◌∷◌, length, codes, decimal, Option, Some, None}
+use Rattle.std.specs.Prelude.{◌≡◌, ◌++◌, ℕ, Bool, List, [], ◌∷◌, length, codes, decimal, Option, Some, None}
+use Rattle.std.specs.Prelude.{if◌then◌else◌}
 use Rattle.http.specs.StatusCode.{status_text}
 use Rattle.desk_http.specs.Services.{ReplyView, tag_text}
 use Rattle.desk_http.specs.Sites.{PageView}
@@ -9,7 +10,7 @@ use Rattle.desk_http.specs.declared.rejection.Rejection.TheVariants.{OnlyGet, Le
 use Rattle.desk_http.specs.declared.rejection.Rejection.TheVariants.{Misdirected, Forbidden, Unauthorized}
 use Rattle.desk_http.specs.declared.service.Outcome.{Outcome}
 use Rattle.desk_http.specs.declared.service.Outcome.TheVariants.{Answered, Refused, Faulty, Reported}
-use Rattle.desk_http.specs.declared.service.Outcome.TheVariants.{Exported, Shown, Unchanged, Unknown}
+use Rattle.desk_http.specs.declared.service.Outcome.TheVariants.{Exported, Shown, Unchanged, Unknown, FaultyLines}
 use Rattle.desk_http.specs.declared.service.Failure.{Failure}
 use Rattle.desk_http.specs.declared.service.Failure.TheVariants.{Store, Memory}
 use Rattle.desk_http.specs.declared.service.Tag.{Tag}
@@ -87,6 +88,13 @@ error_body status = 123 ∷ 34 ∷ codes "http" ++ 34 ∷ 58 ∷ decimal status 
 abbrev pub error_response : Option PageView → ℕ → List ℕ → Response
 error_response page status further = response status (response_bytes page status json further (error_body status))
 
+-- ---- before the response
+
+-- a client that waits is told to send its body, by an interim response that has neither fields nor a body; to another
+-- nothing is written
+abbrev pub interim_bytes : Bool → List ℕ
+interim_bytes waits = if waits then codes "HTTP/1.1 100 Continue" ++ crlf ++ crlf else []
+
 -- ---- a request that is rejected
 
 abbrev pub rejection_status : Rejection → ℕ
@@ -140,6 +148,7 @@ outcome_status Exported = 200
 outcome_status (Shown tag) = 200
 outcome_status (Unchanged tag) = 304
 outcome_status Unknown = 404
+outcome_status FaultyLines = 400
 
 abbrev pub media_of : Outcome → List ℕ
 media_of Answered = json
@@ -150,6 +159,7 @@ media_of Exported = csv
 media_of (Shown tag) = json
 media_of (Unchanged tag) = json
 media_of Unknown = json
+media_of FaultyLines = plain_text
 
 abbrev pub tag_line : Tag → List ℕ
 tag_line tag = line (codes "ETag: ") (tag_text tag)
@@ -165,6 +175,7 @@ tag_of Reported = []
 tag_of Exported = []
 tag_of (Unchanged tag) = []
 tag_of Unknown = []
+tag_of FaultyLines = []
 
 -- what was replied, whole
 abbrev pub told_response : Option PageView → Outcome → List ℕ → Response
@@ -188,6 +199,7 @@ outcome_response page Faulty body = told_response page Faulty body
 outcome_response page Reported body = told_response page Reported body
 outcome_response page Exported body = told_response page Exported body
 outcome_response page (Shown tag) body = told_response page (Shown tag) body
+outcome_response page FaultyLines body = told_response page FaultyLines body
 
 abbrev pub reply_response : Option PageView → ReplyView → Response
 reply_response page reply = outcome_response page reply.0 reply.1

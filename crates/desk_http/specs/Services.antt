@@ -3,7 +3,7 @@ use Rattle.std.specs.Prelude.{◌≡◌, ◌⊎◌, ◌++◌, ℕ, List, [], ◌
 use Rattle.std.specs.Prelude.{decimal, if◌then◌else◌}
 use Rattle.std.specs.Str.{bytes_eq}
 use Rattle.part_core.specs.Day.{CivilDay}
-use Rattle.desk_http.specs.Targets.{Resource, Run, Import, Report, Export, Books, HistoryFrom}
+use Rattle.desk_http.specs.Targets.{Resource, Run, Import, Report, Export, Books, HistoryFrom, Sheet}
 use Rattle.desk_http.specs.declared.target.ImportKind.{ImportKind}
 use Rattle.desk_http.specs.declared.target.ReportName.{ReportName}
 use Rattle.desk_http.specs.declared.service.Outcome.{Outcome}
@@ -24,6 +24,7 @@ pub data Operation : Type 0 where
   ShowTable : List ℕ → Operation
   ShowBooks : Option (List ℕ) → Operation
   ShowHistory : ℕ → Operation
+  ImportSheet : List ℕ → List ℕ → CivilDay → List ℕ → Operation
 
 abbrev pub operation : Resource → Option (List ℕ) → List ℕ → Operation
 operation Run known body = RunLine body
@@ -32,6 +33,7 @@ operation (Report name number) known body = ShowReport name number
 operation (Export table) known body = ShowTable table
 operation Books known body = ShowBooks known
 operation (HistoryFrom number) known body = ShowHistory number
+operation (Sheet command document day) known body = ImportSheet command document day body
 
 -- "began-accepted", the quotes too
 abbrev pub tag_text : Tag → List ℕ
@@ -54,7 +56,8 @@ why_none (Ok reply) = None
 why_none (Err e) = Some e
 
 -- what a line, the rows of a file, and a report's name and number do in each state; the tag of the books there, if they
--- have one, what is replied to the name of a table, the text of the books, and that of the history from a number on
+-- have one, what is replied to the name of a table, the text of the books, and that of the history from a number on; and
+-- what a file of a command does
 pub record Machine (S : Type 0) : Type 0 where
   pub run_line : S → List ℕ → S × ReplyView
   pub import_file : S → ImportKind → List ℕ → CivilDay → List ℕ → S × ReplyView
@@ -63,6 +66,7 @@ pub record Machine (S : Type 0) : Type 0 where
   pub show_table : S → List ℕ → ReplyView
   pub show_books : S → List ℕ
   pub show_history : S → ℕ → List ℕ
+  pub import_sheet : S → List ℕ → List ℕ → CivilDay → List ℕ → S × ReplyView
 
 -- the books with their tag; or, where the tag is the one that is known, that they haven't changed
 abbrev pub books_reply : Option Tag → Option (List ℕ) → List ℕ → ReplyView
@@ -79,6 +83,7 @@ module _ {S : Type 0} where
   step m s (ShowTable name) = (s, m.show_table s name)
   step m s (ShowBooks known) = (s, books_reply (m.tag s) known (m.show_books s))
   step m s (ShowHistory from) = (s, (Shown None, m.show_history s from))
+  step m s (ImportSheet command document day file) = m.import_sheet s command document day file
 
   -- what an operation that failed leaves: what only reads leaves all as it was
   abbrev pub Leaves : (Failure → S → Operation → S → Type 0) → Failure → S → Operation → S → Type 0
@@ -88,6 +93,7 @@ module _ {S : Type 0} where
   Leaves left e s (ShowTable name) s' = s' ≡ s
   Leaves left e s (ShowBooks known) s' = s' ≡ s
   Leaves left e s (ShowHistory from) s' = s' ≡ s
+  Leaves left e s (ImportSheet command document day file) s' = left e s (ImportSheet command document day file) s'
 
   -- what an operation without a reply leaves. Where there was no memory to read it or to tell its reply, it was done or
   -- not, or it stopped as one does that runs out of memory.
@@ -103,6 +109,7 @@ IsReading (ShowReport name number) = Unit {0}
 IsReading (ShowTable name) = Unit {0}
 IsReading (ShowBooks known) = Unit {0}
 IsReading (ShowHistory from) = Unit {0}
+IsReading (ImportSheet command document day file) = ⊥
 
 -- A service did an operation, and replied so or not at all: its state and its reply are the machine's, or what is left
 -- where there is no reply; and what the service says besides of an operation holds.

@@ -1,13 +1,15 @@
 -- What a connection is answered, and what becomes of the service.
-use Rattle.std.specs.Prelude.{◌≡◌, ◌≤◌, ◌⊎◌, nat_lt, ℕ, zero, suc, List, length, take, drop}
+use Rattle.std.specs.Prelude.{◌≡◌, ◌+◌, ◌≤◌, ◌⊎◌, nat_lt, ℕ, zero, suc, Bool, true, false, List, length, take, drop}
 use Rattle.std.specs.Prelude.{Option, Some, None, Result, Ok, Err, if◌then◌else◌}
+use Rattle.std.specs.Io.{StartsWith}
 use Rattle.std.specs.Io.KnownBytes.{Appends, Keeps}
 use Rattle.desk_http.specs.Sites.{PageView, SiteRules}
 use Rattle.desk_http.specs.Heads.{Class, IsHead}
-use Rattle.desk_http.specs.Plans.{Plan, ShowPage, Ask, plan_of}
+use Rattle.desk_http.specs.Plans.{Plan, ShowPage, Ask, plan_of, waits}
 use Rattle.desk_http.specs.Services.{Operation, operation, ReplyView}
-use Rattle.desk_http.specs.HeadEnds.{arrival}
+use Rattle.desk_http.specs.HeadEnds.{arrival, EndsWithHead}
 use Rattle.desk_http.specs.Responses.{Response, rejection_response, page_response, reply_response, failure_response}
+use Rattle.desk_http.specs.Responses.{interim_bytes}
 use Rattle.desk_http.specs.declared.receive.HeadArrival.{HeadArrival}
 use Rattle.desk_http.specs.declared.receive.HeadArrival.TheVariants as arrival
 use Rattle.desk_http.specs.declared.rejection.Rejection.{Rejection}
@@ -56,6 +58,27 @@ IsReceivedFrom site a (Some xs) r = IsReceivedAt site a xs r
 abbrev pub AreReceived : SiteRules → HeadArrival → Option (List ℕ) → List ℕ → Received → Type 0
 AreReceived site a known read r = IsReceivedFrom site a known r × IsReceived site (Some read) r
 
+-- ---- whether a client waits to be told that its body may come
+
+-- So much of the bytes is read with the head, which has come then, if it comes at all. How much a read gives is the
+-- reader's to say.
+pub record IsReadWithHead (xs early : List ℕ) : Type 0 where
+  pub front : StartsWith xs early
+  pub arrived : arrival early ≡ arrival xs
+  pub last : EndsWithHead early
+
+-- of what was read with a head that goes so far
+abbrev pub WaitsAt : SiteRules → HeadArrival → List ℕ → Bool → Type 0
+WaitsAt site arrival.Incomplete early b = b ≡ false
+WaitsAt site arrival.TooLong early b = b ≡ false
+WaitsAt site (arrival.Head n) early b =
+    (class : Class) × IsHead (take n early) class × (b ≡ waits class (plan_of site class) (drop n early))
+
+-- of the bytes that come to a service of this site, as far as they are known
+abbrev pub Waits : SiteRules → Option (List ℕ) → Bool → Type 0
+Waits site None b = Unit {0}
+Waits site (Some xs) b = (early : List ℕ) × IsReadWithHead xs early × WaitsAt site (arrival xs) early b
+
 -- ---- what comes of it
 
 abbrev pub result_of : Served → Result ℕ Stop
@@ -100,15 +123,37 @@ module _ {D : Type 0} (performs : D → Operation → Result ReplyView NoReply �
   abbrev pub Does : (Received → Type 0) → D → D → Type 0
   Does are d d' = (o : Operation) × are (Complete o) × (outcome : Result ReplyView NoReply) × performs d o outcome d'
 
-  -- What a call did. Answered: the response is written. Ended: the bytes aren't a whole request, and nothing was done
-  -- or written. ReadFailed: nothing was done or written. WriteFailed: what the response tells was done, and a front of
-  -- it is written. Memory: nothing is written, and the operation was done or nothing was.
+  -- What a call did that may write an answer. Answered: the response is written. Ended: the bytes aren't a whole
+  -- request, and nothing was done or written. ReadFailed: nothing was done or written. WriteFailed: what the response
+  -- tells was done, and a front of it is written. Memory: nothing is written, and the operation was done or nothing was.
   abbrev pub Serves : (Received → Type 0) → D → D → Option (List ℕ) → Option (List ℕ) → Result ℕ Stop → Type 0
   Serves are d d' w w' (Ok status) = (p : Response) × Answers are d d' p × (status ≡ p.status) × Appends w w' p.bytes
   Serves are d d' w w' (Err Ended) = are Incomplete × (d' ≡ d) × Keeps w w'
   Serves are d d' w w' (Err ReadFailed) = (d' ≡ d) × Keeps w w'
   Serves are d d' w w' (Err WriteFailed) = (p : Response) × Answers are d d' p × AppendsFront w w' p.bytes
   Serves are d d' w w' (Err Memory) = ((d' ≡ d) ⊎ Does are d d') × Keeps w w'
+
+  -- it stopped before it knew what is asked for, and did and wrote nothing
+  abbrev pub StopsEarly : D → D → Option (List ℕ) → Option (List ℕ) → Result ℕ Stop → Type 0
+  StopsEarly d d' w w' r = ((r ≡ Err ReadFailed) ⊎ (r ≡ Err Memory)) × (d' ≡ d) × Keeps w w'
+
+  -- an interim response was waited for, of which a front is written, and it did nothing
+  abbrev pub FailsToInvite : (Bool → Type 0) → D → D → Option (List ℕ) → Option (List ℕ) → Result ℕ Stop → Type 0
+  FailsToInvite wait d d' w w' r =
+      wait true × (r ≡ Err WriteFailed) × (d' ≡ d) × AppendsFront w w' (interim_bytes true)
+
+  -- an interim response is written where one is waited for, and nothing where none is; and then an answer may be
+  abbrev pub InvitesAndServes : (Bool → Type 0) → (Received → Type 0) → D → D → Option (List ℕ) → Option (List ℕ)
+      → Result ℕ Stop → Type 0
+  InvitesAndServes wait are d d' w w' r =
+      (b : Bool) × wait b × (between : Option (List ℕ)) × Appends w between (interim_bytes b)
+      × Serves are d d' between w' r
+
+  -- What a call did, where `wait` says whether an interim response may be waited for.
+  abbrev pub ServesOne : (Bool → Type 0) → (Received → Type 0) → D → D → Option (List ℕ) → Option (List ℕ)
+      → Result ℕ Stop → Type 0
+  ServesOne wait are d d' w w' r =
+      StopsEarly d d' w w' r ⊎ (FailsToInvite wait d d' w w' r ⊎ InvitesAndServes wait are d d' w w' r)
 
   -- an operation was answered, and how that was sent; or there was no memory to ask for it, or for its reply
   abbrev pub PerformsAndSends : D → Operation → D → Option (List ℕ) → Option (List ℕ) → Result ℕ Stop → Type 0
@@ -119,7 +164,9 @@ module _ {D : Type 0} (performs : D → Operation → Result ReplyView NoReply �
   -- What a connection did to a service of this site: what some bytes ask for, as a call does that reads them. Of what it
   -- wrote nothing is known.
   abbrev pub IsOneStep : D → D → Type 0
-  IsOneStep d d' = (xs : List ℕ) × (r : Result ℕ Stop) × Serves (IsReceived site (Some xs)) d d' None None r
+  IsOneStep d d' =
+      (xs : List ℕ) × (r : Result ℕ Stop)
+      × ServesOne (Waits site (Some xs)) (IsReceived site (Some xs)) d d' None None r
 
 -- nothing was done to a service, or one operation, whatever came of it
 module _ {D : Type 0} (performs : D → Operation → Result ReplyView NoReply → D → Type 0) where

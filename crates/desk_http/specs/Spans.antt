@@ -12,6 +12,7 @@ abbrev pub head_parts_at : List ℕ → List HeaderSpan → RequestSpans → Hea
 head_parts_at bytes spans r = record {
   method = span_bytes bytes r.method;
   target = span_bytes bytes r.path;
+  version = r.version;
   fields = map (header_bytes bytes) (take r.headers spans);
 }
 

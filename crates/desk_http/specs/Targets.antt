@@ -15,8 +15,9 @@ use Rattle.desk_http.specs.declared.target.ReportName.TheVariants.{Ledger, Stock
 use Rattle.desk_http.specs.declared.target.Target.{Target}
 use Rattle.desk_http.specs.declared.target.Target.TheVariants as target
 
--- what a target names: the service that runs a line, an import of a document on a day, a report; and what a page reads:
--- a table as it is exported, the books whole, and the history from a number on
+-- what a target names: the service that runs a line, an import of a document on a day, a report; what a page reads: a
+-- table as it is exported, the books whole, and the history from a number on; and the import of a document of a command,
+-- which is there with a page alone, too
 pub data Resource : Type 0 where
   Run : Resource
   Import : ImportKind → List ℕ → CivilDay → Resource
@@ -24,6 +25,7 @@ pub data Resource : Type 0 where
   Export : List ℕ → Resource
   Books : Resource
   HistoryFrom : ℕ → Resource
+  Sheet : List ℕ → List ℕ → CivilDay → Resource
 
 infixl 10 ◌then◌
 abbrev pub ◌then◌ : {A B : Type 0} → Option A → (A → Option B) → Option B
@@ -93,15 +95,15 @@ run_resource [] = Some Run
 run_resource (b ∷ bs) = None
 
 -- a small letter, or a _
-abbrev pub is_table_byte : ℕ → Bool
-is_table_byte b = is_ascii_lowercase b || b == 95
+abbrev pub is_name_byte : ℕ → Bool
+is_name_byte b = is_ascii_lowercase b || b == 95
 
--- one such byte or more
-abbrev pub is_table : List ℕ → Bool
-is_table bytes = nat_lt 0 (length bytes) && list_all is_table_byte bytes
+-- one such byte or more, as the name of a table or of a command has
+abbrev pub is_name : List ℕ → Bool
+is_name bytes = nat_lt 0 (length bytes) && list_all is_name_byte bytes
 
 abbrev pub export_resource : List ℕ → Option Resource
-export_resource bytes = where_it is_table bytes then λ table. Some (Export table)
+export_resource bytes = where_it is_name bytes then λ table. Some (Export table)
 
 abbrev pub history_resource : List ℕ → Option Resource
 history_resource bytes = number_of bytes then λ number. Some (HistoryFrom number)
@@ -117,6 +119,19 @@ part_at target =
 abbrev pub reading_of : List ℕ → Option Resource
 reading_of target = if bytes_eq target (codes "/books") then Some Books else part_at target
 
+-- what stands behind the name of a command: a document and a day
+abbrev pub sheet_of : List ℕ → List ℕ → Option Resource
+sheet_of command bytes =
+    cut bytes then λ parts.
+    where_it is_document parts.0 then λ document. day_of parts.1 then λ day. Some (Sheet command document day)
+
+abbrev pub sheet_resource : List ℕ → Option Resource
+sheet_resource bytes =
+    cut bytes then λ parts. where_it is_name parts.0 then λ command. sheet_of command parts.1
+
+abbrev pub sheet_at : List ℕ → Option Resource
+sheet_at target = if starts_with nat_eq target (codes "/import/") then sheet_resource (drop 8 target) else None
+
 -- what a whole target names, byte by byte: nothing is decoded, and nothing may stand behind it
 abbrev pub resource_of : List ℕ → Option Resource
 resource_of target =
@@ -128,10 +143,14 @@ abbrev pub first_of : {A : Type 0} → Option A → Option A → Option A
 first_of (Some x) other = Some x
 first_of None other = other
 
--- what it names of a service with this page, or with none: what a page reads is there with a page alone
+-- what a whole target names that is there with a page alone
+abbrev pub page_resource_of : List ℕ → Option Resource
+page_resource_of target = first_of (reading_of target) (sheet_at target)
+
+-- what it names of a service with this page, or with none: with a page it is what it is without one, where it is anything
 abbrev pub resource_at : Option PageView → List ℕ → Option Resource
 resource_at None target = resource_of target
-resource_at (Some page) target = first_of (reading_of target) (resource_of target)
+resource_at (Some page) target = first_of (resource_of target) (page_resource_of target)
 
 -- the page, where the target names it and there is one
 abbrev pub page_at : Option PageView → List ℕ → Option PageView
@@ -146,6 +165,7 @@ resource (target.Report name number) = Report name number
 resource (target.Export table) = Export table.now
 resource target.Books = Books
 resource (target.HistoryFrom number) = HistoryFrom number
+resource (target.Sheet command document day) = Sheet command.now document.now day
 
 -- a document that is named has a name of its form
 abbrev pub IsProper : Target → Type 0
@@ -155,6 +175,7 @@ IsProper (target.Report name number) = Unit {0}
 IsProper (target.Export table) = Unit {0}
 IsProper target.Books = Unit {0}
 IsProper (target.HistoryFrom number) = Unit {0}
+IsProper (target.Sheet command document day) = is_document document.now ≡ true
 
 abbrev pub some_resource : Option Target → Option Resource
 some_resource None = None

@@ -18,8 +18,9 @@ pub enum FieldValue<'b> {
     Several,
 }
 
+/// Whether two texts differ in the case of letters alone.
 #[tactic(auto, using(crate::proofs::Numbers::as_test))]
-fn is_same_name(a: &[u8], b: &[u8]) -> bool
+pub fn is_same_text(a: &[u8], b: &[u8]) -> bool
     ensures { result ≡ str_eq_ignore_ascii_case a.now b.now }
 {
     a.eq_ignore_ascii_case(b)
@@ -31,7 +32,7 @@ pub fn has_field(head: &[u8], spans: &[HeaderSpan], name: &[u8]) -> bool
     ensures { result ≡ list_any (is_named name.now) (map (header_bytes head.now) spans.now) }
 {
     for span in spans {
-        if is_same_name(span.name.of(head), name) {
+        if is_same_text(span.name.of(head), name) {
             return true;
         }
     }
@@ -45,7 +46,7 @@ pub fn find_field<'b>(head: &'b [u8], spans: &[HeaderSpan], name: &[u8]) -> Fiel
 {
     let mut found: Option<&[u8]> = None;
     for span in spans {
-        if !is_same_name(span.name.of(head), name) {
+        if !is_same_text(span.name.of(head), name) {
             continue;
         }
         if found.is_some() {

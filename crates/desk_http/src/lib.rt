@@ -4,6 +4,7 @@
 
 mod access;
 mod body_length;
+mod expect;
 mod field;
 mod head;
 mod head_end;

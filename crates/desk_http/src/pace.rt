@@ -131,7 +131,9 @@ impl<C: Clock> Write for PacedWriter<'_, C> {
         Ok(n)
     }
 
+    /// What is written next is an answer of its own, with its own time: the body of a request may come in between.
     fn flush(&mut self) -> io::Result<()> {
+        self.pace = None;
         Ok(())
     }
 }

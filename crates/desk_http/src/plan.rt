@@ -58,7 +58,7 @@ fn check_method(method: &[u8], target: &Target<'_>) -> Result<(), Rejection>
     ensures { result_err result ≡ method_fault method.now (resource target.now) }
 {
     match target {
-        Target::Run | Target::Import(_, _, _) => check_post(method),
+        Target::Run | Target::Import(_, _, _) | Target::Sheet(_, _, _) => check_post(method),
         Target::Report(_, _) | Target::Export(_) | Target::Books | Target::HistoryFrom(_) => {
             check_get(method)
         }
@@ -71,7 +71,9 @@ fn length_for(head: &[u8], target: &Target<'_>, spans: &[HeaderSpan]) -> Result<
     ensures { result ≡ length_for (resource target.now) (map (header_bytes head.now) spans.now) }
 {
     match target {
-        Target::Run | Target::Import(_, _, _) => read_body_length(head, spans),
+        Target::Run | Target::Import(_, _, _) | Target::Sheet(_, _, _) => {
+            read_body_length(head, spans)
+        }
         Target::Report(_, _) | Target::Export(_) | Target::Books | Target::HistoryFrom(_) => Ok(0),
     }
 }
@@ -164,8 +166,8 @@ pub fn untold_requests_pass()
         → plan_of site (WellFormed parts) ≡ open_plan_of site.page (WellFormed parts) }
 {}
 
-/// Where there is no page, none is shown, nor is anything asked for that a page reads: what is asked for is a line, an
-/// import or a report. Nor has a response a field more.
+/// Where there is no page, none is shown, nor is anything asked for that is there with a page alone: what is asked for is a
+/// line, an import of receipts or counts, or a report. Nor has a response a field more.
 pub fn nothing_is_read_without_a_page()
     ensures planned { (access : AccessRules) (class : Class)
         → ShowsNoPage (plan_of (record { access = access; page = None }) class) }

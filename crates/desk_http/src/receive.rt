@@ -32,7 +32,7 @@ pub struct Input {
 impl Input {
     ghost use Rattle.std.specs.Io.{ReadsAtMost, StartsWith};
     ghost use Rattle.std.specs.Io.KnownBytes.{Keeps, IsAtEnd, ReadConsumes, prepend_known};
-    ghost use Rattle.desk_http.specs.HeadEnds.{head_end, front, arrival, IsInside, all_of};
+    ghost use Rattle.desk_http.specs.HeadEnds.{head_end, front, arrival, EndsWithHead, IsInside, all_of};
 
     pub fn new(alloc: Global) -> Self
         ensures empty { result.bytes.items ≡ [] }
@@ -65,7 +65,8 @@ impl Input {
             → self.new.bytes.items ≡ self.old.bytes.items) }
         ensures end { IfOk result (λ more. more ≡ false → IsAtEnd (R.remaining reader.new)) }
         ensures longer { OnOk result (length self.old.bytes.items ≤ length self.new.bytes.items) }
-        ensures more { OnOk result (StartsWith self.new.bytes.items self.old.bytes.items) }
+        ensures more { StartsWith self.new.bytes.items self.old.bytes.items }
+        ensures most { length self.new.bytes.items ≤ length self.old.bytes.items + 4096 }
         ensures reads { self.new.reads ≤ self.old.reads }
         ensures counts { OnOk result (self.new.reads < self.old.reads) }
         ensures refuses { self.old.reads ≡ 0
@@ -89,15 +90,17 @@ impl Input {
         Err(Stop::ReadFailed)
     }
 
-    /// Reads until a head has ended, or 8,192 bytes have come.
-    #[tactic(auto, using(crate::proofs::Arriving::found, crate::proofs::Arriving::too_long, crate::proofs::Arriving::incomplete, crate::proofs::Arriving::found_here, crate::proofs::Arriving::too_long_here, crate::proofs::Arriving::incomplete_here))]
+    /// Reads from the first byte on until a head has ended, or 8,192 bytes have come.
+    #[tactic(auto, using(crate::proofs::Arriving::found, crate::proofs::Arriving::too_long, crate::proofs::Arriving::incomplete, crate::proofs::Arriving::found_here, crate::proofs::Arriving::too_long_here, crate::proofs::Arriving::incomplete_here, crate::proofs::Arriving::nothing_read, crate::proofs::Arriving::read_once_more))]
     pub fn receive_head<R: Read>(&mut self, reader: &mut R) -> Result<HeadArrival, Stop>
+        requires fresh { self.old.bytes.items ≡ [] }
         ensures bytes { OnOk result (Keeps (all_of (R.remaining reader.old) self.old.bytes.items)
             (all_of (R.remaining reader.new) self.new.bytes.items)) }
         ensures head { IfOk result (λ a. IfSome (all_of (R.remaining reader.new) self.new.bytes.items)
             (λ xs. a ≡ arrival xs)) }
         ensures read { IfOk result (λ a. a ≡ arrival self.new.bytes.items) }
         ensures within { IfOk result (λ a. IsInside (length self.new.bytes.items) a) }
+        ensures last { OnOk result (EndsWithHead self.new.bytes.items) }
         ensures reads { self.new.reads ≤ self.old.reads }
         ensures refuses { self.old.reads ≡ 0 → (reader.new ≡ reader.old)
             × IfErr result (λ e. e ≡ Stop.ReadFailed) }
@@ -130,7 +133,7 @@ impl Input {
             → head + len ≤ length self.new.bytes.items) }
         ensures short { IfOk result (λ whole. whole ≡ false → IsAtEnd (R.remaining reader.new)
             × (length self.new.bytes.items < head + len)) }
-        ensures more { OnOk result (StartsWith self.new.bytes.items self.old.bytes.items) }
+        ensures more { StartsWith self.new.bytes.items self.old.bytes.items }
         ensures kept { OnOk result (length self.old.bytes.items ≤ length self.new.bytes.items) }
         ensures reads { self.new.reads ≤ self.old.reads }
         ensures refuses { self.old.reads ≡ 0 → (reader.new ≡ reader.old)

@@ -197,6 +197,9 @@ fn perform<S: Service>(
         Target::Export(table) => Ok(service.export(alloc, table)),
         Target::Books => show_books(alloc, service, known),
         Target::HistoryFrom(from) => Ok(service.history(alloc, *from)),
+        Target::Sheet(command, document, day) => {
+            Ok(service.import_sheet(alloc, command, document, *day, body))
+        }
     }
 }
 

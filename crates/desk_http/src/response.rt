@@ -176,6 +176,7 @@ pub fn outcome_status(outcome: Outcome) -> StatusCode
         Outcome::Shown(_) => StatusCode::OK,
         Outcome::Unchanged(_) => StatusCode::NOT_MODIFIED,
         Outcome::Unknown => StatusCode::NOT_FOUND,
+        Outcome::FaultyLines => StatusCode::BAD_REQUEST,
     }
 }
 
@@ -183,7 +184,7 @@ pub fn media_type(outcome: Outcome) -> &'static str
     ensures { result.now ≡ media_of outcome }
 {
     match outcome {
-        Outcome::Reported => "text/plain; charset=utf-8",
+        Outcome::Reported | Outcome::FaultyLines => "text/plain; charset=utf-8",
         Outcome::Exported => "text/csv; charset=utf-8",
         _ => "application/json",
     }

@@ -3,10 +3,11 @@ ghost use Rattle.std.specs.Prelude.{◌≡◌, ◌≤◌, IfOk, IfSome, length, 
 ghost use Rattle.std.specs.Str.{IsUtf8};
 ghost use Rattle.desk_http.specs.Routes.{all_routes, route_of};
 ghost use Rattle.desk_http.specs.Sites.{some_page};
-ghost use Rattle.desk_http.specs.Targets.{page_at, resource_at, resource_of, some_resource, IsProper};
+ghost use Rattle.desk_http.specs.Targets.{first_of, page_at, page_resource_of, resource_at, resource_of};
+ghost use Rattle.desk_http.specs.Targets.{some_resource, IsProper};
 
 use crate::site::Page;
-use crate::target::{Target, read_import, read_reading, read_report};
+use crate::target::{Target, read_import, read_page_target, read_report};
 use matchit::{InsertError, Router};
 use std::alloc::Global;
 
@@ -66,6 +67,20 @@ fn find_routed<'b>(router: &Router<Route>, target: &'b [u8]) -> Option<Target<'b
     }
 }
 
+/// What a whole target names of a service with a page: what it names of one without, or what is there with a page alone.
+fn find_with_page<'b>(router: &Router<Route>, target: &'b [u8]) -> Option<Target<'b>>
+    requires router { router.now ≡ all_routes }
+    requires text { IsUtf8 target.now }
+    ensures value { some_resource result
+        ≡ first_of (resource_of target.now) (page_resource_of target.now) }
+    ensures proper { IfSome result IsProper }
+{
+    match find_routed(router, target) {
+        Some(routed) => Some(routed),
+        None => read_page_target(target),
+    }
+}
+
 /// What a whole target names of a service with this page, or with none.
 pub fn find_target<'b>(
     router: &Router<Route>,
@@ -77,12 +92,10 @@ pub fn find_target<'b>(
     ensures value { some_resource result ≡ resource_at (some_page page.now) target.now }
     ensures proper { IfSome result IsProper }
 {
-    if page.is_some() {
-        if let Some(reading) = read_reading(target) {
-            return Some(reading);
-        }
+    match page {
+        Some(_) => find_with_page(router, target),
+        None => find_routed(router, target),
     }
-    find_routed(router, target)
 }
 
 /// The page, where the target names it and there is one.

@@ -1,7 +1,7 @@
 //! Whole writes.
-ghost use Rattle.std.specs.Prelude.{◌≡◌, ◌≤◌, ◌++◌, List, ℕ, take, MatchResult, length};
+ghost use Rattle.std.specs.Prelude.{◌≡◌, ◌≤◌, ◌++◌, List, ℕ, take, true, MatchResult, length};
 ghost use Rattle.std.specs.Io.KnownBytes.{Appends};
-ghost use Rattle.desk_http.specs.Responses.{response};
+ghost use Rattle.desk_http.specs.Responses.{interim_bytes, response};
 ghost use Rattle.desk_http.specs.Serving.{AppendsFront, Sends};
 
 use crate::served::Stop;
@@ -24,6 +24,37 @@ fn send<W: Write>(writer: &mut W, text: &[u8]) -> Result<(), Stop>
         }
     }
     Ok(())
+}
+
+/// Writes all the bytes and has them go out at once; else a front of them is written.
+#[tactic(auto, using(crate::proofs::Known::kept_whole, crate::proofs::Known::kept_front))]
+fn send_now<W: Write>(writer: &mut W, text: &[u8]) -> Result<(), Stop>
+    ensures { MatchResult result
+        (λ _. Appends (W.contents writer.old) (W.contents writer.new) text.now)
+        (λ e. (e ≡ Stop.WriteFailed)
+        × AppendsFront (W.contents writer.old) (W.contents writer.new) text.now) }
+{
+    match send(writer, text) {
+        Ok(()) => match writer.flush() {
+            Ok(()) => Ok(()),
+            Err(_) => Err(Stop::WriteFailed),
+        },
+        Err(_) => Err(Stop::WriteFailed),
+    }
+}
+
+/// Tells a client that waits for it to send its body.
+pub fn send_interim<W: Write>(writer: &mut W, waits: bool) -> Result<(), Stop>
+    ensures { MatchResult result
+        (λ _. Appends (W.contents writer.old) (W.contents writer.new) (interim_bytes waits))
+        (λ e. (e ≡ Stop.WriteFailed) × (waits ≡ true)
+        × AppendsFront (W.contents writer.old) (W.contents writer.new) (interim_bytes waits)) }
+{
+    if waits {
+        send_now(writer, b"HTTP/1.1 100 Continue\r\n\r\n")
+    } else {
+        Ok(())
+    }
 }
 
 /// Sends a response of this status, its head and then its body.

@@ -1,16 +1,19 @@
 //! One request, read and answered.
 ghost use Rattle.std.specs.Prelude.{◌≡◌, ◌≤◌, ℕ, List, Some, [], length, IfOk};
+ghost use Rattle.std.specs.Io.{StartsWith};
 ghost use Rattle.desk_http.specs.HeadEnds.{all_of, arrival};
 ghost use Rattle.desk_http.specs.Routes.{all_routes};
 ghost use Rattle.desk_http.specs.Services.{Performs};
-ghost use Rattle.desk_http.specs.Serving.{AreReceived, IsReceived, Serves, result_of};
+ghost use Rattle.desk_http.specs.Serving.{AreReceived, IsReceived, ServesOne, Waits, WaitsAt, result_of};
 
+use crate::expect::is_waiting;
 use crate::head::read_head;
 use crate::plan::{Work, make_plan};
 use crate::receive::{HeadArrival, Input};
 use crate::rejection::Rejection;
 use crate::respond::{reject, respond, show_page};
 use crate::route::{Route, make_router};
+use crate::send::send_interim;
 use crate::served::{Served, Stop};
 use crate::service::Service;
 use crate::site::Site;
@@ -43,7 +46,9 @@ fn serve_head<R: Read, W: Write, S: Service>(
     requires router { router.now ≡ all_routes }
     requires kept { S.is_kept service.old }
     ensures kept { S.is_kept service.new }
-    ensures serves { Serves (Performs S.state S.machine S.left S.relates) site.now
+    ensures more { StartsWith input.new.bytes.items input.old.bytes.items }
+    ensures serves { ServesOne (Performs S.state S.machine S.left S.relates) site.now
+        (WaitsAt site.now (HeadArrival.Head n) input.old.bytes.items)
         (AreReceived site.now (HeadArrival.Head n)
         (all_of (R.remaining reader.old) input.old.bytes.items) input.new.bytes.items)
         service.old service.new (W.contents writer.old) (W.contents writer.new) result }
@@ -58,6 +63,8 @@ fn serve_head<R: Read, W: Write, S: Service>(
     match work {
         Work::ShowPage(page) => show_page(alloc, writer, page),
         Work::Ask(target, known, len) => {
+            let waits = is_waiting(&head, class, &spans, input.bytes.len() - n, len);
+            send_interim(writer, waits)?;
             if !input.receive_body(reader, n, len)? {
                 return Err(Stop::Ended);
             }
@@ -79,10 +86,11 @@ fn answer_one<R: Read, W: Write, S: Service>(
     requires fresh { input.old.bytes.items ≡ [] }
     requires kept { S.is_kept service.old }
     ensures kept { S.is_kept service.new }
-    ensures serves { Serves (Performs S.state S.machine S.left S.relates) site.now
-        (IsReceived site.now (R.remaining reader.old))
+    ensures serves { ServesOne (Performs S.state S.machine S.left S.relates) site.now
+        (Waits site.now (R.remaining reader.old)) (IsReceived site.now (R.remaining reader.old))
         service.old service.new (W.contents writer.old) (W.contents writer.new) result }
-    ensures read { Serves (Performs S.state S.machine S.left S.relates) site.now
+    ensures read { ServesOne (Performs S.state S.machine S.left S.relates) site.now
+        (Waits site.now (Some input.new.bytes.items))
         (IsReceived site.now (Some input.new.bytes.items))
         service.old service.new (W.contents writer.old) (W.contents writer.new) result }
 {
@@ -115,8 +123,9 @@ fn served_of(end: Result<u16, Stop>) -> Served
 /// Who may ask is said by the site, and whether there is a page; a request of anyone else is refused, and nothing of it is
 /// done.
 ///
-/// A request is read as far as its body goes, and nothing behind it; of a GET no body is read. There is one answer, and
-/// the connection is the caller's to close. There are at most 2,000,000 reads.
+/// A request is read as far as its body goes, and nothing behind it; of a GET no body is read. A client that waits to be
+/// told that its body may come is told so, once its head has passed the checks. There is one answer, and the connection is
+/// the caller's to close. There are at most 2,000,000 reads.
 ///
 /// Of a reader whose bytes aren't known it did what it would do for some bytes, namely those that it read.
 pub fn serve_one<R: Read, W: Write, S: Service>(
@@ -128,12 +137,12 @@ pub fn serve_one<R: Read, W: Write, S: Service>(
 ) -> Served
     requires { S.is_kept service.old }
     ensures kept { S.is_kept service.new }
-    ensures serves { Serves (Performs S.state S.machine S.left S.relates) site.now
-        (IsReceived site.now (R.remaining reader.old))
+    ensures serves { ServesOne (Performs S.state S.machine S.left S.relates) site.now
+        (Waits site.now (R.remaining reader.old)) (IsReceived site.now (R.remaining reader.old))
         service.old service.new (W.contents writer.old) (W.contents writer.new)
         (result_of result) }
-    ensures read { (xs : List ℕ) × Serves (Performs S.state S.machine S.left S.relates) site.now
-        (IsReceived site.now (Some xs))
+    ensures read { (xs : List ℕ) × ServesOne (Performs S.state S.machine S.left S.relates) site.now
+        (Waits site.now (Some xs)) (IsReceived site.now (Some xs))
         service.old service.new (W.contents writer.old) (W.contents writer.new)
         (result_of result) }
 {

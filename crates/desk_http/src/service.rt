@@ -2,7 +2,7 @@
 ghost use Rattle.std.specs.Prelude.{◌≡◌, ℕ, List, Option, Some, None, true, IfOk, IfErr};
 ghost use Rattle.desk_http.specs.Targets.{is_document};
 ghost use Rattle.desk_http.specs.Services.{Machine, Operation, RunLine, ImportFile, ShowReport};
-ghost use Rattle.desk_http.specs.Services.{ShowTable, ShowBooks, ShowHistory};
+ghost use Rattle.desk_http.specs.Services.{ShowTable, ShowBooks, ShowHistory, ImportSheet};
 ghost use Rattle.desk_http.specs.Services.{IsReading, Stops, reply_view, step, tag_text, why_none};
 
 use crate::target::{ImportKind, ReportName};
@@ -34,8 +34,10 @@ pub enum Outcome {
     Shown(Option<Tag>),
     /// The books are still those of this tag: 304, and no body is told.
     Unchanged(Tag),
-    /// There is no table of the name: 404, and no body is told.
+    /// There is no table, or no command, of the name: 404, and no body is told.
     Unknown,
+    /// Lines of the body aren't what they have to be: 400, as plain text, a line for each.
+    FaultyLines,
 }
 
 /// What the service replies, the LF at its end too.
@@ -149,6 +151,25 @@ pub trait Service {
         ensures ok { IfOk result (λ reply. (state self.now, reply_view reply)
             ≡ step machine (state self.now) (ShowHistory from)) }
         ensures relates { relates self.now (ShowHistory from) (why_none result) self.now };
+
+    /// Takes a file of the command of a name in, as that of a document on a day, or replies that the command is unknown.
+    fn import_sheet(
+        &mut self,
+        alloc: Global,
+        command: &str,
+        document: &str,
+        day: Day,
+        file: &[u8],
+    ) -> Result<Reply, NoReply>
+        requires kept { is_kept self.old }
+        requires document { is_document document.now ≡ true }
+        ensures kept { is_kept self.new }
+        ensures ok { IfOk result (λ reply. (state self.new, reply_view reply)
+            ≡ step machine (state self.old) (ImportSheet command.now document.now day file.now)) }
+        ensures err { IfErr result (λ e. Stops machine left e (state self.old)
+            (ImportSheet command.now document.now day file.now) (state self.new)) }
+        ensures relates { relates self.old (ImportSheet command.now document.now day file.now)
+            (why_none result) self.new };
 }
 
 /// What only reads leaves a service in the state that it was in, whether it is replied to or not.

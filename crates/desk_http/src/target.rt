@@ -5,8 +5,9 @@ ghost use Rattle.part_core.specs.Day.{day_of};
 ghost use Rattle.desk_http.specs.Targets.{number_of, cut, kind_of, name_of, slash_in, is_document_byte};
 ghost use Rattle.desk_http.specs.Targets.{is_document, where_it, file_resource, import_resource};
 ghost use Rattle.desk_http.specs.Targets.{report_resource, some_parts, some_resource, some_text, IsProper};
-ghost use Rattle.desk_http.specs.Targets.{is_table, is_table_byte, export_resource, history_at, history_resource};
-ghost use Rattle.desk_http.specs.Targets.{part_at, reading_of};
+ghost use Rattle.desk_http.specs.Targets.{is_name, is_name_byte, export_resource, history_at, history_resource};
+ghost use Rattle.desk_http.specs.Targets.{page_resource_of, part_at, reading_of};
+ghost use Rattle.desk_http.specs.Targets.{sheet_at, sheet_of, sheet_resource};
 
 use part_core::Day;
 
@@ -42,6 +43,8 @@ pub enum Target<'b> {
     Books,
     /// The history, from that number on.
     HistoryFrom(u64),
+    /// The import of a file of the command of that name, of a document and on a day.
+    Sheet(&'b str, &'b str, Day),
 }
 
 /// A number of 1 to 19 digits.
@@ -191,22 +194,23 @@ pub fn read_report(bytes: &[u8]) -> Option<Target>
     Some(Target::Report(name, number))
 }
 
-fn is_table_byte(b: u8) -> bool
-    ensures { result ≡ is_table_byte b }
+fn is_name_byte(b: u8) -> bool
+    ensures { result ≡ is_name_byte b }
 {
     b.is_ascii_lowercase() || b == b'_'
 }
 
-fn are_table(bytes: &[u8]) -> bool
-    ensures { result ≡ list_all is_table_byte bytes.now }
+fn are_name(bytes: &[u8]) -> bool
+    ensures { result ≡ list_all is_name_byte bytes.now }
 {
-    bytes.iter().all(|b| is_table_byte(*b))
+    bytes.iter().all(|b| is_name_byte(*b))
 }
 
-fn is_table(bytes: &[u8]) -> bool
-    ensures { result ≡ is_table bytes.now }
+/// Whether a table or a command may be called so.
+fn is_name(bytes: &[u8]) -> bool
+    ensures { result ≡ is_name bytes.now }
 {
-    0 < bytes.len() && are_table(bytes)
+    0 < bytes.len() && are_name(bytes)
 }
 
 /// What stands behind `/export/`.
@@ -214,7 +218,7 @@ fn read_export(bytes: &[u8]) -> Option<Target>
     ensures value { some_resource result ≡ export_resource bytes.now }
     ensures proper { IfSome result IsProper }
 {
-    if is_table(bytes) {
+    if is_name(bytes) {
         Some(Target::Export(bytes))
     } else {
         None
@@ -253,7 +257,7 @@ fn read_part(target: &[u8]) -> Option<Target>
 }
 
 /// What a whole target names that a page reads.
-pub fn read_reading(target: &[u8]) -> Option<Target>
+fn read_reading(target: &[u8]) -> Option<Target>
     ensures value { some_resource result ≡ reading_of target.now }
     ensures proper { IfSome result IsProper }
 {
@@ -261,5 +265,61 @@ pub fn read_reading(target: &[u8]) -> Option<Target>
         Some(Target::Books)
     } else {
         read_part(target)
+    }
+}
+
+/// The name of a command, where the bytes may be one.
+fn read_command(bytes: &[u8]) -> Option<&str>
+    ensures { some_text result ≡ where_it is_name bytes.now }
+{
+    if !is_name(bytes) {
+        return None;
+    }
+    match str::from_utf8(bytes) {
+        Ok(text) => Some(text),
+        Err(_) => None,
+    }
+}
+
+/// A document and a day, behind the name of a command.
+fn read_sheet<'b>(command: &'b str, bytes: &'b [u8]) -> Option<Target<'b>>
+    ensures value { some_resource result ≡ sheet_of command.now bytes.now }
+    ensures proper { IfSome result IsProper }
+{
+    let (document_part, day_part) = split(bytes)?;
+    let document = read_document(document_part)?;
+    let day = read_day(day_part)?;
+    Some(Target::Sheet(command, document, day))
+}
+
+/// What stands behind `/import/`, where that is the name of a command.
+fn read_named_sheet(bytes: &[u8]) -> Option<Target>
+    ensures value { some_resource result ≡ sheet_resource bytes.now }
+    ensures proper { IfSome result IsProper }
+{
+    let (command_part, rest) = split(bytes)?;
+    let command = read_command(command_part)?;
+    read_sheet(command, rest)
+}
+
+/// What a whole target names that begins with `/import/` and the name of a command.
+fn read_sheet_target(target: &[u8]) -> Option<Target>
+    ensures value { some_resource result ≡ sheet_at target.now }
+    ensures proper { IfSome result IsProper }
+{
+    match target.strip_prefix(b"/import/".as_slice()) {
+        Some(sheet) => read_named_sheet(sheet),
+        None => None,
+    }
+}
+
+/// What a whole target names that is there with a page alone.
+pub fn read_page_target(target: &[u8]) -> Option<Target>
+    ensures value { some_resource result ≡ page_resource_of target.now }
+    ensures proper { IfSome result IsProper }
+{
+    match read_reading(target) {
+        Some(reading) => Some(reading),
+        None => read_sheet_target(target),
     }
 }

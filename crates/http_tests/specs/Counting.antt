@@ -4,7 +4,7 @@ use Rattle.std.specs.Prelude.{Option, Some, None, replicate}
 use Rattle.std.specs.Str.{bytes_eq}
 use Rattle.desk_http.specs.Services.{Machine, Operation, ReplyView}
 use Rattle.desk_http.specs.declared.service.Outcome.TheVariants.{Answered, Refused, Faulty, Reported}
-use Rattle.desk_http.specs.declared.service.Outcome.TheVariants.{Exported, Unknown}
+use Rattle.desk_http.specs.declared.service.Outcome.TheVariants.{Exported, FaultyLines, Unknown}
 use Rattle.desk_http.specs.declared.service.Tag.{Tag}
 use Rattle.desk_http.specs.declared.service.Failure.{Failure}
 
@@ -30,6 +30,14 @@ table_said total name =
     if bytes_eq name (codes "parts") then (Exported, number_line total)
     else (if bytes_eq name (codes "items") then (Exported, replicate total 97) else (Unknown, []))
 
+-- a file of `add_part` is counted as others are, or its lines are faulty; there is no other command
+abbrev pub sheet_said : ℕ → List ℕ → List ℕ → List ℕ → ℕ × ReplyView
+sheet_said total command document file =
+    if bytes_eq command (codes "add_part")
+    then (if bytes_eq file (codes "faulty") then (total, (FaultyLines, number_line total))
+    else (more total file, (Reported, document ++ 10 ∷ [])))
+    else (total, (Unknown, []))
+
 abbrev pub counting : Machine ℕ
 counting = record {
   run_line = λ total body.
@@ -44,6 +52,7 @@ counting = record {
   show_table = table_said;
   show_books = number_line;
   show_history = λ total from. number_line from;
+  import_sheet = λ total command document day file. sheet_said total command document file;
 }
 
 -- a failure leaves the count as it was

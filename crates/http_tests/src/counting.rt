@@ -190,4 +190,34 @@ impl Service for Counting {
     fn history(&self, alloc: Global, from: u64) -> Result<Reply, NoReply> {
         number_reply(alloc, Outcome::Shown(None), from)
     }
+
+    fn import_sheet(
+        &mut self,
+        alloc: Global,
+        command: &str,
+        document: &str,
+        _day: Day,
+        file: &[u8],
+    ) -> Result<Reply, NoReply> {
+        if command == "add_part" {
+            if file == b"faulty".as_slice() {
+                return number_reply(alloc, Outcome::FaultyLines, self.total);
+            }
+            match document_text(alloc, document) {
+                Ok(text) => {
+                    self.total = more(self.total, file);
+                    Ok(Reply {
+                        outcome: Outcome::Reported,
+                        body: text.into_bytes(),
+                    })
+                }
+                Err(_) => Err(NoReply::Untold),
+            }
+        } else {
+            Ok(Reply {
+                outcome: Outcome::Unknown,
+                body: Vec::new(alloc),
+            })
+        }
+    }
 }

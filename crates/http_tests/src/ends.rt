@@ -118,6 +118,29 @@ fn writes_nothing(rt: HostRuntime) -> Result<(), Fail> {
     Ok(())
 }
 
+const EXPECTING: &str =
+    "POST /run HTTP/1.1\r\nExpect: 100-continue\r\nContent-Length: 5\r\n\r\nabcde";
+
+/// A client that was told to send its body, and doesn't, is told no more; and nothing is done where it can't be told so.
+#[test]
+fn invites_in_vain(rt: HostRuntime) -> Result<(), Fail> {
+    let alloc = rt.alloc();
+    let interim = b"HTTP/1.1 100 Continue\r\n\r\n".as_slice();
+    let mut source = Source::new(&EXPECTING.as_bytes()[..EXPECTING.len() - 1], 7);
+    let mut sink = Sink::new(alloc, 4096);
+    let (end, total) = served(alloc, &mut source, &mut sink)?;
+    assert!(rt; end == Served::Ended && total == 0 && sink.bytes.as_slice() == interim);
+    for (fails, step, written) in [(1, 4096, 0), (2, 4096, 25), (3, 10, 20), (0, 0, 0)] {
+        let mut source = Source::new(EXPECTING.as_bytes(), 7);
+        let mut sink = Sink::new(alloc, step);
+        sink.fails = fails;
+        let (end, total) = served(alloc, &mut source, &mut sink)?;
+        assert!(rt; end == Served::WriteFailed && total == 0);
+        assert!(rt; sink.bytes.len() == written && interim.starts_with(sink.bytes.as_slice()));
+    }
+    Ok(())
+}
+
 /// Is interrupted at each read, and counts them.
 #[derive(Drop)]
 struct Interrupted {

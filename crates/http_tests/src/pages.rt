@@ -83,7 +83,7 @@ fn reads(rt: HostRuntime) -> Result<(), Fail> {
 }
 
 /// Requests that are for a page: without one there is no such target.
-const OF_A_PAGE: [&str; 9] = [
+const OF_A_PAGE: [&str; 11] = [
     "GET / HTTP/1.1\r\n\r\n",
     "HEAD / HTTP/1.1\r\n\r\n",
     "GET / HTTP/1.1\r\nHost: evil.example\r\n\r\n",
@@ -93,6 +93,8 @@ const OF_A_PAGE: [&str; 9] = [
     "GET /export/parts HTTP/1.1\r\n\r\n",
     "POST /export/parts HTTP/1.1\r\nContent-Length: 1\r\n\r\na",
     "GET /history/1 HTTP/1.1\r\n\r\n",
+    "POST /import/add_part/P1/2030-01-02 HTTP/1.1\r\nContent-Length: 3\r\n\r\nabc",
+    "GET /import/add_part/P1/2030-01-02 HTTP/1.1\r\n\r\n",
 ];
 
 #[test]
@@ -174,6 +176,89 @@ fn other_methods(rt: HostRuntime) -> Result<(), Fail> {
         )?;
         assert!(rt; fine, "at {request}");
     }
+    Ok(())
+}
+
+/// The import of a file of a command, with this method and this path behind `/import/`.
+fn sheet(alloc: Global, method: &str, path: &str, file: &str) -> Result<String, Fail> {
+    let length = file.len();
+    Ok(format!(in alloc;
+        "{method} /import/{path} HTTP/1.1\r\nContent-Length: {length}\r\n\r\n{file}"
+    )?)
+}
+
+/// Whether the request is answered so, with this status, and so many bytes are counted.
+fn is_taken(
+    alloc: Global,
+    site: &Site,
+    request: &str,
+    (status, wanted): (u16, &[u8]),
+    counted: u64,
+) -> bool {
+    let mut source = Source::new(request.as_bytes(), 4096);
+    let mut sink = Sink::new(alloc, 65_536);
+    let mut service = Counting { total: 0 };
+    let served = serve_one(alloc, &mut source, &mut sink, &mut service, site);
+    served == Served::Answered(status)
+        && sink.bytes.as_slice() == wanted
+        && service.total == counted
+}
+
+/// Files of a command: the path and the file, and the status, its name and the body that answer them.
+const SHEETS: [(&str, &str, u16, &str, &str); 4] = [
+    ("add_part/P1/2030-01-02", "name\nA\n", 200, "OK", "P1\n"),
+    ("add_part/P1/2030-01-02", "", 200, "OK", "P1\n"),
+    (
+        "add_part/P1/2030-01-02",
+        "faulty",
+        400,
+        "Bad Request",
+        "0\n",
+    ),
+    ("receipts/D-1/2030-01-02", "number", 200, "OK", "D-1\n"),
+];
+
+/// Paths that name no file of a command.
+const NO_SHEETS: [&str; 9] = [
+    "add_parts/P1/2030-01-02",
+    "Add_part/P1/2030-01-02",
+    "add-part/P1/2030-01-02",
+    "/P1/2030-01-02",
+    "add_part//2030-01-02",
+    "add_part/P!/2030-01-02",
+    "add_part/P1/2030-02-30",
+    "add_part/P1/2030-01-02/",
+    "add_part/P1",
+];
+
+#[test]
+fn sheets(rt: HostRuntime) -> Result<(), Fail> {
+    let alloc = rt.alloc();
+    let site = with_page(alloc)?;
+    for (path, file, status, name, body) in SHEETS {
+        let request = sheet(alloc, "POST", path, file)?;
+        let wanted = response(
+            alloc,
+            (status, name),
+            "text/plain; charset=utf-8",
+            GUARDS,
+            body,
+        )?;
+        let counted = if status == 200 { file.len() as u64 } else { 0 };
+        let wanted = (status, wanted.as_str().as_bytes());
+        assert!(rt;
+            is_taken(alloc, &site, request.as_str(), wanted, counted),
+            "at {path}"
+        );
+    }
+    for path in NO_SHEETS {
+        let request = sheet(alloc, "POST", path, "abc")?;
+        let fine = is_refused(alloc, request.as_str(), (404, "Not Found"), "")?;
+        assert!(rt; fine, "at {path}");
+    }
+    let request = sheet(alloc, "GET", "add_part/P1/2030-01-02", "")?;
+    let not_allowed = (405, "Method Not Allowed");
+    assert!(rt; is_refused(alloc, request.as_str(), not_allowed, "Allow: POST\r\n")?);
     Ok(())
 }
 

@@ -141,7 +141,7 @@ const JSON: &str = "application/json";
 const PLAIN: &str = "text/plain; charset=utf-8";
 
 /// Requests that the service does: status, its name, the kind of the body, the body, and how much is counted.
-const DONE: [(&str, u16, &str, &str, &str, u64); 19] = [
+const DONE: [(&str, u16, &str, &str, &str, u64); 18] = [
     (
         "POST /run HTTP/1.1\r\nContent-Length: 3\r\n\r\nabc",
         200,
@@ -184,14 +184,6 @@ const DONE: [(&str, u16, &str, &str, &str, u64); 19] = [
     ),
     (
         "POST /run HTTP/1.1\r\nContent-Length: 3\r\n\r\nabcdef",
-        200,
-        "OK",
-        JSON,
-        "3\n",
-        3,
-    ),
-    (
-        "POST /run HTTP/1.1\r\nExpect: 100-continue\r\nContent-Length: 3\r\n\r\nabc",
         200,
         "OK",
         JSON,
@@ -305,6 +297,93 @@ fn does_requests(rt: HostRuntime) -> Result<(), Fail> {
         let fine = is_answered(alloc, request.as_bytes(), (status, bytes), counted)?;
         assert!(rt; fine, "at {request}");
     }
+    Ok(())
+}
+
+/// Whether a client that sends its line with this head, and then its body, is told in between that it may.
+const EXPECTING: [(&str, bool); 7] = [
+    ("POST /run HTTP/1.1\r\nExpect: 100-continue\r\n", true),
+    ("\nPOST /run HTTP/1.1\r\neXPECT:\t100-Continue \n", true),
+    ("POST /run HTTP/1.0\r\nExpect: 100-continue\r\n", false),
+    (
+        "POST /run HTTP/1.1\r\nExpect: 100-continue-please\r\n",
+        false,
+    ),
+    ("POST /run HTTP/1.1\r\nExpect:\r\n", false),
+    (
+        "POST /run HTTP/1.1\r\nExpect: 100-continue\r\nExpect: 100-continue\r\n",
+        false,
+    ),
+    ("POST /run HTTP/1.1\r\nX-Expect: 100-continue\r\n", false),
+];
+
+/// Where the body comes with the head nothing is told but the answer.
+#[test]
+fn invites_bodies(rt: HostRuntime) -> Result<(), Fail> {
+    let alloc = rt.alloc();
+    let answer = response(alloc, (200, "OK"), JSON, "", "3\n")?;
+    let answer = answer.as_str();
+    let invited = format!(in alloc; "HTTP/1.1 100 Continue\r\n\r\n{answer}")?;
+    for (head, waits) in EXPECTING {
+        let request = format!(in alloc; "{head}Content-Length: 3\r\n\r\nabc")?;
+        let request = request.as_str().as_bytes();
+        let wanted = if waits { invited.as_str() } else { answer };
+        let at_once = is_answered_by(alloc, 4096, request, (200, answer.as_bytes()), 3)?;
+        let late = is_answered_by(alloc, 1, request, (200, wanted.as_bytes()), 3)?;
+        assert!(rt; at_once && late, "at {head}");
+    }
+    Ok(())
+}
+
+/// Where nothing is to be read, nothing is waited for.
+#[test]
+fn invites_no_others(rt: HostRuntime) -> Result<(), Fail> {
+    let alloc = rt.alloc();
+    for (request, status, name, further) in [
+        (
+            "POST /x HTTP/1.1\r\nContent-Length: 3\r\n",
+            404,
+            "Not Found",
+            "",
+        ),
+        (
+            "GET /run HTTP/1.1\r\nContent-Length: 3\r\n",
+            405,
+            "Method Not Allowed",
+            POST,
+        ),
+        (
+            "POST /run HTTP/1.1\r\nOrigin: null\r\nContent-Length: 3\r\n",
+            403,
+            "Forbidden",
+            "",
+        ),
+        ("POST /run HTTP/1.1\r\n", 411, "Length Required", ""),
+        (
+            "POST /run HTTP/1.1\r\nContent-Length: 1048577\r\n",
+            413,
+            "Payload Too Large",
+            "",
+        ),
+    ] {
+        let request = format!(in alloc; "{request}Expect: 100-continue\r\n\r\n")?;
+        let fine = is_rejected(alloc, request.as_str(), (status, name), further)?;
+        assert!(rt; fine, "at {request}");
+    }
+    let empty = "POST /run HTTP/1.1\r\nContent-Length: 0\r\nExpect: 100-continue\r\n\r\n";
+    let refused = response(alloc, (409, "Conflict"), JSON, "", "0\n")?;
+    assert!(rt;
+        is_answered(
+            alloc,
+            empty.as_bytes(),
+            (409, refused.as_str().as_bytes()),
+            0
+        )?
+    );
+    let report =
+        "GET /report/ledger/1 HTTP/1.1\r\nExpect: 100-continue\r\nContent-Length: 3\r\n\r\n";
+    let told = response(alloc, (200, "OK"), PLAIN, "", "1\n")?;
+    assert!(rt; is_answered(alloc, report.as_bytes(), (200, told.as_str().as_bytes()), 0)?);
     Ok(())
 }
 

@@ -1,6 +1,6 @@
 use Rattle.std.proofs.Common.{◌≡◌, ◌≤◌}
 use Rattle.std.specs.Io.KnownBytes.{Keeps}
-use Rattle.desk_http.specs.HeadEnds.{all_of}
+use Rattle.desk_http.specs.HeadEnds.{all_of, EndsWithHead}
 use Rattle.desk_http.proofs.receive.Input.receive_head.Given as goal
 
 abbrev pub invariant-loop-n : goal.invariant-loop-n
@@ -9,6 +9,7 @@ invariant-loop-n g l = record {
       Keeps (all_of (g.R.Read.remaining l.initial.reader) l.initial.self.bytes.items)
       (all_of (g.R.Read.remaining l.reader) l.self.bytes.items);
   reads : l.self.reads ≤ l.initial.self.reads;
+  last : EndsWithHead l.self.bytes.items;
   unused : l.initial.self.reads ≡ 0 → l.reader ≡ l.initial.reader;
 }
 
