@@ -18,8 +18,9 @@ use Rattle.desk_app.specs.Checked.{are_readable, fault_of, faults_out, is_readab
 use Rattle.desk_app.specs.Checked.{told_of}
 use Rattle.desk_app.specs.Cuts.{first_of, rest_of}
 use Rattle.desk_ends.specs.Ends.{end_of}
+use Rattle.desk_app.specs.declared.options.LineOptions.{LineOptions}
 use Rattle.desk_app.specs.Runs.{BeginWith, lines_of, Stopped}
-use Rattle.desk_app.proofs.Running.{lines_first}
+use Rattle.desk_app.proofs.Running.{lines_first, none_grouped}
 use Rattle.desk_app.proofs.Stopping.{none_taken}
 
 -- ---- the first line of a text
@@ -134,57 +135,65 @@ too_long names text h =
     let e : is_short text ≡ false = grind arith in
     (rw e refl, rw e refl)
 
+pub short_enough : (names : Bool) (text : List ℕ) → length text ≤ 16777216
+    → (faults_out names 1 (lines_of text) ≡ text_faults names text)
+    × (are_readable names (lines_of text) ≡ is_readable names text)
+short_enough names text h =
+    let e : is_short text ≡ true = grind arith in
+    (rw e refl, rw e refl)
+
 -- ---- nothing was run yet
 
 none_first : (text : Option (List ℕ)) → BeginWith text []
 none_first None = tt
 none_first (Some text) = (lines_of text, refl)
 
-pub unanswered : (names stop : Bool) (text w : Option (List ℕ)) (s : State) (leaves : Trees → Type 0)
-    → ((trees : Trees) → leaves trees → TablesAre s trees) → AnsweredIsKept names stop text w w s leaves
-unanswered names stop text w s leaves tables = record {
+pub unanswered : (options : LineOptions) (stop : Bool) (text w : Option (List ℕ)) (s : State) (leaves : Trees → Type 0)
+    → ((trees : Trees) → leaves trees → TablesAre s trees) → AnsweredIsKept options stop text w w s leaves
+unanswered options stop text w s leaves tables = record {
   answered = [];
   front = [];
   more = [];
   first = none_first text;
-  all_taken = none_taken names stop s;
+  all_taken = none_taken options stop s;
   answers = refl;
   written = Appends-nil w;
   kept = λ trees may. record {
     further = [];
     first = none_first text;
-    all_taken = none_taken names stop s;
+    all_taken = none_taken options stop s;
     tables = tables trees may;
   };
 }
 
 -- as memory ran out
-pub unrun_for_memory : (names stop : Bool) (why : Stop) (text w : Option (List ℕ)) (s : State)
-    (leaves : Trees → Type 0) → ends.Memory ≡ end_of why → Stopped names stop why text w w s s leaves
-unrun_for_memory names stop ReadFailed text w s leaves e = absurd (cc)
-unrun_for_memory names stop WriteFailed text w s leaves e = absurd (cc)
-unrun_for_memory names stop Store text w s leaves e = absurd (cc)
-unrun_for_memory names stop Memory text w s leaves e = record {
+pub unrun_for_memory : (options : LineOptions) (stop : Bool) (why : Stop) (text w : Option (List ℕ)) (s : State)
+    (leaves : Trees → Type 0) → ends.Memory ≡ end_of why → Stopped options stop why text w w s s leaves
+unrun_for_memory options stop ReadFailed text w s leaves e = absurd (cc)
+unrun_for_memory options stop WriteFailed text w s leaves e = absurd (cc)
+unrun_for_memory options stop Store text w s leaves e = absurd (cc)
+unrun_for_memory options stop Memory text w s leaves e = record {
   told = [];
   untold = [];
   first = none_first text;
-  all_taken = none_taken names stop s;
+  all_taken = none_taken options stop s;
   one = omega arith;
   state = refl;
   written = Appends-nil w;
 }
 
 -- as the books were closed
-pub unrun_closed : (names stop : Bool) (why : Stop) (text w : Option (List ℕ)) (s : State) (leaves : Trees → Type 0)
-    → ends.Store ≡ end_of why → ((trees : Trees) → leaves trees → ⊥) → Stopped names stop why text w w s s leaves
-unrun_closed names stop ReadFailed text w s leaves e none = absurd (cc)
-unrun_closed names stop WriteFailed text w s leaves e none = absurd (cc)
-unrun_closed names stop Memory text w s leaves e none = absurd (cc)
-unrun_closed names stop Store text w s leaves e none = record {
+pub unrun_closed : (options : LineOptions) (stop : Bool) (why : Stop) (text w : Option (List ℕ)) (s : State) (leaves : Trees → Type 0)
+    → ends.Store ≡ end_of why → ((trees : Trees) → leaves trees → ⊥) → Stopped options stop why text w w s s leaves
+unrun_closed options stop ReadFailed text w s leaves e none = absurd (cc)
+unrun_closed options stop WriteFailed text w s leaves e none = absurd (cc)
+unrun_closed options stop Memory text w s leaves e none = absurd (cc)
+unrun_closed options stop Store text w s leaves e none = record {
   told = [];
   group = [];
   first = none_first text;
-  all_taken = none_taken names stop s;
+  all_taken = none_taken options stop s;
+  size = none_grouped options s 1;
   state = refl;
   written = Appends-nil w;
   left = λ trees may. absurd (none trees may);

@@ -1,5 +1,6 @@
 pub mod Cutting
 pub mod Partway
+pub mod Journalling
 pub mod Stepping
 pub mod Stopping
 pub mod Running
@@ -15,3 +16,6 @@ pub mod Closing
 pub mod Leaving
 pub mod TableWords
 pub mod Tags
+pub mod SheetRuns
+pub mod SheetReplies
+pub mod SheetsAgain

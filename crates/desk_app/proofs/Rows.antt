@@ -1,15 +1,17 @@
 -- A run over the rows of a file, row by row.
-use Rattle.std.proofs.Common.{arith, is_some, true≢false, length-drop, ◌≤◌, ◌≡◌, ◌+◌, ◌<◌, ℕ, Bool, true, false, ◌&&◌, List, [], ◌∷◌, ◌++◌, append-nil, take, drop, length}
+use Rattle.std.proofs.Common.{arith, is_some, true≢false, length-drop, ◌≤◌, ◌≡◌, ◌+◌, ◌-◌, ◌<◌, ℕ, Bool, true, false, ◌&&◌, List, [], ◌∷◌, ◌++◌, append-nil, take, take_all, drop, length}
 use Rattle.std.proofs.Common.{get_or, ap, sym, refl, ◌∙◌, subst, append_assoc, take-append-drop, ◌⊎◌, inl, inr}
-use Rattle.std.specs.Prelude.{IfErr, IfOk, Option, None, Result, Ok, Err}
+use Rattle.std.specs.Prelude.{◌≢◌, IfErr, IfOk, Option, None, Result, Ok, Err}
 use Rattle.std.specs.Result.{IsErrAnd}
 use Rattle.std.specs.Io.KnownBytes.{Appends}
-use Rattle.std.proofs.lemmas.List.{take_more, drop_more}
+use Rattle.std.proofs.lemmas.List.{take_more, drop_more, take-append-le}
 use Rattle.sqlite.specs.Tree.{Trees}
 use Rattle.desk_core.specs.Machine.{State, Outcome, step}
 use Rattle.desk_store.specs.StateTables.{TablesAre}
 use Rattle.desk_wire.specs.ImportReports.{outcome_text, report_line}
 use Rattle.desk_wire.specs.declared.row.ImportRow.{ImportRow}
+use Rattle.desk_ends.specs.Ends.{end_of}
+use Rattle.desk_ends.specs.declared.end.RunEnd.TheVariants as ends
 use Rattle.desk_ends.specs.declared.end.Stop.{Stop}
 use Rattle.desk_ends.specs.declared.end.Stop.TheVariants.{ReadFailed, WriteFailed, Memory, Store}
 use Rattle.desk_ends.specs.declared.told.Told.{Told}
@@ -177,29 +179,101 @@ rows_same rows i s s' s'' text fine same run = subst (λ v. RowsRunning rows i s
 
 -- ---- what a crash leaves
 
-pub left_front : (rows : List ImportRow) (s s' : State) (trees : Trees) → RanFront rows s s' → TablesAre s' trees
-    → AreLeftByRows rows s trees
-left_front rows s s' trees ran tables = record {
-  done = ran.done;
-  rest = ran.rest;
-  split = ran.split;
-  tables = subst (λ v. TablesAre v trees) ran.state tables;
-}
+-- the rows behind those that are in the tables are one group
+pub left_between : (rows : List ImportRow) (kept ran : ℕ) (s s' : State) (trees : Trees) → kept ≤ ran
+    → ran ≤ kept + 1000 → s' ≡ rows_after s (take ran rows) → TablesAre (rows_after s (take kept rows)) trees
+    → AreLeftByRows rows s s' trees
+left_between rows kept ran s s' trees none_more group state tables =
+    record { ran = ran; kept = kept; none_more = none_more; group = group; state = state; tables = tables }
 
-pub left_none : (rows : List ImportRow) (s : State) (trees : Trees) → TablesAre s trees → AreLeftByRows rows s trees
-left_none rows s trees tables = record { done = []; rest = rows; split = refl; tables = tables }
+-- all rows that were run are in the tables
+left_all : (rows : List ImportRow) (ran : ℕ) (s s' : State) (trees : Trees) → s' ≡ rows_after s (take ran rows)
+    → TablesAre s' trees → AreLeftByRows rows s s' trees
+left_all rows ran s s' trees state tables =
+    left_between rows ran ran s s' trees (omega arith) (omega arith) state
+    (subst (λ v. TablesAre v trees) state tables)
 
-pub left_running : (rows : List ImportRow) (i : ℕ) (s s' : State) (text : List ℕ) (fine : Bool) (trees : Trees)
-    → RowsRunning rows i s s' text fine → TablesAre s' trees → AreLeftByRows rows s trees
-left_running rows i s s' text fine trees run tables = left_front rows s s' trees (front rows i s s' run.state) tables
+left_front : (rows : List ImportRow) (s s' : State) (trees : Trees) → RanFront rows s s' → TablesAre s' trees
+    → AreLeftByRows rows s s' trees
+left_front rows s s' trees ran tables =
+    let front : take (length ran.done) rows ≡ ran.done =
+    ap (take (length ran.done)) ran.split
+    ∙ take-append-le (length ran.done) ran.done ran.rest (omega arith)
+    ∙ take_all (length ran.done) ran.done (omega arith) in
+    left_all rows (length ran.done) s s' trees (ran.state ∙ ap (rows_after s) (sym front)) tables
 
--- ... of books that may have ended a group
-pub left_next : {L : Type 0} (rows : List ImportRow) (i : ℕ) (s s' s'' : State) (text : List ℕ) (fine : Bool)
-    (trees : Trees) → RowsRunning rows i s s' text fine → s'' ≡ s' → (L → AreLeftByRows rows s trees)
-    → L ⊎ TablesAre s'' trees → AreLeftByRows rows s trees
-left_next rows i s s' s'' text fine trees run same before (inl earlier) = before earlier
-left_next rows i s s' s'' text fine trees run same before (inr tables) =
-    left_running rows i s s'' text fine trees (rows_same rows i s s' s'' text fine same run) tables
+pub left_none : (rows : List ImportRow) (s : State) (trees : Trees) → TablesAre s trees → AreLeftByRows rows s s trees
+left_none rows s trees tables = left_all rows 0 s s trees refl tables
+
+-- the tables before the first row of the group, once the next row is counted in it
+pub group_begins : {L : Type 0} (rows : List ImportRow) (i waiting count : ℕ) (s s' s'' : State) (text : List ℕ)
+    (fine : Bool) (trees : Trees) → RowsRunning rows i s s' text fine → s'' ≡ s' → waiting ≤ i
+    → (L → TablesAre (rows_after s (take (i - waiting) rows)) trees)
+    → ((count ≡ waiting + 1) × L) ⊎ ((count ≡ 1) × TablesAre s'' trees)
+    → TablesAre (rows_after s (take (i + 1 - count) rows)) trees
+group_begins rows i waiting count s s' s'' text fine trees run same within before (inl (one, earlier)) =
+    let e : i - waiting ≡ i + 1 - count = omega (arith, one, within) in
+    subst (λ n. TablesAre (rows_after s (take n rows)) trees) e (before earlier)
+group_begins rows i waiting count s s' s'' text fine trees run same within before (inr (one, tables)) =
+    let e : i ≡ i + 1 - count = omega (arith, one) in
+    subst (λ n. TablesAre (rows_after s (take n rows)) trees) e
+    (subst (λ v. TablesAre v trees) (same ∙ run.state) tables)
+
+-- the next group couldn't be begun
+pub left_unkept : {L : Type 0} (rows : List ImportRow) (i waiting : ℕ) (s s' s'' : State) (text : List ℕ)
+    (fine : Bool) (trees : Trees) → RowsRunning rows i s s' text fine → s'' ≡ s' → waiting ≤ i → waiting ≤ 1000
+    → (L → TablesAre (rows_after s (take (i - waiting) rows)) trees) → L ⊎ TablesAre s'' trees
+    → AreLeftByRows rows s s'' trees
+left_unkept rows i waiting s s' s'' text fine trees run same within few before (inl earlier) =
+    left_between rows (i - waiting) i s s'' trees (omega arith) (omega arith) (same ∙ run.state) (before earlier)
+left_unkept rows i waiting s s' s'' text fine trees run same within few before (inr tables) =
+    left_all rows i s s'' trees (same ∙ run.state) tables
+
+-- the row wasn't asked for, or wasn't run
+pub left_before : (rows : List ImportRow) (i count : ℕ) (s s' : State) (text : List ℕ) (fine : Bool) (trees : Trees)
+    → RowsRunning rows i s s' text fine → (1 ≤ count) × (count ≤ i + 1) → count ≤ 1000
+    → TablesAre (rows_after s (take (i + 1 - count) rows)) trees → AreLeftByRows rows s s' trees
+left_before rows i count s s' text fine trees run (some, within) few tables =
+    left_between rows (i + 1 - count) i s s' trees (omega arith) (omega arith) run.state tables
+
+-- the row was run
+left_behind : (rows : List ImportRow) (i count : ℕ) (row : ImportRow) (s s' s'' : State) (text : List ℕ) (fine : Bool)
+    (trees : Trees) → i < length rows → row ≡ get_or rows i row → RowsRunning rows i s s' text fine
+    → (1 ≤ count) × (count ≤ i + 1) → count ≤ 1000 → s'' ≡ (step s' row.request).0
+    → TablesAre (rows_after s (take (i + 1 - count) rows)) trees → AreLeftByRows rows s s'' trees
+left_behind rows i count row s s' s'' text fine trees h is run (some, within) few now tables =
+    left_between rows (i + 1 - count) (i + 1) s s'' trees (omega arith) (omega arith)
+    (next_state rows i row s s' s'' h is run.state now) tables
+
+-- ... and its line wasn't told
+pub left_untold : (rows : List ImportRow) (i count : ℕ) (row : ImportRow) (s s' s'' : State) (text line : List ℕ)
+    (fine f : Bool) (trees : Trees) → i < length rows → row ≡ get_or rows i row → RowsRunning rows i s s' text fine
+    → (1 ≤ count) × (count ≤ i + 1) → count ≤ 1000 → by_outcome (step s' row.request) ≡ (s'', line, f)
+    → TablesAre (rows_after s (take (i + 1 - count) rows)) trees → AreLeftByRows rows s s'' trees
+left_untold rows i count row s s' s'' text line fine f trees h is run bounds few stepped tables =
+    left_behind rows i count row s s' s'' text fine trees h is run bounds few
+    (sym (sym (told_state (step s' row.request)) ∙ ap (λ v. v.0) stepped)) tables
+
+-- the row wasn't answered
+pub left_cut : (stop : Stop) (rows : List ImportRow) (i count : ℕ) (row : ImportRow) (s s' s'' : State) (text : List ℕ)
+    (fine : Bool) (trees : Trees) → i < length rows → row ≡ get_or rows i row → RowsRunning rows i s s' text fine
+    → (1 ≤ count) × (count ≤ i + 1) → count ≤ 1000 → CutRequest stop s' s'' row.request
+    → TablesAre (rows_after s (take (i + 1 - count) rows)) trees → AreLeftByRows rows s s'' trees
+left_cut ReadFailed rows i count row s s' s'' text fine trees h is run bounds few cut tables = absurd cut
+left_cut WriteFailed rows i count row s s' s'' text fine trees h is run bounds few cut tables = absurd cut
+left_cut Memory rows i count row s s' s'' text fine trees h is run bounds few (inl same) tables =
+    left_before rows i count s s'' text fine trees (rows_same rows i s s' s'' text fine same run) bounds few tables
+left_cut Memory rows i count row s s' s'' text fine trees h is run bounds few (inr now) tables =
+    left_behind rows i count row s s' s'' text fine trees h is run bounds few now tables
+left_cut Store rows i count row s s' s'' text fine trees h is run bounds few same tables =
+    left_before rows i count s s'' text fine trees (rows_same rows i s s' s'' text fine same run) bounds few tables
+
+-- all rows were run, and the last group isn't ended
+pub left_waiting : (rows : List ImportRow) (i waiting : ℕ) (s s' : State) (text : List ℕ) (fine : Bool)
+    (trees : Trees) → RowsRunning rows i s s' text fine → waiting ≤ i → waiting ≤ 1000
+    → TablesAre (rows_after s (take (i - waiting) rows)) trees → AreLeftByRows rows s s' trees
+left_waiting rows i waiting s s' text fine trees run within few tables =
+    left_between rows (i - waiting) i s s' trees (omega arith) (omega arith) run.state tables
 
 -- whatever was told of them, the first were run
 pub ran_some : (r : Result Bool Stop) (rows : List ImportRow) (s s' s'' : State) (text : List ℕ)
@@ -228,10 +302,14 @@ stays_ended {F} old mid new r stop (Err d) is stays was now same =
     (subst (λ v. StaysOpen {F = F} {X = Bool} old mid v) is stays)) was now
 
 -- the last group was ended, or it wasn't
-pub left_ended : {L : Type 0} (rows : List ImportRow) (s s'' : State) (trees : Trees) → RanFront rows s s''
-    → (L → AreLeftByRows rows s trees) → L ⊎ TablesAre s'' trees → AreLeftByRows rows s trees
-left_ended rows s s'' trees ran before (inl earlier) = before earlier
-left_ended rows s s'' trees ran before (inr tables) = left_front rows s s'' trees ran tables
+pub left_ended : {L : Type 0} (r : Result Bool Stop) (rows : List ImportRow) (s s' s'' : State) (text : List ℕ)
+    (trees : Trees) → IfOk r (λ fine. rows_told s rows ≡ (s', text, fine))
+    → IfErr r (λ stop. IsOfBooks stop × RanFront rows s s') → s'' ≡ s' → (L → AreLeftByRows rows s s' trees)
+    → L ⊎ TablesAre s'' trees → AreLeftByRows rows s s'' trees
+left_ended r rows s s' s'' text trees told cut same before (inl earlier) =
+    subst (λ v. AreLeftByRows rows s v trees) (sym same) (before earlier)
+left_ended r rows s s' s'' text trees told cut same before (inr tables) =
+    left_front rows s s'' trees (ran_some r rows s s' s'' text told cut same) tables
 
 -- ---- an import
 
@@ -249,6 +327,15 @@ import_written reading w w' s s' text f k told wrote =
     }
 
 -- what a crash leaves where nothing was run is left by any import
-pub left_alone : (reading : Reading) (s : State) (trees : Trees) → TablesAre s trees → IsLeftByImport reading s trees
+pub left_alone : (reading : Reading) (s : State) (trees : Trees) → TablesAre s trees
+    → IsLeftByImport reading s s trees
 left_alone (Ok rows) s trees h = left_none rows s trees h
 left_alone (Err fault) s trees h = h
+
+-- books that an import left open leave their tables
+pub stays_but_store : {F : Type 0} (old new : Option F) (stop : Stop)
+    → StaysOpen {F = F} {X = Bool} old new (Err stop) → (end_of stop ≢ ends.Store) → old ≡ None → new ≡ None
+stays_but_store old new ReadFailed stays apart before = stays before
+stays_but_store old new WriteFailed stays apart before = stays before
+stays_but_store old new Memory stays apart before = stays before
+stays_but_store old new Store stays apart before = absurd (apart refl)

@@ -1,7 +1,7 @@
 -- A file that is sent again.
-use Rattle.std.proofs.Common.{◌≡◌, ◌+◌, ◌==◌, ℕ, Bool, true, false, List, [], ◌∷◌, ◌++◌, length, drop}
+use Rattle.std.proofs.Common.{◌≡◌, ◌+◌, ◌==◌, ℕ, Bool, true, false, List, [], ◌∷◌, ◌++◌, length}
 use Rattle.std.proofs.Common.{nat_le, map, ap, sym, refl, ◌∙◌, subst, append_assoc, append-nil}
-use Rattle.std.specs.Prelude.{Option, Some, None, option_map, Result, Ok, Err}
+use Rattle.std.specs.Prelude.{Option, Some, None, not, option_map, Result, Ok, Err}
 use Rattle.std.specs.Cmp.Lexicographic.{pointwise}
 use Rattle.std.specs.Str.{bytes_eq}
 use Rattle.csv.specs.Reading.{default_config, records, strip_bom}
@@ -15,8 +15,10 @@ use Rattle.desk_core.specs.declared.command.Request.{Request}
 use Rattle.desk_wire.specs.ImportReports.{import_text}
 use Rattle.desk_wire.specs.Imports.{Columns, Reads, arranged, command_of, field, import, key_of, layout_by, loosely}
 use Rattle.desk_wire.specs.Imports.{names_of, quantity_at, row_list, row_of, rows_by, rows_in, rows_of_text}
-use Rattle.desk_wire.specs.Imports.{separators, strictly, with_rows}
+use Rattle.desk_wire.specs.Imports.{has_other_separator, records_under, rows_under, separators, strictly, unless_other}
+use Rattle.desk_wire.specs.Imports.{with_rows}
 use Rattle.desk_wire.specs.Numbers.{row_number_in}
+use Rattle.desk_wire.specs.Quotes.{but_last, ends_in_quotes}
 use Rattle.desk_wire.specs.Records.{Fields, are_texts, config_by}
 use Rattle.desk_wire.specs.Steps.{◌>>=◌, at, must, or_fault}
 use Rattle.desk_wire.specs.declared.fault.What.{What}
@@ -91,13 +93,12 @@ part_strictly names kind fields = do
 unfoldable part_loosely : Option Naming → ImportKind → Columns → Says
 part_loosely names kind columns fields = do
   texts ← must Csv (are_texts fields)
+  fits ← must Csv (nat_le (length fields) columns.width)
   by_quantity (field (quantity_at kind) (arranged columns fields))
   where
     by_quantity : List ℕ → Result (Option Part) What
     by_quantity [] = Ok None
-    by_quantity (b ∷ bs) = do
-      fits ← must Csv (nat_le (length fields) columns.width)
-      part_strictly names kind (arranged columns fields)
+    by_quantity (b ∷ bs) = part_strictly names kind (arranged columns fields)
 
 strictly_parts : (names : Option Naming) (kind : ImportKind) (document : List ℕ) (day : CivilDay) (fields : Fields)
     → strictly names kind document day fields
@@ -113,8 +114,9 @@ loosely_by : (names : Option Naming) (kind : ImportKind) (document : List ℕ) (
     ≡ map_ok (option_map (row_on kind document day)) (part_loosely names kind columns fields)
 unfolding loosely part_loosely
 loosely_by names kind document day columns fields [] e = rw e
-    (bind_map (option_map (row_on kind document day)) (must Csv (are_texts fields)) (λ _. Ok None) (λ _. Ok None)
-    (λ _. refl))
+    (bind_map (option_map (row_on kind document day)) (must Csv (are_texts fields)) _ _
+    (λ _. bind_map (option_map (row_on kind document day)) (must Csv (nat_le (length fields) columns.width))
+    (λ _. Ok None) (λ _. Ok None) (λ _. refl)))
 loosely_by names kind document day columns fields (b ∷ bs) e = rw e
     (bind_map (option_map (row_on kind document day)) (must Csv (are_texts fields)) _ _
     (λ _. bind_map (option_map (row_on kind document day)) (must Csv (nat_le (length fields) columns.width)) _ _
@@ -171,10 +173,38 @@ header_parts names kind document day (r ∷ rs) =
     (λ _. all_parts (row_on kind document day) (strictly names kind document day) (part_strictly names kind)
     (strictly_parts names kind document day) 2 [] rs)
 
+abbrev parts_under : Bool → Says → List Fields → Result (List Part) WireFault
+parts_under false says rs = with_parts says 2 [] rs
+parts_under true says rs = do
+  parts ← with_parts says 2 [] (but_last rs)
+  at (length rs + 1) (Err Csv)
+
+abbrev parts_unless : List ℕ → ℕ × Columns → List Part → Result (List Part) WireFault
+parts_unless text layout [] = do
+  same ← at 2 (must Csv (not (has_other_separator text layout.0 layout.1.width)))
+  Ok []
+parts_unless text layout (part ∷ parts) = Ok (part ∷ parts)
+
 abbrev parts_by : Option Naming → ImportKind → List ℕ → Option (ℕ × Columns) → Result (List Part) WireFault
 parts_by names kind text None = at 1 (Err Header)
-parts_by names kind text (Some layout) =
-    with_parts (part_loosely names kind layout.1) 2 [] (drop 1 (records (config_by layout.0) text))
+parts_by names kind text (Some layout) = do
+  parts ← parts_under (ends_in_quotes (config_by layout.0) text) (part_loosely names kind layout.1)
+      (records_under layout.0 text)
+  parts_unless text layout parts
+
+under_parts : (on : Part → ImportRow) (reads : Reads) (says : Says)
+    → ((fields : Fields) → reads fields ≡ map_ok (option_map on) (says fields)) → (unclosed : Bool) (rs : List Fields)
+    → rows_under unclosed reads rs ≡ map_ok (map on) (parts_under unclosed says rs)
+under_parts on reads says same false rs = all_parts on reads says same 2 [] rs
+under_parts on reads says same true rs =
+    ap (λ v. v >>= (λ (rows : List ImportRow). at (length rs + 1) (Err Csv))) (all_parts on reads says same 2 [] (but_last rs))
+    ∙ map_bind (map on) (map on) (with_parts says 2 [] (but_last rs)) _ _ (λ parts. refl)
+
+unless_parts : (on : Part → ImportRow) (text : List ℕ) (layout : ℕ × Columns) (parts : List Part)
+    → unless_other text layout (map on parts) ≡ map_ok (map on) (parts_unless text layout parts)
+unless_parts on text layout [] =
+    bind_map (map on) (at 2 (must Csv (not (has_other_separator text layout.0 layout.1.width)))) _ _ (λ _. refl)
+unless_parts on text layout (part ∷ parts) = refl
 
 layout_parts : (names : Option Naming) (kind : ImportKind) (document : List ℕ) (day : CivilDay) (text : List ℕ)
     (layout : Option (ℕ × Columns))
@@ -182,9 +212,15 @@ layout_parts : (names : Option Naming) (kind : ImportKind) (document : List ℕ)
     ≡ map_ok (map (row_on kind document day)) (parts_by names kind text layout)
 layout_parts names kind document day text None = refl
 layout_parts names kind document day text (Some layout) =
-    all_parts (row_on kind document day) (loosely names kind document day layout.1)
-    (part_loosely names kind layout.1) (loosely_parts names kind document day layout.1) 2 []
-    (drop 1 (records (config_by layout.0) text))
+    let on = row_on kind document day in
+    let unclosed = ends_in_quotes (config_by layout.0) text in
+    let rs = records_under layout.0 text in
+    let says = part_loosely names kind layout.1 in
+    ap (λ v. v >>= unless_other text layout)
+    (under_parts on (loosely names kind document day layout.1) says (loosely_parts names kind document day layout.1)
+    unclosed rs)
+    ∙ map_bind (map on) (map on) (parts_under unclosed says rs) (parts_unless text layout) (unless_other text layout)
+    (unless_parts on text layout)
 
 abbrev parts_of_text : Bool → Option Naming → ImportKind → List ℕ → Result (List Part) WireFault
 parts_of_text false names kind text = parts_in names kind (records default_config text)

@@ -2,6 +2,7 @@
 use Rattle.std.proofs.Common.{◌≡◌, ◌+◌, ◌++◌, ◌∷◌, [], ℕ, List, Bool, true, false, ◌&&◌, cond, length, arith}
 use Rattle.std.proofs.Common.{ap, refl, sym, ◌∙◌, append-nil}
 use Rattle.desk_core.specs.Machine.{State}
+use Rattle.desk_app.specs.declared.options.LineOptions.{LineOptions}
 use Rattle.desk_app.specs.Runs.{all_fine, is_fine, line_after, run_after, taken, up_to_first, AreTaken}
 
 first_true : (a b : Bool) → (a && b) ≡ true → a ≡ true
@@ -13,109 +14,109 @@ second_true true b h = h
 second_true false b h = absurd (cc)
 
 -- lines that are fine are taken all, and then as many of the others as would be, were they alone
-past_fine : (names : Bool) (s : State) (n : ℕ) (done more : List (List ℕ)) → all_fine names s n done ≡ true
-    → up_to_first names s n (done ++ more)
-    ≡ done ++ up_to_first names (run_after names s n done) (n + length done) more
-past_fine names s n [] more h = let e : n ≡ n + 0 = omega arith in ap (λ m. up_to_first names s m more) e
-past_fine names s n (l ∷ ls) more h =
-    let fine = first_true (is_fine names s n l) (all_fine names (line_after names s n l) (n + 1) ls) h in
-    let others = second_true (is_fine names s n l) (all_fine names (line_after names s n l) (n + 1) ls) h in
+past_fine : (options : LineOptions) (s : State) (n : ℕ) (done more : List (List ℕ)) → all_fine options s n done ≡ true
+    → up_to_first options s n (done ++ more)
+    ≡ done ++ up_to_first options (run_after options s n done) (n + length done) more
+past_fine options s n [] more h = let e : n ≡ n + 0 = omega arith in ap (λ m. up_to_first options s m more) e
+past_fine options s n (l ∷ ls) more h =
+    let fine = first_true (is_fine options s n l) (all_fine options (line_after options s n l) (n + 1) ls) h in
+    let others = second_true (is_fine options s n l) (all_fine options (line_after options s n l) (n + 1) ls) h in
     let e : n + 1 + length ls ≡ n + length (l ∷ ls) = omega arith in
-    ap (λ b. cond b (l ∷ up_to_first names (line_after names s n l) (n + 1) (ls ++ more)) (l ∷ [])) fine
+    ap (λ b. cond b (l ∷ up_to_first options (line_after options s n l) (n + 1) (ls ++ more)) (l ∷ [])) fine
     ∙ ap (λ ks. l ∷ ks)
-    (past_fine names (line_after names s n l) (n + 1) ls more others
-    ∙ ap (λ m. ls ++ up_to_first names (run_after names s n (l ∷ ls)) m more) e)
+    (past_fine options (line_after options s n l) (n + 1) ls more others
+    ∙ ap (λ m. ls ++ up_to_first options (run_after options s n (l ∷ ls)) m more) e)
 
-one_taken : (names : Bool) (s : State) (n : ℕ) (l : List ℕ) → up_to_first names s n (l ∷ []) ≡ l ∷ []
-one_taken names s n l = either (is_fine names s n l)
+one_taken : (options : LineOptions) (s : State) (n : ℕ) (l : List ℕ) → up_to_first options s n (l ∷ []) ≡ l ∷ []
+one_taken options s n l = either (is_fine options s n l)
   where
     either : (b : Bool) → cond b (l ∷ []) (l ∷ []) ≡ l ∷ []
     either true = refl
     either false = refl
 
 -- behind lines that are fine one more is taken
-pub more_taken : (names stop : Bool) (s : State) (done : List (List ℕ)) (l : List ℕ)
-    → (stop ≡ true → all_fine names s 1 done ≡ true) → AreTaken names stop s (done ++ l ∷ [])
-more_taken names false s done l fine = refl
-more_taken names true s done l fine =
-    past_fine names s 1 done (l ∷ []) (fine refl)
-    ∙ ap (λ ks. done ++ ks) (one_taken names (run_after names s 1 done) (1 + length done) l)
+pub more_taken : (options : LineOptions) (stop : Bool) (s : State) (done : List (List ℕ)) (l : List ℕ)
+    → (stop ≡ true → all_fine options s 1 done ≡ true) → AreTaken options stop s (done ++ l ∷ [])
+more_taken options false s done l fine = refl
+more_taken options true s done l fine =
+    past_fine options s 1 done (l ∷ []) (fine refl)
+    ∙ ap (λ ks. done ++ ks) (one_taken options (run_after options s 1 done) (1 + length done) l)
 
-pub none_taken : (names stop : Bool) (s : State) → AreTaken names stop s []
-none_taken names false s = refl
-none_taken names true s = refl
+pub none_taken : (options : LineOptions) (stop : Bool) (s : State) → AreTaken options stop s []
+none_taken options false s = refl
+none_taken options true s = refl
 
 alone : (l : List ℕ) (ls ks : List (List ℕ)) → l ∷ [] ≡ l ∷ (ls ++ ks) → l ∷ [] ≡ l ∷ ls
 alone l [] ks h = refl
 alone l (m ∷ ls) ks h = absurd (cc)
 
 -- of lines that are all taken, so are the first
-first_taken : (names : Bool) (s : State) (n : ℕ) (ls ks : List (List ℕ))
-    → up_to_first names s n (ls ++ ks) ≡ ls ++ ks → up_to_first names s n ls ≡ ls
-first_taken names s n [] ks h = refl
-first_taken names s n (l ∷ ls) ks h =
-    either (is_fine names s n l) (first_taken names (line_after names s n l) (n + 1) ls ks) h
+first_taken : (options : LineOptions) (s : State) (n : ℕ) (ls ks : List (List ℕ))
+    → up_to_first options s n (ls ++ ks) ≡ ls ++ ks → up_to_first options s n ls ≡ ls
+first_taken options s n [] ks h = refl
+first_taken options s n (l ∷ ls) ks h =
+    either (is_fine options s n l) (first_taken options (line_after options s n l) (n + 1) ls ks) h
   where
     either : (b : Bool) {these those : List (List ℕ)} → (these ≡ ls ++ ks → those ≡ ls)
         → cond b (l ∷ these) (l ∷ []) ≡ l ∷ (ls ++ ks) → cond b (l ∷ those) (l ∷ []) ≡ l ∷ ls
     either true step e = ap (λ ms. l ∷ ms) (step (cc))
     either false step e = alone l ls ks e
 
-pub taken_before : (names stop : Bool) (s : State) (ls ks : List (List ℕ)) → AreTaken names stop s (ls ++ ks)
-    → AreTaken names stop s ls
-taken_before names false s ls ks h = refl
-taken_before names true s ls ks h = first_taken names s 1 ls ks h
+pub taken_before : (options : LineOptions) (stop : Bool) (s : State) (ls ks : List (List ℕ)) → AreTaken options stop s (ls ++ ks)
+    → AreTaken options stop s ls
+taken_before options false s ls ks h = refl
+taken_before options true s ls ks h = first_taken options s 1 ls ks h
 
 -- where one of them isn't fine, none behind them is taken
-none_past : (names : Bool) (s : State) (n : ℕ) (ls ks : List (List ℕ)) → up_to_first names s n ls ≡ ls
-    → all_fine names s n ls ≡ false → up_to_first names s n (ls ++ ks) ≡ ls
-none_past names s n [] ks h unfine = absurd (cc)
-none_past names s n (l ∷ ls) ks h unfine =
-    either (is_fine names s n l) (none_past names (line_after names s n l) (n + 1) ls ks) h unfine
+none_past : (options : LineOptions) (s : State) (n : ℕ) (ls ks : List (List ℕ)) → up_to_first options s n ls ≡ ls
+    → all_fine options s n ls ≡ false → up_to_first options s n (ls ++ ks) ≡ ls
+none_past options s n [] ks h unfine = absurd (cc)
+none_past options s n (l ∷ ls) ks h unfine =
+    either (is_fine options s n l) (none_past options (line_after options s n l) (n + 1) ls ks) h unfine
   where
     either : (b : Bool) {these those : List (List ℕ)} {others : Bool} → (these ≡ ls → others ≡ false → those ≡ ls)
         → cond b (l ∷ these) (l ∷ []) ≡ l ∷ ls → (b && others) ≡ false → cond b (l ∷ those) (l ∷ []) ≡ l ∷ ls
     either true step e rest = ap (λ ms. l ∷ ms) (step (cc) rest)
     either false step e rest = e
 
-pub taken_to_stop : (names stop : Bool) (s : State) (ls ks : List (List ℕ)) → stop ≡ true
-    → AreTaken names stop s ls → all_fine names s 1 ls ≡ false → taken names stop s (ls ++ ks) ≡ ls
-taken_to_stop names false s ls ks stops h unfine = absurd (cc)
-taken_to_stop names true s ls ks stops h unfine = none_past names s 1 ls ks h unfine
+pub taken_to_stop : (options : LineOptions) (stop : Bool) (s : State) (ls ks : List (List ℕ)) → stop ≡ true
+    → AreTaken options stop s ls → all_fine options s 1 ls ≡ false → taken options stop s (ls ++ ks) ≡ ls
+taken_to_stop options false s ls ks stops h unfine = absurd (cc)
+taken_to_stop options true s ls ks stops h unfine = none_past options s 1 ls ks h unfine
 
 -- ---- those that are taken of lines
 
-first_again : (names : Bool) (s : State) (n : ℕ) (ls : List (List ℕ))
-    → up_to_first names s n (up_to_first names s n ls) ≡ up_to_first names s n ls
-first_again names s n [] = refl
-first_again names s n (l ∷ ls) =
-    either (is_fine names s n l) refl (first_again names (line_after names s n l) (n + 1) ls)
+first_again : (options : LineOptions) (s : State) (n : ℕ) (ls : List (List ℕ))
+    → up_to_first options s n (up_to_first options s n ls) ≡ up_to_first options s n ls
+first_again options s n [] = refl
+first_again options s n (l ∷ ls) =
+    either (is_fine options s n l) refl (first_again options (line_after options s n l) (n + 1) ls)
   where
-    either : (b : Bool) → is_fine names s n l ≡ b → {these : List (List ℕ)}
-        → up_to_first names (line_after names s n l) (n + 1) these ≡ these
-        → up_to_first names s n (cond b (l ∷ these) (l ∷ [])) ≡ cond b (l ∷ these) (l ∷ [])
+    either : (b : Bool) → is_fine options s n l ≡ b → {these : List (List ℕ)}
+        → up_to_first options (line_after options s n l) (n + 1) these ≡ these
+        → up_to_first options s n (cond b (l ∷ these) (l ∷ [])) ≡ cond b (l ∷ these) (l ∷ [])
     either true fine {these} again =
-        ap (λ b. cond b (l ∷ up_to_first names (line_after names s n l) (n + 1) these) (l ∷ [])) fine
+        ap (λ b. cond b (l ∷ up_to_first options (line_after options s n l) (n + 1) these) (l ∷ [])) fine
         ∙ ap (λ ks. l ∷ ks) again
-    either false fine {these} again = one_taken names s n l
+    either false fine {these} again = one_taken options s n l
 
-pub taken_again : (names stop : Bool) (s : State) (ls : List (List ℕ)) → AreTaken names stop s (taken names stop s ls)
-taken_again names false s ls = refl
-taken_again names true s ls = first_again names s 1 ls
+pub taken_again : (options : LineOptions) (stop : Bool) (s : State) (ls : List (List ℕ)) → AreTaken options stop s (taken options stop s ls)
+taken_again options false s ls = refl
+taken_again options true s ls = first_again options s 1 ls
 
-begins_with_first : (names : Bool) (s : State) (n : ℕ) (ls : List (List ℕ))
-    → (rest : List (List ℕ)) × (ls ≡ up_to_first names s n ls ++ rest)
-begins_with_first names s n [] = ([], refl)
-begins_with_first names s n (l ∷ ls) =
-    either (is_fine names s n l) (up_to_first names (line_after names s n l) (n + 1) ls)
-    (begins_with_first names (line_after names s n l) (n + 1) ls)
+begins_with_first : (options : LineOptions) (s : State) (n : ℕ) (ls : List (List ℕ))
+    → (rest : List (List ℕ)) × (ls ≡ up_to_first options s n ls ++ rest)
+begins_with_first options s n [] = ([], refl)
+begins_with_first options s n (l ∷ ls) =
+    either (is_fine options s n l) (up_to_first options (line_after options s n l) (n + 1) ls)
+    (begins_with_first options (line_after options s n l) (n + 1) ls)
   where
     either : (b : Bool) (these : List (List ℕ)) → (rest : List (List ℕ)) × (ls ≡ these ++ rest)
         → (rest : List (List ℕ)) × (l ∷ ls ≡ cond b (l ∷ these) (l ∷ []) ++ rest)
     either true these (rest, e) = (rest, ap (λ ks. l ∷ ks) e)
     either false these (rest, e) = (ls, refl)
 
-pub begins_with_taken : (names stop : Bool) (s : State) (ls : List (List ℕ))
-    → (rest : List (List ℕ)) × (ls ≡ taken names stop s ls ++ rest)
-begins_with_taken names false s ls = ([], sym (append-nil ls))
-begins_with_taken names true s ls = begins_with_first names s 1 ls
+pub begins_with_taken : (options : LineOptions) (stop : Bool) (s : State) (ls : List (List ℕ))
+    → (rest : List (List ℕ)) × (ls ≡ taken options stop s ls ++ rest)
+begins_with_taken options false s ls = ([], sym (append-nil ls))
+begins_with_taken options true s ls = begins_with_first options s 1 ls

@@ -6,7 +6,7 @@ use Rattle.part_core.specs.Day.{CivilDay}
 use Rattle.desk_core.specs.Machine.{State}
 use Rattle.desk_wire.specs.Imports.{import}
 use Rattle.desk_http.specs.Services.{Operation, RunLine, ImportFile, ShowReport, ShowTable, ShowBooks, ShowHistory}
-use Rattle.desk_http.specs.Services.{ReplyView, Stops, step}
+use Rattle.desk_http.specs.Services.{ImportSheet, ReplyView, Stops, step}
 use Rattle.desk_http.specs.declared.service.NoReply.{NoReply}
 use Rattle.desk_http.specs.declared.service.NoReply.TheVariants.{Failed, Untold}
 use Rattle.desk_http.specs.declared.service.Outcome.{Outcome}
@@ -15,10 +15,12 @@ use Rattle.desk_http.specs.declared.service.Outcome.TheVariants.{Answered, Repor
 use Rattle.desk_http.specs.declared.target.ImportKind.{ImportKind}
 use Rattle.desk_http.specs.declared.service.Tag.{Tag}
 use Rattle.desk_app.specs.Runs.{naming}
+use Rattle.desk_app.specs.declared.options.LineOptions.{LineOptions}
 use Rattle.desk_app.specs.ImportRuns.{Reading}
 use Rattle.desk_app.specs.Services.{ServiceState, by_reading, counted, desk_machine, import_file, import_kind, leaves}
-use Rattle.desk_app.specs.Services.{raised, run_line, tag_after, Follows, IsLater, TagsTellBooks, WasDone}
+use Rattle.desk_app.specs.Services.{import_sheet, raised, run_line, tag_after, Follows, IsLater, TagsTellBooks, WasDone}
 use Rattle.desk_app.proofs.Replies.{line_told}
+use Rattle.desk_app.proofs.SheetReplies.{sheet_told}
 
 later : (tag : Option Tag) → IsLater tag (raised tag)
 later None = tt
@@ -51,23 +53,23 @@ same_books d d' tag (inr h) is is' =
     absurd (no_later tag (subst (IsLater (Some tag)) is' (subst (λ t. IsLater t d'.2) is h)))
 
 -- what was done, by what was replied: it was taken, or it changed nothing and the tag stayed
-by_reply : (names : Bool) (tag : Option Tag) (s : State) (done : State × ReplyView) (d' : ServiceState)
-    → d' ≡ (counted names tag done).0
+by_reply : (options : LineOptions) (tag : Option Tag) (s : State) (done : State × ReplyView) (d' : ServiceState)
+    → d' ≡ (counted options tag done).0
     → (((done.1.0 ≡ Answered) ⊎ (done.1.0 ≡ Reported)) ⊎ (done.0 ≡ s))
     → ((o : Outcome) → ((tag_after tag o ≡ tag) ⊎ (tag_after tag o ≡ raised tag)))
-    → Follows (s, names, tag) d'
-by_reply names tag s done d' is (inl (inl taken)) either =
+    → Follows (s, options, tag) d'
+by_reply options tag s done d' is (inl (inl taken)) either =
     let t : d'.2 ≡ raised tag = ap (λ (d : ServiceState). d.2) is ∙ ap (tag_after tag) taken in
     inr (subst (IsLater tag) (sym t) (later tag))
-by_reply names tag s done d' is (inl (inr taken)) either =
+by_reply options tag s done d' is (inl (inr taken)) either =
     let t : d'.2 ≡ raised tag = ap (λ (d : ServiceState). d.2) is ∙ ap (tag_after tag) taken in
     inr (subst (IsLater tag) (sym t) (later tag))
-by_reply names tag s done d' is (inr same) either = by (either done.1.0)
+by_reply options tag s done d' is (inr same) either = by (either done.1.0)
   where
     tag_is : d'.2 ≡ tag_after tag done.1.0
     tag_is = ap (λ (d : ServiceState). d.2) is
 
-    by : (tag_after tag done.1.0 ≡ tag) ⊎ (tag_after tag done.1.0 ≡ raised tag) → Follows (s, names, tag) d'
+    by : (tag_after tag done.1.0 ≡ tag) ⊎ (tag_after tag done.1.0 ≡ raised tag) → Follows (s, options, tag) d'
     by (inl stays) = inl (ap (λ (d : ServiceState). d.0) is ∙ same, tag_is ∙ stays)
     by (inr rises) = inr (subst (IsLater tag) (sym (tag_is ∙ rises)) (later tag))
 
@@ -80,6 +82,7 @@ stays_or_rises tag outcomes.Exported = inl refl
 stays_or_rises tag (outcomes.Shown t) = inl refl
 stays_or_rises tag (outcomes.Unchanged t) = inl refl
 stays_or_rises tag outcomes.Unknown = inl refl
+stays_or_rises tag outcomes.FaultyLines = inl refl
 
 -- a file is told, or it changes nothing
 file_told : (s : State) (file : Reading) → ((by_reading s file).1.0 ≡ Reported) ⊎ ((by_reading s file).0 ≡ s)
@@ -99,23 +102,31 @@ unread d d' is = inl (ap (λ (x : ServiceState). x.0) is, ap (λ (x : ServiceSta
 
 -- the state that an operation with a reply leads to
 stepped : (d d' : ServiceState) (o : Operation) → d' ≡ (step desk_machine d o).0 → Follows d d'
-stepped (s, names, tag) d' (RunLine line) is = by (line_told names s line)
+stepped (s, options, tag) d' (RunLine line) is = by (line_told options s line)
   where
-    by : ((run_line names s line).1.0 ≡ Answered) ⊎ ((run_line names s line).0 ≡ s) → Follows (s, names, tag) d'
-    by (inl h) = by_reply names tag s (run_line names s line) d' is (inl (inl h)) (stays_or_rises tag)
-    by (inr h) = by_reply names tag s (run_line names s line) d' is (inr h) (stays_or_rises tag)
-stepped (s, names, tag) d' (ImportFile kind document day rows) is = by (import_told names s kind document day rows)
+    by : ((run_line options s line).1.0 ≡ Answered) ⊎ ((run_line options s line).0 ≡ s) → Follows (s, options, tag) d'
+    by (inl h) = by_reply options tag s (run_line options s line) d' is (inl (inl h)) (stays_or_rises tag)
+    by (inr h) = by_reply options tag s (run_line options s line) d' is (inr h) (stays_or_rises tag)
+stepped (s, options, tag) d' (ImportFile kind document day rows) is = by (import_told options.names s kind document day rows)
   where
     done : State × ReplyView
-    done = import_file names s kind document day rows
+    done = import_file options.names s kind document day rows
 
-    by : (done.1.0 ≡ Reported) ⊎ (done.0 ≡ s) → Follows (s, names, tag) d'
-    by (inl h) = by_reply names tag s done d' is (inl (inr h)) (stays_or_rises tag)
-    by (inr h) = by_reply names tag s done d' is (inr h) (stays_or_rises tag)
+    by : (done.1.0 ≡ Reported) ⊎ (done.0 ≡ s) → Follows (s, options, tag) d'
+    by (inl h) = by_reply options tag s done d' is (inl (inr h)) (stays_or_rises tag)
+    by (inr h) = by_reply options tag s done d' is (inr h) (stays_or_rises tag)
 stepped d d' (ShowReport name number) is = unread d d' is
 stepped d d' (ShowTable name) is = unread d d' is
 stepped d d' (ShowBooks known) is = unread d d' is
 stepped d d' (ShowHistory from) is = unread d d' is
+stepped (s, options, tag) d' (ImportSheet command document day file) is = by (sheet_told s command document day file)
+  where
+    done : State × ReplyView
+    done = import_sheet s command document day file
+
+    by : (done.1.0 ≡ Reported) ⊎ (done.0 ≡ s) → Follows (s, options, tag) d'
+    by (inl h) = by_reply options tag s done d' is (inl (inr h)) (stays_or_rises tag)
+    by (inr h) = by_reply options tag s done d' is (inr h) (stays_or_rises tag)
 
 left_later : (d d' : ServiceState) → d'.2 ≡ raised d.2 → Follows d d'
 left_later d d' is = inr (subst (IsLater d.2) (sym is) (later d.2))
@@ -128,6 +139,7 @@ left_by d d' (ShowReport name number) (Failed e) h = unread d d' h
 left_by d d' (ShowTable name) (Failed e) h = unread d d' h
 left_by d d' (ShowBooks known) (Failed e) h = unread d d' h
 left_by d d' (ShowHistory from) (Failed e) h = unread d d' h
+left_by d d' (ImportSheet command document day file) (Failed e) h = left_later d d' h.2
 left_by d d' o Untold (inl h) = unread d d' h
 left_by d d' o Untold (inr (inl h)) = stepped d d' o h
 left_by d d' (RunLine line) Untold (inr (inr h)) = left_later d d' h.2
@@ -136,6 +148,7 @@ left_by d d' (ShowReport name number) Untold (inr (inr h)) = unread d d' h
 left_by d d' (ShowTable name) Untold (inr (inr h)) = unread d d' h
 left_by d d' (ShowBooks known) Untold (inr (inr h)) = unread d d' h
 left_by d d' (ShowHistory from) Untold (inr (inr h)) = unread d d' h
+left_by d d' (ImportSheet command document day file) Untold (inr (inr h)) = left_later d d' h.2
 
 done_follows : (d d' : ServiceState) (o : Operation) (result : Result ReplyView NoReply) → WasDone d o result d'
     → Follows d d'

@@ -1,4 +1,5 @@
 pub mod Cuts
+pub mod Journal
 pub mod Runs
 pub mod Answered
 pub mod Checked
@@ -9,3 +10,6 @@ pub mod LinesAgain
 pub mod Closed
 pub mod Services
 pub mod Reasons
+pub mod SheetRuns
+pub mod SheetReplies
+pub mod SheetsAgain

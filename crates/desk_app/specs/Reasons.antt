@@ -1,10 +1,11 @@
--- Why a line or a row wasn't done, in words: what a person is told beside the answer.
+-- Why a line or a row wasn't done, in words, or what a name that it gave is near: what a person is told beside the answer.
 use Rattle.std.specs.Prelude.{◌≡◌, ℕ, List, [], ◌∷◌, ◌++◌, decimal, codes, Option, Some, None, option_map, string_bytes}
 use Rattle.std.specs.Prelude.{◌⊎◌, Bool, Result, Ok, Err}
 use Rattle.part_core.specs.Refusal.{refusal_name}
 use Rattle.desk_core.specs.Machine.{Outcome, State, step}
 use Rattle.desk_core.specs.declared.command.Request.{Request as Req}
 use Rattle.list_core.specs.Facts.{row_fact}
+use Rattle.list_core.specs.NearNames.{IsNote}
 use Rattle.list_core.specs.RequestFacts.{request_facts}
 use Rattle.report_core.specs.Lines.{Lines}
 use Rattle.report_core.specs.Reports.{report_lines}
@@ -20,11 +21,13 @@ use Rattle.desk_wire.specs.Imports.{Wrong}
 use Rattle.desk_wire.specs.Reading.{table_of}
 use Rattle.desk_wire.specs.WrongFields.{TellsField, wrong_in_line}
 use Rattle.desk_ends.specs.Escaped.{escaped}
+use Rattle.desk_app.specs.Journal.{journalled}
 use Rattle.desk_app.specs.Runs.{naming}
+use Rattle.desk_app.specs.declared.options.LineOptions.{LineOptions}
 use Rattle.desk_app.specs.declared.undone.Place.{Place}
 use Rattle.desk_app.specs.declared.undone.Place.TheVariants.{Line, Row}
 use Rattle.desk_app.specs.declared.undone.Why.{Why}
-use Rattle.desk_app.specs.declared.undone.Why.TheVariants.{Refused, NoReport, FaultyLine, FaultyFile}
+use Rattle.desk_app.specs.declared.undone.Why.TheVariants.{Refused, NoReport, FaultyLine, NewName, FaultyFile}
 
 abbrev pub place_text : Place → List ℕ
 place_text (Line n) = codes "line " ++ decimal n
@@ -58,6 +61,15 @@ fault_words place what field = colons (place ∷ (field_words field ++ (fault_na
 abbrev pub Begins : List ℕ → List ℕ → Type 0
 Begins front text = (more : List ℕ) × (text ≡ front ++ more)
 
+-- the line of a note
+abbrev pub note_line : Place → List ℕ → List ℕ
+note_line place note = colons (place_text place ∷ codes "note" ∷ note ∷ []) ++ (10 ∷ [])
+
+-- of a request that was done: nothing, or the note on the name that it gave, in the books with it
+abbrev pub IsNewName : State → Place → Req → List ℕ → Type 0
+IsNewName s place request text =
+    (text ≡ []) ⊎ ((note : List ℕ) × IsNote s request.command (Some note) × (text ≡ note_line place note))
+
 -- What is told begins with the place, the answer's word and the facts in these books: of a request what its key was used
 -- for, each row that it names, what it asks for, and which of its serials are taken, of a report the row that it would be
 -- of, of a fault the field and what stands in it, of which a terminal acts on nothing. Behind them stands what the word
@@ -71,6 +83,7 @@ IsReason s (NoReport line name of) text =
 IsReason s (FaultyLine names line fault) text =
     (field : Option WrongField) × TellsField field (wrong_in_line (naming names s) line.now)
     × Begins (escaped (fault_words (place_text (Line fault.now.line)) fault.now.what field)) text
+IsReason s (NewName place request) text = IsNewName s place request.now text
 IsReason s (FaultyFile kind fault field) text =
     Begins (escaped (fault_words (codes "record " ++ decimal fault.now.line) fault.now.what field.now)) text
 
@@ -87,9 +100,9 @@ Notes s why old new = Waits (IsReason s why) old new
 
 -- ---- that it is the reason of what is answered
 
--- of a request that stands there: of one that is refused, the refusal
+-- of a request that stands there: of one that is done, the note on its new name; of one that is refused, the refusal
 abbrev pub NotesOutcome : Place → Req → State × Outcome → List ℕ → List ℕ → Type 0
-NotesOutcome place request (s, Ok answer) old new = new ≡ old
+NotesOutcome place request (s, Ok answer) old new = Waits (IsNewName s place request) old new
 NotesOutcome place request (s, Err refusal) old new =
     Waits (Begins (colons (place_text place ∷ refusal_name refusal ∷ request_facts s request.key request.command ∷ [])))
     old new
@@ -107,10 +120,16 @@ NotesFault names s number line what old new =
     Waits (λ text. (field : Option WrongField) × TellsField field (wrong_in_line (naming names s) line)
     × Begins (escaped (fault_words (place_text (Line number)) what field)) text) old new
 
-abbrev pub NotesWish : Bool → State → ℕ → List ℕ → Result Wish What → List ℕ → List ℕ → Type 0
-NotesWish names s number line (Ok (Request request)) old new = NotesOutcome (Line number) request (step s request) old new
-NotesWish names s number line (Ok (Report name of)) old new = NotesReport s number name of (report_lines name of s) old new
-NotesWish names s number line (Err what) old new = NotesFault names s number line what old new
+-- of a request with the key that it has, or gets
+abbrev pub NotesRequest : State → ℕ → Req → List ℕ → List ℕ → Type 0
+NotesRequest s number request old new = NotesOutcome (Line number) request (step s request) old new
+
+abbrev pub NotesWish : LineOptions → State → ℕ → List ℕ → Result Wish What → List ℕ → List ℕ → Type 0
+NotesWish options s number line (Ok (Request request)) old new =
+    NotesRequest s number (journalled options.journal s request) old new
+NotesWish options s number line (Ok (Report name of)) old new =
+    NotesReport s number name of (report_lines name of s) old new
+NotesWish options s number line (Err what) old new = NotesFault options.names s number line what old new
 
 -- of a file: of its first fault, and of the field that can't be read; of its rows, what is told of each
 abbrev pub NotesFile : {A : Type 0} → Result A WireFault → Option Wrong → List ℕ → List ℕ → Type 0
@@ -120,5 +139,6 @@ NotesFile (Err fault) wrong old new =
     × Begins (escaped (fault_words (codes "record " ++ decimal fault.line) fault.what field)) text) old new
 
 -- of a line, by what it asks for
-abbrev pub NotesLine : Bool → State → ℕ → List ℕ → List ℕ → List ℕ → Type 0
-NotesLine names s number line old new = NotesWish names s number line (reading.line (naming names s) line) old new
+abbrev pub NotesLine : LineOptions → State → ℕ → List ℕ → List ℕ → List ℕ → Type 0
+NotesLine options s number line old new =
+    NotesWish options s number line (reading.line (naming options.names s) line) old new

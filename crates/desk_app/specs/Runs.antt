@@ -1,5 +1,5 @@
 -- A run over the lines of a text.
-use Rattle.std.specs.Prelude.{◌≡◌, ◌≤◌, ℕ, length, ◌+◌, ◌==◌, ◌&&◌, Bool, true, false, List, [], ◌∷◌}
+use Rattle.std.specs.Prelude.{◌≡◌, ◌≤◌, ◌<◌, ℕ, length, ◌+◌, ◌==◌, ◌&&◌, Bool, true, false, List, [], ◌∷◌}
 use Rattle.std.specs.Prelude.{◌++◌, if◌then◌else◌, ◌⊎◌, Option, Some, None, IsSome, Result, Ok, Err}
 use Rattle.std.specs.Io.KnownBytes.{Appends, Keeps}
 use Rattle.part_core.specs.declared.refusal.Refusal.TheVariants.{NoSuch}
@@ -17,6 +17,8 @@ use Rattle.sqlite.specs.Tree.{Trees}
 use Rattle.desk_store.specs.StateTables.{TablesAre}
 use Rattle.desk_ends.specs.declared.end.Stop.{Stop}
 use Rattle.desk_ends.specs.declared.end.Stop.TheVariants.{ReadFailed, WriteFailed, Memory, Store}
+use Rattle.desk_app.specs.Journal.{journalled}
+use Rattle.desk_app.specs.declared.options.LineOptions.{LineOptions}
 
 -- ---- one line: the state after it, the text with LF that is answered, and whether nothing was
 -- refused or faulty
@@ -33,10 +35,11 @@ abbrev pub by_report : State → Option Lines → RunStep
 by_report s None = (s, refused_text NoSuch, false)
 by_report s (Some lines) = (s, report_text lines, true)
 
-abbrev pub by_wish : State → ℕ → Result Wish What → RunStep
-by_wish s number (Ok (Request request)) = by_outcome (step s request)
-by_wish s number (Ok (Report name of)) = by_report s (report_lines name of s)
-by_wish s number (Err what) = (s, fault_text (record { line = number; what = what }), false)
+-- a request gets a key where the journal is kept and it has none
+abbrev pub by_wish : Bool → State → ℕ → Result Wish What → RunStep
+by_wish journal s number (Ok (Request request)) = by_outcome (step s (journalled journal s request))
+by_wish journal s number (Ok (Report name of)) = by_report s (report_lines name of s)
+by_wish journal s number (Err what) = (s, fault_text (record { line = number; what = what }), false)
 
 -- nothing, or one CR
 abbrev pub is_blank : List ℕ → Bool
@@ -49,18 +52,18 @@ abbrev pub naming : Bool → State → Option Naming
 naming names s = if names then Some (naming_in s) else None
 
 -- a blank line gives nothing; names are looked up as they are before the line
-unfoldable pub line_step : Bool → State → ℕ → List ℕ → RunStep
-line_step names s number line =
-    if is_blank line then (s, [], true) else by_wish s number (reading.line (naming names s) line)
+unfoldable pub line_step : LineOptions → State → ℕ → List ℕ → RunStep
+line_step options s number line =
+    if is_blank line then (s, [], true) else by_wish options.journal s number (reading.line (naming options.names s) line)
 
-abbrev pub line_after : Bool → State → ℕ → List ℕ → State
-line_after names s number line = (line_step names s number line).0
+abbrev pub line_after : LineOptions → State → ℕ → List ℕ → State
+line_after options s number line = (line_step options s number line).0
 
-abbrev pub line_out : Bool → State → ℕ → List ℕ → List ℕ
-line_out names s number line = (line_step names s number line).1
+abbrev pub line_out : LineOptions → State → ℕ → List ℕ → List ℕ
+line_out options s number line = (line_step options s number line).1
 
-abbrev pub is_fine : Bool → State → ℕ → List ℕ → Bool
-is_fine names s number line = (line_step names s number line).2
+abbrev pub is_fine : LineOptions → State → ℕ → List ℕ → Bool
+is_fine options s number line = (line_step options s number line).2
 
 -- ---- many lines, of which the first has the number
 
@@ -73,51 +76,60 @@ abbrev pub lines_of : List ℕ → List (List ℕ)
 lines_of [] = []
 lines_of (b ∷ bs) = if b == 10 then [] ∷ lines_of bs else onto_first b (lines_of bs)
 
-abbrev pub run_after : Bool → State → ℕ → List (List ℕ) → State
-run_after names s number [] = s
-run_after names s number (l ∷ ls) = run_after names (line_after names s number l) (number + 1) ls
+abbrev pub run_after : LineOptions → State → ℕ → List (List ℕ) → State
+run_after options s number [] = s
+run_after options s number (l ∷ ls) = run_after options (line_after options s number l) (number + 1) ls
 
-abbrev pub run_out : Bool → State → ℕ → List (List ℕ) → List ℕ
-run_out names s number [] = []
-run_out names s number (l ∷ ls) = line_out names s number l ++ run_out names (line_after names s number l)
+abbrev pub run_out : LineOptions → State → ℕ → List (List ℕ) → List ℕ
+run_out options s number [] = []
+run_out options s number (l ∷ ls) = line_out options s number l ++ run_out options (line_after options s number l)
     (number + 1) ls
 
-abbrev pub all_fine : Bool → State → ℕ → List (List ℕ) → Bool
-all_fine names s number [] = true
-all_fine names s number (l ∷ ls) = is_fine names s number l && all_fine names (line_after names s number l)
+abbrev pub all_fine : LineOptions → State → ℕ → List (List ℕ) → Bool
+all_fine options s number [] = true
+all_fine options s number (l ∷ ls) = is_fine options s number l && all_fine options (line_after options s number l)
     (number + 1) ls
 
 -- ---- the lines that a run takes
 
 -- the lines up to the first that is refused or faulty, with that one
-abbrev pub up_to_first : Bool → State → ℕ → List (List ℕ) → List (List ℕ)
-up_to_first names s number [] = []
-up_to_first names s number (l ∷ ls) =
-    if is_fine names s number l then l ∷ up_to_first names (line_after names s number l) (number + 1) ls else l ∷ []
+abbrev pub up_to_first : LineOptions → State → ℕ → List (List ℕ) → List (List ℕ)
+up_to_first options s number [] = []
+up_to_first options s number (l ∷ ls) =
+    if is_fine options s number l then l ∷ up_to_first options (line_after options s number l) (number + 1) ls else l ∷ []
 
 -- the lines that a run takes of these: all, or, where it stops there, those up to the first that is refused or faulty
-abbrev pub taken : Bool → Bool → State → List (List ℕ) → List (List ℕ)
-taken names stop s lines = if stop then up_to_first names s 1 lines else lines
+abbrev pub taken : LineOptions → Bool → State → List (List ℕ) → List (List ℕ)
+taken options stop s lines = if stop then up_to_first options s 1 lines else lines
 
 -- a run takes these lines all: where it stops at the first that is refused or faulty, none but the last is
-abbrev pub AreTaken : Bool → Bool → State → List (List ℕ) → Type 0
-AreTaken names stop s lines = taken names stop s lines ≡ lines
+abbrev pub AreTaken : LineOptions → Bool → State → List (List ℕ) → Type 0
+AreTaken options stop s lines = taken options stop s lines ≡ lines
+
+-- ---- the lines that are kept together
+
+-- Lines, of which the first has the number, are a group: the answers of all but the last have fewer than 65,536 bytes
+-- together, for a group ends once so many wait.
+abbrev pub IsGroup : LineOptions → State → ℕ → List (List ℕ) → Type 0
+IsGroup options s number group =
+    (before : List (List ℕ)) (last : List ℕ) → group ≡ before ++ last ∷ []
+    → length (run_out options s number before) < 65536
 
 -- ---- how a run ends
 
 -- these lines were run, and all their answers written
-pub record RanLines (names : Bool) (lines : List (List ℕ)) (w w' : Option (List ℕ)) (s s' : State)
+pub record RanLines (options : LineOptions) (lines : List (List ℕ)) (w w' : Option (List ℕ)) (s s' : State)
     (all : Bool) : Type 0 where
-  pub state : s' ≡ run_after names s 1 lines
-  pub written : Appends w w' (run_out names s 1 lines)
-  pub fine : all ≡ all_fine names s 1 lines
+  pub state : s' ≡ run_after options s 1 lines
+  pub written : Appends w w' (run_out options s 1 lines)
+  pub fine : all ≡ all_fine options s 1 lines
 
 -- all lines that the run takes of the text were; of unknown bytes, those of some lines
-abbrev pub Finished : Bool → Bool → Option (List ℕ) → Option (List ℕ) → Option (List ℕ) → State → State → Bool
+abbrev pub Finished : LineOptions → Bool → Option (List ℕ) → Option (List ℕ) → Option (List ℕ) → State → State → Bool
     → Type 0
-Finished names stop None w w' s s' all =
-    (lines : List (List ℕ)) × RanLines names (taken names stop s lines) w w' s s' all
-Finished names stop (Some text) w w' s s' all = RanLines names (taken names stop s (lines_of text)) w w' s s' all
+Finished options stop None w w' s s' all =
+    (lines : List (List ℕ)) × RanLines options (taken options stop s lines) w w' s s' all
+Finished options stop (Some text) w w' s s' all = RanLines options (taken options stop s (lines_of text)) w w' s s' all
 
 -- the lines of a text begin with these; those of unknown bytes may be any
 abbrev pub BeginWith : Option (List ℕ) → List (List ℕ) → Type 0
@@ -125,57 +137,61 @@ BeginWith None lines = Unit {0}
 BeginWith (Some text) lines = (rest : List (List ℕ)) × (lines_of text ≡ lines ++ rest)
 
 -- the first of the lines were run, and their answers written whole; the others were not run
-pub record StoppedBetween (names stop : Bool) (text w w' : Option (List ℕ)) (s s' : State) : Type 0 where
+pub record StoppedBetween (options : LineOptions) (stop : Bool) (text w w' : Option (List ℕ)) (s s' : State) : Type 0 where
   pub done : List (List ℕ)
   pub first : BeginWith text done
-  pub all_taken : AreTaken names stop s done
-  pub state : s' ≡ run_after names s 1 done
-  pub written : Appends w w' (run_out names s 1 done)
+  pub all_taken : AreTaken options stop s done
+  pub state : s' ≡ run_after options s 1 done
+  pub written : Appends w w' (run_out options s 1 done)
 
--- of the lines that were run the last were one group, of whose answers a front is written; the others have theirs whole
-pub record StoppedWriting (names stop : Bool) (text w w' : Option (List ℕ)) (s s' : State) : Type 0 where
+-- Of the lines that were run the last were one group, of whose answers a front is written. There are such answers. The
+-- other lines have theirs whole.
+pub record StoppedWriting (options : LineOptions) (stop : Bool) (text w w' : Option (List ℕ)) (s s' : State) : Type 0 where
   pub told : List (List ℕ)
   pub group : List (List ℕ)
   pub front : List ℕ
   pub more : List ℕ
   pub first : BeginWith text (told ++ group)
-  pub all_taken : AreTaken names stop s (told ++ group)
-  pub state : s' ≡ run_after names s 1 (told ++ group)
-  pub answers : run_out names (run_after names s 1 told) (1 + length told) group ≡ front ++ more
-  pub written : Appends w w' (run_out names s 1 told ++ front)
+  pub all_taken : AreTaken options stop s (told ++ group)
+  pub size : IsGroup options (run_after options s 1 told) (1 + length told) group
+  pub state : s' ≡ run_after options s 1 (told ++ group)
+  pub answers : run_out options (run_after options s 1 told) (1 + length told) group ≡ front ++ more
+  pub some : 0 < length (front ++ more)
+  pub written : Appends w w' (run_out options s 1 told ++ front)
 
 -- of the lines that were run the last may have nothing of its answer written, the others have theirs
 -- whole
-pub record StoppedForMemory (names stop : Bool) (text w w' : Option (List ℕ)) (s s' : State) : Type 0 where
+pub record StoppedForMemory (options : LineOptions) (stop : Bool) (text w w' : Option (List ℕ)) (s s' : State) : Type 0 where
   pub told : List (List ℕ)
   pub untold : List (List ℕ)
   pub first : BeginWith text (told ++ untold)
-  pub all_taken : AreTaken names stop s (told ++ untold)
+  pub all_taken : AreTaken options stop s (told ++ untold)
   pub one : length untold ≤ 1
-  pub state : s' ≡ run_after names s 1 (told ++ untold)
-  pub written : Appends w w' (run_out names s 1 told)
+  pub state : s' ≡ run_after options s 1 (told ++ untold)
+  pub written : Appends w w' (run_out options s 1 told)
 
 -- The database failed in a group, or as it was committed, and the books are closed. The lines before the group have
 -- their answers written whole, and those of the group nothing of theirs. A crash leaves the tables before the group, or,
 -- where the commit failed, those after it.
-pub record StoppedInGroup (names stop : Bool) (text w w' : Option (List ℕ)) (s s' : State)
+pub record StoppedInGroup (options : LineOptions) (stop : Bool) (text w w' : Option (List ℕ)) (s s' : State)
     (leaves : Trees → Type 0) : Type 0 where
   pub told : List (List ℕ)
   pub group : List (List ℕ)
   pub first : BeginWith text (told ++ group)
-  pub all_taken : AreTaken names stop s (told ++ group)
-  pub state : s' ≡ run_after names s 1 (told ++ group)
-  pub written : Appends w w' (run_out names s 1 told)
+  pub all_taken : AreTaken options stop s (told ++ group)
+  pub size : IsGroup options (run_after options s 1 told) (1 + length told) group
+  pub state : s' ≡ run_after options s 1 (told ++ group)
+  pub written : Appends w w' (run_out options s 1 told)
   pub left : (trees : Trees) → leaves trees
-      → TablesAre (run_after names s 1 told) trees ⊎ TablesAre (run_after names s 1 (told ++ group)) trees
+      → TablesAre (run_after options s 1 told) trees ⊎ TablesAre (run_after options s 1 (told ++ group)) trees
 
 -- some of the lines were run, by what it was that failed; these tables a crash may leave of the books
-abbrev pub Stopped : Bool → Bool → Stop → Option (List ℕ) → Option (List ℕ) → Option (List ℕ) → State → State
+abbrev pub Stopped : LineOptions → Bool → Stop → Option (List ℕ) → Option (List ℕ) → Option (List ℕ) → State → State
     → (Trees → Type 0) → Type 0
-Stopped names stop ReadFailed text w w' s s' leaves = StoppedBetween names stop text w w' s s'
-Stopped names stop WriteFailed text w w' s s' leaves = StoppedWriting names stop text w w' s s'
-Stopped names stop Memory text w w' s s' leaves = StoppedForMemory names stop text w w' s s'
-Stopped names stop Store text w w' s s' leaves = StoppedInGroup names stop text w w' s s' leaves
+Stopped options stop ReadFailed text w w' s s' leaves = StoppedBetween options stop text w w' s s'
+Stopped options stop WriteFailed text w w' s s' leaves = StoppedWriting options stop text w w' s s'
+Stopped options stop Memory text w w' s s' leaves = StoppedForMemory options stop text w w' s s'
+Stopped options stop Store text w w' s s' leaves = StoppedInGroup options stop text w w' s s' leaves
 
 -- a request that the books did not answer, or whose answer was not told: where memory ran out it was run or not; where
 -- the database failed it was not
@@ -185,10 +201,10 @@ CutRequest Store s s' r = s' ≡ s
 CutRequest _ s s' r = ⊥
 
 -- the same of a line
-abbrev pub CutLine : Bool → Stop → State → State → ℕ → List ℕ → Type 0
-CutLine names Memory s s' number line = (s' ≡ s) ⊎ (s' ≡ line_after names s number line)
-CutLine names Store s s' number line = s' ≡ s
-CutLine names _ s s' number line = ⊥
+abbrev pub CutLine : LineOptions → Stop → State → State → ℕ → List ℕ → Type 0
+CutLine options Memory s s' number line = (s' ≡ s) ⊎ (s' ≡ line_after options s number line)
+CutLine options Store s s' number line = s' ≡ s
+CutLine options _ s s' number line = ⊥
 
 -- neither the reader nor the writer stops it
 abbrev pub IsOfBooks : Stop → Type 0
@@ -218,10 +234,11 @@ EndsOpen old new (Err WriteFailed) = (old ≡ None) × (new ≡ None)
 EndsOpen old new (Err Memory) = (old ≡ None) × (new ≡ None)
 EndsOpen old new (Err Store) = IsSome new
 
--- what waits to be written when a group ends: all of it is, or a front where the writer failed, or nothing where the
--- database did
+-- what waits to be written when a group ends: all of it is, or a front where the writer failed, so there was some, or
+-- nothing where the database did
 abbrev pub CutSettling : Stop → Option (List ℕ) → Option (List ℕ) → List ℕ → Type 0
-CutSettling WriteFailed w w' text = (front : List ℕ) × (more : List ℕ) × (text ≡ front ++ more) × Appends w w' front
+CutSettling WriteFailed w w' text =
+    (front : List ℕ) × (more : List ℕ) × (text ≡ front ++ more) × (0 < length text) × Appends w w' front
 CutSettling Store w w' text = Keeps w w'
 CutSettling _ w w' text = ⊥
 
@@ -234,42 +251,43 @@ IsOfSettling _ = ⊥
 -- ---- lines that were run, of which the last wait for the end of their group
 
 -- the first lines have their answers written, and those of the group wait with theirs; one line more may have been run,
--- which has none; these tables a crash may leave, and they are those before the group
-pub record Halting (names stop : Bool) (text w w' : Option (List ℕ)) (s s' : State) (waits : List ℕ)
+-- which has none and is of the group; these tables a crash may leave, and they are those before the group
+pub record Halting (options : LineOptions) (stop : Bool) (text w w' : Option (List ℕ)) (s s' : State) (waits : List ℕ)
     (leaves : Trees → Type 0) : Type 0 where
   pub told : List (List ℕ)
   pub group : List (List ℕ)
   pub untold : List (List ℕ)
   pub first : BeginWith text ((told ++ group) ++ untold)
-  pub all_taken : AreTaken names stop s ((told ++ group) ++ untold)
+  pub all_taken : AreTaken options stop s ((told ++ group) ++ untold)
   pub one : length untold ≤ 1
-  pub state : s' ≡ run_after names s 1 ((told ++ group) ++ untold)
-  pub written : Appends w w' (run_out names s 1 told)
-  pub answers : waits ≡ run_out names (run_after names s 1 told) (1 + length told) group
-  pub left : (trees : Trees) → leaves trees → TablesAre (run_after names s 1 told) trees
+  pub size : IsGroup options (run_after options s 1 told) (1 + length told) (group ++ untold)
+  pub state : s' ≡ run_after options s 1 ((told ++ group) ++ untold)
+  pub written : Appends w w' (run_out options s 1 told)
+  pub answers : waits ≡ run_out options (run_after options s 1 told) (1 + length told) group
+  pub left : (trees : Trees) → leaves trees → TablesAre (run_after options s 1 told) trees
 
 -- the group ends behind its last answer
-abbrev pub HaltsWhole : Bool → Bool → Option (List ℕ) → Option (List ℕ) → Option (List ℕ) → State → State → List ℕ
+abbrev pub HaltsWhole : LineOptions → Bool → Option (List ℕ) → Option (List ℕ) → Option (List ℕ) → State → State → List ℕ
     → (Trees → Type 0) → Type 0
-HaltsWhole names stop text w w' s s' waits leaves =
-    (h : Halting names stop text w w' s s' waits leaves) × (h.untold ≡ [])
+HaltsWhole options stop text w w' s s' waits leaves =
+    (h : Halting options stop text w w' s s' waits leaves) × (h.untold ≡ [])
 
 -- these are all lines that the run takes of the text
-abbrev pub AreAll : Bool → Bool → State → Option (List ℕ) → List (List ℕ) → Type 0
-AreAll names stop s None lines = Unit {0}
-AreAll names stop s (Some text) lines = taken names stop s (lines_of text) ≡ lines
+abbrev pub AreAll : LineOptions → Bool → State → Option (List ℕ) → List (List ℕ) → Type 0
+AreAll options stop s None lines = Unit {0}
+AreAll options stop s (Some text) lines = taken options stop s (lines_of text) ≡ lines
 
 -- all lines that the run takes were run, and the last of them wait
-abbrev pub Gathered : Bool → Bool → Option (List ℕ) → Option (List ℕ) → Option (List ℕ) → State → State → Bool
+abbrev pub Gathered : LineOptions → Bool → Option (List ℕ) → Option (List ℕ) → Option (List ℕ) → State → State → Bool
     → List ℕ → (Trees → Type 0) → Type 0
-Gathered names stop text w w' s s' all waits leaves =
-    (h : Halting names stop text w w' s s' waits leaves) × (h.untold ≡ [])
-    × AreAll names stop s text (h.told ++ h.group) × (all ≡ all_fine names s 1 (h.told ++ h.group))
+Gathered options stop text w w' s s' all waits leaves =
+    (h : Halting options stop text w w' s s' waits leaves) × (h.untold ≡ [])
+    × AreAll options stop s text (h.told ++ h.group) × (all ≡ all_fine options s 1 (h.told ++ h.group))
 
 -- the lines stop before the last group is ended, or as a group was ended
-abbrev pub Halts : Bool → Bool → Stop → Option (List ℕ) → Option (List ℕ) → Option (List ℕ) → State → State
+abbrev pub Halts : LineOptions → Bool → Stop → Option (List ℕ) → Option (List ℕ) → Option (List ℕ) → State → State
     → List ℕ → (Trees → Type 0) → Type 0
-Halts names stop ReadFailed text w w' s s' waits leaves = HaltsWhole names stop text w w' s s' waits leaves
-Halts names stop Memory text w w' s s' waits leaves = Halting names stop text w w' s s' waits leaves
-Halts names stop WriteFailed text w w' s s' waits leaves = StoppedWriting names stop text w w' s s'
-Halts names stop Store text w w' s s' waits leaves = StoppedInGroup names stop text w w' s s' leaves
+Halts options stop ReadFailed text w w' s s' waits leaves = HaltsWhole options stop text w w' s s' waits leaves
+Halts options stop Memory text w w' s s' waits leaves = Halting options stop text w w' s s' waits leaves
+Halts options stop WriteFailed text w w' s s' waits leaves = StoppedWriting options stop text w w' s s'
+Halts options stop Store text w w' s s' waits leaves = StoppedInGroup options stop text w w' s s' leaves

@@ -21,9 +21,10 @@ use Rattle.desk_wire.specs.declared.fault.ReadError.{ReadError}
 use Rattle.desk_wire.specs.declared.fault.ReadError.TheVariants as read
 use Rattle.desk_wire.specs.Imports.{import}
 use Rattle.desk_wire.specs.Reading as reading
+use Rattle.desk_wire.specs.SheetForms.{sheet_form}
 use Rattle.desk_wire.specs.Writing.{answer_text, refused_text, fault_text}
 use Rattle.desk_http.specs.Services.{Machine, Operation, RunLine, ImportFile, ShowReport, ShowTable, ShowBooks, ShowHistory}
-use Rattle.desk_http.specs.Services.{ReplyView, Stops}
+use Rattle.desk_http.specs.Services.{ImportSheet, ReplyView, Stops}
 use Rattle.desk_http.specs.Services as service
 use Rattle.desk_http.specs.declared.target.ImportKind.{ImportKind}
 use Rattle.desk_http.specs.declared.target.ImportKind.TheVariants.{Receipts, Counts}
@@ -38,8 +39,11 @@ use Rattle.desk_http.specs.declared.service.NoReply.{NoReply}
 use Rattle.desk_http.specs.declared.service.NoReply.TheVariants.{Failed, Untold}
 use Rattle.desk_app.specs.ImportRuns.{Reading, rows_after, rows_out, RanSome, IsLeftByImport}
 use Rattle.desk_ends.specs.Printed.{printed}
+use Rattle.desk_app.specs.Journal.{journalled}
 use Rattle.desk_app.specs.Runs.{naming}
+use Rattle.desk_app.specs.declared.options.LineOptions.{LineOptions}
 use Rattle.desk_ends.specs.Named.{table_named}
+use Rattle.desk_app.specs.SheetReplies.{AreLeftByLines, RanFirst, by_form, form_lines}
 
 -- a kind and a name, as the lines and the reports have them
 abbrev pub import_kind : ImportKind → wire_kind.ImportKind
@@ -60,13 +64,13 @@ abbrev pub by_outcome : State × Outcome → State × ReplyView
 by_outcome (s, Ok answer) = (s, (Answered, answer_text answer))
 by_outcome (s, Err refusal) = (s, (Refused, refused_text refusal))
 
--- a body is one line, of number 1, that asks for no report
-abbrev pub by_request : State → Result Request What → State × ReplyView
-by_request s (Ok request) = by_outcome (step s request)
-by_request s (Err what) = (s, (Faulty, fault_text (record { line = 1; what = what })))
+-- a body is one line, of number 1, that asks for no report; with the journal it gets a key where it has none
+abbrev pub by_request : Bool → State → Result Request What → State × ReplyView
+by_request journal s (Ok request) = by_outcome (step s (journalled journal s request))
+by_request journal s (Err what) = (s, (Faulty, fault_text (record { line = 1; what = what })))
 
-unfoldable pub run_line : Bool → State → List ℕ → State × ReplyView
-run_line names s line = by_request s (reading.request (naming names s) line)
+unfoldable pub run_line : LineOptions → State → List ℕ → State × ReplyView
+run_line options s line = by_request options.journal s (reading.request (naming options.names s) line)
 
 -- a report is told though rows of it were refused
 abbrev pub by_reading : State → Reading → State × ReplyView
@@ -89,6 +93,14 @@ abbrev pub exported : State → Option TableName → ReplyView
 exported s None = (Unknown, [])
 exported s (Some table) = (Exported, table_text table s)
 
+-- rows are said by what they are called, whatever the service has lines do
+unfoldable pub import_sheet : State → List ℕ → List ℕ → CivilDay → List ℕ → State × ReplyView
+import_sheet s command document day file = by_form s (sheet_form command) document day file
+
+-- the lines of such a file that are run
+unfoldable pub sheet_lines : List ℕ → List ℕ → CivilDay → List ℕ → List (List ℕ)
+sheet_lines command document day file = form_lines (sheet_form command) document day file
+
 unfoldable pub show_table : State → List ℕ → ReplyView
 show_table s name = exported s (table_named name)
 
@@ -107,50 +119,57 @@ tag_after tag Answered = raised tag
 tag_after tag Reported = raised tag
 tag_after tag _ = tag
 
--- what a service is a state of: the books' state; whether rows may be named, which no operation changes; and the tag of the
+-- what a service is a state of: the books' state; how what is sent is taken, which no operation changes; and the tag of the
 -- books, if they have one
 abbrev pub ServiceState : Type 0
-ServiceState = State × Bool × Option Tag
+ServiceState = State × LineOptions × Option Tag
 
-abbrev pub counted : Bool → Option Tag → State × ReplyView → ServiceState × ReplyView
-counted names tag done = ((done.0, names, tag_after tag done.1.0), done.1)
+abbrev pub counted : LineOptions → Option Tag → State × ReplyView → ServiceState × ReplyView
+counted options tag done = ((done.0, options, tag_after tag done.1.0), done.1)
 
 abbrev pub desk_machine : Machine ServiceState
 desk_machine = record {
   run_line = λ d line. counted d.1 d.2 (run_line d.1 d.0 line);
-  import_file = λ d kind document day rows. counted d.1 d.2 (import_file d.1 d.0 kind document day rows);
+  import_file = λ d kind document day rows. counted d.1 d.2 (import_file d.1.names d.0 kind document day rows);
   show_report = λ d name number. show_report d.0 name number;
   tag = λ d. d.2;
   show_table = λ d name. show_table d.0 name;
   show_books = λ d. books_text (option_map (λ tag. tag.accepted) d.2) d.0;
   show_history = λ d from. history_text from d.0;
+  import_sheet = λ d command document day file. counted d.1 d.2 (import_sheet d.0 command document day file);
 }
 
 -- ---- what is left where there was no reply
 
--- of a line nothing was run, of a file the first of its rows
-abbrev pub leaves_of : Bool → State → Operation → State → Type 0
-leaves_of names s (RunLine line) s' = s' ≡ s
-leaves_of names s (ImportFile kind document day rows) s' =
-    RanSome (import false (naming names s) (import_kind kind) document day rows) s s'
-leaves_of names s (ShowReport name number) s' = s' ≡ s
-leaves_of names s (ShowTable name) s' = s' ≡ s
-leaves_of names s (ShowBooks known) s' = s' ≡ s
-leaves_of names s (ShowHistory from) s' = s' ≡ s
+-- of a line nothing was run, of a file the first of its rows, or of its lines
+abbrev pub leaves_of : LineOptions → State → Operation → State → Type 0
+leaves_of options s (RunLine line) s' = s' ≡ s
+leaves_of options s (ImportFile kind document day rows) s' =
+    RanSome (import false (naming options.names s) (import_kind kind) document day rows) s s'
+leaves_of options s (ShowReport name number) s' = s' ≡ s
+leaves_of options s (ShowTable name) s' = s' ≡ s
+leaves_of options s (ShowBooks known) s' = s' ≡ s
+leaves_of options s (ShowHistory from) s' = s' ≡ s
+leaves_of options s (ImportSheet command document day file) s' = RanFirst (sheet_lines command document day file) s s'
 
 -- the tag is another then, since something may have been done
 abbrev pub leaves : Failure → ServiceState → Operation → ServiceState → Type 0
 leaves e d o d' = leaves_of d.1 d.0 o d'.0 × (d'.1 ≡ d.1) × (d'.2 ≡ raised d.2)
 
 -- a line without a reply was not run; where its reply was not told, it was or was not
-abbrev pub IsFailedLine : NoReply → Bool → State → List ℕ → State → Type 0
-IsFailedLine (Failed e) names s line s' = s' ≡ s
-IsFailedLine Untold names s line s' = (s' ≡ s) ⊎ (s' ≡ (run_line names s line).0)
+abbrev pub IsFailedLine : NoReply → LineOptions → State → List ℕ → State → Type 0
+IsFailedLine (Failed e) options s line s' = s' ≡ s
+IsFailedLine Untold options s line s' = (s' ≡ s) ⊎ (s' ≡ (run_line options s line).0)
 
 -- of a file without a reply the first rows were run; where its reply was not told, none
 abbrev pub IsFailedFile : NoReply → Reading → State → State → Type 0
 IsFailedFile (Failed e) file s s' = RanSome file s s'
 IsFailedFile Untold file s s' = s' ≡ s
+
+-- of a file of a command without a reply the first lines were run; where its reply was not told, none
+abbrev pub IsFailedSheet : NoReply → List (List ℕ) → State → State → Type 0
+IsFailedSheet (Failed e) lines s s' = RanFirst lines s s'
+IsFailedSheet Untold lines s s' = s' ≡ s
 
 -- a request that failed was not run; where its reply was not told, it was
 abbrev pub IsFailedRequest : NoReply → State → State → Request → Type 0
@@ -184,24 +203,35 @@ IsShownOfOpen old (ShowReport name number) why = IsToldOfOpen old why
 IsShownOfOpen old (ShowTable name) why = IsToldOfOpen old why
 IsShownOfOpen old (ShowBooks known) why = IsToldOfOpen old why
 IsShownOfOpen old (ShowHistory from) why = IsToldOfOpen old why
+IsShownOfOpen old (ImportSheet command document day file) why = Unit {0}
 
--- what a crash leaves of books that come from the one state to the other: the tables of this or, where the database
--- failed, those after the request that failed; of a file those after the first of its rows
-abbrev pub IsLeftByOperation : Bool → Operation → State → State → Trees → Type 0
-IsLeftByOperation names (RunLine line) s s' trees = TablesAre s' trees ⊎ TablesAre (run_line names s line).0 trees
-IsLeftByOperation names (ImportFile kind document day rows) s s' trees =
-    IsLeftByImport (import false (naming names s) (import_kind kind) document day rows) s trees
-IsLeftByOperation names (ShowReport name number) s s' trees = TablesAre s' trees
-IsLeftByOperation names (ShowTable name) s s' trees = TablesAre s' trees
-IsLeftByOperation names (ShowBooks known) s s' trees = TablesAre s' trees
-IsLeftByOperation names (ShowHistory from) s s' trees = TablesAre s' trees
+-- the one where the database failed, else the other
+abbrev pub IfStoreFailed : Option NoReply → Type 0 → Type 0 → Type 0
+IfStoreFailed (Some (Failed Store)) failed other = failed
+IfStoreFailed _ failed other = other
+
+-- What a crash leaves of books that come from the one state to the other: the tables of this. Where the database failed,
+-- it may be those after the line that failed, and of a file those before the last group of its rows, or of its lines.
+abbrev pub IsLeftByOperation : LineOptions → Operation → Option NoReply → State → State → Trees → Type 0
+IsLeftByOperation options (RunLine line) why s s' trees =
+    IfStoreFailed why (TablesAre s' trees ⊎ TablesAre (run_line options s line).0 trees) (TablesAre s' trees)
+IsLeftByOperation options (ImportFile kind document day rows) why s s' trees =
+    IfStoreFailed why
+    (IsLeftByImport (import false (naming options.names s) (import_kind kind) document day rows) s s' trees)
+    (TablesAre s' trees)
+IsLeftByOperation options (ShowReport name number) why s s' trees = TablesAre s' trees
+IsLeftByOperation options (ShowTable name) why s s' trees = TablesAre s' trees
+IsLeftByOperation options (ShowBooks known) why s s' trees = TablesAre s' trees
+IsLeftByOperation options (ShowHistory from) why s s' trees = TablesAre s' trees
+IsLeftByOperation options (ImportSheet command document day file) why s s' trees =
+    IfStoreFailed why (AreLeftByLines (sheet_lines command document day file) s s' trees) (TablesAre s' trees)
 
 -- of books with these faults of the database before and after, of which a crash may leave these tables
-abbrev pub Relates : {F : Type 0} → Bool → Option F → Option F → (Trees → Type 0) → State → State → Operation
+abbrev pub Relates : {F : Type 0} → LineOptions → Option F → Option F → (Trees → Type 0) → State → State → Operation
     → Option NoReply → Type 0
-Relates names old new may_leave s s' o why =
+Relates options old new may_leave s s' o why =
     StaysOpenBy old new why × IsShownOfOpen old o why × (old ≡ None → (trees : Trees) → may_leave trees
-    → IsLeftByOperation names o s s' trees)
+    → IsLeftByOperation options o why s s' trees)
 
 -- ---- what a tag tells
 

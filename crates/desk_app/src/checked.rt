@@ -10,12 +10,15 @@ ghost use Rattle.desk_store.specs.StateTables.{TablesAre};
 ghost use Rattle.desk_ends.specs.declared.end.Stop.{Stop};
 ghost use Rattle.desk_app.specs.Answered.{AnsweredIsKept};
 ghost use Rattle.desk_app.specs.Checked.{anything, are_readable, fault_of, faults_out, is_readable};
+ghost use Rattle.desk_wire.specs.Writing.{fault_text};
+ghost use Rattle.desk_wire.specs.declared.fault.What.TheVariants.{TooLong};
 ghost use Rattle.desk_app.specs.Checked.{naming_ahead, text_faults, told_of, TellsFaults};
 ghost use Rattle.desk_app.specs.Cuts.{first_of};
 ghost use Rattle.desk_ends.specs.Ends.{end_of};
 ghost use Rattle.desk_app.specs.Runs.{lines_of, Finished, Stopped};
 
 use crate::books::Books;
+use crate::options::LineOptions;
 use crate::pieces::end_of;
 use crate::reasons::why_faulty_line;
 use crate::run::{is_blank, run_lines};
@@ -106,8 +109,7 @@ fn first_line(text: &[u8]) -> &[u8]
 }
 
 /// The faults of the lines of a text, and whether none has one.
-fn faults_of_lines(alloc: Global, bytes: &[u8], names: bool) -> Result<Told, Stop>
-    requires { length bytes.now ≤ 16777216 }
+pub(crate) fn faults_of_lines(alloc: Global, bytes: &[u8], names: bool) -> Result<Told, Stop>
     ensures text { IfOk result (λ told.
         string_bytes told.text ≡ faults_out names 1 (lines_of bytes.now)) }
     ensures fine { IfOk result (λ told. told.fine ≡ are_readable names (lines_of bytes.now)) }
@@ -125,25 +127,6 @@ fn faults_of_lines(alloc: Global, bytes: &[u8], names: bool) -> Result<Told, Sto
         at += line.len() + 1;
     }
     Ok(Told { text, fine })
-}
-
-/// What is told of a text before any of its lines is run, and whether that is nothing.
-fn faults_of(alloc: Global, bytes: &[u8], names: bool) -> Result<Told, Stop>
-    ensures text { IfOk result (λ told. string_bytes told.text ≡ text_faults names bytes.now) }
-    ensures fine { IfOk result (λ told. told.fine ≡ is_readable names bytes.now) }
-    ensures memory { IfErr result (λ why. why ≡ Stop.Memory) }
-{
-    if bytes.len() > MOST_BYTES {
-        let too_long = WireFault {
-            line: 0,
-            what: What::TooLong,
-        };
-        return Ok(Told {
-            text: fault_text(alloc, too_long)?,
-            fine: false,
-        });
-    }
-    faults_of_lines(alloc, bytes, names)
 }
 
 /// The fault of the line of that number, if it has one.
@@ -181,15 +164,9 @@ fn reason_of_line(
     Ok(Some(reason))
 }
 
-/// Tells a person why each line of the text that can't be read can't be, as `run_checked` looks at them. What can't be
+/// Tells a person why each line of the text that can't be read can't be, as `run_text` looks at them. What can't be
 /// written, or has no memory, is left out.
-pub fn explain_faults<W: Write>(alloc: Global, bytes: &[u8], names: bool, writer: &mut W) {
-    if bytes.len() > MOST_BYTES {
-        let _ = writer.write_all(
-            b"all lines: TooLong: they have more than 16777216 bytes together\n",
-        );
-        return;
-    }
+pub(crate) fn explain_lines<W: Write>(alloc: Global, bytes: &[u8], names: bool, writer: &mut W) {
     let mut number: u64 = 0;
     let mut at = 0;
     while at < bytes.len() {
@@ -200,6 +177,18 @@ pub fn explain_faults<W: Write>(alloc: Global, bytes: &[u8], names: bool, writer
         }
         at += line.len() + 1;
     }
+}
+
+/// Tells a person why each line of the text that can't be read can't be, as `run_checked` looks at them. What can't be
+/// written, or has no memory, is left out.
+pub fn explain_faults<W: Write>(alloc: Global, bytes: &[u8], names: bool, writer: &mut W) {
+    if bytes.len() > MOST_BYTES {
+        let _ = writer.write_all(
+            b"all lines: TooLong: they have more than 16777216 bytes together\n",
+        );
+        return;
+    }
+    explain_lines(alloc, bytes, names, writer);
 }
 
 /// Tells the faults.
@@ -214,26 +203,28 @@ fn tell_faults<W: Write>(writer: &mut W, faults: &[u8]) -> RunEnd
 }
 
 /// Answers each line of the text as `run_lines` does, once all have been looked at. Where one is faulty, the faults of all
-/// lines are told and nothing is run; so it is of a text of more than 16,777,216 bytes, of which `TooLong` is told, with
-/// the line 0. With `names`, each name is taken to be one of a row until its line is run.
-pub fn run_checked<B: Books, W: Write>(
+/// lines are told and nothing is run. With `names`, each name is taken to be one of a row until its line is run.
+pub(crate) fn run_text<B: Books, W: Write>(
     alloc: Global,
     bytes: &[u8],
     writer: &mut W,
     books: &mut B,
-    names: bool,
+    options: LineOptions,
     stop: bool,
 ) -> RunEnd
     requires { B.are_kept books.old }
-    ensures untouched { is_readable names bytes.now ≡ false → books.new ≡ books.old }
-    ensures faults { is_readable names bytes.now ≡ false
-        → TellsFaults (text_faults names bytes.now) (W.contents writer.old) (W.contents writer.new)
-        result }
-    ensures done { is_readable names bytes.now ≡ true → (all : Bool) → result ≡ RunEnd.Done all
-        → Finished names stop (Some bytes.now) (W.contents writer.old)
+    ensures untouched { are_readable options.names (lines_of bytes.now) ≡ false
+        → books.new ≡ books.old }
+    ensures faults { are_readable options.names (lines_of bytes.now) ≡ false
+        → TellsFaults (faults_out options.names 1 (lines_of bytes.now)) (W.contents writer.old)
+        (W.contents writer.new) result }
+    ensures done { are_readable options.names (lines_of bytes.now) ≡ true → (all : Bool)
+        → result ≡ RunEnd.Done all
+        → Finished options stop (Some bytes.now) (W.contents writer.old)
         (W.contents writer.new) (B.state_in books.old) (B.state_in books.new) all }
-    ensures stopped { is_readable names bytes.now ≡ true → (why : Stop) → result ≡ end_of why
-        → Stopped names stop why (Some bytes.now) (W.contents writer.old)
+    ensures stopped { are_readable options.names (lines_of bytes.now) ≡ true → (why : Stop)
+        → result ≡ end_of why
+        → Stopped options stop why (Some bytes.now) (W.contents writer.old)
         (W.contents writer.new) (B.state_in books.old) (B.state_in books.new)
         (λ trees. (B.failure_of books.old ≡ None) × B.may_leave books.new trees) }
     ensures kept { B.are_kept books.new }
@@ -243,8 +234,8 @@ pub fn run_checked<B: Books, W: Write>(
     ensures closed { result ≡ RunEnd.Store → IsSome (B.failure_of books.new) }
     ensures left { result ≢ RunEnd.Store → (trees : Trees) → B.may_leave books.new trees
         → TablesAre (B.state_in books.new) trees }
-    ensures answered { is_readable names bytes.now ≡ true
-        → AnsweredIsKept names stop (Some bytes.now) (W.contents writer.old)
+    ensures answered { are_readable options.names (lines_of bytes.now) ≡ true
+        → AnsweredIsKept options stop (Some bytes.now) (W.contents writer.old)
         (W.contents writer.new) (B.state_in books.old)
         (λ trees. (B.failure_of books.old ≡ None) × B.may_leave books.new trees) }
 {
@@ -252,7 +243,7 @@ pub fn run_checked<B: Books, W: Write>(
         Ok(_) => {}
         Err(_) => return RunEnd::Store,
     }
-    let told = match faults_of(alloc, bytes, names) {
+    let told = match faults_of_lines(alloc, bytes, options.names) {
         Ok(told) => told,
         Err(_) => return RunEnd::Memory,
     };
@@ -260,5 +251,71 @@ pub fn run_checked<B: Books, W: Write>(
         return tell_faults(writer, told.text.as_bytes());
     }
     let mut reader = bytes;
-    run_lines(alloc, &mut reader, writer, books, names, stop)
+    run_lines(alloc, &mut reader, writer, books, options, stop)
+}
+
+/// Tells that a text is too long, unless the books are closed.
+fn tell_too_long<B: Books, W: Write>(alloc: Global, writer: &mut W, books: &B) -> RunEnd
+    requires { B.are_kept books.now }
+    ensures told { TellsFaults (fault_text (record { line = 0; what = TooLong }))
+        (W.contents writer.old) (W.contents writer.new) result }
+    ensures open { result ≢ RunEnd.Store → B.failure_of books.now ≡ None }
+    ensures closed { result ≡ RunEnd.Store → IsSome (B.failure_of books.now) }
+{
+    match books.shop() {
+        Ok(_) => {}
+        Err(_) => return RunEnd::Store,
+    }
+    let too_long = WireFault {
+        line: 0,
+        what: What::TooLong,
+    };
+    match fault_text(alloc, too_long) {
+        Ok(told) => tell_faults(writer, told.as_bytes()),
+        Err(_) => RunEnd::Memory,
+    }
+}
+
+/// Answers each line of the text as `run_lines` does, once all have been looked at. Where one is faulty, the faults of all
+/// lines are told and nothing is run; so it is of a text of more than 16,777,216 bytes, of which `TooLong` is told, with
+/// the line 0. With `names`, each name is taken to be one of a row until its line is run.
+#[tactic(auto, using(crate::proofs::Checking::too_long, crate::proofs::Checking::short_enough))]
+pub fn run_checked<B: Books, W: Write>(
+    alloc: Global,
+    bytes: &[u8],
+    writer: &mut W,
+    books: &mut B,
+    options: LineOptions,
+    stop: bool,
+) -> RunEnd
+    requires { B.are_kept books.old }
+    ensures untouched { is_readable options.names bytes.now ≡ false → books.new ≡ books.old }
+    ensures faults { is_readable options.names bytes.now ≡ false
+        → TellsFaults (text_faults options.names bytes.now) (W.contents writer.old)
+        (W.contents writer.new) result }
+    ensures done { is_readable options.names bytes.now ≡ true → (all : Bool)
+        → result ≡ RunEnd.Done all
+        → Finished options stop (Some bytes.now) (W.contents writer.old)
+        (W.contents writer.new) (B.state_in books.old) (B.state_in books.new) all }
+    ensures stopped { is_readable options.names bytes.now ≡ true → (why : Stop)
+        → result ≡ end_of why
+        → Stopped options stop why (Some bytes.now) (W.contents writer.old)
+        (W.contents writer.new) (B.state_in books.old) (B.state_in books.new)
+        (λ trees. (B.failure_of books.old ≡ None) × B.may_leave books.new trees) }
+    ensures kept { B.are_kept books.new }
+    ensures in_order { AreInOrder (B.state_in books.new) }
+    ensures open { result ≢ RunEnd.Store
+        → (B.failure_of books.old ≡ None) × (B.failure_of books.new ≡ None) }
+    ensures closed { result ≡ RunEnd.Store → IsSome (B.failure_of books.new) }
+    ensures left { result ≢ RunEnd.Store → (trees : Trees) → B.may_leave books.new trees
+        → TablesAre (B.state_in books.new) trees }
+    ensures answered { is_readable options.names bytes.now ≡ true
+        → AnsweredIsKept options stop (Some bytes.now) (W.contents writer.old)
+        (W.contents writer.new) (B.state_in books.old)
+        (λ trees. (B.failure_of books.old ≡ None) × B.may_leave books.new trees) }
+{
+    if bytes.len() > MOST_BYTES {
+        return tell_too_long(alloc, writer, books);
+    }
+    run_text(alloc, bytes, writer, books, options, stop)
 }

@@ -1,7 +1,10 @@
-//! Books that tell a person why a line or a row wasn't done. What is told is no part of the answers: it waits until what
-//! was done before it is kept, and where it can't be written it is left out.
-ghost use Rattle.std.specs.Prelude.{◌≡◌, [], IsSome, None, OnOk};
+//! Books that tell a person why a line or a row wasn't done, and of a new name that is near another. What is told is no
+//! part of the answers: it waits until what was done before it is kept. Where it can't be written it is left out, and so
+//! it is where a fault has closed the books: what it is of was undone, and has no answer.
+ghost use Rattle.std.specs.Prelude.{◌≡◌, ◌⊎◌, [], IsSome, None, OnErr, OnOk};
 ghost use Rattle.std.specs.String.{string_bytes};
+ghost use Rattle.sqlite.specs.Tree.{Trees};
+ghost use Rattle.desk_store.specs.StateTables.{TablesAre};
 ghost use Rattle.desk_app.specs.Reasons.{AddsReason, Notes};
 
 use crate::books::Books;
@@ -9,6 +12,7 @@ use crate::reasons::reason;
 use crate::undone::Why;
 use desk_core::{Request, Shop};
 use desk_store::Fault;
+use list_core::NearNames;
 use part_core::Answer;
 use std::alloc::{AllocError, Global};
 use std::io::Write;
@@ -20,6 +24,7 @@ pub struct ExplainedBooks<B, W> {
     books: B,
     writer: Option<W>,
     waits: String,
+    names: NearNames,
 }
 
 impl<B: Books + Drop, W: Write + Drop> ExplainedBooks<B, W> {
@@ -34,11 +39,13 @@ impl<B: Books + Drop, W: Write + Drop> ExplainedBooks<B, W> {
             books,
             writer,
             waits: String::new(alloc),
+            names: NearNames::new(alloc),
         }
     }
 
-    /// The books, after all lines. What waits is told.
+    /// The books, after all lines. What waits is told, unless a fault has closed them.
     pub fn into_books(mut self) -> B
+        requires { B.are_kept self.books }
         ensures { result ≡ self.books }
     {
         self.tell();
@@ -47,21 +54,50 @@ impl<B: Books + Drop, W: Write + Drop> ExplainedBooks<B, W> {
             books,
             writer: _,
             waits: _,
+            names: _,
         } = self;
         books
     }
 
-    // Tells what waits.
-    fn tell(&mut self)
+    // Writes what waits, where somebody is told.
+    fn write(&mut self)
         ensures books { self.new.books ≡ self.old.books }
-        ensures none { string_bytes self.new.waits ≡ [] }
     {
         if let Some(writer) = &mut self.writer {
             if !self.waits.is_empty() {
                 let _ = writer.write_all(self.waits.as_bytes());
             }
         }
+    }
+
+    // Tells what waits. Where a fault has closed the books it is dropped.
+    fn tell(&mut self)
+        requires { B.are_grouping self.old.books }
+        ensures books { self.new.books ≡ self.old.books }
+        ensures none { string_bytes self.new.waits ≡ [] }
+        ensures undone { IsSome (B.failure_of self.old.books)
+            → self.new.writer ≡ self.old.writer }
+    {
+        if self.books.shop().is_ok() {
+            self.write();
+        }
         self.waits = String::new(self.alloc);
+    }
+
+    // Files the names that the books have, where a request may give one and somebody is told. Without the memory for it
+    // fewer are filed.
+    fn file_names(&mut self, request: &Request)
+        requires { B.are_grouping self.old.books }
+        ensures books { self.new.books ≡ self.old.books }
+        ensures writer { self.new.writer ≡ self.old.writer }
+        ensures waits { self.new.waits ≡ self.old.waits }
+    {
+        if self.writer.is_none() || !NearNames::may_name(&request.command) {
+            return;
+        }
+        if let Ok(shop) = self.books.shop() {
+            let _ = self.names.catch_up(self.alloc, shop);
+        }
     }
 
     // Adds a reason to those that wait, where it is told. An error is one of memory, and adds none.
@@ -81,7 +117,7 @@ impl<B: Books + Drop, W: Write + Drop> ExplainedBooks<B, W> {
         let Ok(shop) = self.books.shop() else {
             return Ok(());
         };
-        let text = reason(self.alloc, shop, why)?;
+        let text = reason(self.alloc, shop, &self.names, why)?;
         self.waits.push_str(text.as_str())
     }
 }
@@ -106,10 +142,22 @@ impl<B: Books + Drop, W: Write + Drop> Books for ExplainedBooks<B, W> {
     }
 
     fn run_grouped(&mut self, request: &Request) -> Result<Answer, Fault> {
+        self.file_names(request);
         self.books.run_grouped(request)
     }
 
-    fn commit(&mut self) -> Result<(), Fault> {
+    // What waits is told once the group is kept.
+    fn commit(&mut self) -> Result<(), Fault>
+        requires { B.are_grouping self.old.books }
+        ensures kept { B.are_kept self.new.books }
+        ensures same { B.state_in self.new.books ≡ B.state_in self.old.books }
+        ensures was_open { OnOk result (B.failure_of self.old.books ≡ None) }
+        ensures open { OnOk result (B.failure_of self.new.books ≡ None) }
+        ensures closed { OnErr result (IsSome (B.failure_of self.new.books)) }
+        ensures left { (trees : Trees) → B.may_leave self.new.books trees
+            → B.may_leave self.old.books trees ⊎ TablesAre (B.state_in self.new.books) trees }
+        ensures undone { OnErr result (self.new.writer ≡ self.old.writer) }
+    {
         let kept = self.books.commit();
         self.tell();
         kept

@@ -2,7 +2,7 @@
 //! thousand, and what a group changes is kept together. No row is run after a failure. The report is written once all have
 //! been run and kept: where a row wasn't answered there is none, and the rows before it stay, but for those of a group in
 //! which the database failed.
-ghost use Rattle.std.specs.Prelude.{◌≡◌, ◌≢◌, ◌≤◌, ◌⊎◌, [], Bool, None, IfOk, IfErr, IsSome, MatchResult, Ok};
+ghost use Rattle.std.specs.Prelude.{◌≡◌, ◌≢◌, ◌≤◌, ◌+◌, ◌⊎◌, [], Bool, None, IfOk, IfErr, IsSome, MatchResult, Ok};
 ghost use Rattle.std.specs.Prelude.{OnOk};
 ghost use Rattle.std.specs.String.{string_bytes};
 ghost use Rattle.sqlite.specs.Tree.{Trees};
@@ -36,6 +36,7 @@ fn next_in_group<B: Books>(books: &mut B, waiting: u64) -> Result<u64, Stop>
     requires grouping { B.are_grouping books.old }
     requires count { waiting ≤ 1000 }
     ensures count { IfOk result (λ count. count ≤ 1000) }
+    ensures one { IfOk result (λ count. (1 ≤ count) × (count ≤ waiting + 1)) }
     ensures store { IfErr result (λ stop. stop ≡ Stop.Store) }
     ensures grouping { B.are_grouping books.new }
     ensures same { B.state_in books.new ≡ B.state_in books.old }
@@ -43,6 +44,9 @@ fn next_in_group<B: Books>(books: &mut B, waiting: u64) -> Result<u64, Stop>
     ensures was_open { B.failure_of books.new ≡ None → B.failure_of books.old ≡ None }
     ensures left { (trees : Trees) → B.may_leave books.new trees
         → B.may_leave books.old trees ⊎ TablesAre (B.state_in books.new) trees }
+    ensures goes_on { IfOk result (λ count. (trees : Trees) → B.may_leave books.new trees
+        → ((count ≡ waiting + 1) × B.may_leave books.old trees)
+        ⊎ ((count ≡ 1) × TablesAre (B.state_in books.new) trees)) }
 {
     if waiting < GROUP {
         return Ok(waiting + 1);
@@ -71,7 +75,7 @@ fn add_rows<B: Books>(
     ensures was_open { B.failure_of books.new ≡ None → B.failure_of books.old ≡ None }
     ensures left { B.failure_of books.old ≡ None → (trees : Trees)
         → B.may_leave books.new trees
-        → AreLeftByRows rows.now (B.state_in books.old) trees }
+        → AreLeftByRows rows.now (B.state_in books.old) (B.state_in books.new) trees }
 {
     let mut waiting = 0;
     let mut fine = true;
@@ -102,7 +106,7 @@ pub(crate) fn tell_rows<B: Books>(
     ensures ends_open { EndsOpen (B.failure_of books.old) (B.failure_of books.new) result }
     ensures left { B.failure_of books.old ≡ None → (trees : Trees)
         → B.may_leave books.new trees
-        → AreLeftByRows rows.now (B.state_in books.old) trees }
+        → AreLeftByRows rows.now (B.state_in books.old) (B.state_in books.new) trees }
 {
     let mut text = String::new(alloc);
     let added = add_rows(alloc, rows, books, &mut text);
@@ -138,7 +142,7 @@ fn tell_import<B: Books>(
     ensures left { B.failure_of books.old ≡ None → (trees : Trees)
         → B.may_leave books.new trees
         → IsLeftByImport (import loose (naming names (B.state_in books.old)) kind document.now day bytes.now)
-        (B.state_in books.old) trees }
+        (B.state_in books.old) (B.state_in books.new) trees }
     ensures reasons { OnOk result (NotesFile
         (import loose (naming names (B.state_in books.old)) kind document.now day bytes.now)
         (wrong_in_file loose (naming names (B.state_in books.old)) kind document.now day bytes.now)
@@ -187,7 +191,7 @@ fn import_all<B: Books, W: Write>(
     ensures left { B.failure_of books.old ≡ None → (trees : Trees)
         → B.may_leave books.new trees
         → IsLeftByImport (import loose (naming names (B.state_in books.old)) kind document.now day bytes.now)
-        (B.state_in books.old) trees }
+        (B.state_in books.old) (B.state_in books.new) trees }
 {
     let told = tell_import(alloc, bytes, kind, document, day, loose, names, books)?;
     send(writer, told.text.as_bytes())?;
@@ -225,10 +229,12 @@ pub fn import_file<B: Books, W: Write>(
     ensures stays_open { B.failure_of books.old ≡ None → result ≢ RunEnd.Store
         → B.failure_of books.new ≡ None }
     ensures closed { result ≡ RunEnd.Store → IsSome (B.failure_of books.new) }
-    ensures left { B.failure_of books.old ≡ None → (trees : Trees)
+    ensures left { B.failure_of books.old ≡ None → result ≢ RunEnd.Store → (trees : Trees)
+        → B.may_leave books.new trees → TablesAre (B.state_in books.new) trees }
+    ensures left_by_groups { B.failure_of books.old ≡ None → (trees : Trees)
         → B.may_leave books.new trees
         → IsLeftByImport (import loose (naming names (B.state_in books.old)) kind document.now day bytes.now)
-        (B.state_in books.old) trees }
+        (B.state_in books.old) (B.state_in books.new) trees }
 {
     match import_all(
         alloc, bytes, kind, document, day, loose, names, writer, books,

@@ -1,5 +1,5 @@
 //! What a person is told of a line or a row that wasn't done: where it stands, the word that was answered, the facts of the
-//! request, and what the word means.
+//! request, and what the word means. And of one that was done the note on the name that it gave.
 ghost use Rattle.std.specs.Prelude.{◌≡◌, ◌∷◌, ◌++◌, [], ℕ, List, codes, decimal, Option, option_map, IfOk};
 ghost use Rattle.std.specs.String.{string_bytes};
 ghost use Rattle.part_core.specs.Refusal.{refusal_name};
@@ -11,7 +11,7 @@ ghost use Rattle.desk_ends.specs.Escaped.{escaped};
 ghost use Rattle.desk_wire.specs.declared.fault.WrongField.{WrongField};
 ghost use Rattle.desk_wire.specs.Reading.{table_of};
 ghost use Rattle.desk_wire.specs.WrongFields.{wrong_in_line, TellsField};
-ghost use Rattle.desk_app.specs.Reasons.{colons, fault_words, place_text, Begins, IsReason};
+ghost use Rattle.desk_app.specs.Reasons.{colons, fault_words, place_text, Begins, IsNewName, IsReason};
 ghost use Rattle.desk_app.specs.Runs.{naming};
 
 use crate::guesses::guess;
@@ -19,26 +19,44 @@ use crate::undone::{Place, Why};
 use desk_core::{Names, Request, Shop};
 use desk_ends::{escaped, guide_to};
 use desk_wire::{ImportKind, What, WireFault, WrongField, table_of, wrong_field};
-use list_core::{request_facts, row_fact};
+use list_core::{NearNames, request_facts, row_fact};
 use part_core::{Id, Refusal};
 use report_core::ReportName;
 use std::alloc::{AllocError, Global};
 
-/// What the word means, and what can be done, to the end of the line.
-fn meaning(alloc: Global, word: &str) -> Result<String, AllocError> {
+/// What a line of the guide ends with that is of use only where rows may not be said by what they are called.
+const OF_NAMES: &str = " To call rows by names, add --names.";
+
+/// A line of the guide, for whom names may be said or may not.
+fn guide_line(line: &str, named: bool) -> &str {
+    let line = line.trim();
+    if named {
+        line.strip_suffix(OF_NAMES).unwrap_or(line)
+    } else {
+        line
+    }
+}
+
+/// What the word means, and what can be done, to the end of the line, for whom names may be said or may not.
+fn meaning_to(alloc: Global, word: &str, named: bool) -> Result<String, AllocError> {
     let mut text = String::from_str(alloc, ".")?;
     if let Some(entry) = guide_to(word) {
         for line in entry.lines().skip(1) {
             text.push_str(" ")?;
-            text.push_str(line.trim())?;
+            text.push_str(guide_line(line, named))?;
         }
     }
     text.push_str("\n")?;
     Ok(text)
 }
 
+/// What the word means, and what can be done, to the end of the line.
+pub(crate) fn meaning(alloc: Global, word: &str) -> Result<String, AllocError> {
+    meaning_to(alloc, word, false)
+}
+
 /// The text with more behind it.
-fn followed(mut text: String, more: &str) -> Result<String, AllocError>
+pub(crate) fn followed(mut text: String, more: &str) -> Result<String, AllocError>
     ensures { (front : List ℕ) → string_bytes text ≡ front
         → IfOk result (λ told. Begins front (string_bytes told)) }
 {
@@ -119,7 +137,7 @@ fn fault_words(
 }
 
 /// The same as a line for a person's terminal, which has nothing from a file or a line that a terminal would act on.
-fn told_fault(
+pub(crate) fn told_fault(
     alloc: Global,
     place: &str,
     what: &What,
@@ -155,14 +173,16 @@ fn guess_text(
     }
 }
 
-/// What stands behind a fault of a line: a word that may have been meant, and what the fault means.
+/// What stands behind a fault of a line in which rows may be named or may not: a word that may have been meant, and what the
+/// fault means.
 fn behind_fault(
     alloc: Global,
     what: &What,
     field: Option<&WrongField>,
+    named: bool,
 ) -> Result<String, AllocError> {
     let mut text = guess_text(alloc, what, field)?;
-    text.push_str(meaning(alloc, what.name())?.as_str())?;
+    text.push_str(meaning_to(alloc, what.name(), named)?.as_str())?;
     Ok(text)
 }
 
@@ -182,7 +202,7 @@ pub(crate) fn why_faulty_line<N: Names>(
     let field = wrong_field(alloc, names, line)?;
     let place = place_text(alloc, Place::Line(fault.line))?;
     let text = told_fault(alloc, place.as_str(), &fault.what, &field)?;
-    let more = behind_fault(alloc, &fault.what, field.as_ref())?;
+    let more = behind_fault(alloc, &fault.what, field.as_ref(), names.is_some())?;
     followed(text, more.as_str())
 }
 
@@ -222,8 +242,38 @@ fn why_faulty_file(
     followed(text, more.as_str())
 }
 
-/// The line that a person is told, with its LF. An error is one of memory.
-pub fn reason(alloc: Global, shop: &Shop, why: &Why<'_>) -> Result<String, AllocError>
+/// What is told of the name that a request gave: nothing where no row was made since the names were filed, as when the
+/// request is one that was done before.
+fn new_name_note(
+    alloc: Global,
+    shop: &Shop,
+    names: &NearNames,
+    place: Place,
+    request: &Request,
+) -> Result<String, AllocError>
+    ensures { IfOk result (λ text. IsNewName (state_of shop.now) place request.now
+        (string_bytes text)) }
+{
+    if !names.is_behind(shop) {
+        return Ok(String::new(alloc));
+    }
+    let Some(note) = names.note(alloc, shop, &request.command)? else {
+        return Ok(String::new(alloc));
+    };
+    let place = place_text(alloc, place)?;
+    let mut text = format!(in alloc; "{place}: note: {note}")?;
+    text.push_str("\n")?;
+    Ok(text)
+}
+
+/// The line that a person is told, with its LF, or nothing. Names that may be near another are those that were filed. An
+/// error is one of memory.
+pub fn reason(
+    alloc: Global,
+    shop: &Shop,
+    names: &NearNames,
+    why: &Why<'_>,
+) -> Result<String, AllocError>
     ensures { IfOk result (λ text. IsReason (state_of shop.now) why.now (string_bytes text)) }
 {
     match why {
@@ -236,6 +286,7 @@ pub fn reason(alloc: Global, shop: &Shop, why: &Why<'_>) -> Result<String, Alloc
         Why::FaultyLine { names, line, fault } => {
             why_faulty_line(alloc, names_of(shop, *names), line, fault)
         }
+        Why::NewName { place, request } => new_name_note(alloc, shop, names, *place, request),
         Why::FaultyFile { kind, fault, field } => why_faulty_file(alloc, *kind, fault, field),
     }
 }

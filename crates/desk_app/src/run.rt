@@ -18,6 +18,7 @@ ghost use Rattle.desk_store.specs.StateTables.{TablesAre};
 ghost use Rattle.desk_ends.specs.declared.end.Stop.{Stop};
 ghost use Rattle.desk_app.specs.Answered.{AnsweredIsKept};
 ghost use Rattle.desk_app.specs.Cuts.{has_end, unread};
+ghost use Rattle.desk_app.specs.Journal.{journalled};
 ghost use Rattle.desk_ends.specs.Ends.{end_of};
 ghost use Rattle.desk_app.specs.LineRequests.{LinesAloneAsk, LinesAreRequests};
 ghost use Rattle.report_core.specs.Reports.{report_lines};
@@ -28,7 +29,9 @@ ghost use Rattle.desk_app.specs.Runs.{EndsOpen, Finished, Gathered, Halts, IsOfB
 ghost use Rattle.desk_app.specs.Runs.{StaysOpen, Stopped, naming};
 
 use crate::books::Books;
+use crate::journal::journalled;
 use crate::lines::Lines;
+use crate::options::LineOptions;
 use crate::undone::{Place, Why};
 use desk_core::{Request, Shop};
 use desk_ends::{RunEnd, Stop, Told};
@@ -72,10 +75,13 @@ pub(crate) fn tell_outcome<B: Books>(
         (step (B.state_in books.old) request.now) (B.reasons_in books.old) (B.reasons_in books.new)) }
 {
     match books.run_grouped(request) {
-        Ok(answer) => Ok(Told {
-            text: answer_text(alloc, &answer)?,
-            fine: true,
-        }),
+        Ok(answer) => {
+            let _ = books.explain(&Why::NewName { place, request });
+            Ok(Told {
+                text: answer_text(alloc, &answer)?,
+                fine: true,
+            })
+        }
         Err(Fault::Refused(refusal)) => {
             let _ = books.explain(&Why::Refused {
                 place,
@@ -182,6 +188,25 @@ pub(crate) fn named_shop<B: Books>(books: &B, names: bool) -> Result<Option<&Sho
     Ok(Some(shop))
 }
 
+/// The request as it is to be done on the books: where the journal is kept and it has no key, it gets one.
+fn journalled_in<B: Books>(
+    alloc: Global,
+    books: &B,
+    journal: bool,
+    request: Request,
+) -> Result<Request, Stop>
+    requires { B.are_grouping books.now }
+    ensures given { IfOk result (λ given.
+        given ≡ journalled journal (B.state_in books.now) request) }
+    ensures stop { IfErr result IsOfBooks }
+    ensures closed { result ≡ Err Stop.Store → IsSome (B.failure_of books.now) }
+{
+    match books.shop() {
+        Ok(shop) => Ok(journalled(alloc, journal, shop, request)?),
+        Err(_closed) => Err(Stop::Store),
+    }
+}
+
 /// Runs one line of a group, which isn't blank, and tells what is answered. Names of rows are looked up as they are before
 /// the line.
 #[tactic(auto, unfolding(crate::specs::Runs::line_step))]
@@ -190,28 +215,31 @@ fn tell<B: Books>(
     books: &mut B,
     number: u64,
     line: &[u8],
-    names: bool,
+    options: LineOptions,
 ) -> Result<Told, Stop>
     requires filled { is_blank line.now ≡ false }
     requires grouping { B.are_grouping books.old }
-    ensures ok { IfOk result (λ told. line_step names (B.state_in books.old) number line.now
+    ensures ok { IfOk result (λ told. line_step options (B.state_in books.old) number line.now
         ≡ (B.state_in books.new, string_bytes told.text, told.fine)) }
-    ensures cut { IfErr result (λ stop. CutLine names stop (B.state_in books.old)
+    ensures cut { IfErr result (λ stop. CutLine options stop (B.state_in books.old)
         (B.state_in books.new) number line.now) }
     ensures grouping { B.are_grouping books.new }
     ensures stays_open { StaysOpen (B.failure_of books.old) (B.failure_of books.new) result }
     ensures was_open { B.failure_of books.new ≡ None → B.failure_of books.old ≡ None }
     ensures left { (trees : Trees) → B.may_leave books.new trees → B.may_leave books.old trees }
-    ensures reasons { OnOk result (NotesLine names (B.state_in books.old) number line.now
+    ensures reasons { OnOk result (NotesLine options (B.state_in books.old) number line.now
         (B.reasons_in books.old) (B.reasons_in books.new)) }
 {
-    let named = named_shop(books, names)?;
+    let named = named_shop(books, options.names)?;
     match read_line(alloc, named, line, number) {
-        Ok(Wish::Request(request)) => tell_outcome(alloc, books, Place::Line(number), &request),
+        Ok(Wish::Request(request)) => {
+            let request = journalled_in(alloc, books, options.journal, request)?;
+            tell_outcome(alloc, books, Place::Line(number), &request)
+        }
         Ok(Wish::Report { name, of }) => tell_report(alloc, books, number, name, of),
         Err(ReadError::Wrong(fault)) => {
             let _ = books.explain(&Why::FaultyLine {
-                names,
+                names: options.names,
                 line,
                 fault: &fault,
             });
@@ -231,17 +259,18 @@ fn add_line<B: Books>(
     books: &mut B,
     number: u64,
     line: &[u8],
-    names: bool,
+    options: LineOptions,
     text: &mut Vec<u8>,
 ) -> Result<bool, Stop>
     requires short { length line.now ≤ 65537 }
     requires grouping { B.are_grouping books.old }
-    ensures fine { IfOk result (λ fine. fine ≡ is_fine names (B.state_in books.old) number line.now) }
+    ensures fine { IfOk result (λ fine.
+        fine ≡ is_fine options (B.state_in books.old) number line.now) }
     ensures ok { OnOk result (B.state_in books.new
-        ≡ line_after names (B.state_in books.old) number line.now) }
+        ≡ line_after options (B.state_in books.old) number line.now) }
     ensures text { OnOk result (text.new.items ≡ text.old.items
-        ++ line_out names (B.state_in books.old) number line.now) }
-    ensures cut { IfErr result (λ stop. CutLine names stop (B.state_in books.old)
+        ++ line_out options (B.state_in books.old) number line.now) }
+    ensures cut { IfErr result (λ stop. CutLine options stop (B.state_in books.old)
         (B.state_in books.new) number line.now) }
     ensures unanswered { OnErr result (text.new.items ≡ text.old.items) }
     ensures grouping { B.are_grouping books.new }
@@ -251,13 +280,13 @@ fn add_line<B: Books>(
     ensures quiet { is_blank line.now ≡ true
         → OnOk result (B.reasons_in books.new ≡ B.reasons_in books.old) }
     ensures reasons { is_blank line.now ≡ false
-        → OnOk result (NotesLine names (B.state_in books.old) number line.now
+        → OnOk result (NotesLine options (B.state_in books.old) number line.now
         (B.reasons_in books.old) (B.reasons_in books.new)) }
 {
     if is_blank(line) {
         return Ok(true);
     }
-    let told = tell(alloc, books, number, line, names)?;
+    let told = tell(alloc, books, number, line, options)?;
     text.extend_from_slice(told.text.as_bytes())?;
     Ok(told.fine)
 }
@@ -333,17 +362,17 @@ fn gather<B: Books, R: Read, W: Write>(
     reader: &mut R,
     writer: &mut W,
     books: &mut B,
-    names: bool,
+    options: LineOptions,
     stop: bool,
     text: &mut Vec<u8>,
 ) -> Result<bool, Stop>
     requires kept { B.are_kept books.old }
     requires none { text.old.items ≡ [] }
-    ensures done { IfOk result (λ all. Gathered names stop (R.remaining reader.old)
+    ensures done { IfOk result (λ all. Gathered options stop (R.remaining reader.old)
         (W.contents writer.old) (W.contents writer.new) (B.state_in books.old)
         (B.state_in books.new) all text.new.items
         (λ trees. (B.failure_of books.old ≡ None) × B.may_leave books.new trees)) }
-    ensures stopped { IfErr result (λ why. Halts names stop why (R.remaining reader.old)
+    ensures stopped { IfErr result (λ why. Halts options stop why (R.remaining reader.old)
         (W.contents writer.old) (W.contents writer.new) (B.state_in books.old)
         (B.state_in books.new) text.new.items
         (λ trees. (B.failure_of books.old ≡ None) × B.may_leave books.new trees)) }
@@ -362,7 +391,7 @@ fn gather<B: Books, R: Read, W: Write>(
         if !lines.next_line(reader, &mut line)? {
             return Ok(all);
         }
-        let fine = add_line(alloc, books, number, &line, names, text)?;
+        let fine = add_line(alloc, books, number, &line, options, text)?;
         all = all && fine;
         if stop && !all {
             return Ok(false);
@@ -378,22 +407,22 @@ fn answer_all<B: Books, R: Read, W: Write>(
     reader: &mut R,
     writer: &mut W,
     books: &mut B,
-    names: bool,
+    options: LineOptions,
     stop: bool,
 ) -> Result<bool, Stop>
     requires { B.are_kept books.old }
-    ensures done { IfOk result (λ all. Finished names stop (R.remaining reader.old)
+    ensures done { IfOk result (λ all. Finished options stop (R.remaining reader.old)
         (W.contents writer.old) (W.contents writer.new) (B.state_in books.old)
         (B.state_in books.new) all) }
     ensures stopped { IfErr result (λ why.
-        Stopped names stop why (R.remaining reader.old) (W.contents writer.old)
+        Stopped options stop why (R.remaining reader.old) (W.contents writer.old)
         (W.contents writer.new) (B.state_in books.old) (B.state_in books.new)
         (λ trees. (B.failure_of books.old ≡ None) × B.may_leave books.new trees)) }
     ensures kept { B.are_kept books.new }
     ensures ends_open { EndsOpen (B.failure_of books.old) (B.failure_of books.new) result }
 {
     let mut text = Vec::new(alloc);
-    match gather(alloc, reader, writer, books, names, stop, &mut text) {
+    match gather(alloc, reader, writer, books, options, stop, &mut text) {
         Ok(all) => {
             settle(writer, books, &mut text)?;
             Ok(all)
@@ -414,22 +443,22 @@ fn answer_all<B: Books, R: Read, W: Write>(
 /// Answers each line of the reader, one line each but for blank lines. However the run ends, what was answered is kept
 /// (`answered`): so it is where a run is stopped between two of its calls, since a writer may fail at any of them, and so
 /// may a disk, and then the run ends there. With `names` a line may say what a row is called in the place of its number: a
-/// name is looked up as the line comes, so it may be one that a line before it gave. With `stop` the run ends behind
-/// the first line that is refused or faulty, whose answer is the last.
+/// name is looked up as the line comes, so it may be one that a line before it gave. With `journal` a request without a
+/// key gets one. With `stop` the run ends behind the first line that is refused or faulty, whose answer is the last.
 pub fn run_lines<B: Books, R: Read, W: Write>(
     alloc: Global,
     reader: &mut R,
     writer: &mut W,
     books: &mut B,
-    names: bool,
+    options: LineOptions,
     stop: bool,
 ) -> RunEnd
     requires { B.are_kept books.old }
     ensures done { (all : Bool) → result ≡ RunEnd.Done all
-        → Finished names stop (R.remaining reader.old) (W.contents writer.old)
+        → Finished options stop (R.remaining reader.old) (W.contents writer.old)
         (W.contents writer.new) (B.state_in books.old) (B.state_in books.new) all }
     ensures stopped { (why : Stop) → result ≡ end_of why
-        → Stopped names stop why (R.remaining reader.old) (W.contents writer.old)
+        → Stopped options stop why (R.remaining reader.old) (W.contents writer.old)
         (W.contents writer.new) (B.state_in books.old) (B.state_in books.new)
         (λ trees. (B.failure_of books.old ≡ None) × B.may_leave books.new trees) }
     ensures kept { B.are_kept books.new }
@@ -439,11 +468,11 @@ pub fn run_lines<B: Books, R: Read, W: Write>(
     ensures closed { result ≡ RunEnd.Store → IsSome (B.failure_of books.new) }
     ensures left { result ≢ RunEnd.Store → (trees : Trees) → B.may_leave books.new trees
         → TablesAre (B.state_in books.new) trees }
-    ensures answered { AnsweredIsKept names stop (R.remaining reader.old) (W.contents writer.old)
+    ensures answered { AnsweredIsKept options stop (R.remaining reader.old) (W.contents writer.old)
         (W.contents writer.new) (B.state_in books.old)
         (λ trees. (B.failure_of books.old ≡ None) × B.may_leave books.new trees) }
 {
-    match answer_all(alloc, reader, writer, books, names, stop) {
+    match answer_all(alloc, reader, writer, books, options, stop) {
         Ok(all) => RunEnd::Done(all),
         Err(why) => why.end(),
     }

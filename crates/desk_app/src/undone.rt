@@ -1,4 +1,4 @@
-//! Why a line of a run, or a row of an import, wasn't done.
+//! Why a line of a run, or a row of an import, wasn't done, or what is told of it though it was.
 
 use desk_core::Request;
 use desk_wire::{ImportKind, WireFault, WrongField};
@@ -14,7 +14,7 @@ pub enum Place {
     Row(u64),
 }
 
-/// Why something wasn't done, with what was read of it.
+/// Why something wasn't done, with what was read of it; or what was done of which a person may have meant something else.
 #[derive(Clone, Copy)]
 pub enum Why<'a> {
     /// The request was refused so.
@@ -34,6 +34,11 @@ pub enum Why<'a> {
         names: bool,
         line: &'a [u8],
         fault: &'a WireFault,
+    },
+    /// The request was done, and it may have given a name that is near another, or blank.
+    NewName {
+        place: Place,
+        request: &'a Request,
     },
     /// The file has this fault, in this field of a record, where it is in a field.
     FaultyFile {

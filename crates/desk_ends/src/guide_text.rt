@@ -679,12 +679,16 @@ Full
 
 faults
   TooLong: The line has more than 65,536 bytes; or the file, or with run --check all lines together,
-    more than 16,777,216. Send several requests, or cut the file up: its rows keep their numbers.
-    Send the lines in several runs, or without --check.
-  NotJson: The line is no JSON, or not UTF-8. Look for a quote, a comma or a brace that is missing.
+    more than 16,777,216. Send several requests, or cut the file up: its rows keep their numbers, if
+    they have some. Where rows are known by their place, give each piece a document of its own. Send
+    the lines in several runs, or without --check.
+  NotJson: The line is no JSON, or not UTF-8; a number in it is too large for a double, as 1e400; a
+    text has one half of a surrogate pair, as \ud800; or 128 arrays and objects stand in one
+    another. Look for a quote, a comma or a brace that is missing. Write a number with fewer digits,
+    a character as itself and not as \u, and fewer braces in one another.
   NotObject: The line is JSON, but doesn't stand in braces. Write it as {"do":..}.
-  NoField: A field is missing: do, day, or one that the command needs. Add it. docs/MACHINE.md has
-    the fields of each command.
+  NoField: A field is missing: do, day, or one that the command needs. In a file its cell is empty.
+    Add it. docs/MACHINE.md has the fields of each command.
   WrongType: A field has something of another kind: a text where a number belongs, a number with a
     sign or a point, a name without --names. In a file it is a number that isn't written in digits.
     Write the field as its kind says in docs/MACHINE.md. To call rows by names, add --names.
@@ -706,27 +710,35 @@ faults
     first. A shelf needs the way to it, as ["Store","Shelf A"].
   Ambiguous: Several rows are called so, as the request of that key made several. Say a piece by its
     part and serial, or the row by its number.
-  Csv: The record has more or fewer fields than the header, or isn't UTF-8. Look for a comma or a
-    quote too many or too few. Save the file as UTF-8.
-  Header: The first record isn't the header of this kind of file. Write
-    number,line,location,quantity,batch,serials for receipts, number,item,quantity for counts.
+  Csv: The record has more or fewer fields than the header, or isn't UTF-8. With --loose also: a
+    quote in it is open at the end of the file, so that all records behind it are lost in it; or
+    another separator stands in it than in the header. Look for a comma or a quote too many or too
+    few. Save the file as UTF-8, with one separator throughout.
+  Header: The first record isn't the header of this kind of file: of a command's, or with --loose,
+    it lacks a column that is needed, or has one twice. A quote in it that nothing closes may hide
+    columns. Write number,line,location,quantity,batch,serials for receipts, number,item,quantity
+    for counts; for a command head each column as its field, or say how it is headed by --column.
+    Save the file as UTF-8: of a command's that begins as UTF-16 does --explain says so.
 
 TooLong
   The line has more than 65,536 bytes; or the file, or with run --check all lines together, more
     than 16,777,216.
-  Send several requests, or cut the file up: its rows keep their numbers. Send the lines in several
+  Send several requests, or cut the file up: its rows keep their numbers, if they have some. Where
+    rows are known by their place, give each piece a document of its own. Send the lines in several
     runs, or without --check.
 
 NotJson
-  The line is no JSON, or not UTF-8.
-  Look for a quote, a comma or a brace that is missing.
+  The line is no JSON, or not UTF-8; a number in it is too large for a double, as 1e400; a text has
+    one half of a surrogate pair, as \ud800; or 128 arrays and objects stand in one another.
+  Look for a quote, a comma or a brace that is missing. Write a number with fewer digits, a
+    character as itself and not as \u, and fewer braces in one another.
 
 NotObject
   The line is JSON, but doesn't stand in braces.
   Write it as {"do":..}.
 
 NoField
-  A field is missing: do, day, or one that the command needs.
+  A field is missing: do, day, or one that the command needs. In a file its cell is empty.
   Add it. docs/MACHINE.md has the fields of each command.
 
 WrongType
@@ -773,12 +785,18 @@ Ambiguous
   Say a piece by its part and serial, or the row by its number.
 
 Csv
-  The record has more or fewer fields than the header, or isn't UTF-8.
-  Look for a comma or a quote too many or too few. Save the file as UTF-8.
+  The record has more or fewer fields than the header, or isn't UTF-8. With --loose also: a quote in
+    it is open at the end of the file, so that all records behind it are lost in it; or another
+    separator stands in it than in the header.
+  Look for a comma or a quote too many or too few. Save the file as UTF-8, with one separator
+    throughout.
 
 Header
-  The first record isn't the header of this kind of file.
-  Write number,line,location,quantity,batch,serials for receipts, number,item,quantity for counts."#;
+  The first record isn't the header of this kind of file: of a command's, or with --loose, it lacks
+    a column that is needed, or has one twice. A quote in it that nothing closes may hide columns.
+  Write number,line,location,quantity,batch,serials for receipts, number,item,quantity for counts;
+    for a command head each column as its field, or say how it is headed by --column. Save the file
+    as UTF-8: of a command's that begins as UTF-16 does --explain says so."#;
 
 /// The names of the commands.
 pub const COMMANDS: [&str; 43] = [

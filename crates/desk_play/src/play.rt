@@ -8,7 +8,7 @@ ghost use Rattle.desk_core.specs.Machine.{IsSoundState};
 ghost use Rattle.desk_core.specs.ShopView.{state_of};
 ghost use Rattle.desk_store.specs.Desks.{IsDesk};
 
-use desk_app::{Books, run_lines};
+use desk_app::{Books, LineOptions, run_lines};
 use desk_core::Shop;
 use desk_ends::RunEnd;
 use desk_store::Desk;
@@ -37,7 +37,7 @@ fn runs_on<B: Books>(alloc: Global, books: &mut B, lines: &str, sink: &mut Sink)
     ensures { B.are_kept books.new }
 {
     let mut reader = lines.as_bytes();
-    let end = run_lines(alloc, &mut reader, sink, books, false, false);
+    let end = run_lines(alloc, &mut reader, sink, books, LineOptions::PLAIN, false);
     holds(matches!(end, RunEnd::Done(_)), "the run stops")
 }
 

@@ -4,7 +4,7 @@
 ghost use Rattle.sqlite.specs.Files.{over_files};
 ghost use Rattle.desk_store.specs.Desks.{IsDesk};
 
-use desk_app::{Books, close_desk, run_lines};
+use desk_app::{Books, LineOptions, close_desk, run_lines};
 use desk_core::Shop;
 use desk_ends::RunEnd;
 use desk_play::imports::imports;
@@ -199,7 +199,14 @@ fn answered<D: Disk + Drop>(
     let end = match sending {
         Sending::Lines(step) => {
             let mut source = Source::new(keyed.text.as_bytes(), step);
-            run_lines(alloc, &mut source, &mut sink, desk, false, false)
+            run_lines(
+                alloc,
+                &mut source,
+                &mut sink,
+                desk,
+                LineOptions::PLAIN,
+                false,
+            )
         }
         Sending::Receipts => received(alloc, desk, keyed.text.as_str(), &mut sink)?,
     };

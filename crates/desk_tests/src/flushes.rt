@@ -1,5 +1,5 @@
 //! What a writer sees of the answers.
-use desk_app::run_lines;
+use desk_app::{LineOptions, run_lines};
 use desk_ends::RunEnd;
 use sqlite::Connection;
 use std::io::{self, Write};
@@ -39,7 +39,14 @@ fn flushes_each_answer(rt: HostRuntime) -> Result<(), Fail> {
         shown: Vec::new(alloc),
         flushes: 0,
     };
-    let end = run_lines(alloc, &mut reader, &mut writer, &mut desk, false, false);
+    let end = run_lines(
+        alloc,
+        &mut reader,
+        &mut writer,
+        &mut desk,
+        LineOptions::PLAIN,
+        false,
+    );
     assert_eq!(rt; end, RunEnd::Done(false));
     assert_eq!(rt; writer.flushes, 2);
     let wanted =

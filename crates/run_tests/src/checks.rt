@@ -1,5 +1,5 @@
 //! Runs that look at all lines before the first is run.
-use desk_app::run_checked;
+use desk_app::{LineOptions, run_checked};
 use desk_core::Shop;
 use desk_ends::RunEnd;
 use part_core::Limits;
@@ -49,7 +49,14 @@ fn nothing_is_run_of_a_faulty_text(rt: HostRuntime) -> Result<(), Fail> {
     let alloc = rt.alloc();
     let mut shop = Shop::new(alloc, Limits::LARGEST);
     let mut sink = Sink::new(alloc, 4096);
-    let end = run_checked(alloc, FAULTY.as_bytes(), &mut sink, &mut shop, true, false);
+    let end = run_checked(
+        alloc,
+        FAULTY.as_bytes(),
+        &mut sink,
+        &mut shop,
+        LineOptions::NAMED,
+        false,
+    );
     holds(end == RunEnd::Done(false), "a faulty text ends otherwise")?;
     holds(
         sink.bytes.as_slice() == FAULTS.as_bytes(),
@@ -61,7 +68,7 @@ fn nothing_is_run_of_a_faulty_text(rt: HostRuntime) -> Result<(), Fail> {
         READABLE.as_bytes(),
         &mut sink,
         &mut shop,
-        true,
+        LineOptions::NAMED,
         false,
     );
     holds(end == RunEnd::Done(false), "a refusal ends otherwise")?;
@@ -76,7 +83,14 @@ fn a_text_is_run_to_its_first_refusal(rt: HostRuntime) -> Result<(), Fail> {
     let alloc = rt.alloc();
     let mut shop = Shop::new(alloc, Limits::LARGEST);
     let mut sink = Sink::new(alloc, 4096);
-    let end = run_checked(alloc, READABLE.as_bytes(), &mut sink, &mut shop, true, true);
+    let end = run_checked(
+        alloc,
+        READABLE.as_bytes(),
+        &mut sink,
+        &mut shop,
+        LineOptions::NAMED,
+        true,
+    );
     holds(end == RunEnd::Done(false), "a refusal ends otherwise")?;
     holds(
         sink.bytes.as_slice() == FIRST_ANSWERS.as_bytes(),
@@ -94,7 +108,7 @@ fn a_name_is_a_fault_where_none_may_be_said(rt: HostRuntime) -> Result<(), Fail>
         READABLE.as_bytes(),
         &mut sink,
         &mut shop,
-        false,
+        LineOptions::PLAIN,
         false,
     );
     holds(end == RunEnd::Done(false), "a faulty text ends otherwise")?;

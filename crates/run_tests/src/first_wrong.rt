@@ -1,5 +1,5 @@
 //! Runs that stop at the first line that is refused or faulty, and runs of the same lines that don't.
-use desk_app::run_lines;
+use desk_app::{LineOptions, run_lines};
 use desk_core::Shop;
 use desk_ends::RunEnd;
 use part_core::Limits;
@@ -62,14 +62,28 @@ fn runs(
     let mut shop = Shop::new(alloc, Limits::LARGEST);
     let mut source = Source::new(lines.as_bytes(), step);
     let mut sink = Sink::new(alloc, 4096);
-    let ended = run_lines(alloc, &mut source, &mut sink, &mut shop, false, stop);
+    let ended = run_lines(
+        alloc,
+        &mut source,
+        &mut sink,
+        &mut shop,
+        LineOptions::PLAIN,
+        stop,
+    );
     holds(ended == end, "another end")?;
     holds(
         sink.bytes.as_slice() == told[0].as_bytes(),
         "another answer",
     )?;
     let (mut next, mut sink) = (NEXT.as_bytes(), Sink::new(alloc, 4096));
-    run_lines(alloc, &mut next, &mut sink, &mut shop, false, false);
+    run_lines(
+        alloc,
+        &mut next,
+        &mut sink,
+        &mut shop,
+        LineOptions::PLAIN,
+        false,
+    );
     holds(
         sink.bytes.as_slice() == told[1].as_bytes(),
         "another answer to what comes next",

@@ -3,7 +3,9 @@ ghost use Rattle.std.specs.Prelude.{IfOk};
 ghost use Rattle.desk_core.specs.Machine.{IsSoundState};
 ghost use Rattle.desk_core.specs.ShopView.{state_of};
 
-use desk_app::{Books, ExplainedBooks, explain_faults, import_file, run_in_memory, run_lines};
+use desk_app::{
+    Books, ExplainedBooks, LineOptions, explain_faults, import_file, run_in_memory, run_lines,
+};
 use desk_core::Shop;
 use desk_ends::{RunEnd, guide_to};
 use desk_wire::ImportKind;
@@ -32,7 +34,7 @@ const TOLD: [&str; 5] = [
     "line 5: NoSuch: of 9 (no such row). A number, or a key, says no row",
     "line 6: flags: BadWord: [\"purchasable\"] (did you mean purchaseable?). There is no such",
     "line 7: location: NoName: \"B\". Nothing is called so.",
-    "line 8: NotJson. The line is no JSON, or not UTF-8.",
+    "line 8: NotJson. The line is no JSON, or not UTF-8",
 ];
 
 /// The rows of a stocktake, of which one is refused, with columns in another order, and a row that wasn't counted.
@@ -65,7 +67,7 @@ fn explains_lines<B: Books + Drop>(alloc: Global, books: B, step: usize, told: &
         &mut source,
         &mut answers,
         &mut explained,
-        true,
+        LineOptions::NAMED,
         false,
     );
     explained.into_books();
@@ -91,11 +93,25 @@ fn tells_nobody_who_does_not_ask(rt: HostRuntime) -> Result<(), Fail> {
     let (mut answers, mut told) = (Sink::new(alloc, 4096), Sink::new(alloc, 4096));
     let mut source = Source::new(LINES.as_bytes(), 4096);
     let nobody = None::<&mut Sink>;
-    let end = run_in_memory(alloc, &mut source, &mut answers, nobody, true, false);
+    let end = run_in_memory(
+        alloc,
+        &mut source,
+        &mut answers,
+        nobody,
+        LineOptions::NAMED,
+        false,
+    );
     holds(end == RunEnd::Done(false), "another end")?;
     let mut source = Source::new(LINES.as_bytes(), 4096);
     let mut again = Sink::new(alloc, 4096);
-    let end = run_in_memory(alloc, &mut source, &mut again, Some(&mut told), true, false);
+    let end = run_in_memory(
+        alloc,
+        &mut source,
+        &mut again,
+        Some(&mut told),
+        LineOptions::NAMED,
+        false,
+    );
     holds(end == RunEnd::Done(false), "another end")?;
     holds(
         answers.bytes.as_slice() == again.bytes.as_slice(),
@@ -119,7 +135,14 @@ fn stocked(alloc: Global) -> Result<Shop, Fail>
     let mut shop = Shop::new(alloc, Limits::LARGEST);
     let mut source = Source::new(LINES.as_bytes(), 4096);
     let mut answers = Sink::new(alloc, 4096);
-    run_lines(alloc, &mut source, &mut answers, &mut shop, true, true);
+    run_lines(
+        alloc,
+        &mut source,
+        &mut answers,
+        &mut shop,
+        LineOptions::NAMED,
+        true,
+    );
     Ok(shop)
 }
 

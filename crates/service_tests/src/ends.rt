@@ -5,7 +5,7 @@ ghost use Rattle.sqlite.specs.Held.{state};
 ghost use Rattle.sqlite.specs.State.{HasCleanDisk};
 
 use crate::requests::{DELIVERED, FIRST};
-use desk_app::{Books, BooksService, import_file, read_file, run_lines};
+use desk_app::{Books, BooksService, LineOptions, import_file, read_file, run_lines};
 use desk_ends::RunEnd;
 use desk_http::Served;
 use desk_play::ask::ask;
@@ -143,12 +143,12 @@ fn comes_in<R: Read, B: Books + Drop>(
     requires { B.are_kept books }
 {
     if way == Way::Request {
-        let mut service = BooksService::new(books, false, None);
+        let mut service = BooksService::new(books, LineOptions::PLAIN, None);
         let served = ask(alloc, reader, sink, &mut service);
         return Ok((end_of_connection(served), service.books));
     }
     let end = if way == Way::Lines {
-        run_lines(alloc, reader, sink, &mut books, false, false)
+        run_lines(alloc, reader, sink, &mut books, LineOptions::PLAIN, false)
     } else {
         delivers(alloc, reader, sink, &mut books)?
     };

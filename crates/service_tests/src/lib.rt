@@ -1,11 +1,13 @@
-//! Deliveries and stocktakes, imported from a file or sent by HTTP, other requests of HTTP, what a page reads, and rows that
-//! are said by what they are called, on a shop and on a desk.
+//! Deliveries and stocktakes, imported from a file or sent by HTTP, other requests of HTTP, what a page reads, files of
+//! commands, and rows that are said by what they are called, on a shop and on a desk.
 #![tactic(auto)]
 
 #[cfg(test)]
 mod ends;
 #[cfg(test)]
 mod imports;
+#[cfg(test)]
+mod journal;
 #[cfg(test)]
 mod loopback;
 #[cfg(test)]
@@ -14,3 +16,5 @@ mod names;
 mod readings;
 #[cfg(test)]
 mod requests;
+#[cfg(test)]
+mod sheets;

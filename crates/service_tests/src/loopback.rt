@@ -1,6 +1,6 @@
 //! Clients on the loopback, over sockets: each has asked before the first is answered.
 use crate::requests::{FIRST, LINES, NOTHING};
-use desk_app::BooksService;
+use desk_app::{BooksService, LineOptions};
 use desk_core::Shop;
 use desk_http::{Access, Clients, Site, serve_connections};
 use part_core::Limits;
@@ -31,7 +31,7 @@ fn serve_loopback(rt: HostRuntime) -> Result<(), Fail> {
     let books = Shop::new(alloc, Limits::LARGEST);
     let mut service = BooksService {
         books,
-        names: false,
+        options: LineOptions::PLAIN,
         tag: None,
     };
     let listener = TcpListener::bind(&rt, (Ipv4Addr::LOCALHOST, 0))?;

@@ -1,6 +1,6 @@
 //! Rows that are said by what they are called, in lines, in a file and by HTTP, where that is allowed and where it isn't.
 use crate::requests::asks_all;
-use desk_app::{BooksService, import_file, run_lines};
+use desk_app::{BooksService, LineOptions, import_file, run_lines};
 use desk_core::Shop;
 use desk_ends::RunEnd;
 use desk_play::play::plays_on;
@@ -48,11 +48,11 @@ const NUMBERED: &str = r#"{"entries":0,"ids":[1]}
 "#;
 
 /// Runs the lines on a desk with nothing in it, some bytes at a time.
-fn runs(alloc: Global, names: bool, step: usize, answers: &str) -> Result<(), Fail> {
+fn runs(alloc: Global, options: LineOptions, step: usize, answers: &str) -> Result<(), Fail> {
     let mut desk = created(alloc, Connection::open_in_memory(alloc)?)?;
     let mut source = Source::new(LINES.as_bytes(), step);
     let mut sink = Sink::new(alloc, step);
-    let end = run_lines(alloc, &mut source, &mut sink, &mut desk, names, false);
+    let end = run_lines(alloc, &mut source, &mut sink, &mut desk, options, false);
     holds(end == RunEnd::Done(false), "another end")?;
     holds(
         sink.bytes.as_slice() == answers.as_bytes(),
@@ -64,8 +64,8 @@ fn runs(alloc: Global, names: bool, step: usize, answers: &str) -> Result<(), Fa
 fn lines_with_names(rt: HostRuntime) -> Result<(), Fail> {
     let alloc = rt.alloc();
     for step in [4096, 1] {
-        runs(alloc, true, step, NAMED)?;
-        runs(alloc, false, step, NUMBERED)?;
+        runs(alloc, LineOptions::NAMED, step, NAMED)?;
+        runs(alloc, LineOptions::PLAIN, step, NUMBERED)?;
     }
     Ok(())
 }
@@ -135,6 +135,6 @@ fn requests_with_names(rt: HostRuntime) -> Result<(), Fail> {
     let alloc = rt.alloc();
     let mut books = Shop::new(alloc, Limits::LARGEST);
     plays_on(alloc, &mut books, ORDERED, ORDERED_OUT)?;
-    let mut service = BooksService::new(books, true, None);
+    let mut service = BooksService::new(books, LineOptions::NAMED, None);
     asks_all(alloc, &mut service, 1, REQUESTS.as_slice())
 }

@@ -2,7 +2,7 @@
 ghost use Rattle.desk_core.specs.Machine.{IsSoundState};
 ghost use Rattle.desk_core.specs.ShopView.{state_of};
 
-use desk_app::{Books, BooksService};
+use desk_app::{Books, BooksService, LineOptions};
 use desk_core::Shop;
 use desk_http::{NoReply, Outcome, Reply, Service, Tag};
 use part_core::Limits;
@@ -32,12 +32,12 @@ const FIRST: &str = r#"["1","2030-01-02","1","3","2","100","0","1"]"#;
 const SECOND: &str = r#"["2","2030-01-03","6","3","2","30","5","0"]"#;
 
 /// A service of a shop with nothing in it, that has accepted so many requests.
-fn service(alloc: Global, accepted: u64) -> BooksService<Shop>
+pub fn service(alloc: Global, accepted: u64) -> BooksService<Shop>
     ensures { IsSoundState (state_of result.books) }
 {
     BooksService {
         books: Shop::new(alloc, Limits::LARGEST),
-        names: false,
+        options: LineOptions::PLAIN,
         tag: Some(Tag {
             began: BEGAN,
             accepted,
@@ -46,7 +46,7 @@ fn service(alloc: Global, accepted: u64) -> BooksService<Shop>
 }
 
 /// The tag is of so many requests, or there is none.
-fn has_tag<B: Books>(service: &BooksService<B>, accepted: Option<u64>) -> Result<(), Fail>
+pub fn has_tag<B: Books>(service: &BooksService<B>, accepted: Option<u64>) -> Result<(), Fail>
     requires { B.are_kept service.now.books }
 {
     let Ok(tag) = service.tag() else {

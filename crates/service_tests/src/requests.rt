@@ -3,7 +3,7 @@ ghost use Rattle.std.specs.Prelude.{◌≡◌, false};
 ghost use Rattle.sqlite.specs.Held.{state};
 ghost use Rattle.sqlite.specs.State.{HasCleanDisk};
 
-use desk_app::{Books, BooksService};
+use desk_app::{Books, BooksService, LineOptions};
 use desk_core::Shop;
 use desk_http::Served;
 use desk_play::ask::ask;
@@ -230,7 +230,7 @@ fn is_served_by_desk<S: Alter + Drop>(alloc: Global, conn: Connection<S>) -> Res
     let books = created(alloc, conn)?;
     let mut service = BooksService {
         books,
-        names: false,
+        options: LineOptions::PLAIN,
         tag: None,
     };
     is_served(alloc, &mut service, 1)
@@ -240,7 +240,7 @@ fn is_served_by_desk<S: Alter + Drop>(alloc: Global, conn: Connection<S>) -> Res
 fn a_shop_is_asked(rt: HostRuntime) -> Result<(), Fail> {
     let alloc = rt.alloc();
     let books = Shop::new(alloc, Limits::LARGEST);
-    let mut service = BooksService::new(books, false, None);
+    let mut service = BooksService::new(books, LineOptions::PLAIN, None);
     is_served(alloc, &mut service, 4096)
 }
 

@@ -1,6 +1,6 @@
 //! Lines in groups: what one read gives is kept together and answered in one write. However a text is cut into reads, its
 //! answers are the same bytes; where the writer fails, what was run stays and is answered when it is sent again.
-use desk_app::run_lines;
+use desk_app::{LineOptions, run_lines};
 use desk_ends::RunEnd;
 use desk_play::play::lines_in;
 use desk_stops::stops::{Keyed, Sending, stops_in_groups};
@@ -121,7 +121,14 @@ fn told<R: Read>(alloc: Global, reader: &mut R) -> Result<Flushed, Fail> {
     let conn = Connection::open_in_memory(alloc)?;
     let mut desk = created(alloc, conn)?;
     let mut writer = Flushed::new(alloc);
-    match run_lines(alloc, reader, &mut writer, &mut desk, false, false) {
+    match run_lines(
+        alloc,
+        reader,
+        &mut writer,
+        &mut desk,
+        LineOptions::PLAIN,
+        false,
+    ) {
         RunEnd::Done(true) => Ok(writer),
         _ => Err(Fail::from("another end")),
     }
@@ -183,7 +190,7 @@ fn cut_at(alloc: Global, room: usize, step: usize) -> Result<(Vec<u8>, usize), F
         &mut Source::new(LINES.as_bytes(), step),
         &mut brim,
         &mut desk,
-        false,
+        LineOptions::PLAIN,
         false,
     );
     let kept = match desk.shop() {
@@ -196,7 +203,7 @@ fn cut_at(alloc: Global, room: usize, step: usize) -> Result<(Vec<u8>, usize), F
         &mut LINES.as_bytes(),
         &mut sink,
         &mut desk,
-        false,
+        LineOptions::PLAIN,
         false,
     );
     if end == RunEnd::WriteFailed

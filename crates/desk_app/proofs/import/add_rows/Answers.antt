@@ -5,7 +5,8 @@ use Rattle.desk_app.specs.Runs.{IsOfBooks, by_outcome}
 use Rattle.desk_app.specs.ImportRuns.{RanFront}
 use Rattle.desk_ends.specs.declared.end.Stop.TheVariants.{Memory}
 use Rattle.desk_app.proofs.Rows.{rows_next, rows_start, rows_end, untold_front, cut_front, memory_front}
-use Rattle.desk_app.proofs.Rows.{unasked_front, unkept_front, left_next, left_none, rows_same}
+use Rattle.desk_app.proofs.Rows.{unasked_front, unkept_front, rows_same}
+use Rattle.desk_app.proofs.Rows.{group_begins, left_before, left_cut, left_unkept, left_untold, left_waiting}
 use Rattle.desk_app.proofs.Running.{if_err, if_err_as}
 use Rattle.desk_app.proofs.import.add_rows.Goals as goal
 use Rattle.desk_app.proofs.import.add_rows.Goals.{then-fine, else-fine}
@@ -16,11 +17,11 @@ loop-row-init g c = record {
       rows_start c.args.rows.now (g.B.Books.state_in c.args.books.now) (string_bytes c.args.text.now) c.requires.none;
   grouping = g.met.B.Books.begin_group c.args.books.now c.requires.kept;
   count = omega arith;
+  within = omega arith;
   stays_open = λ before. before;
   was_open = λ after. after;
   left = λ before trees there.
-      left_none c.args.rows.now (g.B.Books.state_in c.args.books.now) trees
-      (g.met.B.Books.leave_their_tables c.args.books.now c.requires.kept before trees there);
+      g.met.B.Books.leave_their_tables c.args.books.now c.requires.kept before trees there;
 }
 
 pub returns-in_err-waiting-clause-cut : goal.returns-in_err-waiting-clause-cut
@@ -35,11 +36,11 @@ returns-in_err-waiting-clause-cut g c =
 
 pub returns-in_err-waiting-clause-left : goal.returns-in_err-waiting-clause-left
 returns-in_err-waiting-clause-left g c before trees there =
-    left_next c.args.rows.now c.loop-row.row-index (g.B.Books.state_in c.args.books.now)
+    left_unkept c.args.rows.now c.loop-row.row-index c.loop-row.waiting (g.B.Books.state_in c.args.books.now)
     (g.B.Books.state_in c.loop-row.books) (g.B.Books.state_in c.next_in_group.new.books)
     (string_bytes c.loop-row.text) c.loop-row.fine trees c.loop-row.invariant.running
-    c.in_err-waiting.ensures.same (c.loop-row.invariant.left before trees)
-    (c.in_err-waiting.ensures.left trees there)
+    c.in_err-waiting.ensures.same c.loop-row.invariant.within c.loop-row.invariant.count
+    (c.loop-row.invariant.left before trees) (c.in_err-waiting.ensures.left trees there)
 
 pub returns-in_err-request-clause-cut : goal.returns-in_err-request-clause-cut
 returns-in_err-request-clause-cut g c =
@@ -55,11 +56,18 @@ returns-in_err-request-clause-cut g c =
 
 pub returns-in_err-request-clause-left : goal.returns-in_err-request-clause-left
 returns-in_err-request-clause-left g c before trees there =
-    left_next c.args.rows.now c.loop-row.row-index (g.B.Books.state_in c.args.books.now)
+    left_before c.args.rows.now c.loop-row.row-index c.in_ok-waiting.waiting (g.B.Books.state_in c.args.books.now)
+    (g.B.Books.state_in c.next_in_group.new.books) (string_bytes c.loop-row.text) c.loop-row.fine trees
+    (rows_same c.args.rows.now c.loop-row.row-index (g.B.Books.state_in c.args.books.now)
     (g.B.Books.state_in c.loop-row.books) (g.B.Books.state_in c.next_in_group.new.books)
-    (string_bytes c.loop-row.text) c.loop-row.fine trees c.loop-row.invariant.running
-    c.in_ok-waiting.ensures.same (c.loop-row.invariant.left before trees)
-    (c.in_ok-waiting.ensures.left trees there)
+    (string_bytes c.loop-row.text) c.loop-row.fine c.in_ok-waiting.ensures.same c.loop-row.invariant.running)
+    (c.in_ok-waiting.ensures.one.0, omega (arith, c.in_ok-waiting.ensures.one.1, c.loop-row.invariant.within))
+    c.in_ok-waiting.ensures.count
+    (group_begins c.args.rows.now c.loop-row.row-index c.loop-row.waiting c.in_ok-waiting.waiting
+    (g.B.Books.state_in c.args.books.now) (g.B.Books.state_in c.loop-row.books)
+    (g.B.Books.state_in c.next_in_group.new.books) (string_bytes c.loop-row.text) c.loop-row.fine trees
+    c.loop-row.invariant.running c.in_ok-waiting.ensures.same c.loop-row.invariant.within
+    (c.loop-row.invariant.left before trees) (c.in_ok-waiting.ensures.goes_on trees there))
 
 pub returns-in_err-told-clause-cut : goal.returns-in_err-told-clause-cut
 returns-in_err-told-clause-cut g c =
@@ -77,11 +85,22 @@ returns-in_err-told-clause-cut g c =
 
 pub returns-in_err-told-clause-left : goal.returns-in_err-told-clause-left
 returns-in_err-told-clause-left g c before trees there =
-    left_next c.args.rows.now c.loop-row.row-index (g.B.Books.state_in c.args.books.now)
+    let inside : c.loop-row.row-index < length c.args.rows.now = search rules in
+    left_cut c.in_err-told.field-0.0 c.args.rows.now c.loop-row.row-index c.in_ok-waiting.waiting c.row-item.result
+    (g.B.Books.state_in c.args.books.now) (g.B.Books.state_in c.next_in_group.new.books)
+    (g.B.Books.state_in c.tell_outcome.new.books) (string_bytes c.loop-row.text) c.loop-row.fine trees inside
+    c.row-item.is
+    (rows_same c.args.rows.now c.loop-row.row-index (g.B.Books.state_in c.args.books.now)
     (g.B.Books.state_in c.loop-row.books) (g.B.Books.state_in c.next_in_group.new.books)
-    (string_bytes c.loop-row.text) c.loop-row.fine trees c.loop-row.invariant.running
-    c.in_ok-waiting.ensures.same (c.loop-row.invariant.left before trees)
-    (c.in_ok-waiting.ensures.left trees (c.in_err-told.ensures.left trees there))
+    (string_bytes c.loop-row.text) c.loop-row.fine c.in_ok-waiting.ensures.same c.loop-row.invariant.running)
+    (c.in_ok-waiting.ensures.one.0, omega (arith, c.in_ok-waiting.ensures.one.1, c.loop-row.invariant.within))
+    c.in_ok-waiting.ensures.count
+    (rw c.in_ok-request.ensures at c.in_err-told.ensures.cut)
+    (group_begins c.args.rows.now c.loop-row.row-index c.loop-row.waiting c.in_ok-waiting.waiting
+    (g.B.Books.state_in c.args.books.now) (g.B.Books.state_in c.loop-row.books)
+    (g.B.Books.state_in c.next_in_group.new.books) (string_bytes c.loop-row.text) c.loop-row.fine trees
+    c.loop-row.invariant.running c.in_ok-waiting.ensures.same c.loop-row.invariant.within
+    (c.loop-row.invariant.left before trees) (c.in_ok-waiting.ensures.goes_on trees (c.in_err-told.ensures.left trees there)))
 
 pub returns-in_err-push_report_line-clause-cut : goal.returns-in_err-push_report_line-clause-cut
 returns-in_err-push_report_line-clause-cut g c =
@@ -102,11 +121,23 @@ returns-in_err-push_report_line-clause-cut g c =
 
 pub returns-in_err-push_report_line-clause-left : goal.returns-in_err-push_report_line-clause-left
 returns-in_err-push_report_line-clause-left g c before trees there =
-    left_next c.args.rows.now c.loop-row.row-index (g.B.Books.state_in c.args.books.now)
+    let inside : c.loop-row.row-index < length c.args.rows.now = search rules in
+    let s' = g.B.Books.state_in c.next_in_group.new.books in
+    left_untold c.args.rows.now c.loop-row.row-index c.in_ok-waiting.waiting c.row-item.result
+    (g.B.Books.state_in c.args.books.now) s' (g.B.Books.state_in c.tell_outcome.new.books)
+    (string_bytes c.loop-row.text) (string_bytes c.in_ok-told.told.text) c.loop-row.fine c.in_ok-told.told.fine trees
+    inside c.row-item.is
+    (rows_same c.args.rows.now c.loop-row.row-index (g.B.Books.state_in c.args.books.now)
     (g.B.Books.state_in c.loop-row.books) (g.B.Books.state_in c.next_in_group.new.books)
-    (string_bytes c.loop-row.text) c.loop-row.fine trees c.loop-row.invariant.running
-    c.in_ok-waiting.ensures.same (c.loop-row.invariant.left before trees)
-    (c.in_ok-waiting.ensures.left trees (c.in_ok-told.ensures.left trees there))
+    (string_bytes c.loop-row.text) c.loop-row.fine c.in_ok-waiting.ensures.same c.loop-row.invariant.running)
+    (c.in_ok-waiting.ensures.one.0, omega (arith, c.in_ok-waiting.ensures.one.1, c.loop-row.invariant.within))
+    c.in_ok-waiting.ensures.count
+    (sym (ap (λ (r : Request). by_outcome (step s' r)) c.in_ok-request.ensures) ∙ c.in_ok-told.ensures.ok)
+    (group_begins c.args.rows.now c.loop-row.row-index c.loop-row.waiting c.in_ok-waiting.waiting
+    (g.B.Books.state_in c.args.books.now) (g.B.Books.state_in c.loop-row.books)
+    (g.B.Books.state_in c.next_in_group.new.books) (string_bytes c.loop-row.text) c.loop-row.fine trees
+    c.loop-row.invariant.running c.in_ok-waiting.ensures.same c.loop-row.invariant.within
+    (c.loop-row.invariant.left before trees) (c.in_ok-waiting.ensures.goes_on trees (c.in_ok-told.ensures.left trees there)))
 
 pub loop-row-preserved : goal.loop-row-preserved
 loop-row-preserved g c =
@@ -132,6 +163,7 @@ loop-row-preserved g c =
           all;
       grouping = c.in_ok-told.ensures.grouping;
       count = c.in_ok-waiting.ensures.count;
+      within = omega (arith, c.in_ok-waiting.ensures.one.1, c.loop-row.invariant.within);
       stays_open = λ before.
           c.in_ok-told.ensures.stays_open
           (c.in_ok-waiting.ensures.stays_open (c.loop-row.invariant.stays_open before));
@@ -139,10 +171,11 @@ loop-row-preserved g c =
           c.loop-row.invariant.was_open
           (c.in_ok-waiting.ensures.was_open c.in_ok-told.ensures.ends_open.0);
       left = λ before trees there.
-          left_next c.args.rows.now c.loop-row.row-index s (g.B.Books.state_in c.loop-row.books) s'
-          (string_bytes c.loop-row.text) c.loop-row.fine trees c.loop-row.invariant.running
-          c.in_ok-waiting.ensures.same (c.loop-row.invariant.left before trees)
-          (c.in_ok-waiting.ensures.left trees (c.in_ok-told.ensures.left trees there));
+          group_begins c.args.rows.now c.loop-row.row-index c.loop-row.waiting c.in_ok-waiting.waiting
+          (g.B.Books.state_in c.args.books.now) (g.B.Books.state_in c.loop-row.books)
+          (g.B.Books.state_in c.next_in_group.new.books) (string_bytes c.loop-row.text) c.loop-row.fine trees
+          c.loop-row.invariant.running c.in_ok-waiting.ensures.same c.loop-row.invariant.within
+          (c.loop-row.invariant.left before trees) (c.in_ok-waiting.ensures.goes_on trees (c.in_ok-told.ensures.left trees there));
     }
 
 pub returns-clause-ok : goal.returns-clause-ok
@@ -152,4 +185,8 @@ returns-clause-ok g c =
     c.loop-row.invariant.running (omega arith)
 
 pub returns-clause-left : goal.returns-clause-left
-returns-clause-left g c before trees there = c.loop-row.invariant.left before trees there
+returns-clause-left g c before trees there =
+    left_waiting c.args.rows.now c.loop-row.row-index c.loop-row.waiting (g.B.Books.state_in c.args.books.now)
+    (g.B.Books.state_in c.loop-row.books) (string_bytes c.loop-row.text) c.loop-row.fine trees
+    c.loop-row.invariant.running c.loop-row.invariant.within c.loop-row.invariant.count
+    (c.loop-row.invariant.left before trees there)

@@ -6,7 +6,7 @@ use Rattle.desk_app.proofs.run.gather.Given as goal
 abbrev pub invariant-loop-number : goal.invariant-loop-number
 invariant-loop-number g l = record {
   running :
-      Running l.names l.stop (g.R.Read.remaining l.initial.reader) (left (g.R.Read.remaining l.reader) l.lines)
+      Running l.options l.stop (g.R.Read.remaining l.initial.reader) (left (g.R.Read.remaining l.reader) l.lines)
       (g.W.Write.contents l.initial.writer) (g.W.Write.contents l.writer) (g.B.Books.state_in l.initial.books)
       (g.B.Books.state_in l.books) l.number l.all l.text.items
       (λ trees. (g.B.Books.failure_of l.initial.books ≡ None) × g.B.Books.may_leave l.books trees);

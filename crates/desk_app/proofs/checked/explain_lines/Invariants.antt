@@ -1,5 +1,5 @@
 use Rattle.std.proofs.Common.{◌≤◌, ◌+◌, ◌-◌, length}
-use Rattle.desk_app.proofs.checked.explain_faults.Given as goal
+use Rattle.desk_app.proofs.checked.explain_lines.Given as goal
 
 abbrev pub invariant-loop-at : goal.invariant-loop-at
 invariant-loop-at g l = record {
