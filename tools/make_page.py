@@ -1,10 +1,13 @@
 #!/usr/bin/env python3
-"""Writes into `page/page.html` what the page has from elsewhere, and the whole page into the program.
+"""Joins the files of `page/` into one page, and writes it into the program.
 
-Between two lines of the page stand the commands with their fields and refusals, as `docs/MACHINE.md` has them, what
-each refusal means, as `docs/REFUSALS.md` says it, and the columns and words of the tables, as
-`tools/machine` has them. The page, with the policy that names the hashes of its script and its style, is then written
-as two constants into `crates/invdesk/src/page.rt`. The page may have 61,440 bytes, all of them ASCII.
+`frame.html` has a line where `style.css` goes, and one where the script does: first the commands with their fields,
+refusals and effects, as `docs/MACHINE.md` has them, what each refusal means, as `docs/REFUSALS.md` says it, and the
+columns and words of the tables, as `tools/machine` has them; then the files of the script, in the order of their
+numbers: what runs as the page is loaded names only what stands before it, and a function may name what stands behind
+it, too. The page and the policy that names the hashes of its script and its style are written as two constants into
+`crates/invdesk/src/page.rt`, the page in parts, since the prover follows a text byte by byte and one of 157 KB is too
+deep for it. It may have 163,840 bytes, all of them ASCII.
 
 usage: tools/make_page.py [--check]     --check writes nothing, and tells what isn't as it would be written"""
 import argparse
@@ -17,9 +20,12 @@ from machine.lines import FLAGS, SIDES, STATUSES
 from machine.reports import HEADERS, KINDS, LINE_FLAGS, ORDER_STATES, PLACES, REASONS
 from shared import TOP, expect
 
-PAGE, SOURCE = TOP / "page" / "page.html", TOP / "crates" / "invdesk" / "src" / "page.rt"
-MOST = 60 * 1024
-BEGIN, END = "// ---- What stands from here is written by tools/make_page.py.\n", "// ---- To here.\n"
+PAGE, SOURCE = TOP / "page", TOP / "crates" / "invdesk" / "src" / "page.rt"
+MOST = 160 * 1024
+# How many bytes a part of the page in the program's source may have.
+PART = 48 * 1024
+# The lines of the frame in whose place the style and the script go.
+STYLE, SCRIPT = "/* page/style.css */\n", "// page/*.js, in the order of their numbers\n"
 # The faults that a line can have that the page sends.
 FAULTS = ["BadText", "BadSerials"]
 # The words of the tables' numbers, each from 0 on, or from the bit 1.
@@ -30,7 +36,7 @@ NUMBERED = {"FLAGS": FLAGS, "LINE_FLAGS": LINE_FLAGS, "STATUSES": STATUSES, "SID
 LEFT_OUT = ["history", "kept"]
 HEAD = """\
 //! The page that a browser is given, and what it may do with it. This file is written by `tools/make_page.py` from
-//! `page/page.html`.
+//! the files of `page/`.
 
 """
 POLICY = ("default-src 'none'; script-src {script}; style-src {style}; connect-src 'self'; img-src data:; "
@@ -45,15 +51,30 @@ def section(document, title):
 
 
 def commands():
-    """Each command of docs/MACHINE.md: its name, its fields with their kinds, and the words of its refusals. A field
-    whose kind isn't told says a row of the table that it is called by."""
+    """Each command of docs/MACHINE.md: its name, its fields with their kinds, the words of its refusals, and what it
+    does. A field whose kind isn't told says a row of the table that it is called by."""
     found = []
-    rows = re.findall(r"^\| `(\w+)` (.*?) \| (.*?) \| .*\|$", section("MACHINE.md", "Commands"), re.M)
-    for command, said, refusals in rows:
+    rows = re.findall(r"^\| `(\w+)` (.*?) \| (.*?) \| (.*) \|$", section("MACHINE.md", "Commands"), re.M)
+    for command, said, refusals, effect in rows:
         fields = [(name, kind.strip().replace("order's line", "order_line") or name, bool(optional))
                   for name, optional, kind in re.findall(r"`(\w+)`(\??)([^,`]*)", said)]
-        found.append((command, fields, re.findall(r"\w+", re.sub(r"\([^()]*\)", "", refusals))))
+        found.append((command, fields, re.findall(r"\w+", re.sub(r"\([^()]*\)", "", refusals)), plain_effect(effect)))
     return found
+
+
+def plain_effect(effect):
+    """An effect in the words of who fills in a form. Which entries it writes is left out where that stands at the end;
+    elsewhere a kind of entry is told in small letters."""
+    entry = r"(?:a|one|and a) `[A-Z]\w+`"
+    alone = rf"(?:; |\. |, and )?{entry}(?: for (?:each|each node|each of them))?(?: where it was cut)?"
+    while (shorter := re.sub(rf"(?:(?:^|; |\. |, |, and |, and then for each of them ){alone}|; no entry"
+                             r"|\. `Built`, .*|; `Cut` where it was cut, `\w+`)$", "", effect, flags=re.I)) != effect:
+        effect = shorter
+    # one sentence, or as many as tell something: until 60 characters are there
+    told, *rest = effect.split(". ")
+    while rest and len(told) < 60:
+        told += ". " + rest.pop(0)
+    return re.sub(r"`([A-Z]\w*)`", lambda it: f"'{it[1].lower()}' entry", told).replace("`", "'")
 
 
 def meanings(title):
@@ -69,15 +90,15 @@ def lines_of_columns():
 
 
 def written_part():
-    """What stands in the page between the two lines."""
+    """What stands in the page's script before its own files."""
     refusals = meanings("Refusals")
     letters = {word: chr(ord("a") + at) for at, word in enumerate(refusals)}
     faults = meanings("Faults of lines and of files that are imported")
-    lines = ["// The commands of docs/MACHINE.md: fields with their kinds, and letters for refusals, rows of WORDS."]
+    lines = ["// The commands of docs/MACHINE.md: fields with kinds, letters for refusals, rows of WORDS, and effects."]
     lines.append("const COMMANDS = `")
-    for command, fields, words in commands():
+    for command, fields, words, effect in commands():
         said = " ".join(name + f":{kind}" * (kind != name) + "?" * optional for name, kind, optional in fields)
-        lines.append(f"{command} {said} | {''.join(letters[word] for word in words)}")
+        lines.append(f"{command} {said} | {''.join(letters[word] for word in words)} | {effect}")
     lines += ["`;", "// The refusals and some faults of docs/REFUSALS.md: what is wrong.", "const WORDS = `"]
     lines += [f"{word} | {wrong}" for word, wrong in [*refusals.items(), *((it, faults[it]) for it in FAULTS)]]
     lines += ["`;", "// The columns of the tables, and the words of their numbers.", "const COLUMNS = `"]
@@ -86,46 +107,60 @@ def written_part():
     return "".join(line + "\n" for line in lines)
 
 
-def hash_of(page, tag):
+def hash_of(text, tag):
     """The hash of what stands in the page's one element of that name, as a policy has it."""
-    bodies = re.findall(f"<{tag}>(.*?)</{tag}>", page, re.S)
+    bodies = re.findall(f"<{tag}>(.*?)</{tag}>", text, re.S)
     expect(len(bodies) == 1, f"the page has {len(bodies)} elements {tag}")
     return "'sha256-" + base64.b64encode(hashlib.sha256(bodies[0].encode()).digest()).decode() + "'"
 
 
-def policy_of(page):
-    return POLICY.format(script=hash_of(page, "script"), style=hash_of(page, "style"))
+def policy_of(text):
+    """The policy of the page that has this text."""
+    return POLICY.format(script=hash_of(text, "script"), style=hash_of(text, "style"))
 
 
-def source_of(page):
+def parts_of(text):
+    """The text in parts that end with lines."""
+    while len(text) > PART:
+        end = text.rindex("\n", 0, PART) + 1
+        yield text[:end]
+        text = text[end:]
+    yield text
+
+
+def source_of(text):
     """The source of the program that has the page."""
+    parts = [f'    r#"{part}"#,\n' for part in parts_of(text)]
     return f"""\
-{HEAD}/// The page.
-pub const PAGE: &str = r#"{page}"#;
+{HEAD}/// The page, in parts that follow one another.
+pub const PAGE: [&str; {len(parts)}] = [
+{"".join(parts)}];
 
 /// What a browser may do for the page: run its one script, use its one style, and ask this service.
 pub const POLICY: &str =
-    "{policy_of(page)}";
+    "{policy_of(text)}";
 """
 
 
-def made(page):
-    """The page as it would be written."""
-    expect(page.count(BEGIN) == page.count(END) == 1, "the page lacks a line between which something is written")
-    before, rest = page.split(BEGIN)
-    return before + BEGIN + written_part() + END + rest.split(END)[1]
+def page():
+    """The page, of the files that it stands in."""
+    frame = (PAGE / "frame.html").read_text()
+    expect(frame.count(STYLE) == frame.count(SCRIPT) == 1, "the frame lacks the line of the style or of the script")
+    parts = [it.read_text() for it in sorted(PAGE.glob("*.js"))]
+    script = "\n".join(["'use strict';\n", written_part(), *parts])
+    return frame.replace(STYLE, (PAGE / "style.css").read_text()).replace(SCRIPT, script)
 
 
-def faults_of(page):
+def faults_of(text):
     """What a page may not have: it has to be short, and to stand in a source as it is."""
-    size = len(page.encode())
+    size = len(text.encode())
     if size > MOST:
         yield f"the page has {size:,} bytes, and may have {MOST:,}"
-    if not page.isascii() or "\r" in page:
+    if not text.isascii() or "\r" in text:
         yield "the page has a character that isn't ASCII, or a carriage return"
-    if '"#' in page:
+    if '"#' in text:
         yield "the page has a quote with a number sign behind it, which would end the text in the source"
-    for number, line in enumerate(page.split("\n"), 1):
+    for number, line in enumerate(text.split("\n"), 1):
         if len(line) > 120 and "|" not in line:
             yield f"line {number} of the page has more than 120 columns"
 
@@ -136,15 +171,12 @@ def main():
     reader = argparse.ArgumentParser(usage=called, description=does, formatter_class=plain)
     reader.add_argument("--check", action="store_true")
     is_check = reader.parse_args().check
-    page = PAGE.read_bytes().decode()
-    wanted = made(page)
+    wanted = page()
     faults = list(faults_of(wanted))
     if is_check:
-        faults += ["page/page.html isn't as it would be written"] * (page != wanted)
         was = SOURCE.read_bytes().decode() if SOURCE.exists() else ""
         faults += [f"{SOURCE.relative_to(TOP)} isn't as it would be written"] * (was != source_of(wanted))
     else:
-        PAGE.write_text(wanted)
         SOURCE.write_text(source_of(wanted))
     expect(not faults, "; ".join(faults))
     print(f"make_page: {len(wanted.encode()):,} bytes, {len(commands())} commands")

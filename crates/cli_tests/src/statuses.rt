@@ -31,6 +31,7 @@ fn run(file: Option<&str>) -> Task<'_> {
         stop: false,
         check: false,
         explain: false,
+        journal: false,
     }
 }
 

@@ -4,3 +4,4 @@ pub mod Parsed
 pub mod RunOn
 pub mod Told
 pub mod Taking
+pub mod Givens

@@ -22,6 +22,7 @@ anywhere = record {
   tables = record { at = record { ref_ptr = (0, 0); now = lying table_names }; are = refl };
   lists = record { at = record { ref_ptr = (0, 0); now = lying list_names }; are = refl };
   kinds = record { at = record { ref_ptr = (0, 0); now = lying kind_names }; are = refl };
+  line_kinds = record { at = record { ref_ptr = (0, 0); now = lying kind_names }; are = refl };
   topics = record { at = record { ref_ptr = (0, 0); now = lying topic_names }; are = refl };
 }
 

@@ -1,22 +1,25 @@
 -- What is found in words that name a file for a run.
 use Rattle.std.proofs.Common.{◌≡◌, ◌∙◌, ℕ, Bool, true, false, List, [], ◌∷◌, ap, refl}
-use Rattle.std.specs.Prelude.{◌==◌, not, Some}
-use Rattle.clap.specs.Words.{IsAmong, Text}
+use Rattle.std.specs.Prelude.{◌==◌, ◌++◌, not, None, Some, codes}
+use Rattle.clap.specs.Words.{IsAmong, Row, Rule, Text, subcommand_of}
+use Rattle.clap.specs.Simple.{filled_from, help_rule}
+use Rattle.clap.specs.Walk.{Held, Walk, finished, nothing_held, option, rows_after, walked, walk_from}
 use Rattle.clap.specs.declared.error.kind.ErrorKind.{ErrorKind}
 use Rattle.clap.proofs.OnLiterals.{clap_on_literals}
 use Rattle.desk_cli.specs.Words.{faults, Places, run, run_on, run_with, is_path, desk_task}
+use Rattle.desk_cli.specs.Words.{command_line, desk_task_met, run_line}
 use Rattle.desk_cli.proofs.Faulty.{nothing_among}
 
 named_free : (places : Places) (name file : Text) → faults places (run_on name file) ≡ []
 unfolding faults clap_on_literals
 named_free places name file = refl
 
-named_task : (places : Places) (name file : Text) → desk_task places (run_on name file) ≡ Some (run (Some file) false false false false)
+named_task : (places : Places) (name file : Text) → desk_task places (run_on name file) ≡ Some (run (Some file) false false false false false)
 unfolding desk_task clap_on_literals
 named_task places name file = refl
 
 pub run_on_task : (places : Places) (words : List Text) (name file : Text) → words ≡ run_on name file
-    → desk_task places words ≡ Some (run (Some file) false false false false)
+    → desk_task places words ≡ Some (run (Some file) false false false false false)
 run_on_task places words name file e = ap (desk_task places) e ∙ named_task places name file
 
 pub no_run_on : (places : Places) (words : List Text) (k : ErrorKind) → IsAmong k (faults places words)
@@ -30,10 +33,52 @@ begun_free : (places : Places) (name : Text) (first : ℕ) (rest : Text) → (fi
 unfolding faults clap_on_literals
 begun_free places name first rest h = simp h
 
+-- the rules of `run`, once built
+abbrev run_rules : List Rule
+run_rules = filled_from 1 (run_line.top.rules ++ help_rule ∷ [])
+
+-- `run` is met, and all words after it are its own
+run_met : (places : Places) (name word more : Text)
+    → subcommand_of (command_line places) (name ∷ codes "run" ∷ word ∷ more ∷ [])
+    ≡ Some (codes "run", rows_after run_rules [] (word ∷ more ∷ []))
+unfolding clap_on_literals
+run_met places name word more = refl
+
+-- `--db` waits for its value
+waiting : Walk
+waiting = record (walk_from (record nothing_held { pending = Some (codes "db", []) })) { waiting = option (codes "db") }
+
+file_waits : walked run_rules [] (walk_from nothing_held) (codes "--db") ≡ waiting
+unfolding waiting clap_on_literals
+file_waits = refl
+
+told : Text → Held
+told file = record nothing_held { pending = Some (codes "db", file ∷ []) }
+
+file_told : (first : ℕ) (rest : Text) → (first == 45) ≡ false
+    → walked run_rules [] waiting (first ∷ rest) ≡ walk_from (told (first ∷ rest))
+unfolding waiting told clap_on_literals
+file_told first rest h = simp h
+
+-- what is told of the flags that aren't given is the default
+rows_told : (file : Text) → desk_task_met (Some (codes "run", finished run_rules (told file)))
+    ≡ Some (run (Some file) false false false false false)
+unfolding told clap_on_literals
+rows_told file = refl
+
+rows_met : (first : ℕ) (rest : Text) → (first == 45) ≡ false
+    → rows_after run_rules [] (codes "--db" ∷ (first ∷ rest) ∷ []) ≡ finished run_rules (told (first ∷ rest))
+rows_met first rest h =
+    ap (λ (w : Walk). finished run_rules (walked run_rules [] w (first ∷ rest)).held) file_waits
+    ∙ ap (λ (w : Walk). finished run_rules w.held) (file_told first rest h)
+
 begun_task : (places : Places) (name : Text) (first : ℕ) (rest : Text) → (first == 45) ≡ false
-    → desk_task places (run_with name (first ∷ rest)) ≡ Some (run (Some (first ∷ rest)) false false false false)
-unfolding desk_task clap_on_literals
-begun_task places name first rest h = simp h
+    → desk_task places (run_with name (first ∷ rest)) ≡ Some (run (Some (first ∷ rest)) false false false false false)
+unfolding desk_task
+begun_task places name first rest h =
+    ap desk_task_met (run_met places name (codes "--db") (first ∷ rest))
+    ∙ ap (λ (rows : List Row). desk_task_met (Some (codes "run", rows))) (rows_met first rest h)
+    ∙ rows_told (first ∷ rest)
 
 no_hyphen : (b : Bool) → not b ≡ true → b ≡ false
 no_hyphen true h = absurd (cc)
@@ -44,12 +89,12 @@ path_free places name [] h = absurd (cc)
 path_free places name (first ∷ rest) h = begun_free places name first rest (no_hyphen (first == 45) h)
 
 path_task : (places : Places) (name file : Text) → is_path file ≡ true
-    → desk_task places (run_with name file) ≡ Some (run (Some file) false false false false)
+    → desk_task places (run_with name file) ≡ Some (run (Some file) false false false false false)
 path_task places name [] h = absurd (cc)
 path_task places name (first ∷ rest) h = begun_task places name first rest (no_hyphen (first == 45) h)
 
 pub run_with_task : (places : Places) (words : List Text) (name file : Text) → is_path file ≡ true
-    → words ≡ run_with name file → desk_task places words ≡ Some (run (Some file) false false false false)
+    → words ≡ run_with name file → desk_task places words ≡ Some (run (Some file) false false false false false)
 run_with_task places words name file h e = ap (desk_task places) e ∙ path_task places name file h
 
 pub no_run_with : (places : Places) (words : List Text) (k : ErrorKind) → IsAmong k (faults places words)

@@ -54,6 +54,14 @@ file_fault_by kind.PermissionDenied error = NotAllowed
 file_fault_by kind.ReadOnlyFilesystem error = NotAllowed
 file_fault_by _ error = Device error
 
+-- a fault that may be told before a database is opened, or in the place of that; memory may run out then, too
+abbrev pub IsOfOpening : FileFault → Type 0
+IsOfOpening OtherTables = ⊥
+IsOfOpening OtherVersion = ⊥
+IsOfOpening Old = ⊥
+IsOfOpening (Desk fault) = ⊥
+IsOfOpening _ = Unit {0}
+
 -- a fault that the making of a desk may end with
 abbrev pub IsOfMaking : FileFault → Type 0
 IsOfMaking Memory = Unit {0}

@@ -4,3 +4,4 @@ pub mod Statuses
 pub mod FileFaults
 pub mod Looks
 pub mod Subjects
+pub mod SheetWords

@@ -1,7 +1,9 @@
--- What is wrong with what lies at a file's name, and at its log's.
-use Rattle.std.specs.Prelude.{ℕ, List, Bool, ◌||◌, codes, nat_eq, Option, Some, None}
+-- What is wrong with what lies at a file's name, and at its log's; and what a file has, by its first bytes.
+use Rattle.std.specs.Prelude.{ℕ, List, [], ◌∷◌, ◌++◌, Bool, ◌||◌, codes, if◌then◌else◌, nat_eq, Option, Some, None}
 use Rattle.std.specs.List.{starts_with}
 use Rattle.std.specs.Str.{bytes_eq}
+use Rattle.desk_cli.specs.declared.look.Content.{Content}
+use Rattle.desk_cli.specs.declared.look.Content.TheVariants.{Empty, Foreign, Database}
 use Rattle.desk_cli.specs.declared.look.Found.{Found}
 use Rattle.desk_cli.specs.declared.look.Found.TheVariants.{Nothing, Link, File, SharedFile, Other}
 use Rattle.desk_cli.specs.declared.database.FileFault.{FileFault}
@@ -27,3 +29,12 @@ fault_of_log File = None
 fault_of_log Link = Some LinkedLog
 fault_of_log SharedFile = Some SecondLog
 fault_of_log Other = Some NoLog
+
+-- what each database begins with
+abbrev pub database_front : List ℕ
+database_front = codes "SQLite format 3" ++ (0 ∷ [])
+
+-- what a file has that begins so
+abbrev pub content_of : List ℕ → Content
+content_of [] = Empty
+content_of (b ∷ bs) = if starts_with nat_eq (b ∷ bs) database_front then Database else Foreign

@@ -8,6 +8,7 @@ use Rattle.desk_core.specs.Machine.{State}
 use Rattle.desk_core.specs.Naming.{naming_in}
 use Rattle.report_core.specs.Columns.{columns_text}
 use Rattle.report_core.specs.Lines.{Lines}
+use Rattle.list_core.specs.TraceList.{has_batch}
 use Rattle.list_core.specs.declared.listing.Listing.{Listing}
 use Rattle.list_core.specs.declared.listing.Listing.TheVariants as listing
 use Rattle.desk_store.specs.Records.{records_text}
@@ -22,6 +23,8 @@ abbrev pub word_of : ListOf → Option (Bor (List ℕ))
 word_of (list.At word) = Some word
 word_of (list.Part word) = Some word
 word_of (list.Item word) = Some word
+word_of (list.TraceForward word) = Some word
+word_of (list.TraceBack word) = Some word
 word_of (list.CountSheet word) = word
 word_of _ = None
 
@@ -34,6 +37,11 @@ abbrev pub of_row : (ℕ → Listing) → Result ℕ What → Result Listing Wha
 of_row list (Ok number) = Ok (list number)
 of_row list (Err what) = Err what
 
+-- where a batch or an item went: the word is a batch where any item has it, else it says an item
+abbrev pub forward_by : Bor (List ℕ) → Bool → State → Result Listing What
+forward_by word true s = Ok (listing.TraceBatch word)
+forward_by word false s = of_row (λ number. listing.TraceForward number) (row_at Item word.now s)
+
 -- the list that is asked for
 abbrev pub listing_by : ListOf → State → Result Listing What
 listing_by (list.Stock low) s = Ok (listing.Stock low)
@@ -44,6 +52,8 @@ listing_by (list.Orders only_open) s = Ok (listing.Orders only_open)
 listing_by (list.Builds only_open) s = Ok (listing.Builds only_open)
 listing_by (list.Find word) s = Ok (listing.Find word)
 listing_by list.Shortages s = Ok listing.Shortages
+listing_by (list.TraceForward word) s = forward_by word (has_batch word.now s) s
+listing_by (list.TraceBack word) s = of_row (λ number. listing.TraceBack number) (row_at Item word.now s)
 listing_by (list.CountSheet None) s = Ok (listing.CountSheet None)
 listing_by (list.CountSheet (Some word)) s =
     of_row (λ number. listing.CountSheet (Some number)) (row_at Location word.now s)

@@ -23,13 +23,15 @@ status_of_fault _ = 3
 
 -- at once, unless the words ask for a desk
 abbrev pub early_status : Task → Option ℕ
-early_status (task.Run file names stop check explain) = None
+early_status (task.Run file names stop check explain journal) = None
 early_status (task.Report file name of) = None
 early_status (task.Export file table) = None
 early_status (task.Show file list csv) = None
 early_status (task.Migrate file) = None
 early_status (task.Import file kind document day path names loose explain) = None
-early_status (task.Serve file port count token names page) = None
+early_status (task.Sheet file told path stop explain) = None
+early_status (task.Lines told path) = None
+early_status (task.Serve file port count token names page journal) = None
 early_status (task.Guide topic) = Some 0
 early_status (task.Help e) = Some 0
 early_status (task.Wrong e) = Some 2

@@ -1,14 +1,14 @@
 -- What the words ask for, of which the first is the program's name.
 use Rattle.std.specs.Prelude.{◌≡◌, ◌≢◌, ◌⊎◌, ◌||◌, ◌&&◌, ◌==◌, not, nat_lt, nat_le, ℕ, Bool, true, false, List, [], ◌∷◌}
 use Rattle.std.specs.Prelude.{◌++◌, codes, Option, Some, None, option_map, option_and_then, Result, IfOk, if◌then◌else◌}
-use Rattle.std.specs.Prelude.{is_none}
+use Rattle.std.specs.Prelude.{is_none, is_some}
 use Rattle.std.specs.Borrow.{Bor}
 use Rattle.std.specs.Str.{bytes_eq}
 use Rattle.clap.specs.Words.{App, Rule, Row, Text, new_app, new_rule, with_rule, with_subcommand, fault_of, Kinds}
 use Rattle.clap.specs.Words.{IsAmong, FailsBy, kind_of, first_of, found_of, rows_of, subcommand_of, subcommand_rows_of}
 use Rattle.clap.specs.Simple.{on_top}
 use Rattle.clap.specs.Walk.{texts}
-use Rattle.clap.specs.declared.builder.action.ArgAction.TheVariants.{Set, SetTrue}
+use Rattle.clap.specs.declared.builder.action.ArgAction.TheVariants.{Append, Set, SetTrue}
 use Rattle.clap.specs.declared.builder.value_parser.ValueParser.TheVariants.{Names}
 use Rattle.clap.specs.declared.error.Error.{Error}
 use Rattle.clap.specs.declared.error.kind.ErrorKind.TheVariants.{DisplayHelp, DisplayVersion}
@@ -16,20 +16,24 @@ use Rattle.clap.specs.declared.error.kind.ErrorKind.TheVariants.{OutOfMemory, Va
 use Rattle.clap.specs.declared.error.kind.ErrorKind.{ErrorKind}
 use Rattle.clap.specs.declared.parser.matches.ArgMatches.{ArgMatches}
 use Rattle.part_core.specs.Day.{CivilDay, day_of}
+use Rattle.part_core.specs.Forms.{Form}
 use Rattle.report_core.specs.Names.{report_named}
 use Rattle.report_core.specs.declared.name.ReportName.{ReportName}
 use Rattle.table_store.specs.declared.name.TableName.{TableName}
 use Rattle.table_store.specs.declared.name.TableName.TheVariants as table
 use Rattle.desk_wire.specs.Kinds.{import_kind_named}
 use Rattle.desk_wire.specs.Numbers.{number_in}
+use Rattle.desk_wire.specs.Sheets as sheets
+use Rattle.desk_wire.specs.SheetViews.{shown_sheet}
 use Rattle.desk_wire.specs.declared.kind.ImportKind.{ImportKind}
 use Rattle.desk_ends.specs.Named.{document_named, table_named}
+use Rattle.desk_cli.specs.SheetWords.{form_in, sheet_in}
 use Rattle.desk_cli.specs.declared.words.ListOf.{ListOf}
 use Rattle.desk_cli.specs.declared.words.ListOf.TheVariants as list
 use Rattle.desk_cli.specs.declared.words.ReportOf.{ReportOf}
 use Rattle.desk_cli.specs.declared.words.ReportOf.TheVariants.{Number, Word}
 use Rattle.desk_cli.specs.declared.words.Task.{Task}
-use Rattle.desk_cli.specs.declared.words.Task.TheVariants.{Run, Report, Export, Show, Migrate, Import, Serve}
+use Rattle.desk_cli.specs.declared.words.Task.TheVariants.{Run, Report, Export, Show, Migrate, Import, Sheet, Lines, Serve}
 use Rattle.desk_cli.specs.declared.words.Task.TheVariants.{Guide, Help, Wrong, Unreadable, Memory}
 
 -- no more words, or `run`
@@ -66,7 +70,7 @@ abbrev pub is_path : Text → Bool
 is_path [] = false
 is_path (first ∷ rest) = not (first == 45)
 
--- the names that `report`, `export`, `show` and `import` take
+-- the names that `report`, `export`, `show`, `import` and `lines` take
 abbrev pub report_names : List Text
 report_names =
     codes "ledger" ∷ codes "stock" ∷ codes "where_used" ∷ codes "history" ∷ codes "content" ∷ codes "shortage" ∷ []
@@ -80,10 +84,19 @@ table_names =
 abbrev pub list_names : List Text
 list_names =
     codes "stock" ∷ codes "at" ∷ codes "part" ∷ codes "item" ∷ codes "orders" ∷ codes "builds" ∷ codes "find"
-    ∷ codes "shortages" ∷ codes "count-sheet" ∷ []
+    ∷ codes "shortages" ∷ codes "trace-forward" ∷ codes "trace-back" ∷ codes "count-sheet" ∷ []
 
+-- receipts, counts, and each command but those two's
 abbrev pub kind_names : List Text
-kind_names = codes "receipts" ∷ codes "counts" ∷ []
+kind_names =
+    codes "receipts" ∷ codes "counts" ∷ codes "add_category" ∷ codes "add_location" ∷ codes "add_part" ∷ codes "retire_part"
+    ∷ codes "add_line" ∷ codes "drop_line" ∷ codes "add_substitute" ∷ codes "drop_substitute" ∷ codes "found" ∷ codes "add"
+    ∷ codes "remove" ∷ codes "transfer" ∷ codes "split" ∷ codes "merge" ∷ codes "serialise" ∷ codes "set_status"
+    ∷ codes "install" ∷ codes "uninstall" ∷ codes "disassemble" ∷ codes "reinstate" ∷ codes "order" ∷ codes "order_line"
+    ∷ codes "issue_order" ∷ codes "allocate_sale" ∷ codes "ship" ∷ codes "return_item" ∷ codes "close_order" ∷ codes "cancel_order"
+    ∷ codes "build" ∷ codes "issue_build" ∷ codes "hold_build" ∷ codes "cancel_build" ∷ codes "outputs" ∷ codes "complete_output"
+    ∷ codes "cancel_output" ∷ codes "scrap_output" ∷ codes "allocate_build" ∷ codes "auto_allocate" ∷ codes "release" ∷ codes "complete_build"
+    ∷ codes "consume" ∷ []
 
 abbrev pub topic_names : List Text
 topic_names = codes "commands" ∷ codes "refusals" ∷ codes "faults" ∷ []
@@ -98,6 +111,7 @@ pub record Places : Type 0 where
   pub tables : Listing table_names
   pub lists : Listing list_names
   pub kinds : Listing kind_names
+  pub line_kinds : Listing kind_names
   pub topics : Listing topic_names
 
 -- `--db FILE`
@@ -111,6 +125,9 @@ flag_rule id = record (new_rule id) { long = Some id; action = Some SetTrue }
 abbrev pub names_rule : Rule
 names_rule = flag_rule (codes "names")
 
+abbrev pub journal_rule : Rule
+journal_rule = flag_rule (codes "journal")
+
 -- a word that has to be there
 abbrev pub word_rule : Text → Rule
 word_rule id = record (new_rule id) { value_names = 1; required = true; action = Some Set }
@@ -122,6 +139,10 @@ option_rule id = record (word_rule id) { long = Some id }
 -- an option that may be left out
 abbrev pub optional_rule : Text → Rule
 optional_rule id = record (new_rule id) { long = Some id; value_names = 1; action = Some Set }
+
+-- an option that may be given several times
+abbrev pub repeated_rule : Text → Rule
+repeated_rule id = record (new_rule id) { long = Some id; value_names = 1; action = Some Append }
 
 -- a word that may be left out
 abbrev pub optional_word_rule : Text → Rule
@@ -136,7 +157,7 @@ among names rule = record rule { parser = Some (Names names) }
 abbrev pub run_line : App
 run_line =
     with_rule
-    (with_rule (with_rule (with_rule (with_rule (new_app (codes "run")) file_rule) names_rule)
+    (with_rule (with_rule (with_rule (with_rule (with_rule (new_app (codes "run")) file_rule) names_rule) journal_rule)
     (flag_rule (codes "stop"))) (flag_rule (codes "check"))) (flag_rule (codes "explain"))
 
 abbrev pub report_line : Listing report_names → App
@@ -170,15 +191,23 @@ kind_rule names = among names.at (option_rule (codes "kind"))
 abbrev pub import_line : Listing kind_names → App
 import_line names =
     with_rule
-    (with_rule (with_rule (with_rule (with_rule (with_rule (with_rule (with_rule (new_app (codes "import"))
-    (needed file_rule)) names_rule) (flag_rule (codes "loose"))) (flag_rule (codes "explain")))
-    (kind_rule names)) (option_rule (codes "document"))) (option_rule (codes "day"))) (word_rule (codes "path"))
+    (with_rule (with_rule (with_rule (with_rule (with_rule (with_rule (with_rule (with_rule (with_rule (with_rule
+    (new_app (codes "import")) (needed file_rule)) names_rule) (flag_rule (codes "loose"))) (flag_rule (codes "explain")))
+    (kind_rule names)) (option_rule (codes "document"))) (option_rule (codes "day"))) (repeated_rule (codes "set")))
+    (repeated_rule (codes "column"))) (flag_rule (codes "stop"))) (word_rule (codes "path"))
+
+abbrev pub lines_line : Listing kind_names → App
+lines_line names =
+    with_rule
+    (with_rule (with_rule (with_rule (with_rule (with_rule (new_app (codes "lines")) (kind_rule names))
+    (option_rule (codes "document"))) (option_rule (codes "day"))) (repeated_rule (codes "set")))
+    (repeated_rule (codes "column"))) (word_rule (codes "path"))
 
 abbrev pub serve_line : App
 serve_line =
     with_rule
-    (with_rule (with_rule (with_rule (with_rule (with_rule (new_app (codes "serve")) file_rule) names_rule)
-    (flag_rule (codes "page"))) (option_rule (codes "port"))) (optional_rule (codes "count")))
+    (with_rule (with_rule (with_rule (with_rule (with_rule (with_rule (new_app (codes "serve")) file_rule) names_rule)
+    journal_rule) (flag_rule (codes "page"))) (option_rule (codes "port"))) (optional_rule (codes "count")))
     (optional_rule (codes "token"))
 
 -- TOPIC, of the names that are listed there
@@ -196,9 +225,9 @@ top_line =
 abbrev pub command_line : Places → App
 command_line places =
     with_subcommand (with_subcommand (with_subcommand (with_subcommand (with_subcommand (with_subcommand (with_subcommand
-    (with_subcommand top_line run_line.top) (report_line places.reports).top) (export_line places.tables).top)
-    (show_line places.lists).top) migrate_line.top) (import_line places.kinds).top) serve_line.top)
-    (help_line places.topics).top
+    (with_subcommand (with_subcommand top_line run_line.top) (report_line places.reports).top)
+    (export_line places.tables).top) (show_line places.lists).top) migrate_line.top) (import_line places.kinds).top)
+    (lines_line places.line_kinds).top) serve_line.top) (help_line places.topics).top
 
 abbrev pub IsReportLine : App → Type 0
 IsReportLine app = (names : Listing report_names) × (app ≡ report_line names)
@@ -217,6 +246,9 @@ IsKindRule rule = (names : Listing kind_names) × (rule ≡ kind_rule names)
 
 abbrev pub IsImportLine : App → Type 0
 IsImportLine app = (names : Listing kind_names) × (app ≡ import_line names)
+
+abbrev pub IsLinesLine : App → Type 0
+IsLinesLine app = (names : Listing kind_names) × (app ≡ lines_line names)
 
 abbrev pub IsTopicRule : Rule → Type 0
 IsTopicRule rule = (names : Listing topic_names) × (rule ≡ topic_rule names)
@@ -257,6 +289,8 @@ pub data Listed : Type 0 where
   builds : Bool → Listed
   find : Text → Listed
   shortages : Listed
+  trace_forward : Text → Listed
+  trace_back : Text → Listed
   count_sheet : Option Text → Listed
 
 abbrev pub listed_of : ListOf → Listed
@@ -268,22 +302,29 @@ listed_of (list.Orders only_open) = orders only_open
 listed_of (list.Builds only_open) = builds only_open
 listed_of (list.Find word) = find word.now
 listed_of list.Shortages = shortages
+listed_of (list.TraceForward word) = trace_forward word.now
+listed_of (list.TraceBack word) = trace_back word.now
 listed_of (list.CountSheet location) = count_sheet (option_map (λ word. word.now) location)
 
 -- a task of a desk: a run, with the file if one is named; a report of a row; a table; that a file is brought along;
--- the rows at a path; so many connections to a port, or any number, with the file of a token if one is named; help on a
--- topic, which needs no desk. The last words of an import are whether rows may be named, whether the file is read loosely,
--- and whether a person is told why a row isn't done; those of a serving whether rows may be named, and whether the page
--- is served. The words of a run are whether rows may be named, whether it ends at the first line that is refused or
--- faulty, whether all lines are read before any is run, and whether a person is told why a line isn't done
+-- the rows at a path; the lines that a file of a command at a path is, or that these be printed, which needs no desk; so
+-- many connections to a port, or any number, with the file of a token if one is named; help on a topic, which needs none
+-- either. The last words of an import are whether rows may be named, whether the file is read loosely,
+-- and whether a person is told why a row isn't done; those of a file of a command whether it ends at the first line that is
+-- refused or faulty, and whether a person is told why a line isn't done; those of a serving whether rows may be named, whether the page
+-- is served, and whether requests get keys. The words of a run are whether rows may be named, whether it ends at the first
+-- line that is refused or faulty, whether all lines are read before any is run, whether a person is told why a line isn't
+-- done, and whether requests get keys
 pub data DeskTask : Type 0 where
-  run : Option Text → Bool → Bool → Bool → Bool → DeskTask
+  run : Option Text → Bool → Bool → Bool → Bool → Bool → DeskTask
   report : Text → ReportName → Subject → DeskTask
   export : Text → TableName → DeskTask
   show : Text → Listed → Bool → DeskTask
   migrate : Text → DeskTask
   import : Text → ImportKind → Text → CivilDay → Text → Bool → Bool → Bool → DeskTask
-  serve : Option Text → ℕ → Option ℕ → Option Text → Bool → Bool → DeskTask
+  sheet : Text → sheets.Sheet → Text → Bool → Bool → DeskTask
+  lines : sheets.Sheet → Text → DeskTask
+  serve : Option Text → ℕ → Option ℕ → Option Text → Bool → Bool → Bool → DeskTask
   guide : Text → DeskTask
 
 abbrev pub report_with : Option Text → Option ReportName → Option Subject → Option DeskTask
@@ -319,11 +360,26 @@ other_by name of only_open =
     else if bytes_eq name (codes "count-sheet") then (if only_open then None else Some (count_sheet of))
     else None
 
+-- with where something went goes its word, and nothing else
+abbrev pub way_forward : Option Text → Bool → Option Listed
+way_forward of only_open = if only_open then None else option_map trace_forward of
+
+-- and so it is with where an item came from
+abbrev pub way_back : Option Text → Bool → Option Listed
+way_back of only_open = if only_open then None else option_map trace_back of
+
+-- a list of where something went, or where it came from, or another one
+abbrev pub trace_by : Text → Option Text → Bool → Option Listed
+trace_by name of only_open =
+    if bytes_eq name (codes "trace-forward") then way_forward of only_open
+    else if bytes_eq name (codes "trace-back") then way_back of only_open
+    else other_by name of only_open
+
 -- the list of that name, by the word, the amount and the flag that were given with it
 abbrev pub list_by : Text → Option Text → Option Text → Bool → Option Listed
 list_by name of low only_open =
     if bytes_eq name (codes "stock") then stock_by of low only_open
-    else if is_none low then other_by name of only_open
+    else if is_none low then trace_by name of only_open
     else None
 
 -- a flag that was given has the value `true`
@@ -334,6 +390,10 @@ is_given (Some text) = bytes_eq text (codes "true")
 -- by the matches of the subcommand: whether rows may be named
 abbrev pub names_in : List Row → Bool
 names_in rows = is_given (first_of (codes "names") rows)
+
+-- the same: whether requests get keys
+abbrev pub journal_in : List Row → Bool
+journal_in rows = is_given (first_of (codes "journal") rows)
 
 -- the same: whether the page is served
 abbrev pub page_in : List Row → Bool
@@ -363,7 +423,8 @@ subject_by true (Some text) = Some (worded text)
 
 -- by the matches of the subcommand
 abbrev pub run_in : List Row → DeskTask
-run_in rows = run (first_of (codes "db") rows) (names_in rows) (stop_in rows) (check_in rows) (explain_in rows)
+run_in rows =
+    run (first_of (codes "db") rows) (names_in rows) (stop_in rows) (check_in rows) (explain_in rows) (journal_in rows)
 
 unfoldable pub report_in : List Row → Option DeskTask
 report_in rows = report_with (first_of (codes "db") rows) (option_and_then report_named (first_of (codes "name") rows))
@@ -393,14 +454,43 @@ show_in rows = do
 unfoldable pub migrate_in : List Row → Option DeskTask
 migrate_in rows = option_map migrate (first_of (codes "db") rows)
 
-unfoldable pub import_in : List Row → Option DeskTask
-import_in rows = do
+-- what goes with the name of a command alone
+abbrev pub has_sheet_words : List Row → Bool
+has_sheet_words rows =
+    is_some (first_of (codes "set") rows) || is_some (first_of (codes "column") rows) || stop_in rows
+
+-- receipts or counts
+unfoldable pub rows_import_in : List Row → Option DeskTask
+rows_import_in rows = do
   file ← first_of (codes "db") rows
   kind ← option_and_then import_kind_named (first_of (codes "kind") rows)
   document ← option_and_then document_named (first_of (codes "document") rows)
   day ← option_and_then day_of (first_of (codes "day") rows)
   path ← first_of (codes "path") rows
-  Some (import file kind document day path (names_in rows) (loose_in rows) (explain_in rows))
+  if has_sheet_words rows then None
+      else Some (import file kind document day path (names_in rows) (loose_in rows) (explain_in rows))
+
+-- a file of records of that form's command
+unfoldable pub sheet_import_in : Form → List Row → Option DeskTask
+sheet_import_in form rows = do
+  told ← sheet_in form rows
+  file ← first_of (codes "db") rows
+  path ← first_of (codes "path") rows
+  Some (sheet file told path (stop_in rows) (explain_in rows))
+
+abbrev pub import_by : Option Form → List Row → Option DeskTask
+import_by None rows = rows_import_in rows
+import_by (Some form) rows = sheet_import_in form rows
+
+abbrev pub import_in : List Row → Option DeskTask
+import_in rows = import_by (form_in rows) rows
+
+unfoldable pub lines_in : List Row → Option DeskTask
+lines_in rows = do
+  form ← form_in rows
+  told ← sheet_in form rows
+  path ← first_of (codes "path") rows
+  Some (lines told path)
 
 -- no count, or one that a serving may have
 abbrev pub count_in : Option Text → Option (Option ℕ)
@@ -411,7 +501,9 @@ unfoldable pub serve_in : List Row → Option DeskTask
 serve_in rows = do
   port ← option_and_then (number_up_to 65535) (first_of (codes "port") rows)
   count ← count_in (first_of (codes "count") rows)
-  Some (serve (first_of (codes "db") rows) port count (first_of (codes "token") rows) (names_in rows) (page_in rows))
+  Some
+      (serve (first_of (codes "db") rows) port count (first_of (codes "token") rows) (names_in rows) (page_in rows)
+      (journal_in rows))
 
 unfoldable pub guide_in : List Row → Option DeskTask
 guide_in rows = option_map guide (first_of (codes "topic") rows)
@@ -425,13 +517,14 @@ given_in id m = first_of id (rows_in m)
 
 -- by the subcommand and its matches: no subcommand is a run in memory
 abbrev pub desk_task_met : Option (Text × List Row) → Option DeskTask
-desk_task_met None = Some (run None false false false false)
+desk_task_met None = Some (run None false false false false false)
 desk_task_met (Some met) =
     if bytes_eq met.0 (codes "report") then report_in met.1
     else if bytes_eq met.0 (codes "export") then export_in met.1
     else if bytes_eq met.0 (codes "show") then show_in met.1
     else if bytes_eq met.0 (codes "migrate") then migrate_in met.1
     else if bytes_eq met.0 (codes "import") then import_in met.1
+    else if bytes_eq met.0 (codes "lines") then lines_in met.1
     else if bytes_eq met.0 (codes "serve") then serve_in met.1
     else if bytes_eq met.0 (codes "help") then guide_in met.1
     else Some (run_in met.1)
@@ -442,16 +535,18 @@ desk_task places words = desk_task_met (subcommand_of (command_line places) word
 
 -- the task of a desk, if it is one
 abbrev pub desk_task_of : Task → Option DeskTask
-desk_task_of (Run file names stop check explain) =
-    Some (run (option_map (λ path. path.now) file) names stop check explain)
+desk_task_of (Run file names stop check explain journal) =
+    Some (run (option_map (λ path. path.now) file) names stop check explain journal)
 desk_task_of (Report file name of) = Some (report file.now name (subject_of of))
 desk_task_of (Export file table) = Some (export file.now table)
 desk_task_of (Show file list csv) = Some (show file.now (listed_of list) csv)
 desk_task_of (Migrate file) = Some (migrate file.now)
 desk_task_of (Import file kind document day path names loose explain) =
     Some (import file.now kind document day path.now names loose explain)
-desk_task_of (Serve file port count token names page) =
-    Some (serve (option_map (λ path. path.now) file) port count (option_map (λ path. path.now) token) names page)
+desk_task_of (Sheet file told path stop explain) = Some (sheet file.now (shown_sheet told) path.now stop explain)
+desk_task_of (Lines told path) = Some (lines (shown_sheet told) path.now)
+desk_task_of (Serve file port count token names page journal) =
+    Some (serve (option_map (λ path. path.now) file) port count (option_map (λ path. path.now) token) names page journal)
 desk_task_of (Guide topic) = Some (guide topic.now)
 desk_task_of (Help e) = None
 desk_task_of (Wrong e) = None
@@ -463,13 +558,15 @@ AsksFor desk_task task = option_map desk_task_of task ≡ option_map (λ w. Some
 
 -- the file of the desk that is asked for
 abbrev pub file_of : Task → Option (Bor Text)
-file_of (Run file names stop check explain) = file
+file_of (Run file names stop check explain journal) = file
 file_of (Report file name of) = Some file
 file_of (Export file table) = Some file
 file_of (Show file list csv) = Some file
 file_of (Migrate file) = Some file
 file_of (Import file kind document day path names loose explain) = Some file
-file_of (Serve file port count token names page) = file
+file_of (Sheet file told path stop explain) = Some file
+file_of (Lines told path) = None
+file_of (Serve file port count token names page journal) = file
 file_of (Guide topic) = None
 file_of (Help e) = None
 file_of (Wrong e) = None
@@ -478,15 +575,17 @@ file_of Memory = None
 
 -- the task of a desk is told as it is; where there is none, a value is wrong; unless memory ran out
 abbrev pub Tells : Option DeskTask → Task → Type 0
-Tells desk_task (Run file names stop check explain) = desk_task ≡ desk_task_of (Run file names stop check explain)
+Tells desk_task (Run file names stop check explain journal) = desk_task ≡ desk_task_of (Run file names stop check explain journal)
 Tells desk_task (Report file name of) = desk_task ≡ desk_task_of (Report file name of)
 Tells desk_task (Export file table) = desk_task ≡ desk_task_of (Export file table)
 Tells desk_task (Show file list csv) = desk_task ≡ desk_task_of (Show file list csv)
 Tells desk_task (Migrate file) = desk_task ≡ desk_task_of (Migrate file)
 Tells desk_task (Import file kind document day path names loose explain) = desk_task ≡ desk_task_of
     (Import file kind document day path names loose explain)
-Tells desk_task (Serve file port count token names page) =
-    desk_task ≡ desk_task_of (Serve file port count token names page)
+Tells desk_task (Sheet file told path stop explain) = desk_task ≡ desk_task_of (Sheet file told path stop explain)
+Tells desk_task (Lines told path) = desk_task ≡ desk_task_of (Lines told path)
+Tells desk_task (Serve file port count token names page journal) =
+    desk_task ≡ desk_task_of (Serve file port count token names page journal)
 Tells desk_task (Guide topic) = desk_task ≡ desk_task_of (Guide topic)
 Tells desk_task (Help e) = ⊥
 Tells desk_task (Wrong e) = (desk_task ≡ None) × (kind_of e ≡ ValueValidation)
@@ -504,8 +603,8 @@ abbrev pub IsShown : ErrorKind → Type 0
 IsShown kind = (kind ≡ DisplayHelp) ⊎ (kind ≡ DisplayVersion)
 
 abbrev pub AnswersAt : Places → List Text → Task → Type 0
-AnswersAt places words (Run file names stop check explain) =
-    (faults places words ≡ []) × (desk_task places words ≡ desk_task_of (Run file names stop check explain))
+AnswersAt places words (Run file names stop check explain journal) =
+    (faults places words ≡ []) × (desk_task places words ≡ desk_task_of (Run file names stop check explain journal))
 AnswersAt places words (Report file name of) =
     (faults places words ≡ []) × (desk_task places words ≡ desk_task_of (Report file name of))
 AnswersAt places words (Export file table) =
@@ -516,8 +615,12 @@ AnswersAt places words (Migrate file) =
     (faults places words ≡ []) × (desk_task places words ≡ desk_task_of (Migrate file))
 AnswersAt places words (Import file kind document day path names loose explain) =
     (faults places words ≡ []) × (desk_task places words ≡ desk_task_of (Import file kind document day path names loose explain))
-AnswersAt places words (Serve file port count token names page) =
-    (faults places words ≡ []) × (desk_task places words ≡ desk_task_of (Serve file port count token names page))
+AnswersAt places words (Sheet file told path stop explain) =
+    (faults places words ≡ []) × (desk_task places words ≡ desk_task_of (Sheet file told path stop explain))
+AnswersAt places words (Lines told path) =
+    (faults places words ≡ []) × (desk_task places words ≡ desk_task_of (Lines told path))
+AnswersAt places words (Serve file port count token names page journal) =
+    (faults places words ≡ []) × (desk_task places words ≡ desk_task_of (Serve file port count token names page journal))
 AnswersAt places words (Guide topic) =
     (faults places words ≡ []) × (desk_task places words ≡ desk_task_of (Guide topic))
 AnswersAt places words (Help e) = IsShown (kind_of e) × IsAmong (kind_of e) (faults places words)
@@ -531,33 +634,38 @@ AnswersAt places words Memory = Unit {0}
 abbrev pub Answers : List Text → Task → Type 0
 Answers words task = (places : Places) × AnswersAt places words task
 
--- a run in memory of each line as it comes, in which no row may be named, unless memory ran out
+-- a run in memory of each line as it comes, in which no row may be named and no request gets a key, unless memory ran out
 abbrev pub Runs : Task → Type 0
-Runs (Run file names stop check explain) =
-    (file ≡ None) × (names ≡ false) × (stop ≡ false) × (check ≡ false) × (explain ≡ false)
+Runs (Run file names stop check explain journal) =
+    (file ≡ None) × (names ≡ false) × (stop ≡ false) × (check ≡ false) × (explain ≡ false) × (journal ≡ false)
 Runs (Report file name of) = ⊥
 Runs (Export file table) = ⊥
 Runs (Show file list csv) = ⊥
 Runs (Migrate file) = ⊥
 Runs (Import file kind document day path names loose explain) = ⊥
-Runs (Serve file port count token names page) = ⊥
+Runs (Sheet file told path stop explain) = ⊥
+Runs (Lines told path) = ⊥
+Runs (Serve file port count token names page journal) = ⊥
 Runs (Guide topic) = ⊥
 Runs (Help e) = ⊥
 Runs (Wrong e) = ⊥
 Runs Unreadable = ⊥
 Runs Memory = Unit {0}
 
--- a run of each line as it comes on the desk in this file, in which no row may be named, unless memory ran out
+-- a run of each line as it comes on the desk in this file, in which no row may be named and no request gets a key, unless
+-- memory ran out
 abbrev pub RunsOn : Text → Task → Type 0
-RunsOn path (Run file names stop check explain) =
+RunsOn path (Run file names stop check explain journal) =
     (option_map (λ given. given.now) file ≡ Some path) × (names ≡ false) × (stop ≡ false) × (check ≡ false)
-    × (explain ≡ false)
+    × (explain ≡ false) × (journal ≡ false)
 RunsOn path (Report file name of) = ⊥
 RunsOn path (Export file table) = ⊥
 RunsOn path (Show file list csv) = ⊥
 RunsOn path (Migrate file) = ⊥
 RunsOn path (Import file kind document day from names loose explain) = ⊥
-RunsOn path (Serve file port count token names page) = ⊥
+RunsOn path (Sheet file told from stop explain) = ⊥
+RunsOn path (Lines told from) = ⊥
+RunsOn path (Serve file port count token names page journal) = ⊥
 RunsOn path (Guide topic) = ⊥
 RunsOn path (Help e) = ⊥
 RunsOn path (Wrong e) = ⊥
@@ -566,13 +674,15 @@ RunsOn path Memory = Unit {0}
 
 -- help or the version, by its kind, unless memory ran out
 abbrev pub HelpsBy : ErrorKind → Task → Type 0
-HelpsBy kind (Run file names stop check explain) = ⊥
+HelpsBy kind (Run file names stop check explain journal) = ⊥
 HelpsBy kind (Report file name of) = ⊥
 HelpsBy kind (Export file table) = ⊥
 HelpsBy kind (Show file list csv) = ⊥
 HelpsBy kind (Migrate file) = ⊥
 HelpsBy kind (Import file of document day path names loose explain) = ⊥
-HelpsBy kind (Serve file port count token names page) = ⊥
+HelpsBy kind (Sheet file told path stop explain) = ⊥
+HelpsBy kind (Lines told path) = ⊥
+HelpsBy kind (Serve file port count token names page journal) = ⊥
 HelpsBy kind (Guide topic) = ⊥
 HelpsBy kind (Help e) = kind_of e ≡ kind
 HelpsBy kind (Wrong e) = ⊥

@@ -1,11 +1,12 @@
 //! The file that keeps a workshop, and why it has no desk.
-ghost use Rattle.std.specs.Prelude.{◌≡◌, false, IfOk};
+ghost use Rattle.std.specs.Prelude.{◌≡◌, false, IfErr, IfOk};
+ghost use Rattle.desk_cli.specs.FileFaults.{IsOfOpening};
 
 use crate::look::{look_at, look_closer};
 use desk_store::OpenFault;
 use sqlite::{Connection, Error, ErrorCode, File, FileStore};
 use std::alloc::AllocError;
-use std::{fmt, fs, io};
+use std::{fmt, io};
 
 /// Why there is no desk. As text it is the reason alone, for a person.
 #[derive(Debug, Drop)]
@@ -80,9 +81,9 @@ impl From<OpenFault> for FileFault {
 }
 
 impl From<Error> for FileFault {
-    ghost use Rattle.desk_cli.specs.FileFaults.{file_fault_at};
+    ghost use Rattle.desk_cli.specs.FileFaults.{IsOfOpening, file_fault_at};
 
-    ghost from_gives = { λ from fault. fault ≡ file_fault_at from };
+    ghost from_gives = { λ from fault. (fault ≡ file_fault_at from) × IsOfOpening fault };
 
     fn from(error: Error) -> Self {
         match error {
@@ -98,9 +99,10 @@ impl From<Error> for FileFault {
 
 impl From<io::Error> for FileFault {
     ghost use Rattle.std.specs.IoError.{error_kind};
-    ghost use Rattle.desk_cli.specs.FileFaults.{file_fault_by};
+    ghost use Rattle.desk_cli.specs.FileFaults.{IsOfOpening, file_fault_by};
 
-    ghost from_gives = { λ from fault. fault ≡ file_fault_by (error_kind from) from };
+    ghost from_gives = { λ from fault.
+        (fault ≡ file_fault_by (error_kind from) from) × IsOfOpening fault };
 
     fn from(error: io::Error) -> Self {
         match error.kind() {
@@ -177,23 +179,11 @@ impl fmt::Display for FaultyFile<'_> {
     }
 }
 
-/// Opens the file, which has to be there.
-pub fn connect_to_old(
-    rt: &HostRuntime,
-    path: &str,
-) -> Result<Connection<FileStore<File>>, FileFault>
-    ensures { IfOk result (λ conn. conn.in_transaction ≡ false) }
-{
-    match fs::metadata(rt, path) {
-        Err(error) if error.kind() == io::ErrorKind::NotFound => Err(FileFault::Missing),
-        _ => connect(rt, path),
-    }
-}
-
 /// Opens the file, which is made where there is none. A file that can't be opened is told by what lies at its path and
 /// beside it; nothing is made then.
 pub fn connect(rt: &HostRuntime, path: &str) -> Result<Connection<FileStore<File>>, FileFault>
-    ensures { IfOk result (λ conn. conn.in_transaction ≡ false) }
+    ensures free { IfOk result (λ conn. conn.in_transaction ≡ false) }
+    ensures why { IfErr result IsOfOpening }
 {
     look_at(rt, path)?;
     match Connection::open(rt, path) {

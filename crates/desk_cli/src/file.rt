@@ -130,6 +130,9 @@ pub fn migrate_desk<S: Alter + Drop>(
     ensures open { IfOk result (λ desk. desk.failed ≡ None) }
     ensures found { IfOk result (λ desk. HasCleanDisk (state S.Store desk.conn)
         → EitherAre (state_of desk.shop) (state S.Store conn).committed.trees) }
+    ensures one { IfOk result (λ desk. HasCleanDisk (state S.Store desk.conn)
+        → (s : State) → IsSoundState s → EitherAre s (state S.Store conn).committed.trees
+        → s ≡ state_of desk.shop) }
     ensures why { IfErr result (λ e. IsClean (S.Store.view e.1)
         → TellsUnmoved (state S.Store conn) e.0) }
     ensures kept { IfErr result (λ e. IsClean (S.Store.view e.1)

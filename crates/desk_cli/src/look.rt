@@ -1,7 +1,9 @@
 //! A look at a file that is to be opened, and at what lies beside it. It makes nothing and changes nothing: it asks what
-//! lies at a name, and opens only what is there.
-ghost use Rattle.std.specs.Prelude.{◌≡◌};
-ghost use Rattle.desk_cli.specs.Looks.{fault_of_file, fault_of_log, is_kept_name};
+//! lies at a name, and opens only what is there. `remove_log` alone changes something: it takes away a log that has
+//! nothing.
+ghost use Rattle.std.specs.Prelude.{◌≡◌, IfErr, Some};
+ghost use Rattle.desk_cli.specs.FileFaults.{IsOfOpening};
+ghost use Rattle.desk_cli.specs.Looks.{content_of, fault_of_file, fault_of_log, is_kept_name};
 
 use crate::database::FileFault;
 use std::alloc::AllocError;
@@ -24,6 +26,25 @@ pub enum Found {
     /// A folder, a device, a pipe or a socket.
     Other,
 }
+
+/// What a file has, as far as it is told without a database.
+#[derive(Clone, Copy, Debug, PartialEq, Eq)]
+pub enum Content {
+    /// There is no file.
+    Absent,
+    /// The file has no byte.
+    Empty,
+    /// It begins as no database does.
+    Foreign,
+    /// What it has, the database has to tell.
+    Database,
+}
+
+/// How many bytes each database begins with.
+const FRONT: u64 = 16;
+
+/// How many bytes a log has that has nothing.
+const LOG_HEADER: u64 = 41;
 
 /// Whether the database keeps the name for itself.
 fn is_kept_name(path: &str) -> bool
@@ -56,6 +77,19 @@ fn fault_of_log(found: Found) -> Option<FileFault>
     }
 }
 
+/// What a file has that begins so: these are its first sixteen bytes, or all.
+fn content_of(front: &[u8]) -> Content
+    ensures { result ≡ content_of front.now }
+{
+    if front.is_empty() {
+        Content::Empty
+    } else if front.starts_with(b"SQLite format 3\0") {
+        Content::Database
+    } else {
+        Content::Foreign
+    }
+}
+
 /// What lies at the name itself: a link isn't followed.
 fn find(rt: &HostRuntime, path: &str) -> io::Result<Found> {
     let found = match fs::symlink_metadata(rt, path) {
@@ -75,7 +109,9 @@ fn find(rt: &HostRuntime, path: &str) -> io::Result<Found> {
 }
 
 /// The path, or what the links at it lead to. Where that isn't there it is the path.
-fn place_of(rt: &HostRuntime, path: &str) -> Result<String, FileFault> {
+fn place_of(rt: &HostRuntime, path: &str) -> Result<String, FileFault>
+    ensures { IfErr result IsOfOpening }
+{
     match fs::canonicalize(rt, path) {
         Ok(place) => Ok(String::from_str(rt.alloc(), place.as_str())?),
         Err(error) if error.kind() == ErrorKind::NotFound => {
@@ -114,7 +150,9 @@ fn is_hot(rt: &HostRuntime, journal: &str) -> io::Result<bool> {
     }
 }
 
-fn fail_with(fault: Option<FileFault>) -> Result<(), FileFault> {
+fn fail_with(fault: Option<FileFault>) -> Result<(), FileFault>
+    ensures { IfErr result (λ told. fault ≡ Some told) }
+{
     match fault {
         Some(fault) => Err(fault),
         None => Ok(()),
@@ -122,7 +160,9 @@ fn fail_with(fault: Option<FileFault>) -> Result<(), FileFault> {
 }
 
 /// Why the file will not be opened, as far as the names at its path and beside it tell. Another program may have it open.
-pub fn look_at(rt: &HostRuntime, path: &str) -> Result<(), FileFault> {
+pub fn look_at(rt: &HostRuntime, path: &str) -> Result<(), FileFault>
+    ensures { IfErr result IsOfOpening }
+{
     if is_kept_name(path) {
         return Err(FileFault::KeptName);
     }
@@ -140,7 +180,9 @@ pub fn look_at(rt: &HostRuntime, path: &str) -> Result<(), FileFault> {
 }
 
 /// Opens what is there to be read and written, as a database is. Where nothing is, it can't be made.
-fn may_be_opened(rt: &HostRuntime, path: &str) -> Result<(), FileFault> {
+fn may_be_opened(rt: &HostRuntime, path: &str) -> Result<(), FileFault>
+    ensures { IfErr result IsOfOpening }
+{
     if find(rt, path)? == Found::Nothing {
         return Err(FileFault::NotMade);
     }
@@ -149,7 +191,9 @@ fn may_be_opened(rt: &HostRuntime, path: &str) -> Result<(), FileFault> {
 }
 
 /// Why the database didn't open the file, which no other program has open.
-pub fn look_closer(rt: &HostRuntime, path: &str) -> Result<(), FileFault> {
+pub fn look_closer(rt: &HostRuntime, path: &str) -> Result<(), FileFault>
+    ensures { IfErr result IsOfOpening }
+{
     look_at(rt, path)?;
     let place = place_of(rt, path)?;
     let (log, journal) = names_beside(rt, place.as_str())?;
@@ -158,4 +202,60 @@ pub fn look_closer(rt: &HostRuntime, path: &str) -> Result<(), FileFault> {
     }
     may_be_opened(rt, place.as_str())?;
     may_be_opened(rt, log.as_str())
+}
+
+/// Whether the log there has anything.
+fn has_bytes(rt: &HostRuntime, log: &str) -> io::Result<bool> {
+    match fs::symlink_metadata(rt, log) {
+        Ok(found) => Ok(found.len() > 0),
+        Err(error) if error.kind() == ErrorKind::NotFound => Ok(false),
+        Err(error) => Err(error),
+    }
+}
+
+/// The first bytes of the file, as many as each database begins with.
+fn front_of(rt: &HostRuntime, place: &str) -> io::Result<Vec<u8>> {
+    let mut front = Vec::new(rt.alloc());
+    fs::open(rt, place)?.take(FRONT).read_to_end(&mut front)?;
+    Ok(front)
+}
+
+/// What the file at the path has. Where its log has something, it is for the database to tell: a run that was stopped may
+/// have left both half made.
+pub fn look_into(rt: &HostRuntime, path: &str) -> Result<Content, FileFault>
+    ensures { IfErr result IsOfOpening }
+{
+    look_at(rt, path)?;
+    let place = place_of(rt, path)?;
+    if find(rt, place.as_str())? == Found::Nothing {
+        return Ok(Content::Absent);
+    }
+    let (log, _) = names_beside(rt, place.as_str())?;
+    if has_bytes(rt, log.as_str())? {
+        return Ok(Content::Database);
+    }
+    let front = front_of(rt, place.as_str())?;
+    Ok(content_of(&front))
+}
+
+/// Whether a log lies beside the file at the path.
+pub fn has_log(rt: &HostRuntime, path: &str) -> Result<bool, FileFault>
+    ensures { IfErr result IsOfOpening }
+{
+    let place = place_of(rt, path)?;
+    let (log, _) = names_beside(rt, place.as_str())?;
+    Ok(find(rt, log.as_str())? != Found::Nothing)
+}
+
+/// Takes away the log beside the file at the path, if it has nothing. The file is held open meanwhile, or is no database,
+/// so no other program has the two.
+pub fn remove_log(rt: &HostRuntime, path: &str) -> Result<(), FileFault>
+    ensures { IfErr result IsOfOpening }
+{
+    let place = place_of(rt, path)?;
+    let (log, _) = names_beside(rt, place.as_str())?;
+    if fs::symlink_metadata(rt, log.as_str())?.len() <= LOG_HEADER {
+        fs::remove_file(rt, log.as_str())?;
+    }
+    Ok(())
 }

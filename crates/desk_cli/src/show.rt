@@ -6,7 +6,8 @@ ghost use Rattle.desk_core.specs.Machine.{IsSoundState};
 ghost use Rattle.desk_core.specs.ShopView.{state_of};
 ghost use Rattle.desk_store.specs.Exports.{AppendsFront};
 ghost use Rattle.list_core.specs.Listings.{listing_lines};
-ghost use Rattle.desk_cli.specs.Shows.{list_text, listing_by, row_at, shown_list, word_of};
+ghost use Rattle.desk_cli.specs.Shows.{forward_by, list_text, listing_by, row_at, shown_list, word_of};
+ghost use Rattle.list_core.specs.TraceList.{has_batch};
 ghost use Rattle.desk_cli.specs.Subjects.{TellsNoRow};
 
 use crate::subject::NoRow;
@@ -15,7 +16,7 @@ use desk_core::Shop;
 use desk_ends::{RunEnd, Stop};
 use desk_store::{Desk, WriteFailed, records_text, send};
 use desk_wire::{Unread, refused_text, row_at_word};
-use list_core::{Listing, listed};
+use list_core::{Listing, has_batch, is_item, listed};
 use part_core::{CoreFault, Id, RowKind};
 use report_core::Report;
 use sqlite::Alter;
@@ -28,7 +29,11 @@ impl<'a> ListOf<'a> {
         ensures { result ≡ word_of self.now }
     {
         match self {
-            ListOf::At(word) | ListOf::Part(word) | ListOf::Item(word) => Some(*word),
+            ListOf::At(word)
+            | ListOf::Part(word)
+            | ListOf::Item(word)
+            | ListOf::TraceForward(word)
+            | ListOf::TraceBack(word) => Some(*word),
             ListOf::CountSheet(word) => *word,
             _ => None,
         }
@@ -51,6 +56,46 @@ fn row_at<S: Alter>(alloc: Global, desk: &Desk<S>, table: RowKind, word: &str) -
     }
 }
 
+/// Where the items of a batch went, where any item has the word as its batch; else where the item went that it says.
+fn forward_of<'a, S: Alter>(
+    alloc: Global,
+    desk: &Desk<S>,
+    word: &'a str,
+) -> Result<Listing<'a>, NoRow>
+    ensures { let list = forward_by word.entry (has_batch word.now (state_of desk.now.shop))
+        (state_of desk.now.shop) in
+        MatchResult result (λ listing. list ≡ Ok listing)
+        (λ why. TellsNoRow desk.now.failed list why) }
+{
+    let Ok(shop) = desk.shop() else {
+        return Err(NoRow::Closed);
+    };
+    if has_batch(shop, word) {
+        return Ok(Listing::TraceBatch(word));
+    }
+    let item = row_at(alloc, desk, RowKind::Item, word)?;
+    Ok(Listing::TraceForward(item))
+}
+
+/// Whether the word says an item that is there.
+fn is_item_called<S: Alter>(alloc: Global, desk: &Desk<S>, word: &str) -> bool {
+    match row_at(alloc, desk, RowKind::Item, word) {
+        Ok(number) => match desk.shop() {
+            Ok(shop) => is_item(shop, number),
+            Err(_) => false,
+        },
+        Err(_) => false,
+    }
+}
+
+/// Whether the list is of a batch, and its word says an item, too.
+pub fn says_item_too<S: Alter>(alloc: Global, desk: &Desk<S>, listing: &Listing<'_>) -> bool {
+    match listing {
+        Listing::TraceBatch(word) => is_item_called(alloc, desk, word),
+        _ => false,
+    }
+}
+
 /// The list that is asked for, its row looked up among those of the desk.
 pub fn listing_of<'a, S: Alter>(
     alloc: Global,
@@ -70,6 +115,11 @@ pub fn listing_of<'a, S: Alter>(
         ListOf::Builds(only_open) => Ok(Listing::Builds(only_open)),
         ListOf::Find(word) => Ok(Listing::Find(word)),
         ListOf::Shortages => Ok(Listing::Shortages),
+        ListOf::TraceForward(word) => forward_of(alloc, desk, word),
+        ListOf::TraceBack(word) => {
+            let item = row_at(alloc, desk, RowKind::Item, word)?;
+            Ok(Listing::TraceBack(item))
+        }
         ListOf::CountSheet(None) => Ok(Listing::CountSheet(None)),
         ListOf::CountSheet(Some(word)) => {
             let location = row_at(alloc, desk, RowKind::Location, word)?;

@@ -7,13 +7,16 @@ ghost use Rattle.report_core.specs.Names.{report_named};
 ghost use Rattle.desk_wire.specs.Numbers.{number_in};
 ghost use Rattle.desk_wire.specs.Kinds.{import_kind_named};
 ghost use Rattle.desk_cli.specs.Subjects.{said_word};
-ghost use Rattle.desk_cli.specs.Words.{file_rule, flag_rule, names_rule, option_rule};
+ghost use Rattle.desk_cli.specs.Words.{file_rule, flag_rule, journal_rule, names_rule, option_rule};
 ghost use Rattle.desk_cli.specs.Words.{is_given, optional_rule, word_rule};
 ghost use Rattle.desk_cli.specs.Words.{migrate_line, run_line, serve_line, IsKindRule};
-ghost use Rattle.desk_cli.specs.Words.{IsReportLine, IsExportLine, IsImportLine, IsCommandLine};
+ghost use Rattle.desk_cli.specs.Words.{IsReportLine, IsExportLine, IsImportLine, IsCommandLine, IsLinesLine};
+ghost use Rattle.desk_cli.specs.Words.{has_sheet_words, lines_in, repeated_rule, rows_import_in, sheet_import_in};
+ghost use Rattle.part_core.specs.Forms.{shown};
 ghost use Rattle.desk_cli.specs.Words.{IsListRule, IsShowLine, optional_word_rule, show_in};
 ghost use Rattle.desk_cli.specs.Words.{guide_in, IsHelpLine, IsTopicRule};
 ghost use Rattle.desk_cli.specs.Words.{list_by, listed_of, low_in, other_by, stock_by};
+ghost use Rattle.desk_cli.specs.Words.{trace_by, way_back, way_forward};
 ghost use Rattle.desk_ends.specs.Named.{document_named, table_named};
 ghost use Rattle.desk_cli.specs.Words.{number_up_to, report_in};
 ghost use Rattle.desk_cli.specs.Words.{export_in, migrate_in, import_in, count_in, serve_in, desk_task_met};
@@ -22,11 +25,12 @@ ghost use Rattle.desk_cli.specs.Words.{given_in, rows_in, AsksFor, Tells, Parses
 ghost use Rattle.desk_cli.specs.Words.{asks_run, asks_help, asks_version, run_on};
 ghost use Rattle.desk_cli.specs.Words.{run_with, is_path, Answers, Runs, RunsOn, HelpsBy};
 
+use crate::sheet_words::{kind_form, sheet_of};
 use clap::error::ErrorKind;
 use clap::{Arg, ArgAction, ArgMatches, Command, Error};
 use desk_ends::table_named;
-use desk_wire::{Document, ImportKind, import_kind_named, number_in};
-use part_core::Day;
+use desk_wire::{Document, ImportKind, Sheet, import_kind_named, number_in};
+use part_core::{Day, Form};
 use report_core::{ReportName, report_named};
 use std::alloc::{AllocError, Global};
 use std::convert::AsStr;
@@ -72,6 +76,10 @@ pub enum ListOf<'a> {
     Find(&'a str),
     /// What open builds lack.
     Shortages,
+    /// Where the items of a batch went, or where an item went.
+    TraceForward(&'a str),
+    /// Where an item came from.
+    TraceBack(&'a str),
     /// What is to be counted at a location and below it, or everywhere.
     CountSheet(Option<&'a str>),
 }
@@ -82,13 +90,15 @@ pub enum Task<'a> {
     /// Each line of the standard input is answered, by the desk in the file, or by a new one in memory. Where `names` is
     /// true, lines may name rows; so it is of an import's rows, and of what a server is sent. Where `stop` is set, the run
     /// ends at the first line that is refused or faulty; where `check` is set, nothing is run unless all lines can be read;
-    /// where `explain` is set, it is told why a line isn't done.
+    /// where `explain` is set, it is told why a line isn't done; where `journal` is set, a request without a key gets one,
+    /// and so it is of what a server is sent.
     Run {
         file: Option<&'a str>,
         names: bool,
         stop: bool,
         check: bool,
         explain: bool,
+        journal: bool,
     },
     /// A report of the desk in the file is printed.
     Report {
@@ -118,6 +128,21 @@ pub enum Task<'a> {
         loose: bool,
         explain: bool,
     },
+    /// The lines that the file at the path is, whose records are of a command, are run by the desk in the file once all have
+    /// been looked at, and rows may be named in them. Where `stop` is set, the run ends at the first that is refused or
+    /// faulty; where `explain` is set, it is told why one isn't done.
+    Sheet {
+        file: &'a str,
+        sheet: Sheet<'a>,
+        path: &'a str,
+        stop: bool,
+        explain: bool,
+    },
+    /// The lines that the file at the path is are printed.
+    Lines {
+        sheet: Sheet<'a>,
+        path: &'a str,
+    },
     /// So many connections to a port of the loopback are served, or one after another without an end, by the desk in the
     /// file, or by a new one in memory. Where a token is asked for, it stands in the file at the path. Where `page` is
     /// set, the page is served too.
@@ -128,6 +153,7 @@ pub enum Task<'a> {
         token: Option<&'a str>,
         names: bool,
         page: bool,
+        journal: bool,
     },
     /// Help on this topic is printed.
     Guide(&'a str),
@@ -150,7 +176,7 @@ impl<'a> Task<'a> {
             Task::Run { file, .. } | Task::Serve { file, .. } => *file,
             Task::Migrate(file) | Task::Export(file, _) => Some(*file),
             Task::Report { file, .. } | Task::Import { file, .. } => Some(*file),
-            Task::Show { file, .. } => Some(*file),
+            Task::Show { file, .. } | Task::Sheet { file, .. } => Some(*file),
             _ => None,
         }
     }
@@ -168,12 +194,19 @@ const EXPORT_EXAMPLE: &str = "Example: invdesk export --db workshop.db items";
 const SHOW_EXAMPLE: &str = "Examples:
   invdesk show --db workshop.db stock --low 20
   invdesk show --db workshop.db at Store
+  invdesk show --db workshop.db trace-forward L22
   invdesk show --db workshop.db --csv count-sheet > sheet.csv";
 
 const MIGRATE_EXAMPLE: &str = "Example: invdesk migrate --db workshop.db";
 
-const IMPORT_EXAMPLE: &str =
-    "Example: invdesk import --db workshop.db --kind receipts --document D7 --day 2026-05-02 delivery.csv";
+const IMPORT_EXAMPLE: &str = "Examples:
+  invdesk import --db workshop.db --kind receipts --document D7 --day 2026-05-02 delivery.csv
+  invdesk import --db workshop.db --kind add_part --document P1 --day 2026-05-02 parts.csv
+  invdesk import --db workshop.db --kind add_line --document board-1 --day 2026-05-02 \
+    --set assembly=Board --column component=Value --column quantity=Qty bom.csv";
+
+const LINES_EXAMPLE: &str =
+    "Example: invdesk lines --kind found --document S1 --day 2026-05-02 stock.csv";
 
 const SERVE_EXAMPLE: &str = "Example: invdesk serve --db workshop.db --port 8080";
 
@@ -206,7 +239,7 @@ const TABLES: [&str; 14] = [
 ];
 
 /// The names of the lists.
-const LISTS: [&str; 9] = [
+const LISTS: [&str; 11] = [
     "stock",
     "at",
     "part",
@@ -215,24 +248,83 @@ const LISTS: [&str; 9] = [
     "builds",
     "find",
     "shortages",
+    "trace-forward",
+    "trace-back",
     "count-sheet",
 ];
 
-/// The names of the kinds of imports.
-const KINDS: [&str; 2] = ["receipts", "counts"];
+/// The names of the kinds of files: receipts, counts, and each command but those two's.
+const KINDS: [&str; 43] = [
+    "receipts",
+    "counts",
+    "add_category",
+    "add_location",
+    "add_part",
+    "retire_part",
+    "add_line",
+    "drop_line",
+    "add_substitute",
+    "drop_substitute",
+    "found",
+    "add",
+    "remove",
+    "transfer",
+    "split",
+    "merge",
+    "serialise",
+    "set_status",
+    "install",
+    "uninstall",
+    "disassemble",
+    "reinstate",
+    "order",
+    "order_line",
+    "issue_order",
+    "allocate_sale",
+    "ship",
+    "return_item",
+    "close_order",
+    "cancel_order",
+    "build",
+    "issue_build",
+    "hold_build",
+    "cancel_build",
+    "outputs",
+    "complete_output",
+    "cancel_output",
+    "scrap_output",
+    "allocate_build",
+    "auto_allocate",
+    "release",
+    "complete_build",
+    "consume",
+];
 
 /// The topics of help.
 const TOPICS: [&str; 3] = ["commands", "refusals", "faults"];
 
+/// What help says of requests that get keys.
+const JOURNAL: &str = "Each request without a key gets one, so that its answer is kept";
+
+/// The same of a run.
+const RUN_JOURNAL: &str =
+    "Each request without a key gets one, so that its answer is kept; at a terminal it always does";
+
+/// What help says of a file that is made.
+const MADE_FILE: &str = "The file that keeps the workshop; it is made where there is none";
+
+/// The same of one that is only looked at, or brought along.
+const KEPT_FILE: &str = "The file that keeps the workshop";
+
 /// The option that names the file.
-fn file<'a>(alloc: Global) -> Arg<'a>
+fn file<'a>(alloc: Global, help: &'a str) -> Arg<'a>
     ensures rule { rule_of result ≡ file_rule }
     ensures local { result.global ≡ false }
 {
     Arg::new(alloc, "db")
         .long("db")
         .value_name("FILE")
-        .help("The file that keeps the workshop; it is made where there is none")
+        .help(help)
         .action(ArgAction::Set)
 }
 
@@ -257,6 +349,14 @@ fn names_flag<'a>(alloc: Global) -> Arg<'a>
         "names",
         "Rows may be named in the place of their numbers",
     )
+}
+
+/// The flag that lets requests get keys.
+fn journal_flag<'a>(alloc: Global, help: &'a str) -> Arg<'a>
+    ensures rule { rule_of result ≡ journal_rule }
+    ensures local { result.global ≡ false }
+{
+    flag(alloc, "journal", help)
 }
 
 /// The flag that asks why something isn't done.
@@ -315,8 +415,9 @@ fn run_command<'a>(alloc: Global) -> Result<Command<'a>, AllocError>
     Command::new(alloc, "run")
         .about("Answers each line of the standard input")
         .after_help(RUN_EXAMPLE)
-        .arg(file(alloc))?
+        .arg(file(alloc, MADE_FILE))?
         .arg(names_flag(alloc))?
+        .arg(journal_flag(alloc, RUN_JOURNAL))?
         .arg(flag(
             alloc,
             "stop",
@@ -342,7 +443,7 @@ fn report_command<'a>(alloc: Global) -> Result<Command<'a>, AllocError>
     Command::new(alloc, "report")
         .about("Prints a report")
         .after_help(REPORT_EXAMPLE)
-        .arg(file(alloc).required(true))?
+        .arg(file(alloc, KEPT_FILE).required(true))?
         .arg(names_flag(alloc))?
         .arg(name)?
         .arg(number)
@@ -357,7 +458,7 @@ fn export_command<'a>(alloc: Global) -> Result<Command<'a>, AllocError>
     Command::new(alloc, "export")
         .about("Prints a table as comma-separated values")
         .after_help(EXPORT_EXAMPLE)
-        .arg(file(alloc).required(true))?
+        .arg(file(alloc, KEPT_FILE).required(true))?
         .arg(table)
 }
 
@@ -368,7 +469,9 @@ fn list_word<'a>(alloc: Global) -> Arg<'a>
 {
     word(alloc, "list", "LIST")
         .value_parser(LISTS.as_slice())
-        .help("Which list; at, part, item and find take a word, and count-sheet may take one")
+        .help(
+            "Which list; at, part, item, find, trace-forward and trace-back take a word, and count-sheet may take one",
+        )
 }
 
 fn show_command<'a>(alloc: Global) -> Result<Command<'a>, AllocError>
@@ -376,12 +479,13 @@ fn show_command<'a>(alloc: Global) -> Result<Command<'a>, AllocError>
 {
     let low = optional(alloc, "low", "N").help("Of stock: those parts of which less is free");
     let of = optional_word(alloc, "of", "WORD").help(
-        "The number of a location, a part or an item, or what it is called; of find, what to look for",
+        "The number of a location, a part or an item, or what it is called; of trace-forward a batch, too; of find, \
+        what to look for",
     );
     Command::new(alloc, "show")
         .about("Shows a list")
         .after_help(SHOW_EXAMPLE)
-        .arg(file(alloc).required(true))?
+        .arg(file(alloc, KEPT_FILE).required(true))?
         .arg(flag(alloc, "csv", "As comma-separated values, for a spreadsheet"))?
         .arg(flag(alloc, "open", "Of orders and builds: the open ones alone"))?
         .arg(low)?
@@ -392,13 +496,10 @@ fn show_command<'a>(alloc: Global) -> Result<Command<'a>, AllocError>
 fn migrate_command<'a>(alloc: Global) -> Result<Command<'a>, AllocError>
     ensures { IfOk result (λ command. app_of command ≡ migrate_line) }
 {
-    let file = file(alloc)
-        .required(true)
-        .help("The file that keeps the workshop");
     Command::new(alloc, "migrate")
         .about("Brings a file of an earlier version of this program along")
         .after_help(MIGRATE_EXAMPLE)
-        .arg(file)
+        .arg(file(alloc, KEPT_FILE).required(true))
 }
 
 /// The option that says what the rows of a file are.
@@ -408,19 +509,61 @@ fn kind_option<'a>(alloc: Global) -> Arg<'a>
 {
     option(alloc, "kind", "KIND")
         .value_parser(KINDS.as_slice())
-        .help("What its rows are: receipts of order lines, or counts of items")
+        .help(
+            "What its rows are: receipts of order lines, counts of items, or the command of this name",
+        )
+}
+
+/// An option that may be given several times.
+fn repeated<'a>(alloc: Global, id: &'a str, name: &'a str, help: &'a str) -> Arg<'a>
+    ensures rule { rule_of result ≡ repeated_rule id.now }
+    ensures local { result.global ≡ false }
+{
+    Arg::new(alloc, id)
+        .long(id)
+        .value_name(name)
+        .help(help)
+        .action(ArgAction::Append)
+}
+
+/// The option that says which text a member has.
+fn set_option<'a>(alloc: Global) -> Arg<'a>
+    ensures rule { rule_of result ≡ repeated_rule (codes "set") }
+    ensures local { result.global ≡ false }
+{
+    repeated(
+        alloc,
+        "set",
+        "MEMBER=TEXT",
+        "Of a command: each row has this text there; MEMBER is number, key, day or one of its fields",
+    )
+}
+
+/// The option that says which column a member has.
+fn column_option<'a>(alloc: Global) -> Arg<'a>
+    ensures rule { rule_of result ≡ repeated_rule (codes "column") }
+    ensures local { result.global ≡ false }
+{
+    repeated(
+        alloc,
+        "column",
+        "MEMBER=NAME",
+        "Of a command: the column of this name has it; without this, the one of the member's own name",
+    )
 }
 
 fn import_command<'a>(alloc: Global) -> Result<Command<'a>, AllocError>
     ensures { IfOk result (λ command. IsImportLine (app_of command)) }
 {
     let document = option(alloc, "document", "D").help("The name of the document that it is");
-    let day = option(alloc, "day", "DAY").help("The day of its rows, as YYYY-MM-DD");
+    let day = option(alloc, "day", "DAY").help(
+        "The day of its rows, as YYYY-MM-DD; of a command, but of those that tell one",
+    );
     let path = word(alloc, "path", "PATH").help("The file of comma-separated values");
     Command::new(alloc, "import")
         .about("Runs each row of a file of comma-separated values")
         .after_help(IMPORT_EXAMPLE)
-        .arg(file(alloc).required(true))?
+        .arg(file(alloc, MADE_FILE).required(true))?
         .arg(names_flag(alloc))?
         .arg(flag(
             alloc,
@@ -431,6 +574,32 @@ fn import_command<'a>(alloc: Global) -> Result<Command<'a>, AllocError>
         .arg(kind_option(alloc))?
         .arg(document)?
         .arg(day)?
+        .arg(set_option(alloc))?
+        .arg(column_option(alloc))?
+        .arg(flag(
+            alloc,
+            "stop",
+            "Of a command: ends at the first row that is refused or faulty",
+        ))?
+        .arg(path)
+}
+
+fn lines_command<'a>(alloc: Global) -> Result<Command<'a>, AllocError>
+    ensures { IfOk result (λ command. IsLinesLine (app_of command)) }
+{
+    let document = option(alloc, "document", "D").help("The name of the document that it is");
+    let day = option(alloc, "day", "DAY").help(
+        "The day of its rows, as YYYY-MM-DD, but of those that tell one",
+    );
+    let path = word(alloc, "path", "PATH").help("The file of comma-separated values");
+    Command::new(alloc, "lines")
+        .about("Prints the lines that import runs of a file of a command")
+        .after_help(LINES_EXAMPLE)
+        .arg(kind_option(alloc))?
+        .arg(document)?
+        .arg(day)?
+        .arg(set_option(alloc))?
+        .arg(column_option(alloc))?
         .arg(path)
 }
 
@@ -447,8 +616,9 @@ fn serve_command<'a>(alloc: Global) -> Result<Command<'a>, AllocError>
     Command::new(alloc, "serve")
         .about("Answers requests over HTTP, one a connection")
         .after_help(SERVE_EXAMPLE)
-        .arg(file(alloc))?
+        .arg(file(alloc, MADE_FILE))?
         .arg(names_flag(alloc))?
+        .arg(journal_flag(alloc, JOURNAL))?
         .arg(flag(alloc, "page", "A page to look at is served too"))?
         .arg(port)?
         .arg(count)?
@@ -486,6 +656,7 @@ fn command<'a>(alloc: Global) -> Result<Command<'a>, AllocError>
         .subcommand(show_command(alloc)?)?
         .subcommand(migrate_command(alloc)?)?
         .subcommand(import_command(alloc)?)?
+        .subcommand(lines_command(alloc)?)?
         .subcommand(serve_command(alloc)?)?
         .subcommand(help_command(alloc)?)
 }
@@ -504,7 +675,7 @@ fn number_up_to(most: u64, text: &str) -> Option<u64>
 }
 
 /// The first value of that word or option.
-fn given<'a>(matches: &ArgMatches<'a>, id: &str) -> Option<&'a str>
+pub fn given<'a>(matches: &ArgMatches<'a>, id: &str) -> Option<&'a str>
     ensures { option_map (λ text. text.now) result ≡ given_in id.now matches.now }
 {
     matches.get_str(id)
@@ -557,13 +728,16 @@ fn import_kind(matches: &ArgMatches<'_>) -> Option<ImportKind>
     import_kind_named(given(matches, "kind")?)
 }
 
-fn import_day(matches: &ArgMatches<'_>) -> Option<Day>
+pub fn import_day(matches: &ArgMatches<'_>) -> Option<Day>
     ensures { result ≡ option_and_then day_of (given_in (codes "day") matches.now) }
 {
     Day::parse(given(matches, "day")?)
 }
 
-fn import_document(alloc: Global, matches: &ArgMatches<'_>) -> Result<Option<Document>, AllocError>
+pub fn import_document(
+    alloc: Global,
+    matches: &ArgMatches<'_>,
+) -> Result<Option<Document>, AllocError>
     ensures { IfOk result (λ document.
         document ≡ option_and_then document_named (given_in (codes "document") matches.now)) }
 {
@@ -603,6 +777,7 @@ fn run_task<'a>(matches: &ArgMatches<'a>) -> Task<'a>
         stop: has_flag(matches, "stop"),
         check: has_flag(matches, "check"),
         explain: has_flag(matches, "explain"),
+        journal: has_flag(matches, "journal"),
     }
 }
 
@@ -651,7 +826,7 @@ fn stock_list<'a>(of: Option<&str>, low: Option<&str>, only_open: bool) -> Optio
     Some(ListOf::Stock(low_amount(low)?))
 }
 
-/// The list of that name, if these words go with it. That of what is in stock is another function's.
+/// The list of that name, if these words go with it. Those of what is in stock and of ways are other functions'.
 fn other_list<'a>(name: &str, of: Option<&'a str>, only_open: bool) -> Option<ListOf<'a>>
     ensures { option_map listed_of result
         ≡ other_by name.now (option_map (λ t. t.now) of.entry) only_open }
@@ -666,6 +841,40 @@ fn other_list<'a>(name: &str, of: Option<&'a str>, only_open: bool) -> Option<Li
         ("shortages", None, false) => Some(ListOf::Shortages),
         ("count-sheet", _, false) => Some(ListOf::CountSheet(of)),
         _ => None,
+    }
+}
+
+/// The list of where something went that a word says.
+fn forward_list(of: Option<&str>, only_open: bool) -> Option<ListOf<'_>>
+    ensures { option_map listed_of result
+        ≡ way_forward (option_map (λ t. t.now) of.entry) only_open }
+{
+    if only_open {
+        return None;
+    }
+    Some(ListOf::TraceForward(of?))
+}
+
+/// The list of where an item came from that a word says.
+fn back_list(of: Option<&str>, only_open: bool) -> Option<ListOf<'_>>
+    ensures { option_map listed_of result
+        ≡ way_back (option_map (λ t. t.now) of.entry) only_open }
+{
+    if only_open {
+        return None;
+    }
+    Some(ListOf::TraceBack(of?))
+}
+
+/// The list of that name, if these words go with it. That of what is in stock is another function's.
+fn trace_list<'a>(name: &str, of: Option<&'a str>, only_open: bool) -> Option<ListOf<'a>>
+    ensures { option_map listed_of result
+        ≡ trace_by name.now (option_map (λ t. t.now) of.entry) only_open }
+{
+    match name {
+        "trace-forward" => forward_list(of, only_open),
+        "trace-back" => back_list(of, only_open),
+        _ => other_list(name, of, only_open),
     }
 }
 
@@ -685,7 +894,7 @@ fn list_of<'a>(
     if low.is_some() {
         return None;
     }
-    other_list(name, of, only_open)
+    trace_list(name, of, only_open)
 }
 
 /// The list that is asked for, if the words name one.
@@ -717,17 +926,29 @@ fn migrate_task<'a>(matches: &ArgMatches<'a>) -> Option<Task<'a>>
     Some(Task::Migrate(file))
 }
 
-/// The import of that document that is asked for, if the words name one.
-#[tactic(auto, unfolding(crate::specs::Words::import_in))]
+/// Whether the words have what goes with the name of a command alone.
+fn has_sheet_words(matches: &ArgMatches<'_>) -> bool
+    ensures { result ≡ has_sheet_words (rows_in matches.now) }
+{
+    given(matches, "set").is_some()
+        || given(matches, "column").is_some()
+        || has_flag(matches, "stop")
+}
+
+/// The import of receipts or counts of that document that is asked for, if the words name one.
+#[tactic(auto, unfolding(crate::specs::Words::rows_import_in))]
 fn import_of<'a>(matches: &ArgMatches<'a>, document: Option<Document>) -> Option<Task<'a>>
     requires { document ≡ option_and_then document_named (given_in (codes "document") matches.now) }
-    ensures { AsksFor (import_in (rows_in matches.now)) result }
+    ensures { AsksFor (rows_import_in (rows_in matches.now)) result }
 {
     let file = given(matches, "db")?;
     let kind = import_kind(matches)?;
     let document = document?;
     let day = import_day(matches)?;
     let path = given(matches, "path")?;
+    if has_sheet_words(matches) {
+        return None;
+    }
     Some(Task::Import {
         file,
         kind,
@@ -740,11 +961,58 @@ fn import_of<'a>(matches: &ArgMatches<'a>, document: Option<Document>) -> Option
     })
 }
 
+/// The import of a file of records of that form's command that is asked for, if the words tell of one.
+#[tactic(auto, unfolding(crate::specs::Words::sheet_import_in))]
+fn sheet_task<'a>(
+    alloc: Global,
+    form: &'static Form,
+    matches: &ArgMatches<'a>,
+) -> Result<Option<Task<'a>>, AllocError>
+    ensures { IfOk result (AsksFor (sheet_import_in (shown form.now) (rows_in matches.now))) }
+{
+    let Some(sheet) = sheet_of(alloc, form, matches)? else {
+        return Ok(None);
+    };
+    let Some(file) = given(matches, "db") else {
+        return Ok(None);
+    };
+    let Some(path) = given(matches, "path") else {
+        return Ok(None);
+    };
+    Ok(Some(Task::Sheet {
+        file,
+        sheet,
+        path,
+        stop: has_flag(matches, "stop"),
+        explain: has_flag(matches, "explain"),
+    }))
+}
+
 fn import_task<'a>(alloc: Global, matches: &ArgMatches<'a>) -> Result<Option<Task<'a>>, AllocError>
     ensures { IfOk result (AsksFor (import_in (rows_in matches.now))) }
 {
+    if let Some(form) = kind_form(matches) {
+        return sheet_task(alloc, form, matches);
+    }
     let document = import_document(alloc, matches)?;
     Ok(import_of(matches, document))
+}
+
+/// The lines that are asked for, if the words tell of a file of a command.
+#[tactic(auto, unfolding(crate::specs::Words::lines_in))]
+fn lines_task<'a>(alloc: Global, matches: &ArgMatches<'a>) -> Result<Option<Task<'a>>, AllocError>
+    ensures { IfOk result (AsksFor (lines_in (rows_in matches.now))) }
+{
+    let Some(form) = kind_form(matches) else {
+        return Ok(None);
+    };
+    let Some(sheet) = sheet_of(alloc, form, matches)? else {
+        return Ok(None);
+    };
+    let Some(path) = given(matches, "path") else {
+        return Ok(None);
+    };
+    Ok(Some(Task::Lines { sheet, path }))
 }
 
 /// The serving that is asked for, if the words name a port, and no count or one that it may have.
@@ -763,6 +1031,7 @@ fn serve_task<'a>(matches: &ArgMatches<'a>) -> Option<Task<'a>>
         token,
         names: names(matches),
         page: has_flag(matches, "page"),
+        journal: has_flag(matches, "journal"),
     })
 }
 
@@ -785,6 +1054,7 @@ fn task_by<'a>(alloc: Global, matches: &ArgMatches<'a>) -> Result<Option<Task<'a
         Some(("show", matches)) => Ok(show_task(matches)),
         Some(("migrate", matches)) => Ok(migrate_task(matches)),
         Some(("import", matches)) => import_task(alloc, matches),
+        Some(("lines", matches)) => lines_task(alloc, matches),
         Some(("serve", matches)) => Ok(serve_task(matches)),
         Some(("help", matches)) => Ok(guide_task(matches)),
         Some((_, matches)) => Ok(Some(run_task(matches))),
@@ -794,6 +1064,7 @@ fn task_by<'a>(alloc: Global, matches: &ArgMatches<'a>) -> Result<Option<Task<'a
             stop: false,
             check: false,
             explain: false,
+            journal: false,
         })),
     }
 }
@@ -806,12 +1077,45 @@ fn parse<'a, S: AsStr>(alloc: Global, words: &'a [S]) -> Result<ArgMatches<'a>, 
     Ok(matches)
 }
 
+/// What is said of the members of a file's lines.
+const SAID_WANTS: &str =
+    "MEMBER is number, key, day or a field of the command, and is told once, by --set MEMBER=TEXT or \
+    --column MEMBER=NAME";
+
+/// What the values that tell of a file are to be, where that is to be said of a file of no command.
+fn file_wants(
+    alloc: Global,
+    matches: &ArgMatches<'_>,
+    of_no_command: &'static str,
+) -> Result<&'static str, AllocError> {
+    if import_document(alloc, matches)?.is_none() {
+        return Ok("D has 1 to 32 letters, digits, dots, underscores and hyphens");
+    }
+    if import_day(matches).is_none() {
+        return Ok("DAY is YYYY-MM-DD, a day of the years 2000 to 2099");
+    }
+    match kind_form(matches) {
+        Some(_) => Ok(SAID_WANTS),
+        None => Ok(of_no_command),
+    }
+}
+
 /// What the values of an import are to be.
 fn import_wants(alloc: Global, matches: &ArgMatches<'_>) -> Result<&'static str, AllocError> {
-    Ok(match import_document(alloc, matches)? {
-        Some(_) => "DAY is YYYY-MM-DD, a day of the years 2000 to 2099",
-        None => "D has 1 to 32 letters, digits, dots, underscores and hyphens",
-    })
+    file_wants(
+        alloc,
+        matches,
+        "--set, --column and --stop go with the name of a command",
+    )
+}
+
+/// What the values of a printing of lines are to be.
+fn lines_wants(alloc: Global, matches: &ArgMatches<'_>) -> Result<&'static str, AllocError> {
+    file_wants(
+        alloc,
+        matches,
+        "KIND is the name of a command: receipts and counts are imported as they stand",
+    )
 }
 
 /// What the values of a serving are to be.
@@ -825,12 +1129,13 @@ fn serve_wants(matches: &ArgMatches<'_>) -> &'static str {
 /// What goes with which list.
 const SHOW_WANTS: &str =
     "stock takes --low N, where N has 1 to 19 digits; orders and builds take --open; at, part, \
-    item and find take a word, count-sheet may take one, and no other list does";
+    item, find, trace-forward and trace-back take a word, count-sheet may take one, and no other list does";
 
 /// What the values are to be where one isn't so.
 fn wants(alloc: Global, matches: &ArgMatches<'_>) -> Result<&'static str, AllocError> {
     match matches.subcommand() {
         Some(("import", matches)) => import_wants(alloc, matches),
+        Some(("lines", matches)) => lines_wants(alloc, matches),
         Some(("serve", matches)) => Ok(serve_wants(matches)),
         Some(("show", _)) => Ok(SHOW_WANTS),
         _ => Ok("NUMBER has 1 to 19 digits"),
@@ -842,6 +1147,7 @@ fn faulty_command<'a>(alloc: Global, word: Option<&str>) -> Result<Command<'a>, 
     match word {
         Some("report") => report_command(alloc)?.bin_name("invdesk report"),
         Some("import") => import_command(alloc)?.bin_name("invdesk import"),
+        Some("lines") => lines_command(alloc)?.bin_name("invdesk lines"),
         Some("show") => show_command(alloc)?.bin_name("invdesk show"),
         Some("serve") => serve_command(alloc)?.bin_name("invdesk serve"),
         _ => command(alloc),
@@ -871,7 +1177,7 @@ fn told_by<'a>(alloc: Global, matches: &ArgMatches<'a>) -> Task<'a>
 }
 
 /// Reads the words, of which the first is the program's name: no more, or `run`, `report`, `export`, `show`,
-/// `migrate`, `import`, `serve` or `help` with theirs.
+/// `migrate`, `import`, `lines`, `serve` or `help` with theirs.
 pub fn read_words<'a, S: AsStr>(alloc: Global, words: &'a [S]) -> Task<'a>
     ensures answers { Answers (map S.text words.now) result }
     ensures runs { asks_run (map S.text words.now) ≡ true → Runs result }

@@ -1,9 +1,10 @@
 -- How work ends, and the status of it.
 use Rattle.std.proofs.Common.{◌≡◌, ◌∙◌, ◌⊎◌, inl, inr, ℕ, Bool, true, false, [], ap, arith, refl, sym, subst}
-use Rattle.std.specs.Prelude.{◌≢◌, ◌≤◌, ◌^◌, ◌-◌, List, Option, Some, None, IsSome, is_some, unwrap_or}
+use Rattle.std.specs.Prelude.{◌≢◌, ◌≤◌, ◌^◌, ◌-◌, List, Option, Some, None, IfSome, IsSome, is_some, replicate, unwrap_or}
 use Rattle.table_store.specs.declared.fault.Failed.{Failed}
 use Rattle.sqlite.specs.Tree.{Trees}
 use Rattle.desk_http.specs.Sites.{PageView, SiteRules}
+use Rattle.desk_app.specs.declared.options.LineOptions.{LineOptions}
 use Rattle.desk_app.specs.declared.service.BooksService.{BooksService}
 use Rattle.desk_core.specs.Machine.{IsSoundState, State}
 use Rattle.desk_ends.specs.Empty.{IsEmpty}
@@ -14,7 +15,7 @@ use Rattle.desk_ends.specs.declared.end.RunEnd.TheVariants.{Done, ReadFailed, Wr
 use Rattle.desk_ends.specs.declared.end.Stop.{Stop}
 use Rattle.desk_ends.specs.declared.end.Stop.TheVariants as stops
 use Rattle.desk_app.proofs.Running.{stopped_by}
-use Rattle.invdesk.specs.Clients.{Offers, IsOfServing, ServesClients, most_of}
+use Rattle.invdesk.specs.Clients.{IsInFile, IsOfServing, OffersTo, ServesClients, most_of}
 use Rattle.invdesk.specs.Lines.{RunsLines}
 use Rattle.invdesk.specs.Memory.{RunsInMemory}
 
@@ -28,28 +29,42 @@ pub of_telling : (end : RunEnd) → (end ≡ WriteFailed) ⊎ (end ≡ Memory) �
 of_telling end (inl e) = subst IsOfServing (sym e) tt
 of_telling end (inr e) = subst IsOfServing (sym e) tt
 
+-- a text that may be a token
+abbrev plain_token : List ℕ
+plain_token = replicate 32 33
+
+-- it is asked for, or none is
+asked_if : (given : Bool) → (token : Option (List ℕ)) × (is_some token ≡ given) × IfSome token IsInFile
+asked_if true = (Some plain_token, refl, (plain_token, refl))
+asked_if false = (None, refl, tt)
+
 some_if : {A : Type 0} → A → (given : Bool) → (x : Option A) × (is_some x ≡ given)
 some_if x true = (Some x, refl)
 some_if x false = (None, refl)
 
 -- some site offers so much, though nothing was served by it
-pub any_site : (port : ℕ) (has_token has_page : Bool) → (site : SiteRules) × Offers port has_token has_page site
+pub any_site : (port : ℕ) (has_token has_page : Bool) → (site : SiteRules) × OffersTo port has_token has_page site
 any_site port has_token has_page =
-    let token = some_if {A = List ℕ} [] has_token in
+    let token = asked_if has_token in
     let page = some_if {A = PageView} (record { text = []; policy = [] }) has_page in (
       record { access = record { port = port; token = token.0 }; page = page.0 },
-      record { port_is = refl; token_is = token.1; page_is = page.1 },
+      record {
+        token = token.0;
+        has = token.1;
+        in_file = token.2;
+        offers = record { port_is = refl; token_is = refl; page_is = page.1 };
+      },
     )
 
 -- no connection was served
 pub unserved : {B F : Type 0} (state_in : B → State) (failure_of : B → Option F) (may_leave : B → Trees → Type 0)
-    (names : Bool) (port : ℕ) (has_token has_page : Bool) (count : Option ℕ) (service : BooksService B) (end : RunEnd)
-    → service.names ≡ names → IsOfServing end
-    → ServesClients state_in failure_of may_leave names port has_token has_page count service service end
-unserved state_in failure_of may_leave names port has_token has_page count service end named ends =
+    (options : LineOptions) (port : ℕ) (has_token has_page : Bool) (count : Option ℕ) (service : BooksService B) (end : RunEnd)
+    → service.options ≡ options → IsOfServing end
+    → ServesClients state_in failure_of may_leave options port has_token has_page count service service end
+unserved state_in failure_of may_leave options port has_token has_page count service end taken ends =
     let any = any_site port has_token has_page in
     record {
-      named = named;
+      taken = taken;
       site = any.0;
       offers = any.1;
       steps = (0, omega arith, refl);
@@ -85,10 +100,10 @@ stop_back stops.Store = refl
 one_stop : (a b : Stop) → end_of a ≡ end_of b → a ≡ b
 one_stop a b e = let both : Some a ≡ Some b = sym (stop_back a) ∙ ap stop_of e ∙ stop_back b in cc
 
-runs_done : (names stop all : Bool) (s s' : State) → Finished names stop None None None s s' all
-    → RunsLines {F = Failed} names stop None None (λ _. ⊥) s s' (Done all)
-runs_done names stop all s s' ran = record {
-  done = λ other e. let same : all ≡ other = cc in subst (Finished names stop None None None s s') same ran;
+runs_done : (options : LineOptions) (stop all : Bool) (s s' : State) → Finished options stop None None None s s' all
+    → RunsLines {F = Failed} options stop None None (λ _. ⊥) s s' (Done all)
+runs_done options stop all s s' ran = record {
+  done = λ other e. let same : all ≡ other = cc in subst (Finished options stop None None None s s') same ran;
   stopped = λ why e. absurd (no_stop all why e);
   were_open = λ _. (refl, refl);
   closed = λ e. absurd (cc);
@@ -105,53 +120,53 @@ Nothing trees = (no_fault ≡ None) × ⊥
 no_tables : (trees : Trees) → Nothing trees → ⊥
 no_tables trees may = may.1
 
-runs_stopped : (names stop : Bool) (why : Stop) (s s' : State) → why ≢ stops.Store
-    → Stopped names stop why None None None s s' (λ _. ⊥)
-    → RunsLines {F = Failed} names stop None None (λ _. ⊥) s s' (end_of why)
-runs_stopped names stop why s s' apart ran = record {
+runs_stopped : (options : LineOptions) (stop : Bool) (why : Stop) (s s' : State) → why ≢ stops.Store
+    → Stopped options stop why None None None s s' (λ _. ⊥)
+    → RunsLines {F = Failed} options stop None None (λ _. ⊥) s s' (end_of why)
+runs_stopped options stop why s s' apart ran = record {
   done = λ all e. absurd (no_stop all why (sym e));
   stopped = λ other e.
-      subst (λ v. Stopped names stop v None None None s s' Nothing) (one_stop why other e)
-      (stopped_by names stop why None None None s s' (λ _. ⊥) Nothing no_tables ran);
+      subst (λ v. Stopped options stop v None None None s s' Nothing) (one_stop why other e)
+      (stopped_by options stop why None None None s s' (λ _. ⊥) Nothing no_tables ran);
   were_open = λ _. (refl, refl);
   closed = λ e. absurd (apart (one_stop why stops.Store e));
   left = λ _ trees never. absurd never;
 }
 
-finished_in_memory : (names stop all : Bool) → FromEmpty (λ s s'. Finished names stop None None None s s' all)
-    → RunsInMemory names stop (Done all)
-finished_in_memory names stop all (s, empty, s', sound, ran) = record {
+finished_in_memory : (options : LineOptions) (stop all : Bool) → FromEmpty (λ s s'. Finished options stop None None None s s' all)
+    → RunsInMemory options stop (Done all)
+finished_in_memory options stop all (s, empty, s', sound, ran) = record {
   before = s;
   after = s';
   empty = empty;
-  runs = runs_done names stop all s s' ran;
+  runs = runs_done options stop all s s' ran;
   sound = sound;
 }
 
-stopped_in_memory : (names stop : Bool) (why : Stop) → why ≢ stops.Store
-    → FromEmpty (λ s s'. Stopped names stop why None None None s s' (λ _. ⊥)) → RunsInMemory names stop (end_of why)
-stopped_in_memory names stop why apart (s, empty, s', sound, ran) = record {
+stopped_in_memory : (options : LineOptions) (stop : Bool) (why : Stop) → why ≢ stops.Store
+    → FromEmpty (λ s s'. Stopped options stop why None None None s s' (λ _. ⊥)) → RunsInMemory options stop (end_of why)
+stopped_in_memory options stop why apart (s, empty, s', sound, ran) = record {
   before = s;
   after = s';
   empty = empty;
-  runs = runs_stopped names stop why s s' apart ran;
+  runs = runs_stopped options stop why s s' apart ran;
   sound = sound;
 }
 
-pub runs_in_memory : (names stop : Bool) (end : RunEnd)
-    → ((all : Bool) → end ≡ Done all → FromEmpty (λ s s'. Finished names stop None None None s s' all))
+pub runs_in_memory : (options : LineOptions) (stop : Bool) (end : RunEnd)
+    → ((all : Bool) → end ≡ Done all → FromEmpty (λ s s'. Finished options stop None None None s s' all))
     → ((why : Stop) → end ≡ end_of why
-    → FromEmpty (λ s s'. Stopped names stop why None None None s s' (λ _. ⊥)))
+    → FromEmpty (λ s s'. Stopped options stop why None None None s s' (λ _. ⊥)))
     → end ≢ Store
-    → RunsInMemory names stop end
-runs_in_memory names stop (Done all) done stopped never = finished_in_memory names stop all (done all refl)
-runs_in_memory names stop ReadFailed done stopped never =
-    stopped_in_memory names stop stops.ReadFailed (λ e. absurd (cc)) (stopped stops.ReadFailed refl)
-runs_in_memory names stop WriteFailed done stopped never =
-    stopped_in_memory names stop stops.WriteFailed (λ e. absurd (cc)) (stopped stops.WriteFailed refl)
-runs_in_memory names stop Memory done stopped never =
-    stopped_in_memory names stop stops.Memory (λ e. absurd (cc)) (stopped stops.Memory refl)
-runs_in_memory names stop Store done stopped never = absurd (never refl)
+    → RunsInMemory options stop end
+runs_in_memory options stop (Done all) done stopped never = finished_in_memory options stop all (done all refl)
+runs_in_memory options stop ReadFailed done stopped never =
+    stopped_in_memory options stop stops.ReadFailed (λ e. absurd (cc)) (stopped stops.ReadFailed refl)
+runs_in_memory options stop WriteFailed done stopped never =
+    stopped_in_memory options stop stops.WriteFailed (λ e. absurd (cc)) (stopped stops.WriteFailed refl)
+runs_in_memory options stop Memory done stopped never =
+    stopped_in_memory options stop stops.Memory (λ e. absurd (cc)) (stopped stops.Memory refl)
+runs_in_memory options stop Store done stopped never = absurd (never refl)
 
 -- ---- the status
 

@@ -7,6 +7,7 @@ use Rattle.sqlite_trees.specs.declared.store.Store.{Ghosts}
 use Rattle.desk_core.specs.ShopView.{state_of}
 use Rattle.desk_store.specs.declared.desk.Desk.{Desk}
 use Rattle.desk_wire.specs.declared.kind.ImportKind.{ImportKind}
+use Rattle.desk_wire.specs.declared.sheet.Sheet.{Sheet}
 use Rattle.desk_ends.specs.declared.end.RunEnd.{RunEnd}
 use Rattle.desk_cli.specs.declared.words.Task.{Task}
 use Rattle.desk_cli.specs.declared.words.Task.TheVariants as task
@@ -18,27 +19,34 @@ pub along : {A : Type 0} (old new inside after : A) (P : A → A → Type 0) →
     → P old new
 along old new inside after P was is h = subst (λ v. P v new) was (subst (P inside) (sym is) h)
 
--- a task that isn't one of the three is done by printing
+-- a task that isn't one of the four is done by printing
 pub does_printing : {S : Type 0} (g : Ghosts S) (it : Task) (desk : Desk S) (end : RunEnd)
-    → ((file : Option (Bor (List ℕ))) (names stop check explain : Bool) → it ≡ task.Run file names stop check explain → ⊥)
-    → ((file : Option (Bor (List ℕ))) (port : ℕ) (count : Option ℕ) (token : Option (Bor (List ℕ))) (names page : Bool)
-    → it ≡ task.Serve file port count token names page → ⊥)
+    → ((file : Option (Bor (List ℕ))) (names stop check explain journal : Bool)
+    → it ≡ task.Run file names stop check explain journal → ⊥)
+    → ((file : Option (Bor (List ℕ))) (port : ℕ) (count : Option ℕ) (token : Option (Bor (List ℕ)))
+    (names page journal : Bool)
+    → it ≡ task.Serve file port count token names page journal → ⊥)
     → ((file : Bor (List ℕ)) (kind : ImportKind) (document : List ℕ) (day : CivilDay) (path : Bor (List ℕ))
     (names loose explain : Bool)
     → it ≡ task.Import file kind document day path names loose explain → ⊥)
+    → ((file : Bor (List ℕ)) (told : Sheet) (path : Bor (List ℕ)) (stop explain : Bool)
+    → it ≡ task.Sheet file told path stop explain → ⊥)
     → Prints it (state_of desk.shop) None None end → Does g it desk desk end
-does_printing g (task.Run file names stop check explain) desk end run serve import prints =
-    absurd (run file names stop check explain refl)
-does_printing g (task.Serve file port count token names page) desk end run serve import prints =
-    absurd (serve file port count token names page refl)
-does_printing g (task.Import file kind document day path names loose explain) desk end run serve import prints =
+does_printing g (task.Run file names stop check explain journal) desk end run serve import sheet prints =
+    absurd (run file names stop check explain journal refl)
+does_printing g (task.Serve file port count token names page journal) desk end run serve import sheet prints =
+    absurd (serve file port count token names page journal refl)
+does_printing g (task.Import file kind document day path names loose explain) desk end run serve import sheet prints =
     absurd (import file kind document day path names loose explain refl)
-does_printing g (task.Report file name of) desk end run serve import prints = (refl, prints)
-does_printing g (task.Export file table) desk end run serve import prints = (refl, prints)
-does_printing g (task.Show file list csv) desk end run serve import prints = (refl, prints)
-does_printing g (task.Migrate file) desk end run serve import prints = (refl, prints)
-does_printing g (task.Guide topic) desk end run serve import prints = (refl, prints)
-does_printing g (task.Help e) desk end run serve import prints = (refl, prints)
-does_printing g (task.Wrong e) desk end run serve import prints = (refl, prints)
-does_printing g task.Unreadable desk end run serve import prints = (refl, prints)
-does_printing g task.Memory desk end run serve import prints = (refl, prints)
+does_printing g (task.Sheet file told path stop explain) desk end run serve import sheet prints =
+    absurd (sheet file told path stop explain refl)
+does_printing g (task.Report file name of) desk end run serve import sheet prints = (refl, prints)
+does_printing g (task.Export file table) desk end run serve import sheet prints = (refl, prints)
+does_printing g (task.Show file list csv) desk end run serve import sheet prints = (refl, prints)
+does_printing g (task.Migrate file) desk end run serve import sheet prints = (refl, prints)
+does_printing g (task.Lines told path) desk end run serve import sheet prints = (refl, prints)
+does_printing g (task.Guide topic) desk end run serve import sheet prints = (refl, prints)
+does_printing g (task.Help e) desk end run serve import sheet prints = (refl, prints)
+does_printing g (task.Wrong e) desk end run serve import sheet prints = (refl, prints)
+does_printing g task.Unreadable desk end run serve import sheet prints = (refl, prints)
+does_printing g task.Memory desk end run serve import sheet prints = (refl, prints)

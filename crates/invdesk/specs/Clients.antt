@@ -1,21 +1,44 @@
 -- Clients of the loopback that are served.
-use Rattle.std.specs.Prelude.{◌≡◌, ◌≤◌, ◌^◌, ◌-◌, ℕ, Bool, true, Option, Some, None, Result, is_some}
+use Rattle.std.specs.Prelude.{◌≡◌, ◌≤◌, ◌^◌, ◌-◌, ◌==◌, ℕ, Bool, true, List, Option, Some, None, Result, IfSome, is_some}
+use Rattle.std.specs.Prelude.{if◌then◌else◌}
+use Rattle.std.specs.List.{before_first}
 use Rattle.sqlite.specs.Tree.{Trees}
 use Rattle.desk_core.specs.Machine.{State}
+use Rattle.desk_http.specs.AccessRules.{is_token}
 use Rattle.desk_http.specs.Services.{Operation, Performs, ReplyView}
 use Rattle.desk_http.specs.Serving.{AreSteps, IsOneOperation, IsOneStep}
 use Rattle.desk_http.specs.Sites.{SiteRules}
 use Rattle.desk_http.specs.declared.service.NoReply.{NoReply}
 use Rattle.desk_app.specs.Services.{desk_machine, leaves, Relates}
+use Rattle.desk_app.specs.declared.options.LineOptions.{LineOptions}
 use Rattle.desk_app.specs.declared.service.BooksService.{BooksService}
 use Rattle.desk_ends.specs.declared.end.RunEnd.{RunEnd}
 use Rattle.desk_ends.specs.declared.end.RunEnd.TheVariants.{Done, ReadFailed, WriteFailed, Memory, Store}
 
--- requests are to come to this port, and to show a token where one is asked for; a page is shown, or none
-pub record Offers (port : ℕ) (has_token has_page : Bool) (site : SiteRules) : Type 0 where
+-- a text, if it may be a token
+abbrev pub fit_token : List ℕ → Option (List ℕ)
+fit_token text = if is_token text then Some text else None
+
+-- the token in a file of these bytes: its first line
+abbrev pub token_in : List ℕ → Option (List ℕ)
+token_in bytes = fit_token (before_first (λ b. b == 10) bytes)
+
+-- Which file is named, and what it holds, is known to no clause: so it is the token in some bytes.
+abbrev pub IsInFile : List ℕ → Type 0
+IsInFile token = (bytes : List ℕ) × (token_in bytes ≡ Some token)
+
+-- requests are to come to this port, and to show this token, if there is one; a page is shown, or none
+pub record Offers (port : ℕ) (token : Option (List ℕ)) (has_page : Bool) (site : SiteRules) : Type 0 where
   pub port_is : site.access.port ≡ port
-  pub token_is : is_some site.access.token ≡ has_token
+  pub token_is : site.access.token ≡ token
   pub page_is : is_some site.page ≡ has_page
+
+-- the same with the token in a file, or with none
+pub record OffersTo (port : ℕ) (has_token has_page : Bool) (site : SiteRules) : Type 0 where
+  pub token : Option (List ℕ)
+  pub has : is_some token ≡ has_token
+  pub in_file : IfSome token IsInFile
+  pub offers : Offers port token has_page site
 
 -- how many connections are served at most
 abbrev pub most_of : Option ℕ → ℕ
@@ -35,19 +58,19 @@ module _ {B F : Type 0} (state_in : B → State) (failure_of : B → Option F) (
   -- the books, as a service, did an operation
   abbrev pub DoesOperation : BooksService B → Operation → Result ReplyView NoReply → BooksService B → Type 0
   DoesOperation =
-      Performs (λ service. (state_in service.books, service.names, service.tag)) desk_machine leaves
-      (λ old operation why new. Relates old.names (failure_of old.books) (failure_of new.books) (may_leave new.books)
+      Performs (λ service. (state_in service.books, service.options, service.tag)) desk_machine leaves
+      (λ old operation why new. Relates old.options (failure_of old.books) (failure_of new.books) (may_leave new.books)
       (state_in old.books) (state_in new.books) operation why)
 
   -- So many connections at most were served by the books, one after another, of a site that asks for this port and, it may
-  -- be, a token, and shows a page or none; and the serving ended so. What came by them, and what was answered, is known to
-  -- no clause: so each did what some bytes ask for, and that is an operation at most. Rows might be named in what was sent,
-  -- or not.
-  pub record ServesClients (names : Bool) (port : ℕ) (has_token has_page : Bool) (count : Option ℕ)
+  -- be, the token in a file, and shows a page or none; and the serving ended so. What came by them, and what was answered, is known to
+  -- no clause: so each did what some bytes ask for, and that is an operation at most. What was sent was taken
+  -- in this way.
+  pub record ServesClients (options : LineOptions) (port : ℕ) (has_token has_page : Bool) (count : Option ℕ)
       (old new : BooksService B) (end : RunEnd) : Type 0 where
-    pub named : old.names ≡ names
+    pub taken : old.options ≡ options
     pub site : SiteRules
-    pub offers : Offers port has_token has_page site
+    pub offers : OffersTo port has_token has_page site
     pub steps : (n : ℕ) × (n ≤ most_of count) × AreSteps (IsOneStep DoesOperation site) n old new
     pub operations : (n : ℕ) × (n ≤ most_of count) × AreSteps (IsOneOperation DoesOperation) n old new
     pub ends : IsOfServing end

@@ -5,6 +5,7 @@ use Rattle.part_core.specs.Day.{CivilDay}
 use Rattle.desk_core.specs.Machine.{State}
 use Rattle.desk_store.specs.StateTables.{TablesAre}
 use Rattle.desk_wire.specs.Imports.{import}
+use Rattle.desk_wire.specs.Sheets.{Sheet, sheet_text}
 use Rattle.desk_wire.specs.declared.kind.ImportKind.{ImportKind}
 use Rattle.desk_ends.specs.declared.end.RunEnd.{RunEnd}
 use Rattle.desk_ends.specs.declared.end.RunEnd.TheVariants.{Done, ReadFailed, Memory, Store}
@@ -12,6 +13,7 @@ use Rattle.desk_ends.specs.declared.end.Stop.{Stop}
 use Rattle.desk_ends.specs.Ends.{end_of}
 use Rattle.desk_app.specs.ImportRuns.{ImportedWhole, ImportStopped, IsLeftByImport, Reading}
 use Rattle.desk_app.specs.Runs.{naming}
+use Rattle.desk_app.specs.SheetRuns.{PrintsSheet, RunsSheet}
 
 -- a file can't be read, or there is no memory for it
 abbrev pub IsOfFile : RunEnd → Type 0
@@ -35,7 +37,8 @@ pub record RunsRows {F : Type 0} (reading : Reading) (old new : Option F) (leave
   pub stopped : (stop : Stop) → end ≡ end_of stop → ImportStopped stop reading None None s s'
   pub stays_open : old ≡ None → end ≢ Store → new ≡ None
   pub closed : end ≡ Store → IsSome new
-  pub left : old ≡ None → (trees : Trees) → leaves trees → IsLeftByImport reading s trees
+  pub left : old ≡ None → end ≢ Store → (trees : Trees) → leaves trees → TablesAre s' trees
+  pub left_by_groups : old ≡ None → (trees : Trees) → leaves trees → IsLeftByImport reading s s' trees
 
 -- A file was imported: which bytes it has is known to no clause, so some bytes. Rows might be named in it, or not.
 abbrev pub ImportsFile : {F : Type 0} → Bool → Bool → ImportKind → List ℕ → CivilDay → Option F → Option F → (Trees → Type 0)
@@ -43,3 +46,14 @@ abbrev pub ImportsFile : {F : Type 0} → Bool → Bool → ImportKind → List 
 ImportsFile loose names kind document day old new leaves s s' end =
     Unread old new leaves s s' end
     ⊎ ((bytes : List ℕ) × RunsRows (import loose (naming names s) kind document day bytes) old new leaves s s' end)
+
+-- A file of records of a command was imported: which bytes it has is known to no clause, so some bytes.
+abbrev pub ImportsSheet : {F : Type 0} → Sheet → Bool → Option F → Option F → (Trees → Type 0) → State → State → RunEnd
+    → Type 0
+ImportsSheet sheet stop old new leaves s s' end =
+    Unread old new leaves s s' end
+    ⊎ ((bytes : List ℕ) × RunsSheet stop (sheet_text sheet bytes) None None old new leaves s s' end)
+
+-- the lines that it is were printed, or it couldn't be read
+abbrev pub PrintsLines : Sheet → RunEnd → Type 0
+PrintsLines sheet end = IsOfFile end ⊎ ((bytes : List ℕ) × PrintsSheet (sheet_text sheet bytes) None None end)

@@ -17,32 +17,39 @@ ghost use Rattle.desk_cli.specs.Shows.{listing_by};
 ghost use Rattle.desk_cli.specs.Subjects.{row_of_report};
 ghost use Rattle.desk_cli.specs.Words.{file_of};
 ghost use Rattle.invdesk.specs.Checks.{ChecksInput};
-ghost use Rattle.invdesk.specs.Files.{ActsOnFile, Comes, IsClosedAfter, IsMoved, IsTaken};
+ghost use Rattle.desk_cli.specs.FileFaults.{IsOfOpening};
+ghost use Rattle.invdesk.specs.Files.{ActsOnFile, Comes, EndsByFound, EndsOnFile, HasNone, HasUnmoved};
+ghost use Rattle.invdesk.specs.Lines.{AreTakenBy};
+ghost use Rattle.invdesk.specs.Files.{IsClosedAfter, IsLook, IsMoved, IsTaken, LooksAtNone, NoneComes};
+ghost use Rattle.invdesk.specs.Files.{can_be_migrated, finds_database, is_to_be_opened};
 ghost use Rattle.invdesk.specs.Memory.{AnswersInMemory, ChecksInMemory, DoesInMemory};
 ghost use Rattle.invdesk.specs.Prints.{Prints, PrintsList, PrintsOfRow};
-ghost use Rattle.invdesk.specs.Rows.{ImportsFile, IsOfFile};
+ghost use Rattle.invdesk.specs.Rows.{ImportsFile, ImportsSheet, IsOfFile, PrintsLines};
+ghost use Rattle.desk_wire.specs.SheetViews.{shown_sheet};
 ghost use Rattle.invdesk.specs.Statuses.{EndsWith, IsStatusAfter, IsStatusOf, IsStatusOnFile};
-ghost use Rattle.invdesk.specs.Statuses.{IsToldAtOnce};
+ghost use Rattle.invdesk.specs.Statuses.{IsToldAtOnce, status_on_file};
 ghost use Rattle.invdesk.specs.Works.{AnswersOnDesk, ChecksOnDesk, Does, RunsOnDesk, ServesDesk};
 ghost use Rattle.invdesk.specs.Works.{may_leave};
 
 use crate::serve::{began, serve};
 use desk_app::{
-    Books, BooksService, CountedBooks, ExplainedBooks, WatchedDesk, end_of_work, explain_faults,
-    import_file, let_go, read_file, run_checked, run_in_memory, run_lines,
+    Books, BooksService, CountedBooks, ExplainedBooks, LineOptions, WatchedDesk, end_of_work,
+    explain_faults, import_file, import_sheet, let_go, print_sheet, read_file, run_checked,
+    run_in_memory, run_lines,
 };
 use desk_cli::{
-    DEVICE, FaultyFile, FileFault, ListOf, MEMORY, NoRow, ReportOf, Task, TypedLines, connect,
-    connect_to_old, early_status, listing_of, migrate_desk, no_row_text, print_export, print_list,
-    print_migrated, print_report, read_words, row_of_report, status_of, status_of_fault, take_desk,
+    Content, DEVICE, FaultyFile, FileFault, ListOf, MEMORY, NoRow, ReportOf, Task, TypedLines,
+    connect, early_status, has_log, listing_of, look_into, migrate_desk, no_row_text, print_export,
+    print_list, print_migrated, print_report, read_words, remove_log, row_of_report, says_item_too,
+    status_of, status_of_fault, take_desk,
 };
 use desk_core::Shop;
 use desk_ends::{RunEnd, Stop, escaped, guide_to, told_line};
-use desk_store::Desk;
-use desk_wire::{Document, ImportKind, What};
+use desk_store::{Desk, OpenFault};
+use desk_wire::{Document, ImportKind, Sheet, What};
 use part_core::{Day, Limits};
 use report_core::ReportName;
-use sqlite::{Alter, Error, File, FileStore, Files};
+use sqlite::{Alter, Connection, Error, File, FileStore, Files};
 use sqlite_disk::Disk;
 use std::alloc::{AllocError, Global};
 use std::env::{self, Env};
@@ -191,6 +198,52 @@ fn import<B: Books>(
     }
 }
 
+/// Runs the lines that the file at the path is, by what is told beside it, on the books. Where it can't be read nothing is
+/// done. It may be told why the file, or a line, can't be read.
+fn run_sheet<B: Books>(
+    rt: &HostRuntime,
+    path: &str,
+    sheet: &Sheet<'_>,
+    stop: bool,
+    explain: bool,
+    books: &mut B,
+) -> RunEnd
+    requires { B.are_kept books.old }
+    ensures kept { B.are_kept books.new }
+    ensures imports { ImportsSheet (shown_sheet sheet.now) stop (B.failure_of books.old)
+        (B.failure_of books.new) (B.may_leave books.new) (B.state_in books.old)
+        (B.state_in books.new) result }
+{
+    match bytes_at(rt, path) {
+        Ok(bytes) => import_sheet(
+            rt.alloc(),
+            sheet,
+            &bytes,
+            &mut io::writer(rt),
+            books,
+            stop,
+            reasons(rt, explain),
+        ),
+        Err(end) => end,
+    }
+}
+
+/// Prints the lines that the file at the path is, by what is told beside it. At a terminal it is told why it is none.
+fn print_lines(rt: &HostRuntime, path: &str, sheet: &Sheet<'_>) -> RunEnd
+    ensures { PrintsLines (shown_sheet sheet.now) result }
+{
+    match bytes_at(rt, path) {
+        Ok(bytes) => print_sheet(
+            rt.alloc(),
+            sheet,
+            &bytes,
+            &mut io::writer(rt),
+            reasons(rt, false),
+        ),
+        Err(end) => end,
+    }
+}
+
 /// The terminal that is told how an import goes on: the standard error, where it is one.
 fn terminal(rt: &HostRuntime) -> Option<Stderr> {
     let stderr = rt.stderr();
@@ -218,6 +271,18 @@ fn tell_no_row(rt: &HostRuntime, word: Option<&str>, what: &What) -> RunEnd
     RunEnd::Done(false)
 }
 
+/// Tells that the word of a batch says an item, too, which the list isn't of.
+fn tell_item_too(rt: &HostRuntime, word: Option<&str>) {
+    if let Some(word) = word {
+        tell_line(
+            rt,
+            format_args!(
+                "{word}: the list is of the batch; an item is called so, too: see show trace-back, or its number"
+            ),
+        );
+    }
+}
+
 /// Prints the list that the words ask for. Where a word says no row, it is told why.
 fn print_of_list<S: Alter, W: Write>(
     rt: &HostRuntime,
@@ -231,7 +296,12 @@ fn print_of_list<S: Alter, W: Write>(
         (state_of desk.now.shop) (W.contents writer.old) (W.contents writer.new) result }
 {
     match listing_of(rt.alloc(), desk, list) {
-        Ok(listing) => print_list(rt.alloc(), desk, listing, csv, writer),
+        Ok(listing) => {
+            if says_item_too(rt.alloc(), desk, &listing) {
+                tell_item_too(rt, list.word());
+            }
+            print_list(rt.alloc(), desk, listing, csv, writer)
+        }
         Err(NoRow::Wrong(what)) => tell_no_row(rt, list.word(), &what),
         Err(NoRow::Memory) => RunEnd::Memory,
         Err(NoRow::Closed) => RunEnd::Store,
@@ -342,11 +412,23 @@ fn greet_at<S: Alter>(rt: &HostRuntime, desk: &Desk<S>, name: &str) {
 /// in, its proof is too long.
 type Worked<S> = (Desk<S>, RunEnd);
 
-/// Answers the lines of the standard input with the desk, whose file is told by that name. Lines may name rows or not,
+/// How the lines of the standard input are taken, by what the words say. Where they are typed at a terminal, requests get
+/// keys in any case.
+fn options_of(rt: &HostRuntime, names: bool, journal: bool) -> LineOptions
+    ensures { AreTakenBy names journal result }
+{
+    let typed = rt.stdin().is_terminal();
+    LineOptions {
+        names,
+        journal: journal || typed,
+    }
+}
+
+/// Answers the lines of the standard input with the desk, whose file is told by that name. They are taken in this way,
 /// and the first that is refused or faulty may be the last. It may be told why a line isn't done.
 fn run_on<S: Alter + Drop>(
     rt: &HostRuntime,
-    names: bool,
+    options: LineOptions,
     stop: bool,
     explain: bool,
     desk: Desk<S>,
@@ -354,7 +436,7 @@ fn run_on<S: Alter + Drop>(
 ) -> Worked<S>
     requires { IsDesk S.Store desk }
     ensures desk { IsDesk S.Store result.0 }
-    ensures runs { RunsOnDesk S.Store names stop desk result.0 result.1 }
+    ensures runs { RunsOnDesk S.Store options stop desk result.0 result.1 }
 {
     let watched = WatchedDesk::new(desk, name, "", rt.stderr());
     let mut explained = ExplainedBooks::new(rt.alloc(), watched, reasons(rt, explain));
@@ -364,7 +446,7 @@ fn run_on<S: Alter + Drop>(
         &mut lines,
         &mut writer,
         &mut explained,
-        names,
+        options,
         stop,
     );
     (explained.into_books().into_desk(), end)
@@ -374,21 +456,28 @@ fn run_on<S: Alter + Drop>(
 /// done. It may be told why a line can't be read.
 fn check<B: Books>(
     rt: &HostRuntime,
-    names: bool,
+    options: LineOptions,
     stop: bool,
     explain: bool,
     books: &mut B,
 ) -> RunEnd
     requires { B.are_kept books.old }
     ensures kept { B.are_kept books.new }
-    ensures checks { ChecksInput names stop (B.failure_of books.old) (B.failure_of books.new)
+    ensures checks { ChecksInput options stop (B.failure_of books.old) (B.failure_of books.new)
         (B.may_leave books.new) (B.state_in books.old) (B.state_in books.new) result }
 {
     match all_of(rt.alloc(), &mut lines_in(rt)) {
         Ok(bytes) => {
-            let end = run_checked(rt.alloc(), &bytes, &mut io::writer(rt), books, names, stop);
+            let end = run_checked(
+                rt.alloc(),
+                &bytes,
+                &mut io::writer(rt),
+                books,
+                options,
+                stop,
+            );
             if let Some(mut told) = reasons(rt, explain) {
-                explain_faults(rt.alloc(), &bytes, names, &mut told);
+                explain_faults(rt.alloc(), &bytes, options.names, &mut told);
             }
             end
         }
@@ -399,7 +488,7 @@ fn check<B: Books>(
 /// Answers the lines of the standard input with the desk, once all have been looked at.
 fn check_on<S: Alter + Drop>(
     rt: &HostRuntime,
-    names: bool,
+    options: LineOptions,
     stop: bool,
     explain: bool,
     desk: Desk<S>,
@@ -407,11 +496,11 @@ fn check_on<S: Alter + Drop>(
 ) -> Worked<S>
     requires { IsDesk S.Store desk }
     ensures desk { IsDesk S.Store result.0 }
-    ensures checks { ChecksOnDesk S.Store names stop desk result.0 result.1 }
+    ensures checks { ChecksOnDesk S.Store options stop desk result.0 result.1 }
 {
     let watched = WatchedDesk::new(desk, name, "", rt.stderr());
     let mut explained = ExplainedBooks::new(rt.alloc(), watched, reasons(rt, explain));
-    let end = check(rt, names, stop, explain, &mut explained);
+    let end = check(rt, options, stop, explain, &mut explained);
     let desk = explained.into_books().into_desk();
     (desk, end)
 }
@@ -419,7 +508,7 @@ fn check_on<S: Alter + Drop>(
 /// Answers the lines of the standard input with the desk, each as it comes or once all have been looked at.
 fn answer_on<S: Alter + Drop>(
     rt: &HostRuntime,
-    names: bool,
+    options: LineOptions,
     stop: bool,
     check: bool,
     explain: bool,
@@ -428,13 +517,13 @@ fn answer_on<S: Alter + Drop>(
 ) -> Worked<S>
     requires { IsDesk S.Store desk }
     ensures desk { IsDesk S.Store result.0 }
-    ensures answers { AnswersOnDesk S.Store names stop check desk result.0 result.1 }
+    ensures answers { AnswersOnDesk S.Store options stop check desk result.0 result.1 }
 {
     greet_at(rt, &desk, name.as_str());
     if check {
-        return check_on(rt, names, stop, explain, desk, name);
+        return check_on(rt, options, stop, explain, desk, name);
     }
-    run_on(rt, names, stop, explain, desk, name)
+    run_on(rt, options, stop, explain, desk, name)
 }
 
 /// Serves clients, so many or until it is stopped.
@@ -443,20 +532,27 @@ fn serve_on(
     port: u16,
     count: Option<u64>,
     token: Option<&str>,
-    names: bool,
+    options: LineOptions,
     page: bool,
     desk: Desk<FileStore<File>>,
     name: String,
 ) -> Worked<FileStore<File>>
     requires { IsDesk over_files desk }
     ensures desk { IsDesk over_files result.0 }
-    ensures serves { ServesDesk over_files names port (is_some token.entry) page count desk
+    ensures serves { ServesDesk over_files options port (is_some token.entry) page count desk
         result.0 result.1 }
 {
     let watched = WatchedDesk::new(desk, name, SERVED, rt.stderr());
-    let mut service = BooksService::new(watched, names, began(rt));
+    let mut service = BooksService::new(watched, options, began(rt));
     let end = serve(rt, port, count, token, page, &mut service);
     (service.books.into_desk(), end)
+}
+
+/// Tells that no record of a file was a row, where it was read loosely and nothing else is told of it.
+fn tell_if_empty(rt: &HostRuntime, path: &str, loose: bool, end: RunEnd, rows: u64) {
+    if loose && rows == 0 && matches!(end, RunEnd::Done(true)) {
+        tell_line(rt, format_args!("{path}: no row has a quantity"));
+    }
 }
 
 /// Runs the rows of the file at the path. It may be told why a row isn't done.
@@ -481,7 +577,40 @@ fn import_on<S: Alter + Drop>(
     let explained = ExplainedBooks::new(rt.alloc(), watched, reasons(rt, explain));
     let mut counted = CountedBooks::new(explained, terminal(rt));
     let end = import(rt, path, kind, document, day, loose, names, &mut counted);
+    tell_if_empty(rt, path, loose, end, counted.done());
     (counted.into_books().into_books().into_desk(), end)
+}
+
+/// Tells the fault that has closed the desk, if one has, whose file is told by that name.
+fn tell_closed<S: Alter>(rt: &HostRuntime, desk: &Desk<S>, name: &str) {
+    if let Some(failed) = desk.failed() {
+        tell_line(rt, format_args!("{name}: {failed}"));
+    }
+}
+
+/// Runs the lines that the file at the path is, by what is told beside it. It may be told why one isn't done. A fault of the
+/// file is told once all has ended, and not by a `WatchedDesk`: no call of a type that has a static text in it is covered
+/// by the borrow checker beside a sheet, which has one, too.
+fn sheet_on<S: Alter + Drop>(
+    rt: &HostRuntime,
+    path: &str,
+    sheet: &Sheet<'_>,
+    stop: bool,
+    explain: bool,
+    desk: Desk<S>,
+    name: String,
+) -> Worked<S>
+    requires { IsDesk S.Store desk }
+    ensures desk { IsDesk S.Store result.0 }
+    ensures imports { ImportsSheet (shown_sheet sheet.now) stop desk.failed result.0.failed
+        (may_leave S.Store result.0) (state_of desk.shop) (state_of result.0.shop) result.1 }
+{
+    let explained = ExplainedBooks::new(rt.alloc(), desk, reasons(rt, explain));
+    let mut counted = CountedBooks::new(explained, terminal(rt));
+    let end = run_sheet(rt, path, sheet, stop, explain, &mut counted);
+    let left = counted.into_books().into_books();
+    tell_closed(rt, &left, name.as_str());
+    (left, end)
 }
 
 /// Does what the words ask for with the desk, whose file is told by that name.
@@ -501,16 +630,25 @@ fn done(
             stop,
             check,
             explain,
+            journal,
             ..
-        } => answer_on(rt, *names, *stop, *check, *explain, desk, name),
+        } => {
+            let options = options_of(rt, *names, *journal);
+            answer_on(rt, options, *stop, *check, *explain, desk, name)
+        }
         Task::Serve {
             port,
             count,
             token,
             names,
             page,
+            journal,
             ..
-        } => serve_on(rt, *port, *count, *token, *names, *page, desk, name),
+        } => {
+            let (names, journal) = (*names, *journal);
+            let options = LineOptions { names, journal };
+            serve_on(rt, *port, *count, *token, options, *page, desk, name)
+        }
         Task::Import {
             kind,
             document,
@@ -525,11 +663,48 @@ fn done(
                 rt, path, *kind, document, *day, *loose, *names, *explain, desk, name,
             )
         }
+        Task::Sheet {
+            sheet,
+            path,
+            stop,
+            explain,
+            ..
+        } => sheet_on(rt, path, sheet, *stop, *explain, desk, name),
         _ => {
             let end = print_out(rt, task, &desk);
             (desk, end)
         }
     }
+}
+
+/// Leaves no log beside a refused file that had none. Where something failed it is left: by its log a file is known that
+/// isn't made yet.
+fn leave_refused(rt: &HostRuntime, path: &str, had_log: bool, fault: &FileFault) {
+    if had_log {
+        return;
+    }
+    match fault {
+        FileFault::Memory | FileFault::Desk(OpenFault::Store(_)) => {}
+        _ => {
+            let _ = remove_log(rt, path);
+        }
+    }
+}
+
+/// Opens the file. Beside one that is no database no log is left, where it had none.
+fn opened(
+    rt: &HostRuntime,
+    path: &str,
+    had_log: bool,
+) -> Result<Connection<FileStore<File>>, FileFault>
+    ensures free { IfOk result (λ conn. conn.in_transaction ≡ false) }
+    ensures why { IfErr result IsOfOpening }
+{
+    let conn = connect(rt, path);
+    if !had_log && matches!(&conn, Err(FileFault::NoDatabase)) {
+        let _ = remove_log(rt, path);
+    }
+    conn
 }
 
 /// The desk of the file, which is made where there is none. What a real file holds is known to no clause: it is the desk
@@ -538,24 +713,38 @@ fn taken(rt: &HostRuntime, path: &str) -> Result<Desk<FileStore<File>>, FileFaul
     ensures desk { IfOk result (IsDesk over_files) }
     ensures open { IfOk result (λ desk. desk.failed ≡ None) }
     ensures found { IfOk result (IsTaken over_files) }
+    ensures none { IfErr result (λ fault.
+        IsOfOpening fault ⊎ HasNone ⟦<File as Disk>⟧ fault) }
 {
-    let conn = connect(rt, path)?;
+    let had_log = has_log(rt, path)?;
+    let conn = opened(rt, path, had_log)?;
     match take_desk(rt.alloc(), conn) {
         Ok(desk) => Ok(desk),
-        Err((fault, _database)) => Err(fault),
+        Err((fault, database)) => {
+            leave_refused(rt, path, had_log, &fault);
+            drop(database);
+            Err(fault)
+        }
     }
 }
 
-/// The desk of the file, which has to be there, once an old file is brought along.
+/// The desk of the file, once an old file is brought along.
 fn migrated(rt: &HostRuntime, path: &str) -> Result<Desk<FileStore<File>>, FileFault>
     ensures desk { IfOk result (IsDesk over_files) }
     ensures open { IfOk result (λ desk. desk.failed ≡ None) }
     ensures found { IfOk result (IsMoved over_files) }
+    ensures none { IfErr result (λ fault.
+        IsOfOpening fault ⊎ HasUnmoved ⟦<File as Disk>⟧ fault) }
 {
-    let conn = connect_to_old(rt, path)?;
+    let had_log = has_log(rt, path)?;
+    let conn = opened(rt, path, had_log)?;
     match migrate_desk(rt.alloc(), conn) {
         Ok(desk) => Ok(desk),
-        Err((fault, _database)) => Err(fault),
+        Err((fault, database)) => {
+            leave_refused(rt, path, had_log, &fault);
+            drop(database);
+            Err(fault)
+        }
     }
 }
 
@@ -568,6 +757,7 @@ fn desk_of(
     ensures desk { IfOk result (IsDesk over_files) }
     ensures open { IfOk result (λ desk. desk.failed ≡ None) }
     ensures comes { IfOk result (Comes over_files task.now) }
+    ensures none { IfErr result (NoneComes ⟦<File as Disk>⟧ task.now) }
 {
     match task {
         Task::Migrate(_) => migrated(rt, path),
@@ -592,26 +782,135 @@ fn tell_of_long(rt: &HostRuntime, path: &str, name: &str) {
     }
 }
 
-/// Does what the words ask for, with the desk of the file, and closes the file.
-fn act_on_file(rt: &HostRuntime, path: &str, task: &Task<'_>) -> Result<Ended, FileFault>
-    ensures { IfOk result (λ ended. ActsOnFile task.now ended.0 ended.1) }
+/// Does what the words ask for, with the desk of the file, which is told by that name, and closes the file. Where a database
+/// has no desk it is left with what it had. Where it had nothing, or was to be brought along, and failed as that was done,
+/// a crash may leave the new tables. Nothing is said of the file where the fault may come before a database is opened.
+fn act_on_file(
+    rt: &HostRuntime,
+    path: &str,
+    name: String,
+    task: &Task<'_>,
+) -> Result<Ended, FileFault>
+    ensures acts { IfOk result (λ ended. ActsOnFile task.now ended.0 ended.1) }
+    ensures none { IfErr result (NoneComes ⟦<File as Disk>⟧ task.now) }
 {
-    let name = escaped(rt.alloc(), path)?;
-    tell_of_long(rt, path, name.as_str());
     let desk = desk_of(rt, path, task)?;
     let (desk, end) = done(rt, task, desk, name);
     Ok(closed(rt, path, desk, end))
 }
 
-/// Does what the words ask for with a file, and says why not, where the file is the reason.
-fn status_on_file(rt: &HostRuntime, path: &str, task: &Task<'_>) -> u8
-    ensures { IsStatusOnFile ⟦<File as Disk>⟧ task.now result }
+/// What is found in the file at the path before it is opened, which is looked at where the words only look or bring along.
+/// Nothing is made, and nothing changed. For all other words the database tells.
+fn found_at(rt: &HostRuntime, path: &str, task: &Task<'_>) -> Result<Content, FileFault>
+    ensures { IfErr result IsOfOpening }
 {
-    match act_on_file(rt, path, task) {
-        Ok((end, left)) => {
-            let_go(left);
-            status_of(end)
-        }
+    if is_look(task) || matches!(task, Task::Migrate(_)) {
+        return look_into(rt, path);
+    }
+    Ok(Content::Database)
+}
+
+/// Whether a look finds a database where this was found. It may have to be there.
+fn finds_database(found: Content, must_be_there: bool) -> Result<bool, FileFault>
+    ensures { result ≡ finds_database found must_be_there }
+{
+    match found {
+        Content::Database => Ok(true),
+        Content::Foreign => Err(FileFault::NoDatabase),
+        Content::Absent if must_be_there => Err(FileFault::Missing),
+        Content::Absent | Content::Empty => Ok(false),
+    }
+}
+
+/// Whether what was found can be brought along: it has to be there, and to have something.
+fn can_be_migrated(found: Content) -> Result<bool, FileFault>
+    ensures { result ≡ can_be_migrated found }
+{
+    match found {
+        Content::Database => Ok(true),
+        Content::Foreign => Err(FileFault::NoDatabase),
+        Content::Absent => Err(FileFault::Missing),
+        Content::Empty => Err(FileFault::OtherTables),
+    }
+}
+
+/// Whether the file in which this was found is to be opened, which makes it where there is none. Where the words only look
+/// it has to have a database; else what they ask for is that of books that are empty. A list is of a file that is there.
+/// What is brought along is there, too, and has a database.
+fn is_to_be_opened(task: &Task<'_>, found: Content) -> Result<bool, FileFault>
+    ensures opened { result ≡ is_to_be_opened task.now found }
+    ensures look { IfOk result (λ opened. opened ≡ false → IsLook task.now) }
+{
+    match task {
+        Task::Report { .. } | Task::Export(..) => finds_database(found, false),
+        Task::Show { .. } => finds_database(found, true),
+        Task::Migrate(_) => can_be_migrated(found),
+        _ => Ok(true),
+    }
+}
+
+/// Prints what the words ask for of books that are empty, which a file has that isn't there or has nothing. In memory they
+/// can't be made for want of it alone.
+fn look_at_none(rt: &HostRuntime, task: &Task<'_>) -> Result<RunEnd, FileFault>
+    requires { IsLook task.now }
+    ensures looks { IfOk result (LooksAtNone task.now) }
+    ensures fault { IfErr result IsOfOpening }
+{
+    let conn = Connection::open_in_memory(rt.alloc())?;
+    match take_desk(rt.alloc(), conn) {
+        Ok(desk) => Ok(print_out(rt, task, &desk)),
+        Err((_fault, _database)) => Err(FileFault::Memory),
+    }
+}
+
+/// Whether the words only look.
+fn is_look(task: &Task<'_>) -> bool {
+    matches!(
+        task,
+        Task::Report { .. } | Task::Export(..) | Task::Show { .. }
+    )
+}
+
+/// Does what the words ask for with the file in which this was found, which is told by that name, and tells how it ended, or
+/// why there is no desk. After a look that made the file's log, which has nothing then, it is taken away.
+fn end_by_found(
+    rt: &HostRuntime,
+    path: &str,
+    name: String,
+    task: &Task<'_>,
+    found: Content,
+) -> Result<RunEnd, FileFault>
+    ensures { EndsByFound ⟦<File as Disk>⟧ task.now found result }
+{
+    if !is_to_be_opened(task, found)? {
+        return look_at_none(rt, task);
+    }
+    let had_log = has_log(rt, path)?;
+    let ended = act_on_file(rt, path, name, task)?;
+    let (end, left) = ended;
+    if !had_log && left.is_ok() && is_look(task) {
+        let _ = remove_log(rt, path);
+    }
+    let_go(left);
+    Ok(end)
+}
+
+/// Does what the words ask for with the file, and tells how it ended, or why there is no desk.
+fn end_on_file(rt: &HostRuntime, path: &str, task: &Task<'_>) -> Result<RunEnd, FileFault>
+    ensures { EndsOnFile ⟦<File as Disk>⟧ task.now result }
+{
+    let name = escaped(rt.alloc(), path)?;
+    tell_of_long(rt, path, name.as_str());
+    let found = found_at(rt, path, task)?;
+    end_by_found(rt, path, name, task, found)
+}
+
+/// The status of work on the file that ended so. Where the file is the reason that there was none, it is told.
+fn told_status(rt: &HostRuntime, path: &str, ended: Result<RunEnd, FileFault>) -> u8
+    ensures { result ≡ status_on_file ended }
+{
+    match ended {
+        Ok(end) => status_of(end),
         Err(fault) => {
             let status = status_of_fault(&fault);
             tell_line(rt, FaultyFile { path, fault });
@@ -620,31 +919,45 @@ fn status_on_file(rt: &HostRuntime, path: &str, task: &Task<'_>) -> u8
     }
 }
 
+/// Does what the words ask for with a file, and says why not, where the file is the reason.
+fn status_on_file(rt: &HostRuntime, path: &str, task: &Task<'_>) -> u8
+    ensures { IsStatusOnFile ⟦<File as Disk>⟧ task.now result }
+{
+    let ended = end_on_file(rt, path, task);
+    told_status(rt, path, ended)
+}
+
 /// Answers the lines of the standard input with new books in memory, once all have been looked at.
-fn check_in_memory(rt: &HostRuntime, names: bool, stop: bool, explain: bool) -> RunEnd
-    ensures { ChecksInMemory names stop result }
+fn check_in_memory(rt: &HostRuntime, options: LineOptions, stop: bool, explain: bool) -> RunEnd
+    ensures { ChecksInMemory options stop result }
 {
     let shop = Shop::new(rt.alloc(), Limits::LARGEST);
     let mut explained = ExplainedBooks::new(rt.alloc(), shop, reasons(rt, explain));
-    let end = check(rt, names, stop, explain, &mut explained);
+    let end = check(rt, options, stop, explain, &mut explained);
     explained.into_books();
     end
 }
 
 /// Answers the lines of the standard input with new books in memory, each as it comes or once all have been looked at.
-fn answer_in_memory(rt: &HostRuntime, names: bool, stop: bool, check: bool, explain: bool) -> RunEnd
-    ensures { AnswersInMemory names stop check result }
+fn answer_in_memory(
+    rt: &HostRuntime,
+    options: LineOptions,
+    stop: bool,
+    check: bool,
+    explain: bool,
+) -> RunEnd
+    ensures { AnswersInMemory options stop check result }
 {
     greet(rt, "no file is named, so nothing is kept.");
     if check {
-        return check_in_memory(rt, names, stop, explain);
+        return check_in_memory(rt, options, stop, explain);
     }
     run_in_memory(
         rt.alloc(),
         &mut lines_in(rt),
         &mut io::writer(rt),
         reasons(rt, explain),
-        names,
+        options,
         stop,
     )
 }
@@ -662,10 +975,13 @@ fn act_in_memory(rt: &HostRuntime, task: &Task<'_>) -> RunEnd
             token,
             names,
             page,
+            journal,
             ..
         } => {
+            let (names, journal) = (*names, *journal);
             let books = Shop::new(rt.alloc(), Limits::LARGEST);
-            let mut service = BooksService::new(books, *names, began(rt));
+            let options = LineOptions { names, journal };
+            let mut service = BooksService::new(books, options, began(rt));
             serve(rt, *port, *count, *token, *page, &mut service)
         }
         Task::Run {
@@ -673,8 +989,13 @@ fn act_in_memory(rt: &HostRuntime, task: &Task<'_>) -> RunEnd
             stop,
             check,
             explain,
+            journal,
             ..
-        } => answer_in_memory(rt, *names, *stop, *check, *explain),
+        } => {
+            let options = options_of(rt, *names, *journal);
+            answer_in_memory(rt, options, *stop, *check, *explain)
+        }
+        Task::Lines { sheet, path } => print_lines(rt, path, sheet),
         _ => unreachable!(),
     }
 }

@@ -1,8 +1,9 @@
 //! The page that a browser is given, and what it may do with it. This file is written by `tools/make_page.py` from
-//! `page/page.html`.
+//! the files of `page/`.
 
-/// The page.
-pub const PAGE: &str = r#"<!doctype html>
+/// The page, in parts that follow one another.
+pub const PAGE: [&str; 4] = [
+    r#"<!doctype html>
 <html lang="en">
 <head>
 <meta charset="utf-8">
@@ -18,6 +19,7 @@ pub const PAGE: &str = r#"<!doctype html>
     --tint: #262c32; --good: #7fd6a0; --bad: #ff9c92; --warn: #ffcb6b }
 }
 * { box-sizing: border-box }
+[hidden] { display: none !important }
 body { margin: 0; background: var(--ground); color: var(--ink); font: 15px/1.45 sans-serif; overflow-wrap: anywhere }
 a { color: var(--link) }
 :focus-visible { outline: 3px solid #c2680d; outline-offset: 1px }
@@ -28,13 +30,15 @@ header { padding: .5rem 1rem; background: var(--panel); border-bottom: 1px solid
 header, nav, .row { display: flex; flex-wrap: wrap; gap: .4rem 1rem; align-items: center }
 nav { margin-right: auto }
 [aria-current] { font-weight: 600; color: var(--ink) }
-main { max-width: 78rem; margin: 0 auto; padding: 1rem }
-input, select, button, .button { font: inherit; color: inherit; background: var(--panel); max-width: 100%;
+main, .notice { max-width: 78rem; margin: 0 auto; padding: 1rem }
+.notice { padding: 0 1rem; position: sticky; top: 0; z-index: 5 }
+input, select, textarea, button, .button { font: inherit; color: inherit; background: var(--panel); max-width: 100%;
   border: 1px solid var(--soft); border-radius: 6px; padding: .2rem .6rem }
 button, .button { cursor: pointer; text-decoration: none; background: var(--tint) }
 button.main { background: var(--link); color: var(--ground); font-weight: 600 }
 button:disabled { opacity: .5; cursor: default }
-input[type=number] { width: 7rem }
+input[inputmode=numeric] { width: 7rem }
+input[aria-invalid=true] { border-color: var(--bad); box-shadow: 0 0 0 2px var(--bad) }
 label { display: inline-flex; gap: .4rem; align-items: center }
 .row { margin: .5rem 0 }
 .soft { color: var(--soft) }
@@ -51,6 +55,11 @@ thead button { border: 0; background: none; padding: 0 }
 .n { text-align: right; white-space: nowrap }
 .wide { width: 30% }
 .wrap { overflow-x: auto }
+.wrap:focus-within { overflow: visible }
+.tools { margin: .2rem 0; justify-content: flex-end; font-size: .85rem }
+.sorter { display: none }
+.tools button { background: none; border-color: var(--line) }
+.changed { background: color-mix(in srgb, var(--warn) 18%, var(--panel)) }
 .bar, .stack { display: flex; height: 1.1rem; min-width: 3px; background: var(--tint) }
 .stack { height: 2.6rem }
 i { min-width: 2px; overflow: hidden; white-space: nowrap; font: .82rem sans-serif; color: #14171a }
@@ -66,22 +75,60 @@ i { min-width: 2px; overflow: hidden; white-space: nowrap; font: .82rem sans-ser
 .tree .tree, .time { border-left: 2px solid var(--line) }
 .time .chip { margin-left: -2rem }
 dl { display: grid; grid-template-columns: max-content 1fr; gap: .2rem 1rem; margin: .5rem 0 }
-dd { margin: 0 }
-.card { background: var(--panel); border: 1px solid var(--line); padding: 1rem; margin: 0 }
+dd, dd.row { margin: 0 }
+.card, .panel { background: var(--panel); border: 1px solid var(--line); padding: 1rem; margin: 0 0 1rem }
+.card h2 { margin-top: 0 }
+.panel:not([open]) { border: 0; background: none; padding: 0 }
+summary.button { width: fit-content; margin: .5rem 0 }
 form.card { max-width: 46rem }
 .field { margin: 0 0 .8rem; position: relative }
 .field > label, legend { display: block; font-weight: 600; padding: 0 }
-.field input:not([type=checkbox]), .field select { width: 100% }
+.field input:not([type=checkbox]), .field select, textarea { width: 100% }
+td .field { margin: 0; min-width: 12rem }
+.flag { display: grid; grid-template-columns: max-content 1fr; gap: .2rem .6rem; padding: .2rem 0 }
 fieldset { border: 0; margin: 0; padding: 0; min-width: 0 }
 [role=listbox] { position: absolute; z-index: 4; left: 0; right: 0; margin: 0; padding: .2rem; list-style: none;
   background: var(--panel); border: 1px solid var(--soft); max-height: 17rem; overflow: auto }
 [role=option] { padding: .2rem .5rem; cursor: pointer }
 [aria-selected=true], [aria-selected=true] .soft { background: var(--link); color: var(--ground) }
 .said { border-left: 5px solid; background: var(--panel); padding: .6rem 1rem; margin: 1rem 0 }
+.said ul { margin: .2rem 0 .4rem }
+.panel dl { gap: .6rem 1rem }
+@media screen and (max-width: 40rem) {
+  body { font-size: 16px }
+  header { padding: .3rem .6rem; gap: .3rem .5rem }
+  main { padding: .6rem }
+  nav { flex-wrap: nowrap; overflow-x: auto; width: 100%; gap: .2rem .3rem }
+  nav a { padding: .65rem .5rem; white-space: nowrap }
+  header form { flex: 1 1 8rem }
+  header form input { width: 100% }
+  input:not([type=checkbox]), select, button, summary { min-height: 44px }
+  input[type=checkbox] { width: 26px; height: 26px; margin: 9px }
+  .button, td a, th a, dd a { display: inline-flex; align-items: center; min-height: 44px }
+  td a, th a { min-width: 44px }
+  table, tbody, tr, tbody th, td { display: block; background: none }
+  thead, .late, td:empty, td:has(> span:empty:only-child), #again, #print { display: none !important }
+  tbody tr { background: var(--panel); border: 1px solid var(--line); border-radius: 8px; margin: 0 0 .6rem;
+    padding: .3rem .7rem }
+  tbody th, td { border: 0; padding: .15rem 0; width: auto; white-space: normal }
+  tbody th { font-weight: 600; font-size: 1.08rem }
+  td { display: flex; gap: .8rem; justify-content: space-between; align-items: center }
+  td::before { content: attr(data-title); color: var(--soft); flex: none; max-width: 45% }
+  td > .field, td > div { flex: 1; min-width: 0 }
+  .tools { justify-content: flex-start }
+  .sorter { display: inline-block }
+  .tree { padding-left: .7rem }
+  .tree a { padding: .55rem 0; display: inline-block }
+  [role=option] { padding: .7rem .5rem }
+  dl { grid-template-columns: minmax(5rem, max-content) minmax(0, 1fr) }
+}
 @media print {
-  header, .acts, .more, form.card { display: none !important }
+  header, .acts, .more, .notice, .card, .panel, .tools, .unprinted, summary.button, td button, td .button {
+    display: none !important }
+  figure.card { display: block !important }
   body { font-size: 11px }
   tr, li { break-inside: avoid }
+  thead { display: table-header-group }
   i { print-color-adjust: exact }
 }
 </style>
@@ -93,60 +140,62 @@ fieldset { border: 0; margin: 0; padding: 0; min-width: 0 }
     <input type="search" name="text" aria-label="Find (key /)" placeholder="Find (key /)" autocomplete="off">
   </form>
   <label>Day <input type="date" id="day" min="2000-01-01" max="2099-12-31" required></label>
+  <span id="byhand" class="warn" role="status" hidden></span>
   <button type="button" id="again">Refresh</button>
   <button type="button" id="print">Print</button>
 </header>
+<div id="notices" class="notice"></div>
 <main id="main"></main>
 <p id="status" class="unseen" role="status"></p>
 <noscript>This page needs JavaScript.</noscript>
 <script>
 'use strict';
-// ---- What stands from here is written by tools/make_page.py.
-// The commands of docs/MACHINE.md: fields with their kinds, and letters for refusals, rows of WORDS.
+
+// The commands of docs/MACHINE.md: fields with kinds, letters for refusals, rows of WORDS, and effects.
 const COMMANDS = `
-add_category name:text parent:category? | bdz
-add_location name:text parent:location? | bdz
-add_part name:text category? template:part? flags:words | bdefxz
-retire_part part | bf
-add_line assembly:part component:part quantity:number optional:yes consumable:yes inherited:yes variants:yes | bcefjkz
-drop_line line | bj
-add_substitute line part | befjkz
-drop_substitute substitute | bj
-found part location quantity:number batch:text? serials:list? | bcefvwz
-add item quantity:number | bcnoyz
-remove item quantity:number | bcnqstz
-count item quantity:number | bcnotz
-transfer item location quantity:number | bcnstz
-split item quantity:number | bcnostz
-merge into:item items | bchnotyz
-serialise item quantity:number serials:list | bcenostvwz
-set_status item status:word | bntz
-install item parent:item quantity:number | bclmnprstxz
-uninstall item location | bgnz
-disassemble item location | bnptz
-reinstate item location | bgz
-order side:word partner:text | z
-order_line order part quantity:number | bcefgz
-issue_order order | bg
-receive line:order_line location quantity:number batch:text? serials:list? | bceghuvwz
-allocate_sale line:order_line item quantity:number | bcghmnrtuz
-ship order | bghsz
-return_item item location | bgz
-close_order order | bgs
-cancel_order order | bg
-build part quantity:number | bcefz
-issue_build build | bg
-hold_build build | bg
-cancel_build build | bg
-outputs build quantity:number batch:text? serials:list? | bcegpuvwz
-complete_output output:item location | bgsxz
-cancel_output output:item | bg
-scrap_output output:item | bgz
-allocate_build build line item quantity:number output:item? | bcgmnrtuz
-auto_allocate build substitutes:yes optional:yes | bgz
-complete_build build | bgisz
-consume allocation | bghz
-release allocation | b
+add_category name:text parent:category? | bdz | a category
+add_location name:text parent:location? | bdz | a location
+add_part name:text category? template:part? flags:words | bdefxz | a part
+retire_part part | bf | the part is retired
+add_line assembly:part component:part quantity:number optional:yes consumable:yes inherited:yes variants:yes | bcefjkz | a line
+drop_line line | bj | the line and its substitutes go
+add_substitute line part | befjkz | a substitute
+drop_substitute substitute | bj | it goes
+found part location quantity:number batch:text? serials:list? | bcefvwz | without serials a new item at the location, else one of a single piece for each, in their order; all Okay
+add item quantity:number | bcnoyz | the item is larger
+remove item quantity:number | bcnqstz | one with a serial goes off as removed; else it is smaller, and gone at 0
+count item quantity:number | bcnotz | one with a serial that is counted 0 goes off as counted, with its content, and a 'written' entry for each node; else the difference is a 'found' entry or a 'written' entry, and nothing where there is none
+transfer item location quantity:number | bcnstz | less than the whole is cut off first, as a new item; that, or the whole, goes to the location, with its content
+split item quantity:number | bcnostz | a new item beside it
+merge into:item items | bchnotyz | each is poured into 'into', in the order of the list
+serialise item quantity:number serials:list | bcenostvwz | a piece is cut off for each serial, in their order
+set_status item status:word | bntz | the item has that status
+install item parent:item quantity:number | bclmnprstxz | less than the whole is cut off first, as a new item; that, or the whole with its content, lies in the parent
+uninstall item location | bgnz | it comes out to the location, with its content
+disassemble item location | bnptz | what lies directly in it comes out to the location, in order of number, each with its own content; then the item goes off as disassembled
+reinstate item location | bgz | it comes back to the location, with its content
+order side:word partner:text | z | an order, pending
+order_line order part quantity:number | bcefgz | a line, of which nothing is done
+issue_order order | bg | it is in progress
+receive line:order_line location quantity:number batch:text? serials:list? | bceghuvwz | new items as by 'found', of the line's part; so much more of the line is done
+allocate_sale line:order_line item quantity:number | bcghmnrtuz | an allocation
+ship order | bghsz | for each of its allocations, in order of number: less than the item has then is cut off first, as a new item; that, or the whole with its content, is sent
+return_item item location | bgz | it comes back to the location, with its content, and is itself marked as returned
+close_order order | bgs | it is complete
+cancel_order order | bg | it is cancelled, and its allocations go
+build part quantity:number | bcefz | a build, pending, of which nothing is done
+issue_build build | bg | it is in production
+hold_build build | bg | it is on hold
+cancel_build build | bg | it is cancelled, its allocations go and what was spent on it, and each of its outputs is gone, in order of number
+outputs build quantity:number batch:text? serials:list? | bcegpuvwz | new items as by 'found', of the build's part, as its outputs
+complete_output output:item location | bgsxz | it comes to the location. For each of its allocations, in order of number: less than the item has then is cut off first, as a new item; that, or the whole with its content, lies in it
+cancel_output output:item | bg | its allocations go, and it is gone
+scrap_output output:item | bgz | its allocations go, and it goes off as scrapped; 'built' entry, with its place until then, and 'written' entry
+allocate_build build line item quantity:number output:item? | bcgmnrtuz | an allocation
+auto_allocate build substitutes:yes optional:yes | bgz | what untracked lines lack is allocated from what is free, as above: for optional lines too where 'optional' is said, and from substitutes too where 'substitutes' is; an allocation for each amount that isn't 0
+complete_build build | bgisz | for each of its allocations, in order of number: less than the item has then is cut off first, as a new item; that, or the whole with its content, is used up
+consume allocation | bghz | less than the item has is cut off first, as a new item; that, or the whole with its content, is used up
+release allocation | b | the allocation goes
 `;
 // The refusals and some faults of docs/REFUSALS.md: what is wrong.
 const WORDS = `
@@ -205,27 +254,38 @@ received,found,built,consumed,shipped,returned,written,moved,cut,poured,installe
 pending,in progress,complete,cancelled
 pending,production,on hold,cancelled,complete
 `.trim().split('\n').map(row => row.split(','));
-// ---- To here.
+
+// Words.
 
 // What a command is called where its name doesn't tell it well, and the first command of each group.
-const TITLES = { found: 'Found stock', order: 'New order', order_line: 'New line of an order', build: 'New build' };
+const TITLES = { found: 'Found stock', order: 'New order', order_line: 'New line of an order', build: 'New build',
+  add: 'Add to an item', remove: 'Take out', count: 'Count', outputs: 'Begin outputs', consume: 'Use up' };
 const GROUPS = { add_category: 'Parts, places and bills', found: 'Stock', order: 'Orders', build: 'Builds' };
-const [AT, IN, OUTPUT, SENT, USED, OFF, GONE] = PLACES.keys(), ALLOCATABLE = [0, 1, 2, 7];
-const capital = text => text[0].toUpperCase() + text.slice(1), plain = word => word.replace(/[_/]/g, ' ');
+// What a flag of a part allows.
+const FLAG_WORDS = {
+  template: 'Other parts can be variants of it.', assembly: 'It has a bill of other parts and can be built.',
+  component: 'It can stand in the bill of another part.', trackable: 'Its pieces can have serials.',
+  purchaseable: 'It can be bought, on a purchase.', salable: 'It can be sold, on a sale.',
+  virtual: 'It is never in stock, as an hour of work; no other flag but component goes with it.',
+};
+const [AT, IN, OUTPUT, SENT, USED, OFF, GONE] = [0, 1, 2, 3, 4, 5, 6], ALLOCATABLE = [0, 1, 2, 7];
+const [PENDING, PROGRESS] = [0, 1], ON_HOLD = 2;
+const capital = text => text.charAt(0).toUpperCase() + text.slice(1), plain = word => word.replace(/[_/]/g, ' ');
 const rowsOf = text => text.trim().split('\n').map(row => row.split(' | '));
-const FORMS = new Map(rowsOf(COMMANDS).map(([said, refusals]) => {
+const FORMS = new Map(rowsOf(COMMANDS).map(([said, refusals, effect]) => {
   const [command, ...fields] = said.split(' ');
-  return [command, { command, title: TITLES[command] || capital(plain(command)), refusals, fields: fields.map(field => {
-    const [name, kind = name] = field.replace('?', '').split(':');
-    return { name, kind, isOptional: field.endsWith('?') };
-  }) }];
+  return [command, { command, title: TITLES[command] || capital(plain(command)), refusals,
+    does: /^(an?|new) /.test(effect) ? `It makes ${effect}.` : `${capital(effect)}.`, fields: fields.map(field => {
+      const [name, kind = name] = field.replace('?', '').split(':');
+      return { name, kind, isOptional: field.endsWith('?') };
+    }) }];
 }));
 const MEANINGS = new Map(rowsOf(WORDS));
 
-// ---- Elements. What stands in the books goes into them as text, and never as HTML.
+// Elements. What stands in the books goes into them as text, and never as HTML.
 
-// An element, its class behind a point. Of what follows, an object has its attributes and listeners, a list is taken
-// apart, and all else stands in it, but for what is nothing, false or 0.
+// An element, its class behind a point. Of what follows, an object has its attributes and listeners, and all else
+// stands in it, but for what is nothing, false or 0.
 function node(tag, ...inner) {
   const [name, look] = tag.split('.'), made = document.createElement(name);
   if (look) made.className = look;
@@ -241,18 +301,31 @@ const byId = id => document.getElementById(id), main = byId('main');
 const name = text => node('bdi', text), soft = (...inner) => node('span.soft', inner);
 const link = (to, ...inner) => node('a', { href: '#/' + to }, inner);
 const digits = n => String(n).replace(/\B(?=(\d{3})+$)/g, '\u202f');
+const signed = n => (n > 0 ? '+' : n < 0 ? '\u2212' : '') + digits(Math.abs(n));
 const chip = (text, look = '') => node('span.chip ' + look, text);
 const button = (text, click, look = '') => node('button.' + look, { type: 'button', click }, text);
-const act = (to, text) => node('a.button', { href: '#/do/' + to }, text);
 const acts = (...inner) => node('div.row acts', inner);
 const tick = (text, checked, change) =>
   node('label', node('input', { type: 'checkbox', checked, change: event => change(event.target.checked) }), text);
 const section = (title, ...inner) => node('section', node('h2', title), inner);
+// What is made when it is opened.
+function opening(look, words, make, open) {
+  const made = node('details.' + look, { open, toggle: () => made.children[1] || made.append(make()) },
+    node(look ? 'summary.button' : 'summary', words), open && make());
+  return made;
+}
+const panel = (title, make, isOpen) => opening('panel acts', title, () => node('div', make()), isOpen);
 const facts = pairs => node('dl', Object.entries(pairs).map(([word, it]) => it && [node('dt', word), node('dd', it)]));
+const list = rows => node('ul', rows.map(it => node('li', it))), each = (rows, made) => rows.map(it => [made(it), ' ']);
 const says = (look, ...inner) =>
   node('div.said ' + look, { role: look === 'good' ? 'status' : 'alert', tabindex: -1 }, inner);
 
-// Parts of a whole, each with its look, its amount and its word.
+// A box for a whole number: plain text, so that neither wheel nor arrow changes it.
+const numberBox = (label, more = {}) => node('input', { type: 'text', inputmode: 'numeric', autocomplete: 'off',
+  'aria-label': label, ...more });
+const NUMBER = ' *([0-9]{1,15}|[0-9]{1,3}([ ,\u00a0\u202f][0-9]{3}){1,4}) *';
+const numberIn = text => RegExp(`^${NUMBER}$`).test(text) ? Number(text.replace(/\D/g, '')) : NaN;
+
 function piece(look, share, title, ...inner) {
   const made = node('i.' + look, { title }, inner);
   made.style.flex = `${share} 0 0`;
@@ -268,7 +341,7 @@ function bar(pieces, whole = 0) {
 let printing = [];   // what draws more of itself before it is printed
 addEventListener('beforeprint', () => printing.forEach(it => it()));
 
-// Draws rows into a parent: 60 at first, more as one scrolls or by the button, and 3,000 where they are printed.
+// Draws rows: 25 at first, more as one scrolls or by the button, and 3,000 where they are printed.
 function slices(parent, drawn) {
   let rows = [], at = 0;
   const more = button('', () => draw(1000), 'more');
@@ -282,17 +355,19 @@ function slices(parent, drawn) {
     if (!more.hidden) watch.observe(more);
   };
   printing.push(() => draw(Math.max(0, 3000 - at)));
-  return { more, renew: fresh => { [rows, at] = [fresh, 0]; parent.replaceChildren(); draw(60); } };
+  return { more, next: () => draw(100),
+    renew: fresh => { [rows, at] = [fresh, 0]; parent.replaceChildren(); draw(25); } };
 }
 
-// A column of a table: its title, what it is sorted by, what it shows of a row, and how.
+// A column of a table: its title, what sorts it, what it shows of a row, and how; a phone leaves out what is late.
 function column(title, of, show, look = '') {
   const by = typeof of === 'string' ? row => row[of] : of;
   return { title, by, show: show || by, look };
 }
-function numbers(title, of) {
+const cell = (title, show, look) => column(title, null, show, look);
+function numbers(title, of, look = 'n') {
   const { by } = column(title, of);
-  return column(title, by, row => digits(by(row)), 'n');
+  return { ...column(title, by, row => digits(by(row)), look), told: by };
 }
 function parts(title, of) {
   const { by } = column(title, of);
@@ -300,26 +375,98 @@ function parts(title, of) {
 }
 const rowNumbers = view => column(capital(view), 'id', row => link(`${view}/${row.id}`, row.id), 'n');
 const states = words => column('State', 'state', row => chip(words[row.state]));
+
+// A table of rows, to be sorted by its heads, or by a list where a phone shows none, saved as a file and printed alone.
+// While the page is open it keeps how it is sorted.
+const sortings = new Map();
 function table(caption, columns, rows) {
-  let by = null, isDown = false;
+  const word = `${here().split('?')[0]} ${caption}`;
+  let [by, isDown] = sortings.get(word) ?? [], shown = rows;
+  by = columns.find(it => it.by && it.title === by);
+  const sort = (column, down) => {
+    [by, isDown] = [column, down];
+    sortings.set(word, [by?.title, isDown]);
+    renew(rows);
+  };
   const body = node('tbody'), none = soft('None.'), drawn = slices(body, row => node('tr', columns.map(it =>
-    it.look === 'head' ? node('th', { scope: 'row' }, it.show(row)) : node('td.' + it.look, it.show(row)))));
+    it.look === 'head' ? node('th', { scope: 'row' }, it.show(row)) :
+      node('td.' + it.look, { 'data-title': it.title }, it.show(row)))));
   const heads = columns.map(it => node('th.' + it.look, { scope: 'col' },
-    it.by ? button(it.title, () => { [by, isDown] = [it, by === it && !isDown]; renew(rows); }) : it.title));
+    it.by ? button(it.title, () => sort(it, by === it && !isDown)) : it.title));
+  const sorter = columns.some(it => it.by) && node('select.sorter', { 'aria-label': 'Sort by', 'data-view': true,
+    change: () => sort(columns[sorter.value.slice(1)], sorter.value[0] === 'd') }, node('option', { value: '' },
+    'Sort by'), columns.map((it, at) => it.by && ['up', 'down'].map(way =>
+    node('option', { value: way[0] + at }, `${it.title}, ${way}`))));
   const grid = node('table', node('caption.unseen', caption), node('thead', node('tr', heads)), body);
+  const tools = node('div.row tools', sorter, button('CSV', () => saveTable(caption, columns, shown)),
+    button('Print this', () => printOnly(whole)));
+  const whole = node('div.table', tools, node('div.wrap', grid, none, drawn.more));
   const renew = fresh => {
     rows = fresh;
     heads.forEach((it, at) => it.ariaSort = columns[at] !== by ? 'none' : isDown ? 'descending' : 'ascending');
     const order = ([a], [b]) => (a < b ? -1 : a > b ? 1 : 0) * (isDown ? -1 : 1);
-    drawn.renew(by ? rows.map(row => [by.by(row), row]).sort(order).map(it => it[1]) : rows);
-    grid.hidden = !rows.length;
+    if (sorter) sorter.value = by ? (isDown ? 'd' : 'u') + columns.indexOf(by) : '';
+    shown = by ? rows.map(row => [by.by(row), row]).sort(order).map(it => it[1]) : rows;
+    drawn.renew(shown);
+    grid.hidden = tools.hidden = !rows.length;
     none.hidden = !grid.hidden;
   };
   renew(rows);
-  return Object.assign(node('div.wrap', grid, none, drawn.more), { renew });
+  return Object.assign(whole, { renew, next: drawn.next });
+}
+const listed = (title, columns, rows) => section(title, table(title, columns, rows));
+
+// What a spreadsheet would take for a formula has a ' before it.
+function csvOf(rows) {
+  const cellOf = it => {
+    const text = String(it ?? '').replace(/^[=+\-@\t\r]/, "'$&");
+    return /[",\r\n;]/.test(text) ? `"${text.replaceAll('"', '""')}"` : text;
+  };
+  return '\ufeff' + rows.map(row => row.map(cellOf).join(',') + '\r\n').join('');
+}
+function textOf(it) {
+  if (Array.isArray(it)) return it.map(textOf).join('');
+  if (!(it instanceof Node)) return it ? String(it) : '';
+  const box = it.matches?.('input') ? it : it.querySelector?.('input:not([type=checkbox])');
+  return [it.textContent, box?.value, it.ariaLabel].filter(Boolean).join(' ').replace(/\u202f/g, '');
+}
+function saveTable(caption, columns, rows) {
+  const good = columns.filter(it => !it.isAct);
+  const told = rows.map(row => good.map(it => it.told ? it.told(row) : textOf(it.show(row)).trim()));
+  const text = csvOf([good.map(it => it.title), ...told]);
+  const href = URL.createObjectURL(new Blob([text], { type: 'text/csv;charset=utf-8' }));
+  const word = `${document.title.replace(/ - invdesk$/, '')} ${caption}`.replace(/[^\w.-]+/g, '-').slice(0, 60);
+  node('a', { href, download: `${word}-${today()}.csv` }).click();
+  setTimeout(() => URL.revokeObjectURL(href), 10000);
+}
+// Prints one thing of the page alone, with the titles above it.
+function printOnly(made) {
+  const hidden = [];
+  for (let it = made; it !== main; it = it.parentElement)
+    hidden.push(...[...it.parentElement.children].filter(other => other !== it && !/H1|H2/.test(other.tagName)));
+  hidden.forEach(it => it.classList.add('unprinted'));
+  addEventListener('afterprint', () => hidden.forEach(it => it.classList.remove('unprinted')), { once: true });
+  print();
 }
 
-// ---- What the program says
+// The day: today's, also over midnight, unless it was set by hand.
+
+const day = byId('day');
+let isByHand = false;
+function today() {
+  const now = new Date();
+  return new Date(now - 60000 * now.getTimezoneOffset()).toISOString().slice(0, 10);
+}
+function keepDay() {
+  isByHand &&= day.value !== today();
+  if (!isByHand && day.value !== today()) day.value = today();
+  byId('byhand').hidden = !isByHand;
+}
+byId('byhand').append('Set by hand. ', button('Today', () => { isByHand = false; keepDay(); }));
+day.addEventListener('input', () => { isByHand = true; });
+day.addEventListener('change', keepDay);
+
+// What is asked of the program.
 
 let token = '', turn = Promise.resolve();
 
@@ -344,64 +491,152 @@ async function get(path, headers) {
 const report = async (which, id) =>
   (await get(`/report/${which}/${id}`)).text.split('\n').filter(Boolean).map(line => line.split('\t'));
 
-// A line of a command, with a key of its own.
-function lineOf(command, fields) {
+// A key of the page's own, which begins with the day, as one of a journal does.
+function newKey() {
   const bytes = [...crypto.getRandomValues(new Uint8Array(12))].map(it => it.toString(16).padStart(2, '0'));
-  return JSON.stringify({ day: byId('day').value, do: command, key: 'page-' + bytes.join(''), ...fields });
+  keepDay();
+  return `${day.value}/page-${bytes.join('')}`;
 }
-// Sends a line, and again where no answer came: by its key it is done once. Tells whether it is done, or why not; and
-// where that isn't known, it is open.
-async function send(line) {
+function lineOf(command, fields, key = newKey()) {
+  keepDay();
+  return JSON.stringify({ day: day.value, do: command, key, ...fields });
+}
+const store = {
+  get: key => JSON.parse(sessionStorage.getItem(key) ?? 'null'),
+  set(key, value) { try { sessionStorage.setItem(key, JSON.stringify(value)); } catch { /* there is no room */ } },
+  drop: key => sessionStorage.removeItem(key),
+  keys: begin => Object.keys(sessionStorage).filter(it => it.startsWith(begin)),
+};
+// Sends a line, or a file, and again where no answer came: by its key, or by the keys of its rows, it is done once.
+// Tells whether it is done, or why not; where that isn't known it is open, and kept with the marks of its books.
+const OPEN = 'open:', RUN = '/run';
+const UNKNOWN = "It isn't known whether this was done. Send it again: it is done once. ";
+async function send(line, path = RUN, key = path === RUN ? JSON.parse(line).key : path) {
+  store.set(OPEN + key, openAt(key) ?? { line, path, books: marksOf(), was: factsIn(line, path) });
   for (let tries = 1; ; tries++) {
     try {
-      const { status, text } = await ask('/run', { method: 'POST', body: line }), said = JSON.parse(text);
+      const { status, text } = await ask(path, { method: 'POST', body: line });
+      const said = path !== RUN && status === 200 ? { report: text } : JSON.parse(text);
       const word = said.refused || said.fault;
+      if (status >= 500) return { isOpen: true, why: statusWords(status) };
+      store.drop(OPEN + key);
       if (status === 200) return { isDone: true, tries, ...said };
-      if (word) return { why: [MEANINGS.get(word), soft(` (${word}. Nothing has changed.)`)] };
-      return { isOpen: status === 500, why: statusWords(status) };
+      return word ? { word, said, why: [MEANINGS.get(word) ?? word, soft(` (${word}. Nothing has changed.)`)] } :
+        { why: statusWords(status) };
     } catch (fault) {
       if (tries === 3) return { isOpen: true, why: fault.message };
       await new Promise(go => setTimeout(go, 400 * tries));
     }
   }
 }
+const openAt = key => {
+  const kept = store.get(OPEN + key);
+  return typeof kept === 'string' ? { line: kept, path: RUN, books: [], was: [] } : kept;
+};
+const factsIn = (line, path) => path !== RUN ? [] : (({ do: command, ...fields }) =>
+  namedIn(command, fields).map(([kind, id]) => [kind, id, factOf(kind, id)]))(JSON.parse(line));
+// The key of a line that wasn't answered and did the same to the same rows, in whatever amount. It has to be settled
+// before another is sent: to send it later would undo what came after it.
+const AMOUNTS = ['do', 'day', 'key', 'location', 'quantity', 'batch', 'serials', 'status'];
+const openLike = (command, fields, key) => store.keys(OPEN).map(it => it.slice(OPEN.length)).find(other => {
+  const { line, path, books } = openAt(other);
+  if (path !== RUN || other === key || !areThese(books)) return false;
+  const was = JSON.parse(line), names = Object.keys({ ...was, ...fields }).filter(it => !AMOUNTS.includes(it));
+  return was.do === command && names.every(it => String(was[it] ?? '') === String(fields[it] ?? ''));
+});
+// For half a second nothing is sent: a click may be meant for what stood there before.
+let calm = 0;
+const hush = () => { calm = performance.now() + 500; };
+const isEarly = go => go?.disabled || performance.now() < calm || !day.reportValidity();
 
-// ---- The books, read as a whole, and what is worked out of them
+// The books, read as a whole, and what is worked out of them.
 
 const books = {}, TEXTS = ['name', 'batch', 'serial', 'partner', 'day'];
-let find = null, stock = null, choices = null, entries = 0, tag = null, reading = null;
+let find = null, stock = null, choices = null, entries = 0, tag = null, reading = null, isOther = false, readAt = 0;
 const READERS = rowsOf(COLUMNS).map(([row]) => row.split(' ')).map(([table, ...columns]) => {
   const isText = columns.map(it => TEXTS.includes(it));
   return [table, texts => {
     const row = {};
-    columns.forEach((it, at) => { row[it] = texts[at] === '' ? null : isText[at] ? texts[at] : Number(texts[at]); });
+    for (let at = 0; at < columns.length; at++)
+      row[columns[at]] = texts[at] === '' ? null : isText[at] ? texts[at] : Number(texts[at]);
     return row;
   }];
 });
 const entryIn = READERS.pop()[1];
 
-// Reads the books where they have changed, and says whether they had.
+// Reads the books, and says whether they had changed.
 async function read() {
   const answer = await get('/books', tag && { 'If-None-Match': tag });
+  readAt = performance.now();
   if (answer.status === 304) return false;
-  const told = JSON.parse(answer.text);
-  for (const [table, rowIn] of READERS) books[table] = new Map(told[table].map(rowIn).map(row => [row.id, row]));
+  const told = JSON.parse(answer.text), marks = find ? marksOf() : [];
+  for (const [table, rowIn] of READERS) {
+    const rows = books[table] = new Map();
+    for (const texts of told[table]) {
+      const row = rowIn(texts);
+      rows.set(row.id, row);
+    }
+  }
   [tag, entries] = [answer.tag, Number(told.meta[0][3])];
+  if (!areThese(marks)) {
+    [isOther, lastPlace] = [true, null];
+    keyNames.clear();
+    lookedFor.clear();
+  }
   workOut();
   return true;
 }
 const refresh = () => reading ||= read().finally(() => { reading = null; });
 
-// The rows of a table by what belongs to them.
+// The names of orders and builds are the keys of the requests that made them. The books don't have them: the table of
+// kept answers does. It is read once, and then where an order or a build is shown that wasn't looked for.
+const keyNames = new Map(), lookedFor = new Set();
+const owners = () => [...books.orders.keys(), ...books.builds.keys()];
+function ownersShown() {
+  const [view, word] = place();
+  return ['order', 'build'].includes(view) ? [Number(word)] :
+    !lookedFor.size || ['orders', 'builds', 'find', 'do', 'shopping', 'files'].includes(view) ? owners() : [];
+}
+async function readNames(wanted) {
+  if (wanted.every(id => lookedFor.has(id) || !owners().includes(id))) return false;
+  const told = await get('/export/kept'), before = keyNames.size;
+  for (const line of told.text.split('\n')) {
+    const made = line.includes('""do"":""order""') || line.includes('""do"":""build""');
+    const [, key, id] = made && line.match(/^("(?:[^"]|"")*"|[^,]*),".*"\{""entries"":\d+,""ids"":\[(\d+)/) || [];
+    if (key) nameRow(Number(id), key.startsWith('"') ? key.slice(1, -1).replaceAll('""', '"') : key);
+  }
+  owners().forEach(id => lookedFor.add(id));
+  return keyNames.size > before;
+}
+// What the page or a journal made up is no name.
+const isMadeUp = key => /(^|\/)page-[0-9a-f]{24}$|^\d{4}-\d\d-\d\d\/\d+$/.test(key);
+function nameRow(id, key) {
+  lookedFor.add(id);
+  if (isMadeUp(key)) return;
+  keyNames.set(id, key);
+  choices = new Map();
+}
+
+// Marks that tell these books from others: rows that are for good, the first and the last of each table, by what of
+// them can't change. Books that have all of them are the same, or a copy.
+const LASTING = { categories: 'name', locations: 'name', parts: 'name', orders: 'partner', builds: 'part',
+  order_lines: 'part', items: 'part' };
+const marksOf = () => Object.entries(LASTING).flatMap(([table, word]) => {
+  const rows = [...books[table].values()];
+  return [...new Set([...rows.slice(0, 3), ...rows.slice(-1)])].map(row => [table, row.id, row[word]]);
+});
+const areThese = marks => marks.every(([table, id, it]) => books[table].get(id)?.[LASTING[table]] === it);
+
 function group(table, keyOf) {
-  const lists = new Map();
+  const lists = new Map(), by = typeof keyOf === 'string' ? row => row[keyOf] : keyOf;
   for (const row of books[table].values()) {
-    const key = column('', keyOf).by(row);
-    if (lists.has(key)) lists.get(key).push(row);
+    const key = by(row), known = lists.get(key);
+    if (known) known.push(row);
     else if (key) lists.set(key, [row]);
   }
   return key => lists.get(key) || [];
 }
+const lazily = make => { let made = null; return () => made ||= make(); };
 const sum = (rows, field) => rows.reduce((total, row) => total + row[field], 0);
 const leftOf = row => row.quantity - row.done;
 function workOut() {
@@ -416,6 +651,9 @@ function workOut() {
     billOf: group('lines', 'assembly'), usesOf: group('lines', 'component'), variantsOf: group('parts', 'template'),
     placesIn: group('locations', it => it.parent || 'top'), linesOf: group('order_lines', 'owner'),
     orderedOf: group('order_lines', 'part'), buildsOf: group('builds', 'part'), under: new Map(),
+    spentOf: group('spent', it => `${it.build} ${it.line}`), paths: new Map(),
+    sortedParts: lazily(() => byName(books.parts.values())),
+    sortedItems: lazily(() => find.sortedParts().flatMap(it => find.itemsOf(it.id).filter(isAt))),
   };
   for (const part of books.parts.values()) {
     const coming = find.orderedOf(part.id).filter(it => !orderOf(it).side && orderOf(it).state < 2);
@@ -431,7 +669,7 @@ function workOut() {
     sums.held += held;
     sums[item.place === IN ? 'inner' : ALLOCATABLE.includes(item.status) ? 'free' : 'stuck'] += item.quantity - held;
   }
-  // How many items lie at a location or deeper, and the assemblies whose bills can't change now.
+  // How many items lie at a location or deeper; the assemblies whose bills can't change now.
   const count = place => {
     const total = find.placesIn(place).reduce((all, it) => all + count(it.id), find.itemsAt(place).length);
     find.under.set(place, total);
@@ -443,26 +681,78 @@ function workOut() {
 const orderOf = line => books.orders.get(line.owner), heldOf = item => sum(find.allocationsOf(item.id), 'quantity');
 const isAt = item => item.place === AT, isUsable = item => ALLOCATABLE.includes(item.status);
 const freeOf = item => isAt(item) && isUsable(item) ? item.quantity - heldOf(item) : 0;
-const freeIn = part => stock.get(part)?.free ?? 0;
+const freeIn = part => stock.get(part)?.free ?? 0, comingOf = part => stock.get(part)?.coming ?? 0;
 const bitOf = flag => Math.max(FLAGS.indexOf(flag), LINE_FLAGS.indexOf(flag));
 const has = (row, flag) => (row?.flags >> bitOf(flag)) % 2 === 1;
 const flagsOf = (row, words = FLAGS) => words.filter(it => has(row, it));
+const partAt = id => books.parts.get(id);
 
-// The templates above a part, the lines that hold for it, and those that take it.
+// The templates above a part and the variants below it, the lines that hold for it, and those that take it.
 function above(part) {
   const next = books.parts.get(part)?.template;
   return next ? [next, ...above(next)] : [];
 }
+const below = part => find.variantsOf(part).flatMap(it => [it.id, ...below(it.id)]);
 const linesFor = part => [...find.billOf(part), ...above(part).flatMap(find.billOf).filter(it => has(it, 'inherited'))]
   .sort((a, b) => a.id - b.id);
-const fits = (line, part) => part === line.component || find.substitutesOf(line.id).some(it => it.part === part) ||
-  has(line, 'variants') && above(part).includes(line.component);
+const isOwn = (line, part) => part === line.component || has(line, 'variants') && above(part).includes(line.component);
+const fits = (line, part) => isOwn(line, part) || find.substitutesOf(line.id).some(it => it.part === part);
 
-// ---- What rows are called
+// What may be given to a line: the component, its variants, its substitutes; the oldest item of each first.
+const partsFor = line => [line.component, ...has(line, 'variants') ? below(line.component) : [],
+  ...find.substitutesOf(line.id).map(it => it.part)];
+const freeItems = parts => parts.flatMap(part => find.itemsOf(part)).filter(it => freeOf(it) > 0);
+const byAge = rows => [...rows].sort((a, b) => a.id - b.id);
+// Shares an amount out among items, of each of which so much is left.
+function shares(items, wanted, left) {
+  const given = [];
+  for (const item of items) {
+    const rest = left.get(item.id) ?? freeOf(item), quantity = Math.min(rest, wanted);
+    if (quantity <= 0) continue;
+    left.set(item.id, rest - quantity);
+    wanted -= quantity;
+    given.push({ item: item.id, quantity });
+  }
+  return given;
+}
+
+// What a line of an order still wants, and what an open build wants of each line of its bill, as its report has it.
+const wantedOf = line => leftOf(line) - sum(find.allocationsOn(`0 ${line.id}`), 'quantity');
+const isOpenBuild = build => build.state < 3;
+const allocatedFor = (build, line, output = null) => sum(find.allocationsOn(`1 ${line.id}`).filter(it =>
+  it.owner === build.id && (!output || it.output === output)), 'quantity');
+function needsOf(build) {
+  return !isOpenBuild(build) ? [] : linesFor(build.part).filter(it => !has(it, 'consumable')).map(line => {
+    const isTracked = has(partAt(line.component), 'trackable'), spent = sum(find.spentOf(`${build.id} ${line.id}`),
+      'quantity');
+    const required = isTracked ? line.quantity * leftOf(build) : Math.max(0, line.quantity * build.quantity - spent);
+    const allocated = allocatedFor(build, line), missing = Math.max(0, required - allocated);
+    return { id: line.id, line, build, isTracked, spent, required, allocated, missing,
+      isOptional: has(line, 'optional'), component: line.component };
+  });
+}
+// What is allocated to a build and can be used up: for lines that aren't tracked.
+const unusedOf = build => find.allocationsFor(`1 ${build.id}`).filter(it => !it.output);
+const begunOf = build => sum(find.outputsOf(build.id), 'quantity');
+const lacksOf = (build, output) => needsOf(build).filter(it => it.isTracked && !it.isOptional)
+  .map(it => ({ ...it, missing: it.line.quantity * output.quantity - allocatedFor(build, it.line, output.id) }))
+  .filter(it => it.missing > 0);
+
+async function entriesFrom(begin, end) {
+  const rows = [];
+  for (let told = ['']; told.length && begin + rows.length <= end; rows.push(...told))
+    told = JSON.parse((await get(`/history/${begin + rows.length}`)).text).history;
+  return rows.slice(0, end + 1 - begin).map(entryIn);
+}
+
+// What rows are called.
 
 function path(table, id) {
+  const known = find?.paths.get(table + id);
+  if (known !== undefined) return known;
   const words = [];
   for (let row = books[table].get(id); row; row = books[table].get(row.parent)) words.unshift(row.name);
+  find?.paths.set(table + id, words.join(' / '));
   return words.join(' / ');
 }
 const partName = id => books.parts.get(id)?.name ?? `part ${id}`;
@@ -470,17 +760,19 @@ const partLink = id => link('part/' + id, name(partName(id)));
 const categoryOf = part => path('categories', part.category);
 const itemName = item => [partName(item.part), item.serial, item.batch && `(${item.batch})`].filter(Boolean).join(' ');
 const itemLink = item => link('item/' + item.id, name(item.serial || item.batch || `item ${item.id}`));
+const callOf = row => keyNames.get(row.id) ?? row.id;
 const PLACE_KINDS = ['location', 'item', 'build', 'order', 'build'];
 const PLACE_WORDS = ['', 'in ', 'output of ', 'sent for ', 'used by '];
 function placeName(place, id) {
   if (place >= OFF) return place === OFF ? `written off: ${REASONS[id]}` : 'gone';
+  if (place === AT) return path('locations', id);
   return PLACE_WORDS[place] + (place === IN ? itemName(books.items.get(id)) : wordsOf(PLACE_KINDS[place], id));
 }
 const placeLink = (place, id) =>
   place < OFF ? link(`${PLACE_KINDS[place]}/${id}`, name(placeName(place, id))) : placeName(place, id);
 
-// Of each kind of row: what it is called, where it is shown, and what else a refusal may come from.
-const amountOf = (row, part) => `${digits(row.quantity)} \u00d7 ${partName(part)}`;
+// Of each kind of row: what it is called, where it is shown, and more facts.
+const amountOf = (row, part = row.part) => `${digits(row.quantity)} \u00d7 ${partName(part)}`;
 const ownerOf = it => `${it.side ? 'build' : 'order'}/${it.owner}`;
 const ROWS = {
   category: [it => path('categories', it.id), () => 'stock'],
@@ -491,41 +783,555 @@ const ROWS = {
   substitute: [it => `${partName(it.part)} in ${wordsOf('line', it.line)}`, it => `part/${it.part}`],
   item: [it => `${itemName(it)}, ${digits(it.quantity)}, ${placeName(it.place, it.ref)}`, null,
     it => `${STATUSES[it.status]}, ${digits(heldOf(it))} allocated`],
-  order: [it => `${SIDES[it.side]} ${it.id}: ${it.partner} (${ORDER_STATES[it.state]})`],
-  order_line: [it => `${wordsOf('order', it.owner)}: ${amountOf(it, it.part)}`, it => `order/${it.owner}`,
+  order: [it => `${SIDES[it.side]} ${callOf(it)}: ${it.partner} (${ORDER_STATES[it.state]})`],
+  order_line: [it => `${wordsOf('order', it.owner)}: ${amountOf(it)}`, it => `order/${it.owner}`,
     it => `${digits(it.done)} done`],
-  build: [it => `build ${it.id}: ${amountOf(it, it.part)} (${BUILD_STATES[it.state]})`],
+  build: [it => `build ${callOf(it)}: ${amountOf(it)} (${BUILD_STATES[it.state]})`, null,
+    it => `${digits(it.done)} done, ${digits(begunOf(it))} begun`],
   allocation: [it => `${digits(it.quantity)} of ${wordsOf('item', it.item)}, for ${plain(ownerOf(it))}`, ownerOf],
 };
 const rowsOfKind = kind => books[kind === 'category' ? 'categories' : kind + 's'];
 const rowOf = (kind, id) => rowsOfKind(kind).get(id);
 const wordsOf = (kind, id) => rowOf(kind, id) ? ROWS[kind][0](rowOf(kind, id)) : `${kind} ${id}`;
 const rowLink = (kind, id) => link(ROWS[kind][1]?.(rowOf(kind, id)) ?? `${kind}/${id}`, name(wordsOf(kind, id)));
+const factOf = (kind, id) => rowOf(kind, id) ?
+  [wordsOf(kind, id), ROWS[kind][2]?.(rowOf(kind, id))].filter(Boolean).join('; ') : 'gone';
 
-// All rows of a kind that may be looked for, with their words.
+// Texts to look for: without case and accents; and with nothing but letters and digits.
+const fold = text => (/^[\0-\x7f]*$/.test(text) ? text : text.normalize('NFKD').replace(/[\u0300-\u036f]/g, ''))
+  .toLowerCase();
+const squeeze = text => fold(text).replace(/[^\p{L}\p{N}]+/gu, '');
+const wordsIn = text => fold(text).split(/\s+/).filter(Boolean);
 function choicesOf(kind) {
   if (!choices.has(kind)) {
     const rows = [...rowsOfKind(kind).values()].filter(it => it.place !== GONE);
-    choices.set(kind, rows.map(row => [row, wordsOf(kind, row.id).toLowerCase()]));
+    choices.set(kind, rows.map(row => ({ row, low: fold(wordsOf(kind, row.id)) })));
   }
   return choices.get(kind);
 }
-const wordsIn = text => text.toLowerCase().split(/\s+/).filter(Boolean);
-
-// ---- Views. Each gives its title and what stands under it.
+// Whether all words stand in a choice, however they are written; and how well: the less the better.
+const looselyIn = word => squeeze(word) && RegExp([...squeeze(word)].join('[^\\p{L}\\p{N}]*'), 'u');
+const fitsWords = ({ low }, words, loose) => words.every((word, at) => low.includes(word) ||
+  loose[at] && loose[at].test(low));
+// What has the words but for a slip in one that has no digits: a letter more, less or other, or two in the wrong order.
+function isSlip(a, b) {
+  let at = 0;
+  while (at < a.length && a[at] === b[at]) at++;
+  const [x, y] = [a.slice(at), b.slice(at)];
+  return x.slice(1) === y.slice(1) || x.slice(1) === y || x === y.slice(1) ||
+    x[0] === y[1] && x[1] === y[0] && x.slice(2) === y.slice(2);
+}
+function bySlips(kind, words) {
+  const halves = new Map(words.filter(it => /^\p{L}{4,}$/u.test(it)).map(it => {
+    const middle = it.length >> 1;
+    return [it, [it.slice(0, middle - 1), it.slice(middle + 1)]];
+  }));
+  // Of a word with one slip one half is whole, but for what touches the other half.
+  const isNear = ({ low }, word) => low.includes(word) || halves.get(word)?.some(half => low.includes(half)) &&
+    low.split(/[^\p{L}\p{N}]+/u).some(other => isSlip(word, other));
+  return !halves.size ? [] : choicesOf(kind).filter(it => words.every(word => isNear(it, word))).map(it => it.row);
+}
+const startOf = (kind, row) => fold(row.name ?? (kind === 'item' ? row.serial || row.batch || '' :
+  String(keyNames.get(row.id) ?? row.partner ?? '')));
+function rankOf(kind, row, text) {
+  const start = startOf(kind, row), tight = squeeze(text), own = squeeze(start);
+  return [start === text, tight && own === tight, start.startsWith(text), tight && own.startsWith(tight),
+    start.includes(' ' + text), start.includes(text), true].findIndex(Boolean);
+}
 
 const inOrder = new Intl.Collator(undefined, { numeric: true }).compare;
 const byName = rows => [...rows].sort((a, b) => inOrder(a.name, b.name));
+
+// What a request changed, in words, by the books before and after.
+
+// The rows that a request changes.
+function namedIn(command, fields) {
+  const named = FORMS.get(command).fields.filter(it => ROWS[it.kind] && rowOf(it.kind, fields[it.name]))
+"#,
+    r#"    .map(it => [it.kind, fields[it.name]]);
+  return named.flatMap(([kind, id]) => {
+    const row = rowOf(kind, id), one = [kind, id];
+    if (kind === 'order_line') return [one, ['order', row.owner]];
+    if (kind === 'item' && row.place === OUTPUT) return [one, ['build', row.ref]];
+    return kind === 'allocation' ? [[row.side ? 'build' : 'order', row.owner]] : [one];
+  });
+}
+function snapshot(rows) {
+  const sums = new Map([...stock].map(([id, it]) => [id, { ...it }]));
+  const facts = new Map(rows.map(([kind, id]) => [`${kind} ${id}`, [kind, id, factOf(kind, id)]]));
+  return { sums, rows: [...facts.values()], ids: new Set(owners()) };
+}
+const SUM_WORDS = { present: 'present', free: 'free', held: 'allocated', coming: 'on order' };
+function effects({ sums, rows }) {
+  const told = [];
+  for (const [kind, id, was] of rows) {
+    const now = factOf(kind, id);
+    if (was !== now && ['order', 'build', 'item', 'order_line'].includes(kind))
+      told.push([name(was), now === 'gone' ? ' is gone' : [' is now ', name(now)]]);
+  }
+  for (const [id, after] of stock) {
+    const before = sums.get(id) ?? { present: 0, free: 0, held: 0, coming: 0 };
+    const words = Object.entries(SUM_WORDS).filter(([it]) => before[it] !== after[it])
+      .map(([it, word]) => `${word} ${digits(before[it])} \u2192 ${digits(after[it])}`);
+    if (words.length) told.push([partLink(id), ': ', words.join(', ')]);
+  }
+  return told.slice(0, 12);
+}
+// What was done, in a sentence. Rows are told as they were before.
+const PAST = Object.fromEntries(`found Found,add Added,remove Took out,count Counted,transfer Moved,
+install Put in,uninstall Took out,disassemble Took apart,reinstate Brought back,order New:,order_line Added,
+issue_order Issued,receive Received,
+allocate_sale Allocated,ship Shipped,return_item Took back,close_order Closed,cancel_order Cancelled,build New build:,
+issue_build Issued,hold_build Put on hold:,cancel_build Cancelled,outputs Began,complete_output Completed,
+cancel_output Cancelled,scrap_output Scrapped,allocate_build Allocated,complete_build Completed,consume Used up,
+release Gave back`.split(/,\s?/).map(it => [it.split(' ')[0], it.replace(/^\w+ /, '')]));
+function sentenceOf(command, fields, verb = PAST[command] ?? FORMS.get(command).title + ':') {
+  const { part, item, output, line, location, quantity, partner, side, name, ...others } = fields;
+  const one = part ?? (command === 'receive' && rowOf('order_line', line)?.part), piece = item ?? output;
+  const [[kind, id] = []] = namedIn(command, others);
+  const what = one ? partName(one) : piece ? wordsOf('item', piece) : partner ? `${side}, ${partner}` :
+    name ?? (kind && wordsOf(kind, id));
+  return [verb, quantity != null && `${digits(quantity)} \u00d7`, what,
+    location && `\u2013 ${path('locations', location)}`].filter(Boolean).join(' ') + '.';
+}
+
+let flash = null;
+const doneWords = (sentence, told, ...more) => says('good', node('b', 'Done. '), name(sentence), ' ',
+  told.length ? list(told) : soft('Nothing in stock changed by it.'), more);
+
+// Fields and forms, all made from the table of commands.
+
+// Which rows suit a field, beside the values of the others: they are offered first. The states that a command is for,
+// where they aren't 1 alone:
+const STATES = { order_line: [0, 1], issue_order: [0], cancel_order: [0, 1], issue_build: [0, 2], hold_build: [0, 1],
+  cancel_build: [0, 1, 2], auto_allocate: [0, 1], allocate_build: [0, 1] };
+const AWAY = { uninstall: IN, reinstate: OFF, return_item: SENT };
+const isFree = item => freeOf(item) > 0, isPlain = item => isAt(item) && !item.serial;
+const live = flag => part => has(part, flag) && !part.retired, maySet = line => !find.fixed.has(line.assembly);
+const isOpenLine = side => line => leftOf(line) > 0 && orderOf(line).side === side && orderOf(line).state === PROGRESS;
+const SUITS = {
+  'add_part template': live('template'), 'found part': it => !it.retired && !has(it, 'virtual'),
+  'build part': live('assembly'),
+  'add_line assembly': it => live('assembly')(it) && !find.fixed.has(it.id), 'add_line component': live('component'),
+  'add_substitute part': live('component'), 'add_substitute line': maySet, 'drop_line line': maySet,
+  'drop_substitute substitute': it => maySet(rowOf('line', it.line)),
+  'order_line part': (it, now) =>
+    !it.retired && (!now.order || has(it, rowOf('order', now.order).side ? 'salable' : 'purchaseable')),
+  'receive line': isOpenLine(0), 'allocate_sale line': isOpenLine(1),
+  'allocate_sale item': (it, now) => isFree(it) && (!now.line || it.part === rowOf('order_line', now.line).part),
+  'ship order': it => it.state === PROGRESS && find.allocationsFor(`0 ${it.id}`).length,
+  'close_order order': it => it.state === PROGRESS && find.linesOf(it.id).every(line => !leftOf(line)),
+  'add item': isPlain, 'merge into': isPlain, 'remove item': isFree, 'install item': isFree,
+  'split item': it => isPlain(it) && isFree(it) && it.quantity > 1, 'disassemble item': it => isAt(it) && it.serial,
+  'serialise item': it => isPlain(it) && isFree(it) && has(rowOf('part', it.part), 'trackable'),
+  'merge items': (it, now) => isPlain(it) && it.id !== now.into &&
+    (!now.into || ['part', 'batch', 'status'].every(word => it[word] === rowOf('item', now.into)[word])),
+  'install parent': (it, now) => it.serial && it.place <= IN && it.id !== now.item &&
+    (!now.item || linesFor(it.part).some(line => !has(line, 'consumable') && fits(line, rowOf('item', now.item).part))),
+  'complete_build build': it => it.state === PROGRESS && !leftOf(it),
+  'allocate_build line': (it, now) => now.build && !has(it, 'consumable') &&
+    linesFor(rowOf('build', now.build).part).includes(it),
+  'allocate_build item': (it, now) => isFree(it) && (!now.line || fits(rowOf('line', now.line), it.part)),
+  'consume allocation': it => it.side && !it.output && rowOf('build', it.owner).state === PROGRESS,
+};
+function suits({ command }, { name, kind }) {
+  if (SUITS[`${command} ${name}`]) return SUITS[`${command} ${name}`];
+  if (name === 'output') return (it, now) =>
+    it.place === OUTPUT && rowOf('build', it.ref).state === PROGRESS && (!now.build || it.ref === now.build);
+  if (kind === 'item') return it => it.place === (AWAY[command] ?? AT);
+  if (kind === 'order' || kind === 'build') return it => (STATES[command] || [1]).includes(it.state);
+  return it => !it.retired;
+}
+
+// What is put into fields that weren't touched, by what is chosen in the others.
+let lastPlace = null;   // the location that was named last in this window
+function usualPlace(part) {
+  return find.itemsOf(part).findLast(isAt)?.ref ?? (books.locations.has(lastPlace) ? lastPlace : undefined);
+}
+const ofRow = (kind, make) => it => it && rowOf(kind, it) ? make(rowOf(kind, it)) : {};
+const toPlace = ofRow('item', it => ({ location: usualPlace(it.part) }));
+const PREFILL = {
+  found: it => it.part ? { location: usualPlace(it.part) } : {}, complete_output: it => toPlace(it.output),
+  return_item: it => toPlace(it.item), uninstall: it => toPlace(it.item), reinstate: it => toPlace(it.item),
+  disassemble: it => toPlace(it.item), install: () => ({ quantity: 1 }),
+  transfer: it => ofRow('item', ({ quantity }) => ({ quantity }))(it.item),
+  receive: it => ofRow('order_line', line => ({ quantity: leftOf(line), location: usualPlace(line.part) }))(it.line),
+  outputs: it => ofRow('build', build => ({ quantity: leftOf(build) - begunOf(build) || 1 }))(it.build),
+  allocate_sale: it => ofRow('order_line', line => oneOf(it.item, [line.part], wantedOf(line)))(it.line),
+  allocate_build: it => ofRow('line', line => oneOf(it.item, partsFor(line), rowOf('build', it.build) &&
+    needsOf(rowOf('build', it.build)).find(other => other.id === line.id)?.missing))(it.line),
+};
+// The item that is chosen, or else the oldest that is free, and as much of it as is wanted.
+function oneOf(id, parts, wanted) {
+  const item = rowOf('item', id) ?? freeItems(parts)[0];
+  return item ? { item: item.id, quantity: Math.max(1, Math.min(freeOf(item), wanted || 1)) } : {};
+}
+
+// What a form says to what stands in it.
+const NAMED = { add_part: 'part', add_category: 'category', add_location: 'location' };
+function nearWords(text, known, told) {
+  const tight = squeeze(text), one = text && known.find(it => it[1] === text);
+  if (one) return node('p.bad', { role: 'alert' }, told(one[0]), ' is called just so.');
+  const near = tight ? known.filter(it => squeeze(it[1]) === tight) : [];
+  return near.length > 0 && node('p.warn', { role: 'alert' }, 'Nearly the same name is there already: ',
+    near.slice(0, 5).map((it, n) => [n > 0 && ', ', told(it[0])]), '. Is it the same? A name is for good.');
+}
+function adviceOn(command, now, given) {
+  const kind = NAMED[command], build = rowOf('build', now.build);
+  if (kind) {
+    const rows = [...rowsOfKind(kind).values()].filter(it => kind === 'part' || it.parent === (now.parent ?? null));
+    return nearWords(now.name ?? '', rows.map(row => [row, row.name]), row => rowLink(kind, row.id));
+  }
+  if (command === 'cancel_build' && build) return cancelWarning(build);
+  if (command === 'complete_build' && build) return missingWords(build);
+  const partners = [...new Set([...books.orders.values()].map(it => it.partner))], known = now.partner ?? '';
+  return command === 'order' || command === 'build' ? [nearWords(given, [...keyNames].map(it => [it[0], it[1]]), id =>
+    rowLink(books.orders.has(id) ? 'order' : 'build', id)), !partners.includes(known) && nearWords(known,
+    partners.map(it => [it, it]), name)] : [];
+}
+
+let lastId = 0;
+// A field that says a row: one types words of its name, or its number, and chooses.
+function rowField({ kind, isOptional }, label, isSuited, now, changed = () => {}, isBare = false) {
+  const id = `f${++lastId}`, hint = node('div.soft', { hidden: isBare });
+  const list = node('ul', { role: 'listbox', id: id + 'l', 'aria-label': label, hidden: true });
+  const box = node('input', { id, role: 'combobox', autocomplete: 'off', 'aria-autocomplete': 'list',
+    'aria-expanded': 'false', 'aria-controls': id + 'l', placeholder: isOptional ? 'none' : 'Words, or a number',
+    'aria-label': isBare && label });
+  let value = null, offered = [], at = -1;
+  const open = isOpen => {
+    list.hidden = !isOpen;
+    box.ariaExpanded = isOpen;
+    if (!isOpen) box.removeAttribute('aria-activedescendant');
+  };
+  const put = (row, isFine) => {
+    value = row?.id ?? null;
+    hint.textContent = row ? `number ${value}` : '';
+    box.setCustomValidity(row || isFine ? '' : 'Choose one from the list.');
+  };
+  const take = (row, isByHand) => {
+    box.value = row ? wordsOf(kind, row.id) : '';
+    put(row, isOptional);
+    open(false);
+    if (isByHand) of.isTouched = true;
+    if (row) watchRow(kind, row.id);
+    changed();
+  };
+  const mark = to => {
+    at = to;
+    [...list.children].forEach((it, n) => { it.ariaSelected = n === at; });
+    if (offered[at]) box.setAttribute('aria-activedescendant', `${id}o${at}`);
+    list.children[at]?.scrollIntoView({ block: 'nearest' });
+  };
+  const offer = () => {
+    const words = wordsIn(box.value), loose = words.map(looselyIn), values = now(), good = [], rest = [];
+    const one = words.length === 1 && rowOf(kind, Number(words[0]));
+    for (const it of choicesOf(kind)) {
+      if (good.length === 200) break;
+      if (it.row !== one && fitsWords(it, words, loose)) (isSuited(it.row, values) ? good : rest).push(it.row);
+    }
+    if (!good.length && !rest.length && !one) rest.push(...bySlips(kind, words).slice(0, 50));
+    const text = fold(box.value.trim()), ranked = rows => !text ? rows :
+      rows.slice(0, 400).map(row => [rankOf(kind, row, text), row]).sort((a, b) => a[0] - b[0]).map(it => it[1]);
+    offered = [...one ? [one] : [], ...ranked(good), ...ranked(rest)].slice(0, 50);
+    const press = row => event => { event.preventDefault(); take(row, true); };
+    list.replaceChildren(...offered.map((row, n) => node('li',
+      { role: 'option', id: `${id}o${n}`, pointerdown: press(row) }, name(wordsOf(kind, row.id)),
+      soft(` ${row.id}`, !isSuited(row, values) && ", doesn't suit"))));
+    if (!offered.length) list.append('Nothing fits.');
+    open(true);
+    mark(words.length || good.length ? 0 : -1);   // what doesn't suit isn't taken unasked
+  };
+  box.addEventListener('input', () => { of.isTouched = true; put(null, isOptional && !box.value); offer(); });
+  box.addEventListener('click', () => list.hidden && offer());
+  box.addEventListener('blur', () => open(false));
+  box.addEventListener('keydown', event => {
+    const step = { ArrowDown: 1, ArrowUp: offered.length - 1 }[event.key];
+    if (step !== undefined && list.hidden) offer();
+    else if (step !== undefined) mark((at + step) % (offered.length || 1));
+    else if (list.hidden || !['Enter', 'Escape'].includes(event.key)) return;
+    else if (event.key === 'Enter' && offered[at]) take(offered[at], true);
+    else open(false);
+    event.preventDefault();
+  });
+  put(null, isOptional);
+  const of = { made: [!isBare && node('label', { for: id }, label), box, list, hint], get: () => value, box,
+    set: id => take(rowOf(kind, Number(id))), isTouched: false };
+  return of;
+}
+function itemsField(label, isSuited, now) {
+  const chosen = new Map(), chips = node('div.row');
+  const isNew = (row, values) => isSuited(row, values) && !chosen.has(row.id);
+  const one = rowField({ kind: 'item', isOptional: true }, label, isNew, now, () => {
+    const id = one.get();
+    if (!id || chosen.has(id)) return;
+    const drop = button(['Leave out ', name(wordsOf('item', id))], () => { drop.remove(); chosen.delete(id); });
+    chosen.set(id, drop);
+    chips.append(drop);
+    one.set(0);
+  });
+  return { made: [one.made, chips], get: () => [...chosen.keys()] };
+}
+function flagsField(label) {
+  const boxes = FLAGS.map(value => node('input', { type: 'checkbox', value }));
+  return { made: node('fieldset', node('legend', label), soft('They are final once the part is made.'),
+    boxes.map(it => node('label.flag', it, node('span', node('b', it.value), ': ', FLAG_WORDS[it.value])))),
+  get: () => boxes.filter(it => it.checked).map(it => it.value) };
+}
+const LABELS = { list: 'As M1,M2,M7 or as a range 1-20',
+  key: 'What you call it, without spaces. Lists show it and Find finds it. It is final.' };
+function fieldOf(form, field, now, changed) {
+  const id = `f${++lastId}`, { kind } = field;
+  const label = capital(field.name) + (field.isOptional ? ' (may be empty)' : '');
+  if (ROWS[kind]) return rowField(field, label, suits(form, field), now, changed);
+  if (kind === 'items') return itemsField(label, suits(form, field), now);
+  if (kind === 'words') return flagsField(label);
+  const words = { side: SIDES, status: STATUSES }[field.name], isYes = kind === 'yes', isNumber = kind === 'number';
+  const box = words ? node('select', { id }, words.map(it => node('option', it))) :
+    node('input', { id, autocomplete: 'off', type: isYes ? 'checkbox' : 'text', required: !field.isOptional && !isYes,
+      list: field.name === 'partner' && id + 'p',
+      ...isNumber && { inputmode: 'numeric', pattern: NUMBER, title: 'digits' },
+      ...kind === 'key' && { pattern: '[!-~]{1,80}', title: 'no spaces and no accents' } });
+  box.addEventListener('input', () => { of.isTouched = true; changed(); });
+  const partners = () => [...new Set([...books.orders.values()].map(it => it.partner))].sort(inOrder);
+  const of = { made: [node('label', { for: id }, label), box, LABELS[kind] && soft(LABELS[kind]),
+    field.name === 'partner' && node('datalist', { id: id + 'p' }, partners().map(value => node('option', { value })))],
+  set: to => { box.value = to; }, isOwn: !words && !isYes, box,
+  get: () => isYes ? box.checked || null : isNumber ? numberIn(box.value) : box.value || null };
+  return of;
+}
+// A request that is sent when it is called; once more as it was, if its answer was lost. What was read is at most two
+// seconds old then: so it isn't sent to other books than it was made for.
+function request(command, fields, key) {
+  let line = null;
+  const sent = async () => {
+    if (performance.now() - readAt > 2000) await reread();
+    if (isOther) {
+      setTimeout(show, 0, true);
+      return { isHeld: true, why: 'These are the books of another workshop now.' };
+    }
+    if (!line && openLike(command, fields, key)) {
+      offerOpen(true);
+      return { isHeld: true, why: 'The same was sent before and not answered. Settle that first, above.' };
+    }
+    const answer = await send(line ||= lineOf(command, fields, key));
+    if (!answer.isDone && !answer.isOpen) line = null;
+    if (answer.isDone && !key && ['order', 'build'].includes(command)) answer.ids.forEach(id => lookedFor.add(id));
+    return answer;
+  };
+  return () => {
+    busy++;
+    return sent().finally(() => { busy--; });
+  };
+}
+const reread = () => refresh().catch(() => {});
+const notDone = ({ isOpen, isHeld, why }, ...more) =>
+  says(isOpen ? 'warn' : 'bad', node('b', isOpen ? UNKNOWN : isHeld ? 'Not sent: ' : 'Refused: '), why, more);
+
+// The form of a command, without the fields in `hides`, which have what is given. Then one comes back to the page of
+// the row, or to the form.
+function commandForm(command, given, { hides = [], title, go: verb, back } = {}) {
+  const form = FORMS.get(command), words = title ?? form.title, isOwner = command === 'order' || command === 'build';
+  const advice = node('div'), said = node('div'), go = node('button.main', verb ?? words);
+  let asked = null, isFilling = true;   // what was sent and isn't answered yet
+  const changed = () => {
+    if (isFilling) return;
+    isFilling = true;
+    const values = PREFILL[command]?.(now()) ?? {};
+    for (const { name, of } of fields) if (values[name] != null && !of.isTouched) of.set(values[name]);
+    isFilling = false;
+    advice.replaceChildren(...[adviceOn(command, now(), isOwner && key.get() || '')].flat(9).filter(Boolean));
+  };
+  const fixed = Object.fromEntries(hides.map(it => [it, given[it] ?? null]));
+  const key = isOwner && fieldOf(form, { name: 'name', kind: 'key', isOptional: true }, null, () => changed());
+  const now = () => ({ ...fixed, ...Object.fromEntries(fields.map(it => [it.name, it.of.get()])) });
+  const fields = form.fields.filter(it => !hides.includes(it.name))
+    .map(it => ({ ...it, of: fieldOf(form, it, () => now(), () => changed()) }));
+  const all = node('fieldset', [...fields.map(it => it.of), key].map(it => it && node('div.field', it.made)));
+  for (const { name, of } of fields) if (given[name] != null) {
+    of.set(given[name]);
+    of.isTouched = true;
+  }
+  isFilling = false;
+  changed();
+  const done = async ({ ids, tries }, before, values, sentence) => {
+    lastPlace = values.location || lastPlace;
+    const isNew = key && !before.ids.has(ids[0]);
+    if (isNew) nameRow(ids[0], key.get() ?? newKey());
+    await reread();
+    const kinds = ids.slice(0, 20).map(id => [Object.keys(ROWS).find(it => rowOf(it, id)), id]).filter(it => it[0]);
+    const chosen = fields.filter(it => ROWS[it.kind] && values[it.name]).map(it => [it.name, values[it.name]]);
+    const to = key ? `${command}/${ids[0]}` : back ?? `do/${command}?${new URLSearchParams(chosen)}`;
+    comeBack(go, to, doneWords(
+      sentence, effects(before), tries > 1 && `It was sent ${tries} times. `, key && !isNew && node('b.warn',
+        'It was there already: nothing new was made. '), kinds.length > 0 && ['New: ', each(kinds, it =>
+        rowLink(...it))]), words);
+  };
+  // A name that is taken isn't sent: under it the program would answer as it did then.
+  const isTaken = async called => {
+    await reread();
+    await readNames(owners()).catch(() => {});
+    return [...keyNames.values()].includes(called);
+  };
+  const submit = async event => {
+    event.preventDefault();
+    if (isEarly(go)) return;
+    const values = now(), called = isOwner && key.get(), rows = namedIn(command, values);
+    all.disabled = go.disabled = true;
+    let answer = { why: ['The name ', name(called || ''), ' is taken.'] };
+    if (!called || asked || !await isTaken(called)) {
+      const fields = Object.fromEntries(Object.entries(values).filter(it => it[1] !== null));
+      asked ||= request(command, fields, called || newKey());
+      const before = snapshot(rows), sentence = sentenceOf(command, values);
+      answer = await asked();
+      if (answer.isDone) return done(answer, before, values, sentence);
+      await reread();
+    }
+    changed();
+    said.replaceChildren(notDone(answer, !answer.isOpen && list(namedIn(command, values).map(([kind, id]) =>
+      [`${plain(kind)}: `, rowLink(kind, id), ' ', ROWS[kind][2]?.(rowOf(kind, id))]))));
+    [all.disabled, go.disabled, go.textContent] = [answer.isOpen, false, answer.isOpen ? 'Send again' : verb ?? words];
+    if (!answer.isOpen) asked = null;
+  };
+  return node('div', node('form.card', { submit, 'aria-label': words }, title && node('h2', title),
+    node('p.soft', `What it does: ${form.does}`), all, advice, go), said);
+}
+const inline = (command, given, more) =>
+  commandForm(command, given, { hides: Object.keys(given), back: here(), ...more });
+function doView(_, query, command) {
+  const form = FORMS.get(command), given = Object.fromEntries(query);
+  if (!form) {
+    const groups = [];
+    for (const it of FORMS.values()) {
+      if (GROUPS[it.command]) groups.push(section(GROUPS[it.command]));
+      groups.at(-1).append(node('p', link('do/' + it.command, it.title), ' ', soft(it.does)));
+    }
+    return ['What can be done', groups];
+  }
+  const output = rowOf('item', Number(given.output));
+  if (output && form.fields[0].name === 'build') given.build = output.ref;
+  return [command === 'order' && given.side ? `New ${given.side}` : form.title,
+    given.back && [link(given.back, '\u2190 back'), ' '], !Object.values(FILES).includes(command) &&
+    link('files?kind=' + command, 'Rows from a file'), commandForm(command, given, { back: given.back }),
+    node('details', node('summary', 'May be refused for'), list([...form.refusals].map(it =>
+      [...MEANINGS.values()][it.charCodeAt(0) - 97])))];
+}
+
+// Several requests at once.
+
+function quick(text, command, fields, look = '') {
+  const said = node('div'), asked = request(command, fields);
+  const go = button(text, async () => {
+    if (isEarly(go)) return;
+    go.disabled = true;
+    const before = snapshot(namedIn(command, fields)), sentence = sentenceOf(command, fields), answer = await asked();
+    await reread();
+    go.disabled = false;
+    if (answer.isDone) comeBack(go, here(), doneWords(sentence, effects(before)));
+    else said.replaceChildren(notDone(answer));
+  }, look);
+  return node('span', go, said);
+}
+
+// A table of which each row that is ticked is a request of its own, by fieldsOf, or else says what is wrong. Steps in
+// `first` and `last` frame them and need them all. When all is done one is told; else each row says how it went.
+function batch({ verb, past, about, columns, rows, command, fieldsOf, first = [], last = [], end = '', to = here }) {
+  const said = node('div'), steps = [...first, ...last];
+  let before = null;
+  for (const row of rows) {
+    row.told = node('span', { role: 'status' });
+    row.tick = node('input', { type: 'checkbox', checked: !row.isOff, 'aria-label': `${verb}: ${row.called}` });
+  }
+  const isDone = async (it, what) => {
+    if (it.isDone) return true;
+    it.ask = it.isOpen ? it.ask : request(...what());
+    return Object.assign(it, { isDone: false, isOpen: false }, await it.ask()).isDone;
+  };
+  const run = async () => {
+    if (rows.some(it => !it.cells)) return grid.next() ?? says('warn', 'There were more rows: look at them first.');
+    const chosen = rows.filter(it => it.tick.checked && !it.isDone);
+    for (const row of chosen) {
+      row.fault = fieldsOf(row).fault;
+      row.told.replaceChildren(row.fault ? node('span.bad', row.fault) : '');
+    }
+    if (chosen.some(it => it.fault)) return says('bad', 'Nothing was sent: see the rows.');
+    if (!chosen.length && !steps.length) return says('warn', 'Nothing is ticked.');
+    const words = rows.filter(it => it.tick.checked)
+      .map(it => `${it.amount?.value ?? digits(it.quantity)} \u00d7 ${it.called}`);
+    before ||= snapshot([about]);
+    let stop = null;
+    for (const it of first) if (!stop && !await isDone(it, it)) stop = it;
+    for (const row of stop ? [] : chosen) {
+      await isDone(row, () => [command, fieldsOf(row)]);
+      row.told.replaceChildren(row.isDone ? node('span.good', 'done') : node('span.bad', row.why));
+      for (const box of [row.tick, ...row.boxes ?? []]) box.disabled = row.isDone || row.isOpen;
+      if (row.isOpen) { stop = row; break; }
+    }
+    const refused = chosen.filter(it => !it.isDone);
+    if (!refused.length) for (const it of last) if (!stop && !await isDone(it, it)) stop = it;
+    await reread();
+    rewatch();
+    if (!stop && !refused.length)
+      return comeBack(go, to(), doneWords(`${past} ${words.join(', ') || 'nothing'}${end}.`, effects(before)));
+    return stop?.isOpen ? notDone(stop) : says('bad', `Done: ${digits(rows.filter(it => it.isDone).length)}. Refused: ${
+      digits(refused.length)}. `, stop?.why, last.length > 0 && ' What was to come after it was not sent.',
+    list(effects(before)));
+  };
+  const go = button(last.length ? verb : `${verb} what is ticked`, async () => {
+    if (isEarly(go)) return;
+    go.disabled = true;
+    busy++;
+    try { said.replaceChildren(...[await run()].filter(Boolean)); } finally { busy--; go.disabled = false; }
+  }, 'main');
+  const ticks = cell('Do it', it => it.tick), answers = cell('Answer', it => it.told);
+  ticks.isAct = answers.isAct = true;
+  const once = it => ({ ...it, show: row => {
+    row.cells ||= new Map();
+    return row.cells.get(it) ?? row.cells.set(it, it.show(row)).get(it);
+  } });
+  const grid = table(verb, [ticks, ...columns.map(once), answers], rows);
+  return node('div', rows.length > 0 && grid, acts(go), said);
+}
+// Boxes of a row of a batch. A location is put into the other rows that have none.
+const boxed = (row, box) => { (row.boxes ||= []).push(box); return box; };
+const amountBox = (row, quantity) =>
+  row.amount = boxed(row, numberBox(`Quantity of ${row.called}`, { value: String(quantity) }));
+function amountIn(row) {
+  const quantity = numberIn(row.amount.value);
+  row.amount.ariaInvalid = !quantity;
+  return quantity ? { quantity } : { fault: 'The quantity has to be a whole number, in digits.' };
+}
+function placeBox(row, part, rows, other) {
+  const changed = () => {
+    for (const { place } of rows) if (of.get() && place && !place.get() && !place.isTouched) place.set(of.get());
+  };
+  const of = rowField({ kind: 'location' }, `Location of ${row.called}`, () => true, () => ({}), changed, true);
+  of.set(usualPlace(part) ?? other);
+  row.place = of;
+  boxed(row, of.box);
+  return node('div.field', of.made);
+}
+function placeIn(row) {
+  lastPlace = row.place.get() ?? lastPlace;
+  return row.place.get() ? { location: row.place.get() } : { fault: 'Say the location.' };
+}
+
+// Views. Each gives its title and what stands under it.
+
 const isLow = part => !part.retired && !has(part, 'template') && !has(part, 'virtual') && freeIn(part.id) < lowBelow;
 const LOOKS = [['free', 'free'], ['held', 'allocated'], ['inner', 'in other items'], ['stuck', "can't be given out"]];
 const stockBar = sums => bar(LOOKS.map(([look, word]) => [look, sums[look], word]));
 const marks = part => [part.retired && chip('retired', 'warn'), isLow(part) && chip('low', 'warn')];
 const stockKey = () => node('p.key soft', LOOKS.map(([look, word]) => [node('i.' + look), word]));
 
-// What may be done with a row: the commands that it suits.
-const actsOn = (kind, row) => acts([...FORMS.values()].map(form => {
+// What may be done with a row, to come back then.
+const backTo = () => 'back=' + encodeURIComponent(here());
+const actOn = (command, given, text = FORMS.get(command).title) =>
+  act(`${command}?${new URLSearchParams(given)}&${backTo()}`, text);
+const act = (to, text) => node('a.button', { href: '#/do/' + to }, text);
+const actsOn = (kind, row, leftOut = []) => acts([...FORMS.values()].map(form => {
   const field = form.fields.find(it => it.kind === kind && suits(form, it)(row, {}));
-  return field && act(`${form.command}?${field.name}=${row.id}`, form.title);
+  return field && !leftOut.includes(form.command) && actOn(form.command, { [field.name]: row.id }, form.title);
 }));
 
 function stockTable(rows) {
@@ -538,64 +1344,92 @@ function stockTable(rows) {
   return table('Parts', [
     column('Part', it => it.part.name.toLowerCase(), it => [partLink(it.part.id), ' ', marks(it.part)], 'head'),
     column('Category', it => categoryOf(it.part)), numbers('Present', 'present'), numbers('Free', 'free'),
-    numbers('Allocated', 'held'), numbers('On order', 'coming'),
-    column('How it stands', 'present', drawn, 'wide')], rows);
+    numbers('Allocated', 'held', 'n late'), numbers('On order', 'coming', 'n late'),
+    column('How it stands', 'present', drawn, 'wide late')], rows);
 }
-const stockRows = () => byName(books.parts.values()).map(it => stock.get(it.id));
+const stockRows = () => find.sortedParts().map(it => stock.get(it.id));
 function stockView(_, query) {
-  const textOf = part => [part.name, categoryOf(part), ...flagsOf(part)].join(' ').toLowerCase();
-  const rows = stockRows().map(it => ({ ...it, text: textOf(it.part) })), grid = stockTable(rows);
+  const textOf = part => fold([part.name, categoryOf(part), ...flagsOf(part)].join(' '));
+  const rows = stockRows(), grid = stockTable(rows);
+  const texts = lazily(() => new Map(rows.map(it => [it, textOf(it.part)])));
   const told = node('span.soft', { role: 'status' });
-  const box = node('input', { type: 'search', value: query.get('q'), placeholder: 'Part, category or flag',
-    'aria-label': 'Parts whose name, category or flags have', input: () => show() });
-  const show = () => {
-    const words = wordsIn(box.value), shown = rows.filter(it => words.every(word => it.text.includes(word)));
+  const show = text => {
+    const words = wordsIn(text);
+    const shown = words.length ? rows.filter(it => words.every(word => texts().get(it).includes(word))) : rows;
     told.textContent = `${digits(shown.length)} parts`;
-    grid.renew(shown);
-    history.replaceState(null, '', '#/stock' + (box.value && '?q=' + encodeURIComponent(box.value)));
+    if (shown.length < rows.length || grid.isCut) grid.renew(shown);
+    grid.isCut = shown.length < rows.length;
   };
-  show();
+  const box = node('input', { type: 'search', id: 'filter', value: query.get('q'), 'data-view': true,
+    placeholder: 'Part, category or flag', 'aria-label': 'Part, category or flag', input: () => {
+      show(box.value);
+      history.replaceState(null, '', '#/stock' + (box.value && '?q=' + encodeURIComponent(box.value)));
+    } });
+  show(box.value);
   return ['Stock', acts(box, told, act('add_part', 'New part'), act('found', 'Found stock')), stockKey(), grid];
 }
 
-// The number below which a part is low.
 let lowBelow = Number(localStorage.getItem('low') ?? 1);
 function lowView() {
   const rows = () => stockRows().filter(it => isLow(it.part)), grid = stockTable(rows());
-  const box = node('input', { type: 'number', min: 0, value: lowBelow, change: () => {
-    lowBelow = Number(box.value);
-    localStorage.setItem('low', lowBelow);
+  const box = numberBox('Low below', { value: lowBelow, id: 'low', 'data-view': true, change: () => {
+    lowBelow = numberIn(box.value) || 0;
+    localStorage.setItem('low', box.value = lowBelow);
     grid.renew(rows());
   } });
-  return ['What is low', node('div.row', node('label', 'Parts of which less is free than', box)), stockKey(), grid];
+  return ['What is low', acts(node('label', 'Parts of which less is free than', box)), stockKey(), grid];
 }
 
-const UNKNOWN = "It isn't known whether this was done. Send it again: it is done once. ";
+// What all open builds together still want.
+function shoppingRows(withOptional) {
+  const rows = new Map();
+  for (const build of books.builds.values()) for (const need of needsOf(build)) {
+    if (need.isOptional && !withOptional) continue;
+    const id = need.component, empty = { id, part: id, required: 0, allocated: 0, missing: 0, builds: [] };
+    const row = rows.get(id) ?? empty;
+    rows.set(id, row);
+    for (const it of ['required', 'allocated', 'missing']) row[it] += need[it];
+    if (need.missing) row.builds.push(build);
+  }
+  return [...rows.values()].map(it => ({ ...it, free: freeIn(it.id), coming: comingOf(it.id),
+    buy: Math.max(0, it.missing - freeIn(it.id) - comingOf(it.id)) })).sort((a, b) => b.buy - a.buy || a.id - b.id);
+}
+function shoppingView(_, query) {
+  const isAll = query.has('optional'), rows = shoppingRows(isAll), [, ...low] = lowView();
+  const how = it => ['purchaseable', 'assembly'].map(flag => has(partAt(it.part), flag)).indexOf(true);
+  return ['Shopping list', node('p.soft', `What open builds need, ${isAll ? 'optional lines too' :
+    'but for optional lines'}. To buy or make is what is missing, less what is free and on order.`),
+  acts(node('span', { 'data-view': true }, tick('optional lines too', isAll, isOn => {
+    location.hash = `#/shopping${isOn ? '?optional=1' : ''}`;
+  })), act('order?side=purchase', 'New purchase')),
+  table('Shopping list', [parts('Part', 'part'), numbers('Required', 'required'),
+    numbers('Allocated', 'allocated', 'n late'), numbers('Missing', 'missing', 'n late'), numbers('Free', 'free'),
+    numbers('On order', 'coming'), numbers('To buy or make', 'buy'),
+    column('How', how, it => ['buy', 'make'][how(it)]),
+    cell('For builds', it => each(it.builds.slice(0, 6), build => link('build/' + build.id,
+      name(String(callOf(build))))), 'late')], rows),
+  section('Low stock', low)];
+}
+
 const lot = it => it.serial || it.batch || '';
 const itemColumns = (...more) => [rowNumbers('item'), ...more, numbers('Quantity', 'quantity'),
-  numbers('Allocated', heldOf), column('Serial or batch', lot, it => lot(it) && itemLink(it)),
+  numbers('Allocated', heldOf, 'n late'), column('Serial or batch', lot, it => lot(it) && itemLink(it)),
   column('Status', 'status', it => chip(STATUSES[it.status], isUsable(it) ? '' : 'bad'))].filter(Boolean);
 const where = column('Where', it => placeName(it.place, it.ref), it => placeLink(it.place, it.ref));
 const partColumn = parts('Part', 'part');
 
-// A branch of a tree, which grows when it is opened.
-function branch(words, grow, open) {
-  if (!grow) return node('li', words);
-  const toggle = () => box.children[1] || box.append(grow());
-  const box = node('details', { open, toggle }, node('summary', words), open && grow());
-  return node('li', box);
-}
+const branch = (words, grow, open) => node('li', grow ? opening('', words, grow, open) : words);
 
-// What lies at a location, or deeper too, by the names of parts; and the box that asks for it.
-function itemsUnder(place, query) {
-  const order = new Map(byName(books.parts.values()).map((part, at) => [part.id, at]));
-  const walk = at => [...find.itemsAt(at), ...query.has('deep') ? find.placesIn(at).flatMap(it => walk(it.id)) : []];
-  return walk(place).sort((a, b) => order.get(a.part) - order.get(b.part) || a.id - b.id);
+// What lies at a location, or deeper too, by the names of parts.
+function itemsUnder(place, isDeep) {
+  const inner = at => [at, ...isDeep ? find.placesIn(at).flatMap(it => inner(it.id)) : []];
+  const places = new Set(inner(place));
+  return find.sortedItems().filter(it => places.has(it.ref));
 }
-const deepTick = (view, here, query) => tick('and deeper', query.has('deep'),
-  isDeep => { location.hash = `#/${view}/${here.id}${isDeep ? '?deep=1' : ''}`; });
+const deepTick = (view, here, query) => node('span', { 'data-view': true }, tick('and deeper', query.has('deep'),
+  isDeep => { location.hash = `#/${view}/${here.id}${isDeep ? '?deep=1' : ''}`; }));
 function locationsView(here, query) {
-  const over = new Set(), items = here && itemsUnder(here.id, query);
+  const over = new Set(), items = here && itemsUnder(here.id, query.has('deep'));
   for (let at = here; at; at = books.locations.get(at.parent)) over.add(at.id);
   const words = it => [node('a', { href: '#/location/' + it.id, 'aria-current': it === here && 'true' }, name(it.name)),
     soft(' ', digits(find.under.get(it.id)))];
@@ -603,49 +1437,12 @@ function locationsView(here, query) {
     find.placesIn(it.id).length > 0 && (() => tree(it.id)), parent === 'top' || over.has(it.id))));
   return [here ? path('locations', here.id) : 'Locations', node('div.two',
     node('nav', { 'aria-label': 'Locations' }, tree('top')), node('div', here && [
-      acts(deepTick('location', here, query), act(`found?location=${here.id}`, 'Found stock'),
-        act(`receive?location=${here.id}`, 'Receive'), link('sheet/' + here.id, 'Count sheet')),
+      acts(deepTick('location', here, query), actOn('found', { location: here.id }),
+        actOn('receive', { location: here.id }), node('a.button', { href: `#/sheet/${here.id}` }, 'Count sheet')),
       table('Items', itemColumns(partColumn, query.has('deep') && where), items)],
-    acts(act('add_location' + (here ? '?parent=' + here.id : ''), 'New location'))))];
+    acts(actOn('add_location', here ? { parent: here.id } : {}, 'New location'))))];
 }
 
-// The sheet on which one writes how many of each item are there. Each count is a request with a key of its own.
-function sheetView(here, query) {
-  const go = node('button.main', 'Send the counts'), said = node('div');
-  const rows = itemsUnder(here.id, query).map(it => ({ ...it, told: node('span', { role: 'status' }), box: node('input',
-    { type: 'number', min: 0, max: it.serial ? 1 : 1e9, 'aria-label': 'Counted of ' + wordsOf('item', it.id) }) }));
-  const submit = async event => {
-    event.preventDefault();
-    if (isEarly(go)) return;
-    go.disabled = true;
-    const filled = rows.filter(it => it.box.value !== '' && !it.isDone);
-    let open = null;
-    for (const row of filled) {
-      const counted = Number(row.box.value), more = counted - row.quantity, change = (more > 0 ? ', +' : ', ') + more;
-      row.box.disabled = true;
-      row.line ||= lineOf('count', { item: row.id, quantity: counted });
-      const { isDone, isOpen, why } = await send(row.line);
-      row.isDone = isDone;
-      row.box.disabled = isDone || isOpen;
-      row.told.replaceChildren(node('span', isDone ? 'done' + (more ? change : ', as expected') : why));
-      if (isOpen) { open = why; break; }
-      row.line = null;
-    }
-    const done = filled.filter(it => it.isDone).length;
-    said.replaceChildren(open ? says('warn', UNKNOWN, open) : says(done < filled.length ? 'bad' : 'good',
-      `Counted: ${digits(done)}. Refused: ${digits(filled.length - done)}.`));
-    await refresh().catch(() => {});
-    go.disabled = false;
-  };
-  const partOf = it => partName(it.part), columns = [column('Item', 'id'),
-    column('Part', partOf, it => name(partOf(it)), 'head'), query.has('deep') && where,
-    column('Serial or batch', lot, it => name(lot(it))), numbers('Expected', 'quantity'),
-    column('Counted', null, it => it.box), column('Answer', null, it => it.told)];
-  return ['Count sheet: ' + path('locations', here.id), acts(deepTick('sheet', here, query)),
-    node('form', { submit, 'aria-label': 'Counts' }, table('Items', columns.filter(Boolean), rows), acts(go)), said];
-}
-
-const listed = (title, columns, rows) => section(title, table(title, columns, rows));
 // A section that is filled when the program has answered.
 function asked(promise, drawn) {
   const made = node('div', { 'aria-busy': 'true' }, 'Asking ...');
@@ -654,25 +1451,50 @@ function asked(promise, drawn) {
   return made;
 }
 
-// Entries of the history, the latest first, a thousand at a time, and of those the ones that are wanted.
-function entriesTable(isWanted) {
-  let from = entries + 1, rows = [];
-  const grid = table('Entries', [numbers('Entry', 'n'), column('Day', 'day'),
-    column('What', it => KINDS[it.kind], it => kindWord(KINDS[it.kind])), numbers('Quantity', 'quantity'),
-    partColumn, column('Item', 'item', it => link('item/' + it.item, it.item)), where], rows);
-  const back = async () => {
-    const begin = Math.max(1, from - 1000);
-    const told = from > 1 ? JSON.parse((await get('/history/' + begin)).text).history : [];
-    rows = [...rows, ...told.slice(0, from - begin).map(entryIn).reverse().filter(isWanted)];
-    from = begin;
+// Wanted entries of the history, the latest first: it looks back until fifty are found.
+const kindWord = kind => ({ written: 'written off', consumed: 'used up' })[kind] || plain(kind);
+const entryWords = it => [node('b', kindWord(KINDS[it.kind])), ` ${digits(it.quantity)} \u00d7 `, partLink(it.part),
+  it.place === AT ? ' at ' : ' ', it.place === OFF ? `(${REASONS[it.ref]})` : placeLink(it.place, it.ref),
+  ', ', link('item/' + it.item, 'item ' + it.item)];
+function entriesTable(isWanted, most = 20) {
+  let from = entries + 1, rows = [], more = null;
+  const grid = table('Entries', [numbers('Entry', 'n', 'n late'), column('Day', 'day'),
+    column('What happened', it => KINDS[it.kind], entryWords)], rows);
+  const back = async turns => {
+    const wanted = rows.length + 50;
+    for (let n = 0; n < turns && from > 1 && rows.length < wanted; n++) {
+      const begin = Math.max(1, from - 1000), told = await entriesFrom(begin, from - 1);
+      rows = [...rows, ...told.reverse().filter(isWanted)];
+      from = begin;
+    }
     grid.renew(rows);
     more.textContent = `Look further back than entry ${digits(from)}`;
     more.hidden = from === 1;
   };
-  const more = button('', () => back().catch(fault => { more.textContent = fault.message; }), 'more');
-  return asked(back(), () => [grid, more]);
+  more = button('', () => back(most).catch(fault => { more.textContent = fault.message; }), 'more');
+  return asked(back(most), () => [grid, more]);
 }
-const kindWord = kind => ({ written: 'written off', consumed: 'used up' })[kind] || plain(kind);
+function recentView(_, query) {
+  const frame = node('div'), boxOf = (id, type, label) => node('input', { id, type, 'aria-label': label,
+    placeholder: label, value: query.get(id), 'data-view': true, input: () => {
+      clearTimeout(wait);
+      wait = setTimeout(changed, 200);
+    } });
+  const boxes = [boxOf('part', 'search', 'Part'), boxOf('from', 'date', 'From'), boxOf('to', 'date', 'To')];
+  let wait = 0;
+  const show = () => {
+    const [text, from, to] = boxes.map(it => it.value), words = wordsIn(text), loose = words.map(looselyIn);
+    const fitting = new Set(choicesOf('part').filter(it => fitsWords(it, words, loose)).map(it => it.row.id));
+    frame.replaceChildren(entriesTable(it => fitting.has(it.part) && it.day >= from && (!to || it.day <= to)));
+  };
+  const changed = () => {
+    const asked = new URLSearchParams(boxes.filter(it => it.value).map(it => [it.id, it.value]));
+    history.replaceState(null, '', '#/recent' + (asked.size ? '?' + asked : ''));
+    show();
+  };
+  show();
+  return ['Recent activity', acts(boxes[0], boxes.slice(1).map(it => node('label', it.ariaLabel, it))), frame];
+}
 
 // The law of the books as two stacks of one length.
 function ledgerPicture(lines) {
@@ -710,7 +1532,7 @@ const linksTo = rows => rows.map(it => [partLink(it), ' ']);
 function partView(part) {
   const sums = stock.get(part.id), variants = find.variantsOf(part.id).map(it => it.id);
   return [part.name, node('p', flagsOf(part).map(it => chip(it)), marks(part)),
-  facts({ Part: part.id, Category: categoryOf(part), Template: part.template && partLink(part.template),
+  facts({ Part: part.id, Category: name(categoryOf(part)), Template: part.template && partLink(part.template),
     Variants: variants.length && linksTo(variants),
     Stock: `${digits(sums.free)} free of ${digits(sums.present)}; ${digits(sums.coming)} on order` }),
   actsOn('part', part),
@@ -721,7 +1543,7 @@ function partView(part) {
     asked(report('where_used', part.id), rows => linksTo(rows.map(it => Number(it[0]))))),
   section('Builds', buildTable(find.buildsOf(part.id))),
   section('Orders', find.orderedOf(part.id).map(it => node('div', rowLink('order_line', it.id)))),
-  section('Latest entries', entriesTable(it => it.part === part.id))];
+  section('Latest entries', entriesTable(it => it.part === part.id, 1))];
 }
 const contentTree = item => node('ul.tree', find.itemsIn(item.id).map(it =>
   branch([partLink(it.part), ' ', itemLink(it), ` \u00d7 ${digits(it.quantity)}`],
@@ -737,16 +1559,19 @@ function timeline(lines) {
   return [list, drawn.more];
 }
 const allocationTable = rows => listed('Allocated', [
-  column('Item', 'item', it => rowLink('item', it.item)), numbers('Quantity', 'quantity'),
+  column('Item', 'item', it => rowLink('item', it.item), 'head'), numbers('Quantity', 'quantity'),
   column('For', 'owner', it => [rowLink(it.side ? 'build' : 'order', it.owner),
     it.output && [', output ', link('item/' + it.output, it.output)]]),
-  column('Do', null, it => actsOn('allocation', it))], rows);
-const itemView = item => [itemName(item), facts({ Item: item.id, Part: partLink(item.part),
+  { ...column('Do', null, it => [quick('Give back', 'release', { allocation: it.id }), ' ',
+    it.side === 1 && !it.output && rowOf('build', it.owner).state === PROGRESS &&
+    quick('Use up', 'consume', { allocation: it.id })]), isAct: true }], rows);
+const batchLink = it => it.batch && link(`batch/${it.part}?text=${encodeURIComponent(it.batch)}`, name(it.batch));
+const itemView = item => [itemName(item), facts({ Item: item.id, Part: partLink(item.part), Batch: batchLink(item),
   Quantity: digits(item.quantity), Free: isAt(item) && digits(freeOf(item)), Where: placeLink(item.place, item.ref),
   Status: chip(STATUSES[item.status], isUsable(item) ? 'good' : 'bad') }),
-actsOn('item', item), allocationTable(find.allocationsOf(item.id)),
+actsOn('item', item), mends(() => wrongWithItem(item)), allocationTable(find.allocationsOf(item.id)),
 find.itemsIn(item.id).length > 0 && section('What lies in it', contentTree(item)),
-section('History', asked(report('history', item.id), timeline))];
+section('History', asked(report('history', item.id), timeline)), itemOrigins(item)];
 function progress(rows, begun) {
   const done = sum(rows, 'done'), whole = sum(rows, 'quantity');
   return node('div', bar([['free', done, 'done'], ['held', sum(begun, 'quantity'), 'begun or allocated']], whole),
@@ -754,292 +1579,922 @@ function progress(rows, begun) {
 }
 const progressOf = begunOf => column('Progress', it => it.done / it.quantity, it => progress([it], begunOf(it)));
 
-// What builds miss is asked for one after another, and only where it is still shown then.
-let lacks = Promise.resolve();
+const nameColumn = column('Name', it => keyNames.get(it.id) ?? '', it => keyNames.has(it.id) &&
+  name(keyNames.get(it.id)));
 function lackOf(build) {
-  const made = soft(build.state < 3 && '...');
-  lacks = lacks.then(async () => {
-    if (!made.isConnected || build.state > 2) return;
-    const lines = (await report('shortage', build.id)).filter(it => it[4] !== '0');
-    made.className = lines.length ? 'bad' : 'good';
-    made.textContent = lines.map(it => `${digits(it[4])} \u00d7 ${it[1]}`).join(', ') || 'nothing';
-  }).catch(() => { made.textContent = '?'; });
-  return made;
+  if (!isOpenBuild(build)) return null;
+  const lines = needsOf(build).filter(it => it.missing > 0 && !it.isOptional);
+  return node(lines.length ? 'span.bad' : 'span.good', lines.length ? name(lines.map(it =>
+    `${digits(it.missing)} \u00d7 ${partName(it.component)}`).join(', ')) : 'nothing');
 }
-const buildTable = rows => table('Builds', [rowNumbers('build'), parts('Of', 'part'), states(BUILD_STATES),
+const buildTable = rows => table('Builds', [rowNumbers('build'), nameColumn, parts('Of', 'part'), states(BUILD_STATES),
   progressOf(it => find.outputsOf(it.id)), column('Missing', null, lackOf)], rows);
-const openTick = (view, query) => tick('only what is open', !query.has('all'),
-  isOpen => { location.hash = `#/${view}${isOpen ? '' : '?all=1'}`; });
-const buildsView = (_, query) => ['Builds', acts(openTick('builds', query), act('build', 'New build')),
-  buildTable([...books.builds.values()].filter(it => query.has('all') || it.state < 3).reverse())];
-function buildView(build) {
-  const outputs = find.outputsOf(build.id), component = it => books.lines.get(Number(it[0]))?.component;
-  const amounts = (title, at) => numbers(title, it => Number(it[at]));
-  const needs = rows => table('Needs', [parts('Component', component), amounts('Required', 2), amounts('Allocated', 3),
-    amounts('Missing', 4), numbers('Free', it => freeIn(component(it)))], rows);
-  return [capital(wordsOf('build', build.id)), facts({ Part: partLink(build.part), Done: progress([build], outputs) }),
-    actsOn('build', build), section('What it needs', asked(report('shortage', build.id), needs)),
-    listed('Outputs', [...itemColumns(), column('Do', null, it => actsOn('item', it))], outputs),
-    allocationTable(find.allocationsFor(`1 ${build.id}`)),
-    listed('Used up', itemColumns(partColumn), find.usedBy(build.id))];
-}
+const openTick = (view, query) => node('span', { 'data-view': true }, tick('only what is open', !query.has('all'),
+  isOpen => { location.hash = `#/${view}${isOpen ? '' : '?all=1'}`; }));
+const buildsView = (_, query) => ['Builds', acts(openTick('builds', query), act('build?back=builds', 'New build')),
+  buildTable([...books.builds.values()].filter(it => query.has('all') || isOpenBuild(it)).reverse())];
 function ordersView(_, query) {
   const lines = it => find.linesOf(it.id);
   const rows = [...books.orders.values()].filter(it => query.has('all') || it.state < 2).reverse();
-  const columns = [rowNumbers('order'), column('Partner', 'partner', it => name(it.partner), 'head'),
+  const columns = [rowNumbers('order'), nameColumn, column('Partner', 'partner', it => name(it.partner), 'head'),
     states(ORDER_STATES), numbers('Lines', it => lines(it).length),
     column('Progress', null, it => progress(lines(it), find.allocationsFor(`0 ${it.id}`)))];
-  return ['Orders', acts(openTick('orders', query), act('order?side=purchase', 'New purchase'),
-    act('order?side=sale', 'New sale')), ['Purchases', 'Sales'].map((title, side) =>
+  return ['Orders', acts(openTick('orders', query), act('order?side=purchase&back=orders', 'New purchase'),
+    act('order?side=sale&back=orders', 'New sale')), ['Purchases', 'Sales'].map((title, side) =>
     listed(title, columns, rows.filter(it => it.side === side)))];
 }
-const orderView = order => [capital(wordsOf('order', order.id)), actsOn('order', order),
-  listed('Lines', [partColumn, numbers('Quantity', 'quantity'),
-    progressOf(it => find.allocationsOn(`0 ${it.id}`)), numbers('Free', it => freeIn(it.part)),
-    column('Do', null, it => actsOn('order_line', it))], find.linesOf(order.id)),
-  order.side === 1 && [allocationTable(find.allocationsFor(`0 ${order.id}`)),
-    listed('With the customer', itemColumns(partColumn), find.sentFor(order.id))]];
+
+// What has the words that are looked for, in whatever way they are written: what begins with them stands first.
+const FOUND = ['location', 'part', 'order', 'build', 'item'];
 function findView(_, query, text = '') {
-  const words = wordsIn(text);
-  const fitting = ([row, low]) => words.every(word => low.includes(word) || String(row.id) === word);
-  return [`Found: ${text}`, ['part', 'item', 'location', 'order', 'build'].map(kind => {
-    const rows = words.length ? choicesOf(kind).filter(fitting).map(it => it[0]) : [];
-    return section(`${capital(kind)}s: ${digits(rows.length)}`, rows.length > 0 &&
-      table(kind, [column('What', it => wordsOf(kind, it.id), it => rowLink(kind, it.id), 'head')], rows));
-  })];
+  const low = fold(text.trim()), words = wordsIn(text), loose = words.map(looselyIn);
+  const [, asked = '', number] = low.match(/^([a-z]*) *(\d+)$/) ?? [];
+  const found = FOUND.map(kind => {
+    const one = number && (!asked || asked === kind) && rowOf(kind, Number(number));
+    const rows = !words.length ? [] : choicesOf(kind).filter(it => it.row !== one && fitsWords(it, words, loose))
+      .map(({ row }) => [rankOf(kind, row, low), row]).sort((a, b) => a[0] - b[0] ||
+        inOrder(startOf(kind, a[1]), startOf(kind, b[1])) || a[1].id - b[1].id).map(it => it[1]);
+    if (one && one.place !== GONE) rows.unshift(one);
+    return [kind, rows];
+  });
+  const isSlipped = found.every(it => !it[1].length);
+  if (isSlipped) for (const it of found) it[1] = bySlips(it[0], words);
+  const sections = found.map(([kind, rows]) => section(`${capital(kind)}s: ${digits(rows.length)}`, rows.length > 0 &&
+    table(kind + 's found', [column('What', it => wordsOf(kind, it.id), it => rowLink(kind, it.id), 'head')], rows)));
+  return [`Found: ${text}`, isSlipped && found.some(it => it[1].length) && node('p.warn',
+    'Nothing has these words. With a slip of one letter in them these have:'),
+  [...sections].sort((a, b) => !!b.children[1] - !!a.children[1])];
 }
 
-// ---- Forms, all made from the table of commands
+// Work on orders, and how what is free is shared out.
 
-// Which rows suit a field, beside the values of the others. They are offered first; any other may be chosen too. The
-// states of orders and builds that a command is for, where they aren't 1 alone:
-const STATES = { order_line: [0, 1], issue_order: [0], cancel_order: [0, 1], issue_build: [0, 2], hold_build: [0, 1],
-  cancel_build: [0, 1, 2], auto_allocate: [0, 1], allocate_build: [0, 1] };
-const AWAY = { uninstall: IN, reinstate: OFF, return_item: SENT };
-const isFree = item => freeOf(item) > 0, isPlain = item => isAt(item) && !item.serial;
-const live = flag => part => has(part, flag) && !part.retired, maySet = line => !find.fixed.has(line.assembly);
-const isOpenLine = side => line => leftOf(line) > 0 && orderOf(line).side === side && orderOf(line).state === 1;
-const SUITS = {
-  'add_part template': live('template'), 'found part': it => !it.retired && !has(it, 'virtual'),
-  'build part': live('assembly'),
-  'add_line assembly': it => live('assembly')(it) && !find.fixed.has(it.id), 'add_line component': live('component'),
-  'add_substitute part': live('component'), 'add_substitute line': maySet, 'drop_line line': maySet,
-  'drop_substitute substitute': it => maySet(rowOf('line', it.line)),
-  'order_line part': (it, now) =>
-    !it.retired && (!now.order || has(it, rowOf('order', now.order).side ? 'salable' : 'purchaseable')),
-  'receive line': isOpenLine(0), 'allocate_sale line': isOpenLine(1),
-  'allocate_sale item': (it, now) => isFree(it) && (!now.line || it.part === rowOf('order_line', now.line).part),
-  'ship order': it => it.state === 1 && find.allocationsFor(`0 ${it.id}`).length,
-  'close_order order': it => it.state === 1 && find.linesOf(it.id).every(line => !leftOf(line)),
-  'add item': isPlain, 'merge into': isPlain, 'remove item': isFree, 'install item': isFree,
-  'split item': it => isPlain(it) && isFree(it) && it.quantity > 1, 'disassemble item': it => isAt(it) && it.serial,
-  'serialise item': it => isPlain(it) && isFree(it) && has(rowOf('part', it.part), 'trackable'),
-  'merge items': (it, now) => isPlain(it) && it.id !== now.into &&
-    (!now.into || ['part', 'batch', 'status'].every(word => it[word] === rowOf('item', now.into)[word])),
-  'install parent': (it, now) => it.serial && it.place <= IN && it.id !== now.item &&
-    (!now.item || linesFor(it.part).some(line => !has(line, 'consumable') && fits(line, rowOf('item', now.item).part))),
-  'complete_build build': it => it.state === 1 && !leftOf(it),
-  'allocate_build line': (it, now) => now.build && !has(it, 'consumable') &&
-    linesFor(rowOf('build', now.build).part).includes(it),
-  'allocate_build item': (it, now) => isFree(it) && (!now.line || fits(rowOf('line', now.line), it.part)),
-  'consume allocation': it => it.side && !it.output && rowOf('build', it.owner).state === 1,
-};
-function suits({ command }, { name, kind }) {
-  if (SUITS[`${command} ${name}`]) return SUITS[`${command} ${name}`];
-  if (name === 'output') return (it, now) =>
-    it.place === OUTPUT && rowOf('build', it.ref).state === 1 && (!now.build || it.ref === now.build);
-  if (kind === 'item') return it => it.place === (AWAY[command] ?? AT);
-  if (kind === 'order' || kind === 'build') return it => (STATES[command] || [1]).includes(it.state);
-  return it => !it.retired;
+const ofLine = (line, missing = line.quantity) => `${digits(missing)} \u00d7 ${partName(line.component ?? line.part)}`;
+function orderView(order) {
+  const lines = find.linesOf(order.id), isSale = order.side === 1, isLive = order.state === PROGRESS;
+  const open = lines.filter(it => leftOf(it) > 0), held = find.allocationsFor(`0 ${order.id}`);
+  lines.forEach(it => watchRow('order_line', it.id));
+  const one = { order: order.id }, more = () => inline('order_line', one, { title: 'Add a line', go: 'Add this line' });
+  return [capital(wordsOf('order', order.id)), facts({ Order: order.id, Partner: name(order.partner),
+    Done: lines.length > 0 && progress(lines, held) }),
+  lines.length > 0 && acts(order.state === PENDING && quick('Issue this order', 'issue_order', one, 'main'),
+    isLive && !open.length && quick('Close this order', 'close_order', one, 'main')),
+  isLive && !isSale && open.length > 0 && receiveWork(order, open),
+  isLive && isSale && [allocateWork('allocate_sale', ['order', order.id], open.map(line => ({ fields: { line: line.id },
+    line, wanted: wantedOf(line), items: byAge(freeItems([line.part])), what: name(amountOf(line)) }))),
+  held.length > 0 && section('Ship', 'These leave the house: ', list(held.map(it => [digits(it.quantity), ' of ',
+    rowLink('item', it.item)])), acts(quick('Ship what is allocated', 'ship', one, 'main')))],
+  listed('Lines', [partColumn, numbers('Quantity', 'quantity'), progressOf(it => find.allocationsOn(`0 ${it.id}`)),
+    numbers('Free', it => freeIn(it.part))], lines),
+  isLive && panel('Add a line', more), order.state === PENDING && more(),
+  isSale && [allocationTable(held), listed('With the customer', itemColumns(partColumn), find.sentFor(order.id))],
+  order.state < 3 && mends(() => wrongWithOrder(order, lines, held)),
+  actsOn('order', order, ['issue_order', 'close_order', 'order_line', 'ship'])];
+}
+function receiveWork(order, open) {
+  const rows = open.map(line => ({ line, called: partName(line.part) }));
+  const textBox = (row, word) => row[word] = boxed(row, node('input', { autocomplete: 'off',
+    'aria-label': `${capital(word)} of ${row.called}` }));
+  const fieldsOf = row => ({ line: row.line.id, ...row.batch.value && { batch: row.batch.value },
+    ...row.serials?.value && { serials: row.serials.value }, ...placeIn(row), ...amountIn(row) });
+  return section('Receive', node('p.soft', 'Serials are written as M1,M2 or as a range 1-20. ',
+"#,
+    r#"    link(`files?kind=receipts&order=${order.id}`, 'Rows from a file')), batch({ verb: 'Receive',
+    past: 'Received', rows, command: 'receive', fieldsOf, about: ['order', order.id], columns: [
+      cell('Part', it => partLink(it.line.part), 'head'),
+      cell('Outstanding', it => digits(leftOf(it.line)), 'n'), cell('Quantity', it => amountBox(it, leftOf(it.line))),
+      cell('Location', it => placeBox(it, it.line.part, rows)), cell('Batch', it => textBox(it, 'batch')),
+      cell('Serials', it => has(partAt(it.line.part), 'trackable') && textBox(it, 'serials'))] }));
+}
+// What is free is shared out among what is wanted, the oldest item first.
+function allocateWork(command, about, wants) {
+  const left = new Map(), rows = [], short = [];
+  for (const it of wants) {
+    const given = shares(it.items, it.wanted, left).map(one => ({ ...it, ...one, called: wordsOf('item', one.item),
+      isOff: it.isOff || it.line.component && !isOwn(it.line, rowOf('item', one.item).part) }));
+    const missing = it.wanted - sum(given.filter(one => !one.isOff), 'quantity');
+    rows.push(...given);
+    if (missing > 0 && !it.isOff) short.push(ofLine(it.line, missing));
+  }
+  const fieldsOf = row => ({ ...row.fields, item: row.item, ...amountIn(row) });
+  return rows.length + short.length > 0 && section('Allocate what is free, the oldest first', short.length > 0 &&
+    node('p.bad', 'Not enough is free: ', name(short.join(', ')), '.'), rows.length > 0 && batch({ verb: 'Allocate',
+    past: 'Allocated', about, rows, command, fieldsOf, columns: [cell('Item', it => rowLink('item', it.item), 'head'),
+      cell('For', it => it.what.cloneNode(true)), cell('Quantity', it => amountBox(it, it.quantity))] }));
 }
 
-let lastId = 0;
-// A field that says a row: one types words of its name, or its number, and chooses.
-function rowField({ kind, isOptional }, label, isSuited, now, changed = () => {}) {
-  const id = `f${++lastId}`, hint = node('div.soft');
-  const list = node('ul', { role: 'listbox', id: id + 'l', 'aria-label': label, hidden: true });
-  const box = node('input', { id, role: 'combobox', autocomplete: 'off', 'aria-autocomplete': 'list',
-    'aria-expanded': 'false', 'aria-controls': id + 'l', placeholder: isOptional ? 'none' : 'Words, or a number' });
-  let value = null, offered = [], at = -1;
-  const open = isOpen => {
-    list.hidden = !isOpen;
-    box.ariaExpanded = isOpen;
-    if (!isOpen) box.removeAttribute('aria-activedescendant');
+// Work on builds.
+
+function buildView(build, query) {
+  const outputs = find.outputsOf(build.id), needs = needsOf(build), isLive = build.state === PROGRESS, { id } = build;
+  const toBegin = leftOf(build) - begunOf(build), isTrackable = has(partAt(build.part), 'trackable');
+  outputs.forEach(it => watchRow('item', it.id));
+  const wantOf = (need, wanted, output) => ({ wanted, isOff: need.isOptional, line: need.line,
+    fields: { build: id, line: need.id, ...output && { output: output.id } }, items: freeItems(partsFor(need.line)),
+    what: node('span', name(partName(need.component)), need.isOptional && ' (optional)',
+      output && [', output ', name(itemName(output))]) });
+  const wants = needs.flatMap(need => !need.isTracked ? wantOf(need, need.missing) : outputs.map(it =>
+    wantOf(need, Math.max(0, need.line.quantity * it.quantity - allocatedFor(build, need.line, it.id)), it)));
+  const kindOf = it => [it.isOptional && chip('optional'), it.isTracked && chip('for each piece'),
+    it.spent > 0 && `${digits(it.spent)} used up`];
+  return [capital(wordsOf('build', id)), facts({ Build: id, Part: partLink(build.part),
+    Done: progress([build], outputs), Missing: lackOf(build) }),
+  acts(isOpenBuild(build) && !isLive && quick(build.state === ON_HOLD ? 'Go on with this build' : 'Issue this build',
+    'issue_build', { build: id }, 'main')),
+  isLive && toBegin > 0 && panel(`Begin outputs (${digits(toBegin)} left)`, () => inline('outputs', { build: id },
+    { hides: ['build', ...isTrackable ? [] : ['serials']], title: 'Begin outputs', go: 'Begin these' })),
+  build.state < ON_HOLD && allocateWork('allocate_build', ['build', id], wants),
+  isLive && outputs.length > 0 && completeWork(build, outputs),
+  isLive && !outputs.length && section('Complete the build', missingWords(build) ||
+    node('p', 'All is made. What is allocated is used up then.'),
+  acts(quick('Complete this build', 'complete_build', { build: id }, leftOf(build) ? '' : 'main'))),
+  needs.length > 0 && listed('What it needs', [parts('Component', 'component'), numbers('Required', 'required'),
+    numbers('Allocated', 'allocated'), numbers('Missing', 'missing'), numbers('Free', it => freeIn(it.component)),
+    cell('Kind', kindOf, 'late')], needs),
+  listed('Outputs', itemColumns(), outputs), allocationTable(find.allocationsFor(`1 ${id}`)),
+  listed('Used up', itemColumns(partColumn), find.usedBy(id)), buildOrigins(build),
+  isOpenBuild(build) && panel('Cancel this build', () => endWork(build), query.has('end')),
+  build.state > PENDING && mends(() => wrongWithBuild(build, outputs)),
+  actsOn('build', build, ['issue_build', 'outputs', 'complete_build', 'cancel_build', 'auto_allocate'])];
+}
+const toEnd = build => link(`build/${build.id}?end=1`, 'Use up what was used, and end the build');
+function missingWords(build) {
+  const lines = needsOf(build).filter(it => it.missing > 0 && !it.isOptional && !it.isTracked), left = leftOf(build);
+  return left + lines.length > 0 && node('div.bad', { role: 'status' }, 'To be completed it lacks: ', list([
+    ...left ? [`${digits(left)} of ${digits(build.quantity)} aren't made yet`] : [],
+    ...lines.map(it => [name(ofLine(it.line, it.missing)), ` (${digits(freeIn(it.component))} free)`])]),
+  toEnd(build));
+}
+function completeWork(build, outputs) {
+  const lacks = item => lacksOf(build, item).map(it => ofLine(it.line, it.missing)).join(', ');
+  const rows = outputs.map(item => ({ item, quantity: item.quantity, called: itemName(item),
+    isOff: lacks(item) !== '' }));
+  const near = find.allocationsFor(`1 ${build.id}`).map(it => rowOf('item', it.item).ref)[0];
+  return section('Complete outputs', batch({ verb: 'Complete', past: 'Completed', rows, command: 'complete_output',
+    fieldsOf: row => ({ output: row.item.id, ...placeIn(row) }), about: ['build', build.id],
+    columns: [cell('Output', it => itemLink(it.item), 'head'), cell('Quantity', it => digits(it.quantity), 'n'),
+      cell('Lacks', it => node(it.isOff ? 'span.bad' : 'span.good', name(lacks(it.item) || 'nothing'))),
+      cell('Location', it => placeBox(it, build.part, rows, near))] }));
+}
+// What a build that is cancelled gives back, though it may be used up in truth.
+function cancelWarning(build) {
+  const unused = unusedOf(build);
+  return unused.length > 0 && node('div.warn', { role: 'alert' }, build.done > 0 && node('b',
+    `${digits(build.done)} of ${digits(build.quantity)} are made already. `), 'This is allocated and isn\'t used up. ',
+  'It goes back into stock, though it may be used up in truth:', list(unused.map(it => [digits(it.quantity), ' of ',
+    rowLink('item', it.item)])), !here().startsWith('build/') && toEnd(build));
+}
+function endWork(build) {
+  const begun = begunOf(build), one = ['cancel_build', { build: build.id }];
+  const rows = unusedOf(build).map(it => ({ ...it, called: wordsOf('item', it.item) }));
+  const takes = it => books.lines.get(it.line).quantity * build.done - sum(find.spentOf(`${build.id} ${it.line}`),
+    'quantity');
+  return [cancelWarning(build), begun > 0 && node('p.bad', `${digits(begun)} are begun and not completed: they go.`),
+    build.state !== PENDING && rows.length > 0 && section('Use up and end', node('p', 'What is ticked is used up: it ',
+      'leaves the stock. The rest goes back. Then the build ends: the program calls it ', node('b', 'cancelled'),
+      `, with ${digits(build.done)} of ${digits(build.quantity)} made.`), batch({ verb: 'Use up and end',
+      past: 'Used up', about: ['build', build.id], rows, command: 'consume', fieldsOf: row => ({ allocation: row.id }),
+      first: build.state === ON_HOLD ? [() => ['issue_build', one[1]]] : [], last: [() => one],
+      end: ', and ended the build', columns: [cell('Item', it => rowLink('item', it.item), 'head'),
+        cell('Quantity', it => digits(it.quantity), 'n'),
+        cell('What is made takes', it => digits(takes(it)), 'n')] })),
+    section('Cancel only', node('p', 'What is allocated goes back into stock, and outputs that are begun are gone.'),
+      acts(quick('Cancel, and use nothing up', ...one)))];
+}
+
+// What mends a mistake: rows of whether it applies, what went wrong in a clerk's words, and the acts.
+const mends = make => panel('When something went wrong', () => node('dl', make().filter(it => it[0])
+  .map(([, wrong, ...how]) => [node('dt', wrong), node('dd', how)])));
+const takeOut = it => actOn('remove', { item: it.id }, ['Take out of ', name(wordsOf('item', it.id))]);
+const giveBack = it => quick(['Give back ', name(wordsOf('allocation', it.id))], 'release', { allocation: it.id });
+function wrongWithItem(item) {
+  const isHere = isAt(item), one = { item: item.id }, isPiece = !!item.serial, held = find.allocationsOf(item.id);
+  const inner = find.itemsIn(item.id);
+  const anew = text => actOn('found', { part: item.part, ...isHere && { location: item.ref }, quantity: 1,
+    ...item.batch && { batch: item.batch } }, text);
+  return [
+    [isHere && !isPiece, 'Took too much out, or more is here than the books say', actOn('add', one, 'Put some back'),
+      ' or ', actOn('count', one, 'Count it again')],
+    [isHere, 'Received or found too much: fewer are here', actOn('remove', one, 'Take the surplus out'),
+      soft(' An order counts them as received. If they still come, add a line to it.')],
+    [isHere && isPiece, 'It has the wrong serial', actOn('remove', { ...one, quantity: 1 },
+      'First take it off the books'), ' then ', anew('Find it with the right one'),
+    soft(' The wrong serial stays taken.')],
+    [isHere, 'It lies somewhere else, or its status is wrong', actOn('transfer', one, 'Move it'), ' or ',
+      actOn('set_status', one, 'Set its status')],
+    [held.length, 'It is allocated to the wrong order or build', each(held, giveBack)],
+    [item.place === OFF, 'It was taken off the books by mistake', actOn('reinstate', one, 'Bring it back')],
+    [item.place === GONE, 'All of it was taken out by mistake', anew('Find it anew')],
+    [item.place === IN, 'It was put into the wrong item', actOn('uninstall', one, 'Take it out')],
+    [item.place === SENT, 'It was shipped by mistake, or came back', actOn('return_item', one, 'Take it back')],
+    [item.place === USED, 'It wasn\'t used up in truth', 'Nothing takes that back: ', anew('Find it anew')],
+    [item.place === OUTPUT, 'It was begun by mistake, or is spoilt', outputMends(item)],
+    [isHere && inner.length, 'The wrong piece was put into it', each(inner, it => actOn('uninstall', { item: it.id },
+      ['Take out ', name(itemName(it))])), 'or ', actOn('disassemble', one, 'Take it all apart')],
+  ];
+}
+const outputMends = it => [quick(['Cancel output ', name(lot(it) || it.id)], 'cancel_output', { output: it.id }), ' ',
+  quick(['Scrap output ', name(lot(it) || it.id)], 'scrap_output', { output: it.id })];
+function wrongWithOrder(order, lines, held) {
+  const isOpen = order.state < 2, isSale = order.side === 1, done = lines.filter(it => it.done > 0);
+  const newest = part => find.itemsOf(part).filter(isAt).slice(-3).reverse();
+  const came = done.flatMap(it => newest(it.part)), pieces = came.filter(it => it.serial);
+  const sent = find.sentFor(order.id);
+  return [
+    [isOpen, 'The partner or a line is wrong', done.length > 0 && 'What is done of it stays with it. ',
+      anewForm(order, lines)],
+    [!isSale && came.length, 'Received too much', each(came, takeOut),
+      soft(' The order counts it as received. If more comes, add a line.')],
+    [!isSale && pieces.length, 'Received with a wrong serial', 'Open the piece: ', each(pieces, itemLink)],
+    [isSale && held.length, 'The wrong item is allocated', each(held, giveBack)],
+    [sent.length, 'Shipped by mistake, or it came back', each(sent, it => actOn('return_item', { item: it.id },
+      ['Take back ', name(itemName(it))]))],
+  ];
+}
+// The same order once more, with another partner or other lines; this one is cancelled.
+function anewForm(order, lines) {
+  const partner = node('input', { 'aria-label': 'Right partner', value: order.partner, autocomplete: 'off' });
+  const rows = lines.map(line => ({ line, called: partName(line.part), isOff: !leftOf(line) }));
+  const first = [() => ['order', { side: SIDES[order.side], partner: partner.value }]], made = () => first[0].ids[0];
+  return node('div', node('label', 'Partner', partner), batch({ verb: 'Make it anew, and cancel this one',
+    past: 'Made anew:', about: ['order', order.id], rows, command: 'order_line', to: () => `order/${made()}`, first,
+    fieldsOf: row => ({ order: first[0].ids && made(), part: row.line.part, ...amountIn(row) }),
+    last: [...order.state === PROGRESS ? [() => ['issue_order', { order: made() }]] : [],
+      () => ['cancel_order', { order: order.id }]],
+    columns: [cell('Part', it => name(it.called), 'head'),
+      cell('Quantity', it => amountBox(it, leftOf(it.line) || 1))] }));
+}
+function wrongWithBuild(build, outputs) {
+  const isOpen = isOpenBuild(build), made = build.done ? find.itemsOf(build.part).filter(isAt).slice(-3) : [];
+  const used = linesFor(build.part).flatMap(line => partsFor(line).flatMap(find.itemsOf).filter(isFree).slice(0, 2));
+  return [
+    [isOpen && outputs.length, 'An output was begun by mistake, or is spoilt', each(outputs, outputMends)],
+    [made.length, 'Completed too many, or too early', each(made, it => it.serial ? actOn('disassemble', { item: it.id },
+      ['Take apart ', name(itemName(it))]) : takeOut(it)), soft(' The build counts it as made all the same.')],
+    [isOpen, 'Its part or its quantity is wrong', 'Cancel it, above, and make ', actOn('build', { part: build.part,
+      quantity: build.quantity }, 'a new build')],
+    [build.state === 3 && used.length, 'It was cancelled, though parts were used up', each(used, takeOut)],
+  ];
+}
+
+// The sheet on which one writes how many of each item are there. What is typed is kept in the window until it is sent,
+// with the marks of its books.
+const SHEET = 'sheet:';
+const isUnanswered = line => line != null && openAt(JSON.parse(line).key) !== null;
+function sheetView(here, query) {
+  const isDeep = query.has('deep'), word = `${SHEET}${here.id}:${isDeep}`, was = store.get(word);
+  const isForeign = was !== null && !areThese(was.books ?? []), kept = isForeign ? {} : was?.rows ?? {};
+  const typed = () => Object.values(kept).filter(it => it.text).length;
+  const below = node('div'), count = node('span.soft', { role: 'status' });
+  const ids = new Set([...itemsUnder(here.id, isDeep).map(it => it.id), ...Object.keys(kept).map(Number)]);
+  const itemOf = row => rowOf('item', row.id);
+  const rows = [...ids].filter(id => rowOf('item', id)).map(id => ({ id,
+    opened: kept[id]?.opened ?? rowOf('item', id).quantity }));
+  const keep = () => {
+    if (Object.keys(kept).length) store.set(word, { books: marks, rows: kept });
+    else if (!isForeign) store.drop(word);
+    count.textContent = `${digits(typed())} of ${digits(rows.length)} counted`;
   };
-  const put = (row, isFine) => {
-    value = row?.id ?? null;
-    hint.textContent = row ? `number ${value}` : '';
-    box.setCustomValidity(row || isFine ? '' : 'Choose one from the list.');
+  const marked = row => {
+    const { quantity, place } = itemOf(row), sent = kept[row.id]?.line;
+    row.note ||= node('span.warn', { role: 'status' });
+    row.note.textContent = sent ? `A count of ${digits(JSON.parse(sent).quantity)} was sent and not answered.` :
+      place !== AT ? 'It lies here no more.' : quantity === row.opened ? '' :
+      `The books changed from ${digits(row.opened)} to ${digits(quantity)} since the sheet was opened.`;
+    row.note.closest('tr')?.classList.toggle('changed', row.note.textContent !== '');
+    return row.note;
   };
-  const take = row => {
-    box.value = row ? wordsOf(kind, row.id) : '';
-    put(row, isOptional);
-    open(false);
+  const markAll = () => rows.forEach(it => it.note && marked(it));
+  const look = button('Look at what will change', () => countSummary(of), 'main look'), marks = marksOf();
+  const move = (box, step) => {
+    const boxes = () => [...sheet.querySelectorAll('tbody input')], at = boxes().indexOf(box) + step;
+    if (at >= boxes().length) grid.next();
+    const next = boxes()[at] ?? (step > 0 ? look : null);
+    next?.focus();
+    next?.select?.();
+  };
+  const boxOf = row => {
+    const box = numberBox('Counted of ' + wordsOf('item', row.id), { value: kept[row.id]?.text, input: () => {
+      box.ariaInvalid = box.value.trim() !== '' && Number.isNaN(numberIn(box.value));
+      const { line, typed } = kept[row.id] ?? {};   // what wasn't answered stays
+      delete kept[row.id];
+      const text = box.value.trim() && box.value;
+      if (text || line) kept[row.id] = { text, opened: row.opened, line, typed };
+      keep();
+    }, keydown: event => {
+      const step = { Enter: 1, ArrowDown: 1, ArrowUp: -1 }[event.key];
+      if (!step || event.ctrlKey || event.altKey) return;
+      event.preventDefault();
+      move(box, step);
+    } });
+    return box;
+  };
+  const partOf = it => partName(itemOf(it).part), grid = table('Items', [
+    column('Part', partOf, it => [name(partOf(it)), ' ', soft(name(lot(itemOf(it))))], 'head'),
+    column('Item', 'id', it => link('item/' + it.id, it.id), 'late'), isDeep && column('Where',
+      it => placeName(itemOf(it).place, itemOf(it).ref), it => placeLink(itemOf(it).place, itemOf(it).ref)),
+    numbers('Expected', it => itemOf(it).quantity), cell('Counted', boxOf), cell('Note', marked)].filter(Boolean),
+  rows);
+  const sheet = node('div', { role: 'group', 'aria-label': 'Counts' }, grid, acts(count, look,
+    button('Empty this sheet', () => { store.drop(word); show(false); })));
+  const of = { kept, keep, rows, sheet, below, look, markAll };
+  markAll();
+  keep();
+  whenRead.push(markAll);
+  return ['Count sheet: ' + path('locations', here.id), acts(deepTick('sheet', here, query),
+    link(`location/${here.id}`, '\u2190 the location'), link('files?kind=counts', 'Rows from a file')), isForeign &&
+    says('warn', "What was typed on such a sheet of another workshop isn't put here."), node('p.soft acts', 'Enter ',
+    'and the arrows go from row to row. Nothing is sent before you have seen what will change. An empty box isn\'t ',
+    'counted.'), sheet, below];
+}
+// Where a count was answered at last, its row is empty, or has what was typed since then, over that count.
+function settleCount(line, isDone) {
+  const { item, quantity, do: command } = JSON.parse(line);
+  for (const word of command === 'count' ? store.keys(SHEET) : []) {
+    const sheet = store.get(word), it = areThese(sheet.books ?? []) && sheet.rows?.[item];
+    if (!it) continue;
+    if (isDone) it.opened = quantity;
+    if (it.line === line) {
+      if (!it.text || isDone && it.text === it.typed) delete sheet.rows[item];
+      delete it.line;
+    }
+    store.set(word, sheet);
+  }
+}
+// Sends what wasn't answered once more, and tells what came of it.
+async function settle(key) {
+  const { line, path, books } = openAt(key) ?? {};
+  if (!line) return { isDone: true };
+  await reread();
+  if (!areThese(books)) return { isHeld: true, why: 'These are the books of another workshop now.' };
+  busy++;
+  const answer = await send(line, path, key);
+  busy--;
+  await reread();
+  if (!answer.isOpen && path === RUN) settleCount(line, answer.isDone);
+  return answer;
+}
+// Counts that weren't answered, of this sheet or of another that has the same items: they are settled first.
+function settleFirst(of) {
+  const keys = Object.entries(of.kept).flatMap(([id, { line }]) => {
+    const own = isUnanswered(line) && JSON.parse(line).key;
+    return own || openLike('count', { item: Number(id) }) || [];
+  });
+  const go = button('Send them again', async () => {
+    go.disabled = true;
+    let answer = null;
+    for (const key of new Set(keys)) if (!answer?.isOpen) answer = await settle(key);
+    flash = { at: here().split('?')[0], made: answer.isDone ? says('good', 'It is done now, once.') : notDone(answer) };
+    show(false);
+    offerOpen();
+    if (!answer.isOpen) main.querySelector('button.look').click();
+  }, 'main');
+  return keys.length > 0 && [node('b', `Sent and not answered: ${digits(new Set(keys).size)}. `), UNKNOWN,
+    'Until then nothing else is sent. ', go];
+}
+// What the counts of a sheet would change, by the books as they are now. Where they changed since the sheet was opened,
+// it is asked whether it was counted before that or after; without an answer it is left out.
+async function countSummary(of, message) {
+  const { kept, rows, sheet, below, look } = of;
+  const say = (look, ...told) => below.replaceChildren(says(look, ...told));
+  try { await refresh(); } catch (fault) { return say('bad', 'Nothing was sent. ', fault.message); }
+  if (isOther) return show(true);
+  of.markAll();
+  const first = settleFirst(of);
+  if (first) return say('warn', first);
+  const counted = Object.entries(kept).filter(it => it[1].text && rowOf('item', Number(it[0])));
+  const all = counted.map(([id, { text, opened, line }]) => {
+    const item = rowOf('item', Number(id)), counted = numberIn(text), change = item.quantity - opened;
+    const fault = item.place !== AT ? 'It lies here no more: it is left out.' : Number.isNaN(counted) ?
+      'That is no whole number.' : item.serial && counted > 1 ? 'A piece with a serial is counted as 0 or 1.' : '';
+    const late = line ? -1 : counted + change, option = (value, told) => node('option', { value }, told);
+    const ask = change !== 0 && !fault && node('select', { 'data-view': true, change: () => drawn(),
+      'aria-label': `Counted before or after: ${wordsOf('item', item.id)}` },
+    option('', 'Leave it out, and count it again'), option(counted, `Counted after that: ${digits(counted)} are there`),
+    late >= 0 && option(late, `Counted before that: now ${digits(late)} have to be there`));
+    return { id: item.id, item, line, text, counted, opened, now: item.quantity, fault, more: node('span'), ask };
+  });
+  if (!all.length) return say('warn', 'Nothing is counted yet: all boxes are empty.');
+  const weight = it => it.fault || it.ask ? Infinity : Math.abs(it.counted - it.now);
+  all.sort((a, b) => weight(a) === weight(b) ? 0 : weight(b) - weight(a));
+  const quantityOf = it => it.fault || it.ask && !it.ask.value ? null : Number(it.ask ? it.ask.value : it.counted);
+  const go = button('Send', () => sendCounts(of, all.map(it => ({ ...it, quantity: quantityOf(it) }))
+    .filter(it => it.quantity !== null)), 'main'), head = node('p', { role: 'status' });
+  const drawn = () => {
+    const there = all.filter(it => quantityOf(it) !== null), changed = there.filter(it => quantityOf(it) !== it.now);
+    for (const it of all) {
+      const more = quantityOf(it) - it.now, isBig = Math.abs(more) >= Math.max(3, it.now / 5);
+      it.more.replaceChildren(...there.includes(it) ? [signed(more), isBig ? chip('big', 'bad') : ''] : ['left out']);
+    }
+    head.textContent = [[changed.length, 'items change'], [there.length - changed.length, 'are as expected'],
+      [all.length - there.length, 'are left out'], [rows.length - all.length, 'stay uncounted']]
+      .map(([n, words]) => `${digits(n)} ${words}`).join(', ') + '. Nothing is sent yet.';
+    [go.disabled, go.textContent] = [!there.length, `Send these ${digits(there.length)} counts`];
+  };
+  const settle = it => it.fault ? node('span.bad', it.fault) : it.ask && node('div.warn',
+    it.line && 'A count that was sent and not answered may be in this. ',
+    `The books changed from ${digits(it.opened)} to ${digits(it.now)} since the sheet was opened. `, it.ask);
+  const titled = node('h2', { tabindex: -1 }, 'What will change');
+  drawn();
+  sheet.hidden = true;
+  below.replaceChildren(titled, message ? says('warn', message) : '', head, table('What will change', [
+    cell('Part', it => rowLink('item', it.id), 'head'), cell('Expected', it => digits(it.now), 'n'),
+    cell('Counted', it => name(it.text), 'n'), cell('Difference', it => it.more, 'n'), cell('To settle', settle)], all),
+  acts(go, button('Back to the sheet', () => {
+    sheet.hidden = false;
+    below.replaceChildren();
+    look.focus();
+  })));
+  titled.focus();
+  hush();
+}
+// Sends what was confirmed, if the books are still those of the summary.
+async function sendCounts(of, chosen) {
+  const { kept, keep, below } = of;
+  if (isEarly() || busy) return;
+  busy++;
+  try {
+    await refresh();
+    if (isOther) return show(true);
+    if (chosen.some(it => it.item.place !== rowOf('item', it.id).place || it.now !== rowOf('item', it.id).quantity))
+      return await countSummary(of, 'Nothing was sent: the books changed once more. Look at it again.');
+    below.querySelectorAll('button, select').forEach(it => { it.disabled = true; });
+    const from = entries + 1;
+    for (const it of chosen) {
+      const one = kept[it.id], fields = { item: it.id, quantity: it.quantity };
+      Object.assign(one, { typed: one.text, line: lineOf('count', fields) });
+      keep();
+      it.answer = await send(one.line);
+      if (it.answer.isOpen) break;
+      if (it.answer.isDone) delete kept[it.id];
+      else delete one.line;
+      keep();
+    }
+    await reread();
+    countReport(of, chosen, await entriesFrom(from, entries).catch(() => []));
+  } catch (fault) {
+    below.append(says('bad', fault.message));
+  } finally {
+    busy--;
+    offerOpen();
+  }
+}
+function countReport(of, chosen, written) {
+  const sign = it => KINDS[it.kind] === 'found' ? 1 : -1;
+  const wordOf = it => `${kindWord(KINDS[it.kind])} ${digits(it.quantity)}` +
+    (it.place === OFF ? ` (${REASONS[it.ref]})` : '');
+  const truth = ({ id, answer, quantity, now }) => {
+    if (!answer?.isDone) return node('span.bad', answer ? answer.why : 'not sent');
+    const own = written.filter(it => it.item === id), total = own.reduce((all, it) => all + sign(it) * it.quantity, 0);
+    const isOther = own.length > 1 || total !== quantity - now || !own.length && answer.entries > 0;
+    return node(isOther ? 'span.warn' : 'span.good', isOther && 'Another changed it meanwhile. ',
+      own.length ? `Written: ${own.map(wordOf).join(', ')}.` : 'As expected: nothing was written.',
+      ` The books say ${digits(rowOf('item', id).quantity)} now.`);
+  };
+  const done = chosen.filter(it => it.answer?.isDone).length, open = chosen.find(it => it.answer?.isOpen);
+  const refused = chosen.filter(it => it.answer && !it.answer.isDone).length;
+  of.below.replaceChildren(open ? notDone(open.answer) : says(refused ? 'bad' : 'good',
+    `Counted: ${digits(done)}. Refused: ${digits(refused)}.`), table('What came of it', [
+    cell('Part', it => rowLink('item', it.id), 'head'), cell('Before', it => digits(it.now), 'n'),
+    cell('Counted', it => digits(it.quantity), 'n'), cell('What was written', truth)], chosen),
+  acts(open && button('Look at it again', () => countSummary(of), 'main'), button('To the sheet', () => show(false))));
+  of.below.firstChild.focus();
+}
+
+// Where items came from, and where they went: by the books, and by the kept answers, whose requests name what they
+// made. A request without a key isn't kept, and what it made isn't known.
+
+// The records of comma-separated values; empty lines are none. A quote that nothing closes is a fault.
+function recordsIn(text, comma = ',') {
+  const rows = [[]], end = `(${comma}|\r\n|\n|\r|$)`;
+  const cell = RegExp(`(?:"([^"]*(?:""[^"]*)*)"|([^"${comma}\r\n][^${comma}\r\n]*|))${end}`, 'y');
+  while (cell.lastIndex < text.length) {
+    const it = cell.exec(text);
+    if (!it) throw new Error(`Record ${rows.length} has a quote that isn't closed, or text behind one.`);
+    rows.at(-1).push(it[1]?.replaceAll('""', '"') ?? it[2]);
+    if (it[3] !== comma) rows.push([]);
+  }
+  return rows.filter(it => it.length > 1 || it[0]);
+}
+// Keys that tell one nothing: those of the page.
+const BARE_KEY = /(^|\/)page-[0-9a-f]{24}$/, CUTS = ['transfer', 'split', 'serialise', 'install'];
+// Of the books of a tag: what made each row; the items that were cut off each, that were poured into each, or into
+// which it was poured; and the items that were begun for each build.
+let makers = null;
+async function readMakers() {
+  if (makers?.tag === tag) return makers;
+  const read = { tag, by: new Map(), cut: new Map(), poured: new Map(), into: new Map(), begun: new Map() };
+  const put = (map, key, ids) => map.set(key, [...map.get(key) ?? [], ...ids]);
+  const [, ...rows] = recordsIn((await get('/export/kept')).text);
+  for (const [key, command, answer] of rows) {
+    const { ids } = JSON.parse(answer), made = { ...JSON.parse(command), key };
+    if (!ids) continue;
+    if (['order', 'build'].includes(made.do)) nameRow(ids[0], key);
+    ids.forEach(id => read.by.set(id, made));
+    if (CUTS.includes(made.do)) put(read.cut, made.item, ids);
+    if (made.do === 'outputs') put(read.begun, made.build, ids);
+    if (made.do === 'merge') put(read.poured, made.into, made.items);
+    if (made.do === 'merge') made.items.forEach(it => read.into.set(it, made.into));
+  }
+  return makers = read;
+}
+const itemWords = id => rowOf('item', id) ? link('item/' + id, name(wordsOf('item', id))) : `item ${id}`;
+// Where an item came from, in one step, and the item that it was cut off.
+function cameFrom({ by }, id) {
+  const made = by.get(id);
+  if (!made) return [[soft("isn't known: no request that is kept made it")]];
+  const { do: command, line, build, item, order, key } = made, under = soft(BARE_KEY.test(key) ? '' : ` (${key})`);
+  if (command === 'receive' && rowOf('order_line', line))
+    return [['received for ', rowLink('order', rowOf('order_line', line).owner), under]];
+  if (command === 'outputs') return [['begun for ', rowLink('build', build), under]];
+  if (CUTS.includes(command) && item) return [['cut off ', itemWords(item), under], item];
+  const owner = order ? ['order', order] : build && ['build', build];
+  return [[`by '${FORMS.get(command)?.title ?? command}'`, owner && [' of ', rowLink(...owner)], under,
+    command === 'found' ? '' : soft("; of which item it was cut off isn't known")]];
+}
+// All that an item came from, each item once, and 500 at most.
+const isNext = (id, seen) => !seen.has(id) && seen.size < 500 && seen.add(id);
+function allFrom(read, id, seen = new Set()) {
+  if (!isNext(id, seen)) return [];
+  const [words, parent] = cameFrom(read, id), poured = read.poured.get(id) ?? [];
+  return [node('li', itemWords(id), ': ', words), poured.length > 0 && node('li', 'Into ', itemWords(id),
+    ' were poured ', each(poured, itemWords)),
+  ...[parent ?? [], poured].flat(2).flatMap(it => allFrom(read, it, seen))];
+}
+// Where what an item was is now: itself, what it lies in or was poured into, and what was cut off it.
+function goneTo(read, id, seen = new Set()) {
+  if (!isNext(id, seen)) return [];
+  const item = rowOf('item', id), into = read.into.get(id);
+  const made = item?.place === USED ? outputsBy(read, item.ref) : [];
+  const next = [item?.place === IN ? item.ref : [], into ?? [], read.cut.get(id) ?? []].flat(2);
+  return node('li', itemWords(id), item && [': ', placeLink(item.place, item.ref)], into &&
+    [', poured into ', itemWords(into)], made.length > 0 &&
+    [', of which was made ', each(made.slice(0, 20), itemWords)],
+  next.length > 0 && node('ul', next.map(it => goneTo(read, it, seen))));
+}
+const outputsBy = ({ begun }, build) => (begun.get(build) ?? []).filter(it => rowOf('item', it));
+const origins = make => opening('origins', 'Where it came from, and where it went', () => asked(readMakers(), make));
+const itemOrigins = item => origins(read => [node('h3', 'Came from'), node('ul', allFrom(read, item.id)),
+  node('h3', 'Went to'), node('ul', goneTo(read, item.id))]);
+const fromColumn = read => column('Came from', null, it => cameFrom(read, it.id)[0]);
+function buildOrigins(build) {
+  const used = find.usedBy(build.id);
+  return origins(read => {
+    const made = outputsBy(read, build.id).map(it => rowOf('item', it)), known = sum(made, 'quantity');
+    const inner = made.flatMap(it => find.itemsIn(it.id));
+    return [node('h3', 'Went into it'), table('Went into it', [...itemColumns(partColumn, where), fromColumn(read)],
+      [...used, ...inner]), node('h3', 'Came of it'),
+    made.length > 0 && node('ul', made.map(it => goneTo(read, it.id))),
+    known < build.done && node('p.soft', `Of ${digits(build.done)} that are done ${digits(known)} can be told here: `,
+      "what was cut off them since stands under them, and what no request that is kept began isn't known.")];
+  });
+}
+// A batch: its items, where each is, and what it went into.
+function batchView(_, query, word) {
+  const part = Number(word), batch = query.get('text'), isOne = it => it.part === part && it.batch === batch;
+  const items = [...books.items.values()].filter(isOne), sums = new Map();
+  for (const it of items) sums.set(it.place, (sums.get(it.place) ?? 0) + it.quantity);
+  const places = ['here', 'in other items', 'outputs', 'with customers', 'used up', 'written off'];
+  const went = it => it.place === USED ? partLink(rowOf('build', it.ref).part) : it.place === IN &&
+    partLink(rowOf('item', it.ref).part);
+  return [`Batch ${batch} of ${partName(part)}`, facts({ Part: partLink(part), Batch: name(batch),
+    ...Object.fromEntries(places.map((it, at) => [capital(it), sums.get(at) && digits(sums.get(at))])) }),
+  listed('Items', [...itemColumns(where), column('Went into', null, went)], items),
+  origins(read => items.map(it => [node('h3', itemWords(it.id)), node('ul', allFrom(read, it.id)), 'Went to',
+    node('ul', goneTo(read, it.id))]))];
+}
+
+// Rows from a file or a spreadsheet, chosen or pasted: what they would do is shown before anything is sent. Deliveries
+// and counts are imported as one file; each row of another command is a line under a key of its own, as docs/IMPORTS.md
+// has it. So a file may be sent again, and each row is done once.
+
+const FILES = { receipts: 'receive', counts: 'count' }, filed = { text: '', document: '' };
+const HEADS = { receipts: 'number,line,location,quantity,batch,serials', counts: 'number,item,quantity' };
+// What else a column may be called that has a field.
+const ALIASES = { quantity: ['counted', 'qty'], line: ['order line', 'part'], component: ['part'], name: ['part'] };
+const MOST_BYTES = 1048576, COMMAS = [',', ';', '\t'];
+const fieldsOfKind = kind => FORMS.get(FILES[kind] ?? kind).fields;
+const isRequired = it => !it.isOptional && !['yes', 'words'].includes(it.kind);
+// A file, by that separator by which its header names the most of what it has to, with the number of each record.
+function fileIn(text, kind) {
+  const named = heads => fieldsOfKind(kind).filter(it => columnOf(it.name, heads) >= 0).length;
+  let best = null;
+  for (const comma of COMMAS) {
+    const head = text.split(/\r|\n/).find(Boolean) ?? '', heads = head.split(comma).map(it => it.replace(/^"|"$/g, ''));
+    if (!best || named(heads) > best.named || named(heads) === best.named && heads.length > best.heads.length)
+      best = { comma, heads, named: named(heads) };
+  }
+  const [heads = [], ...rows] = recordsIn(text.replace(/^\ufeff/, ''), best.comma);
+  const long = rows.findIndex(it => it.length > heads.length);
+  if (long >= 0) throw new Error(`Record ${long + 2} has more fields than the header.`);
+  return { heads, rows: rows.map((cells, at) => ({ cells, record: at + 2 })) };
+}
+function columnOf(field, heads) {
+  const known = heads.map(it => fold(it.trim()));
+  return [field, ...ALIASES[field] ?? []].map(it => known.indexOf(it)).find(at => at >= 0) ?? -1;
+}
+// The rows of a kind that a text says: by a number, or by what they are called. Locations and categories may have those
+// above them before them, with a stroke between.
+const withoutGaps = text => text.replace(/\s*\/\s*/g, '/');
+function namesOf(kind, { id, part, name: own, place, serial, batch, owner }, order) {
+  const isOpen = () => isOpenLine(0)(rowOf(kind, id)) && (!order || owner === order);
+  if (kind === 'order_line') return isOpen() ? [partName(part)] : [];
+  if (kind === 'order' || kind === 'build') return [keyNames.get(id)];
+  if (kind === 'item') return place === GONE ? [] : [...new Set([serial, batch])];
+  return kind === 'location' || kind === 'category' ? [own, withoutGaps(ROWS[kind][0]({ id }))] : [own];
+}
+function rowsCalled(kind, text, { order, known }) {
+  if (/^\d{1,15}$/.test(text)) return [rowOf(kind, Number(text))].filter(Boolean);
+  if (!known.has(kind)) {
+    const rows = new Map();
+    for (const row of rowsOfKind(kind).values()) for (const word of new Set(namesOf(kind, row, order)))
+      if (word) rows.set(word, [...rows.get(word) ?? [], row]);
+    known.set(kind, rows);
+  }
+  return known.get(kind).get(text) ?? known.get(kind).get(withoutGaps(text)) ?? [];
+}
+// A field of a row, or what is wrong with it.
+function valueIn({ name: field, kind }, text, given) {
+  if (ROWS[kind]) {
+    const found = rowsCalled(kind, text, given);
+    if (found.length === 1) return found[0].id;
+    throw new Error(`${field}: ${found.length ? 'several rows are' : 'nothing is'} called ${text}`);
+  }
+  if (kind === 'items') return text.split(/[\s,;]+/).map(it => valueIn({ name: field, kind: 'item' }, it, given));
+  if (kind === 'words') return text.split(/[\s,;]+/);
+  if (kind === 'number' && Number.isNaN(numberIn(text))) throw new Error(`${field}: ${text} is no whole number`);
+  if (kind === 'yes' && !/^(yes|no|true|false)$/i.test(text)) throw new Error(`${field}: ${text} isn't yes or no`);
+  return kind === 'number' ? numberIn(text) : kind === 'yes' ? /^(yes|true)$/i.test(text) : text;
+}
+// What a record says: the fields of its command, or its fault; nothing where it says nothing.
+function fieldsIn(row, kind, sources, given) {
+  const of = it => (sources[it].fixed || row.cells[sources[it].column] || '').trim();
+  const own = fieldsOfKind(kind), number = of('number'), isSaid = Object.keys(sources).some(it => it !== 'number' &&
+    row.cells[sources[it].column]?.trim());
+  if (!isSaid || FILES[kind] && !of('quantity')) return null;
+  const fields = {}, faults = [];
+  for (const it of own) try {
+    const text = of(it.name);
+    if (text) fields[it.name] = valueIn(it, text, given);
+    else if (it.kind === 'words') fields[it.name] = [];
+    else if (isRequired(it)) faults.push(`${it.name} is empty`);
+  } catch (fault) { faults.push(fault.message); }
+  const day = !FILES[kind] && of('day'), key = !FILES[kind] && of('key');
+  if (day && !/^\d{4}-\d\d-\d\d$/.test(day)) faults.push(`day: ${day} is no day`);
+  if (FILES[kind] && number && !/^\d{1,15}$/.test(number)) faults.push(`number: ${number} is none`);
+  return { number: FILES[kind] ? Number(number || row.record) : number || '@' + row.record, fields: day ?
+    { ...fields, day } : fields, key, expected: kind === 'counts' ? numberIn(of('expected')) : NaN,
+  fault: faults.join('; ') };
+}
+// A file's text: of UTF-8 if it can be that, and else as a spreadsheet of Windows has it.
+function textIn(bytes) {
+  try {
+    return new TextDecoder('utf-8', { fatal: true }).decode(bytes);
+  } catch { return new TextDecoder('windows-1252').decode(bytes); }
+}
+// Which column has each field, or what text it has in each row: chosen by the names of the columns, and by hand.
+function columnChoices(kind, heads, sources, changed) {
+  const extra = { receipts: ['number'], counts: ['number', 'expected'] }[kind] ?? ['number', 'key', 'day'];
+  Object.keys(sources).forEach(it => delete sources[it]);
+  const choice = (field, isNeeded) => {
+    const source = sources[field] = { column: columnOf(field, heads), fixed: '' };
+    const from = node('select', { 'aria-label': `Column of ${field}`, change: () => {
+      source.column = Number(from.value);
+      changed();
+    } }, node('option', { value: -1 }, 'no column'), heads.map((it, at) =>
+      node('option', { value: at, selected: at === source.column }, it)));
+    const same = node('input', { 'aria-label': `${field}, the same in each row`, autocomplete: 'off',
+      placeholder: 'the same in each row', input: () => {
+        source.fixed = same.value.trim();
+        changed();
+      } });
+    return [node('dt', field + (isNeeded ? '' : ' (may be empty)')), node('dd.row', from,
+      !extra.includes(field) && same)];
+  };
+  return node('dl', fieldsOfKind(kind).map(it => choice(it.name, isRequired(it))), extra.map(it => choice(it)));
+}
+const KINDS_OF_FILES = () => [...Object.keys(FILES), ...[...FORMS.keys()].filter(it =>
+  !Object.values(FILES).includes(it))];
+const TITLES_OF_FILES = { receipts: 'Deliveries', counts: 'Counts' };
+function filesView(_, query) {
+  const wanted = query.get('kind') ?? filed.kind ?? 'receipts', sources = {};
+  const below = node('div'), columns = node('div');
+  const kind = node('select', { id: 'kind', change: () => changed() }, KINDS_OF_FILES().map(value =>
+    node('option', { value, selected: value === wanted }, TITLES_OF_FILES[value] ?? FORMS.get(value).title)));
+  const box = node('textarea', { id: 'rows', rows: 8, spellcheck: 'false', input: () => changed() });
+  let isNamed = false;
+  const called = node('input', { id: 'document', autocomplete: 'off', value: filed.document, input: () => {
+    isNamed = true;
     changed();
+  } });
+  const file = node('input', { id: 'file', type: 'file', accept: '.csv,.txt,.tsv,text/csv', change: async () => {
+    const [one] = file.files;
+    if (!one) return;
+    box.value = textIn(await one.arrayBuffer());
+    if (!isNamed) called.value = one.name.replace(/\.\w+$/, '').replace(/[^A-Za-z0-9._-]+/g, '-').slice(0, 32);
+    changed();
+  } });
+  box.value = filed.text;
+  const order = rowField({ kind: 'order', isOptional: true }, 'Of order', it => it.state === PROGRESS && !it.side,
+    () => ({}), () => below.replaceChildren());
+  if (query.get('order')) order.set(query.get('order'));
+  const ofOrder = node('div.field', order.made);
+  let drawn = '';
+  const changed = () => {
+    Object.assign(filed, { text: box.value, document: called.value, kind: kind.value });
+    ofOrder.hidden = kind.value !== 'receipts';
+    below.replaceChildren();
+    let heads = [];
+    try {
+      heads = fileIn(box.value.split(/\r|\n/).find(Boolean) ?? '', kind.value).heads;
+    } catch { /* it is told when one looks at the rows */ }
+    const now = JSON.stringify([kind.value, heads]);
+    if (now !== drawn) columns.replaceChildren(box.value.trim() ? columnChoices(kind.value, heads, sources, () =>
+      below.replaceChildren()) : '');
+    drawn = now;   // of the same columns what was chosen stays
   };
-  const mark = to => {
-    at = to;
-    [...list.children].forEach((it, n) => { it.ariaSelected = n === at; });
-    if (offered[at]) box.setAttribute('aria-activedescendant', `${id}o${at}`);
-    list.children[at]?.scrollIntoView({ block: 'nearest' });
+  changed();
+  const look = async () => {
+    const say = (...it) => below.replaceChildren(says('bad', 'Nothing was sent. ', it));
+    if (!/^[A-Za-z0-9._-]{1,32}$/.test(called.value))
+      return say('The document needs a name of letters, digits, dots, _ and - alone, 32 at most.');
+    try {
+      await refresh();
+      if (isOther) return show(true);
+      const { rows } = fileIn(box.value, kind.value), given = { order: order.get(), known: new Map() };
+      const all = rows.map(it => ({ ...it, ...fieldsIn(it, kind.value, sources, given) })).filter(it => it.fields);
+      below.replaceChildren(...fileSummary(kind.value, called.value, all, rows.length));
+    } catch (fault) { say(fault.message); }
   };
-  const offer = () => {
-    const words = wordsIn(box.value), values = now(), good = [], rest = [];
-    const one = words.length === 1 && rowOf(kind, Number(words[0]));
-    for (const [row, low] of choicesOf(kind)) {
-      if (good.length === 50) break;
-      if (row !== one && words.every(word => low.includes(word))) (isSuited(row, values) ? good : rest).push(row);
+  const labelled = (box, words, more) => node('div.field', node('label', { for: box.id }, words), box, more);
+  return ['Rows from a file', node('div.card', labelled(kind, 'What the rows are'), labelled(file, 'A file'),
+    labelled(box, 'Or rows that are pasted, a line of heads above them'), ofOrder,
+    labelled(called, 'Name of the document', soft('A row is done once under this name and its number: that in the ',
+      'column number, or else its place in the file.')), columns, acts(button('Look at the rows', look, 'main'))),
+  below];
+}
+// What the rows would do, and beside each what it was told when it was sent.
+function fileSummary(kind, document, all, count) {
+  const command = FILES[kind] ?? kind, good = all.filter(it => !it.fault), said = node('div');
+  for (const row of all) row.told = node('span', { role: 'status' }, row.fault && node('span.bad', row.fault));
+  const numbers = new Set(), twice = good.find(it => numbers.size === numbers.add(it.number).size);
+  const item = row => rowOf('item', row.fields.item), more = row => row.fields.quantity - item(row).quantity;
+  const rowsToCount = row => !row.fault && item(row), chosen = () => good.filter(it => !it.tick || it.tick.checked);
+  const isChanged = row => rowsToCount(row) && row.expected >= 0 &&
+    ![row.expected, row.fields.quantity].includes(item(row).quantity);
+  for (const row of good.filter(isChanged))
+    row.tick = node('input', { type: 'checkbox', change: () => drawn() });
+  const settled = row => row.tick && node('label.warn', row.tick, `The books changed from ${digits(row.expected)} to ${
+    digits(item(row).quantity)} since the sheet was saved: count it all the same`);
+  const go = button('', async () => {
+    if (isEarly(go) || busy) return;
+    go.disabled = true;
+    const rows = chosen(), before = snapshot([]);
+    busy++;
+    let answer = null;
+    await reread();
+    if (isOther) {
+      busy--;
+      return show(true);
     }
-    offered = [...one ? [one] : [], ...good, ...rest].slice(0, 50);
-    const press = row => event => { event.preventDefault(); take(row); };
-    list.replaceChildren(...offered.map((row, n) => node('li',
-      { role: 'option', id: `${id}o${n}`, pointerdown: press(row) }, name(wordsOf(kind, row.id)),
-      soft(` ${row.id}`, !isSuited(row, values) && ", doesn't suit"))));
-    if (!offered.length) list.append('Nothing fits.');
-    open(true);
-    mark(words.length || good.length ? 0 : -1);   // what doesn't suit isn't taken unasked
-  };
-  box.addEventListener('input', () => { put(null, isOptional && !box.value); offer(); });
-  box.addEventListener('click', () => list.hidden && offer());
-  box.addEventListener('blur', () => open(false));
-  box.addEventListener('keydown', event => {
-    const step = { ArrowDown: 1, ArrowUp: offered.length - 1 }[event.key];
-    if (step !== undefined && list.hidden) offer();
-    else if (step !== undefined) mark((at + step) % (offered.length || 1));
-    else if (list.hidden || !['Enter', 'Escape'].includes(event.key)) return;
-    else if (event.key === 'Enter' && offered[at]) take(offered[at]);
-    else open(false);
-    event.preventDefault();
-  });
-  put(null, isOptional);
-  return { made: [node('label', { for: id }, label), box, list, hint], get: () => value,
-    set: id => take(rowOf(kind, Number(id))) };
-}
-// A field for several items, which are chosen one after another.
-function itemsField(label, isSuited, now) {
-  const chosen = new Map(), chips = node('div.row');
-  const isNew = (row, values) => isSuited(row, values) && !chosen.has(row.id);
-  const one = rowField({ kind: 'item', isOptional: true }, label, isNew, now, () => {
-    const id = one.get();
-    if (!id || chosen.has(id)) return;
-    const drop = button(['Leave out ', name(wordsOf('item', id))], () => { drop.remove(); chosen.delete(id); });
-    chosen.set(id, drop);
-    chips.append(drop);
-    one.set(0);
-  });
-  return { made: [one.made, chips], get: () => [...chosen.keys()] };
-}
-function fieldOf(form, field, now) {
-  const id = `f${++lastId}`, { kind } = field;
-  const label = capital(field.name) + (field.isOptional ? ' (may be empty)' : '');
-  if (ROWS[kind]) return rowField(field, label, suits(form, field), now);
-  if (kind === 'items') return itemsField(label, suits(form, field), now);
-  if (kind === 'words') {
-    const boxes = FLAGS.map(value => node('input', { type: 'checkbox', value }));
-    return { made: node('fieldset', node('legend', label), boxes.map(it => [node('label', it, it.value), ' '])),
-      get: () => boxes.filter(it => it.checked).map(it => it.value) };
-  }
-  const words = { side: SIDES, status: STATUSES }[field.name], isYes = kind === 'yes', isNumber = kind === 'number';
-  const box = words ? node('select', { id }, words.map(it => node('option', it))) :
-    node('input', { id, autocomplete: 'off', type: isYes ? 'checkbox' : 'text', required: !field.isOptional && !isYes,
-      ...isNumber && { inputmode: 'numeric', pattern: '[0-9]{1,15}', title: 'digits' } });
-  return { made: [node('label', { for: id }, label), box, kind === 'list' && soft('As M1,M2,M7 or as a range 1-20')],
-    set: to => { box.value = to; }, isOwn: !words && !isYes,
-    get: () => isYes ? box.checked || null : isNumber ? Number(box.value) : box.value || null };
-}
-const isEarly = go => go.disabled || performance.now() < calm || !byId('day').reportValidity();
-function doView(_, query, command) {
-  const form = FORMS.get(command);
-  if (!form) {
-    const groups = [];
-    for (const it of FORMS.values()) {
-      if (GROUPS[it.command]) groups.push(section(GROUPS[it.command]));
-      groups.at(-1).append(link('do/' + it.command, it.title), node('br'));
-    }
-    return ['What can be done', groups];
-  }
-  let line = null;   // what was sent and isn't answered yet
-  const fields = form.fields.map(it => ({ ...it, of: fieldOf(form, it, () => now()) }));
-  const now = () => Object.fromEntries(fields.map(it => [it.name, it.of.get()]));
-  const output = rowOf('item', Number(query.get('output')));
-  if (output && fields[0].name === 'build') fields[0].of.set(output.ref);
-  for (const it of fields) if (query.has(it.name)) it.of.set(query.get(it.name));
-  const all = node('fieldset', fields.map(it => node('div.field', it.of.made)));
-  const go = node('button.main', form.title), said = node('div');
-  const lock = (isLocked, isOpen) => {
-    [all.disabled, go.disabled, go.textContent] = [isLocked, isLocked && !isOpen, isOpen ? 'Send again' : form.title];
-    if (!isLocked) line = null;
-  };
-  const done = async ({ ids, tries }) => {
-    const made = node('span'), again = button('Another one like it', () => {
-      lock(go.hidden = false);
-      said.replaceChildren();
-      fields.filter(it => it.of.isOwn).forEach(it => it.of.set(''));
-      all.querySelector('input, select').focus();
-    });
-    again.disabled = go.hidden = true;
-    setTimeout(() => { again.disabled = false; }, 700);   // the second click of a double click does nothing
-    said.replaceChildren(says('good', node('b', 'Done. '), tries > 1 && `It was sent ${tries} times. `, made, again));
+    try { answer = await (FILES[kind] ? sendFile : sendRows)(kind, document, rows); } finally { busy--; }
+    await reread();
+    go.disabled = false;
+    if (kind === 'counts') rows.filter(it => it.isDone && item(it)?.quantity !== it.fields.quantity).forEach(it =>
+      it.told.replaceChildren(node('span.warn', `done before: the books say ${digits(item(it)?.quantity ?? 0)} now`)));
+    const done = rows.filter(it => it.isDone).length;
+    said.replaceChildren(answer ? notDone(answer) : says(done < rows.length ? 'bad' : 'good', node('b',
+      `Done: ${digits(done)}. Refused: ${digits(rows.length - done)}. `), list(effects(before))));
     said.firstChild.focus();
-    await refresh().catch(() => {});
-    for (const id of ids.slice(0, 20)) {
-      const kind = Object.keys(ROWS).find(it => rowOf(it, id));
-      if (kind) made.append(rowLink(kind, id), ' ');
+    offerOpen();
+  }, 'main');
+  const faulty = all.length - good.length, head = node('p', { role: 'status' });
+  const drawn = () => {
+    const { length } = chosen();
+    head.textContent = [[length, 'rows are to be sent'], [good.length - length, 'are left out'], [faulty,
+      'are faulty and left out'], [count - all.length, 'say nothing']].map(([n, words]) => `${digits(n)} ${words}`)
+      .join(', ') + '. Nothing is sent yet.';
+    [go.disabled, go.textContent] = [!length, `Send these ${digits(length)} rows`];
+  };
+  drawn();
+  hush();
+  return [node('h2', 'What the rows will do'), twice ? says('bad', `Two rows have the number ${twice.number}. `,
+    'Nothing can be sent.') : head,
+  table('What the rows will do', [cell('Row', it => digits(it.record), 'n'), cell('What', it => name(it.fault ?
+    it.cells.join(', ') : sentenceOf(command, it.fields, FORMS.get(command).title + ':')), 'head'),
+  ...kind === 'counts' ? [
+    cell('Expected', it => rowsToCount(it) && digits(item(it).quantity), 'n'),
+    cell('Difference', it => rowsToCount(it) && [signed(more(it)), Math.abs(more(it)) >= Math.max(3,
+      item(it).quantity / 5) && chip('big', 'bad')], 'n'), cell('To settle', settled)] : [],
+  cell('Answer', it => it.told)],
+  [...all].sort((a, b) => !!(b.fault || b.tick) - !!(a.fault || a.tick))), !twice && good.length > 0 && acts(go),
+  said].filter(Boolean);
+}
+// What was told of a row. It was done before where what it made is in the books that were read before it was sent.
+function tellRow(row, answer) {
+  row.isDone = !!answer.ids;
+  const word = answer.refused ?? answer.fault, isOld = answer.ids?.length > 0 &&
+    answer.ids.every(id => Object.keys(ROWS).some(kind => rowOf(kind, id)));
+  row.told.replaceChildren(isOld ? node('span.warn', 'done before: nothing new was made') : row.isDone ?
+    node('span.good', 'done') : node('span.bad', answer.why ?? [MEANINGS.get(word) ?? '', soft(` (${word})`)]));
+}
+// Deliveries and counts go as one file with the strict header.
+async function sendFile(kind, document, rows) {
+  const names = HEADS[kind].split(',').slice(1);
+  const quoted = it => /[",\r\n]/.test(it) ? `"${it.replaceAll('"', '""')}"` : it;
+  const lineIn = row => [row.number, ...names.map(it => quoted(String(row.fields[it] ?? '')))].join(',') + '\n';
+  const body = HEADS[kind] + '\n' + rows.map(lineIn).join('');
+  if (new TextEncoder().encode(body).length > MOST_BYTES)
+    return { why: `The file has more than ${digits(MOST_BYTES)} bytes: cut it up.` };
+  keepDay();
+  const answer = await send(body, `/import/${kind}/${document}/${day.value}`);
+  const faulty = rows[answer.said?.line - 2];
+  if (!answer.isDone) return faulty ? { ...answer, why: [`Row ${digits(faulty.record)}: `, answer.why] } : answer;
+  const told = toldIn(answer.report);
+  for (const row of rows) if (told.has(String(row.number))) tellRow(row, told.get(String(row.number)));
+  return null;
+}
+// What a report tells of each row, by its number.
+const toldIn = report => new Map(report.split('\n').filter(Boolean).map(it => it.split('\t')).map(([number, it]) =>
+  [number, JSON.parse(it)]));
+async function sendRows(kind, document, rows) {
+  for (const row of rows) {
+    const answer = await request(kind, row.fields, row.key || `${kind}/${document}/${row.number}`)();
+    if (answer.isOpen || answer.isHeld) {
+      row.told.replaceChildren(node('span.bad', answer.why));
+      return answer;
     }
-  };
-  const submit = async event => {
-    event.preventDefault();
-    if (go.hidden || isEarly(go)) return;
-    line ||= lineOf(command, Object.fromEntries(Object.entries(now()).filter(it => it[1] !== null)));
-    lock(true);
-    const answer = await send(line);
-    if (answer.isDone) return done(answer);
-    await refresh().catch(() => {});
-    const rows = fields.filter(it => ROWS[it.kind] && rowOf(it.kind, it.of.get()));
-    const told = ({ name, kind, of }) =>
-      node('li', `${name}: `, rowLink(kind, of.get()), ' ', ROWS[kind][2]?.(rowOf(kind, of.get())));
-    said.replaceChildren(answer.isOpen ? says('warn', UNKNOWN, answer.why) :
-      says('bad', node('b', 'Refused: '), answer.why, node('ul', rows.map(told))));
-    lock(answer.isOpen, answer.isOpen);
-  };
-  const refusals = [...form.refusals].map(it => node('li', [...MEANINGS.values()][it.charCodeAt(0) - 97]));
-  return [form.title, node('form.card', { submit, 'aria-label': form.title }, all, go), said,
-    node('details', node('summary', 'May be refused for'), node('ul', refusals))];
+    tellRow(row, answer);
+  }
+  return null;
 }
 
-// ---- Which view is shown
+// Which view is shown.
 
-const VIEWS = { stock: stockView, low: lowView, locations: locationsView, builds: buildsView, orders: ordersView,
-  recent: () => ['Recent activity', entriesTable(() => true)], do: doView, location: locationsView, sheet: sheetView,
-  part: partView, line: lineView, item: itemView, build: buildView, order: orderView, find: findView };
-// The view, the word and the query that the address has.
+const VIEWS = { stock: stockView, low: lowView, shopping: shoppingView, locations: locationsView, builds: buildsView,
+  orders: ordersView, recent: recentView, do: doView, files: filesView, location: locationsView, sheet: sheetView,
+  part: partView, line: lineView, item: itemView, build: buildView, order: orderView, batch: batchView,
+  find: findView };
+const here = () => location.hash.replace(/^#\/?/, '');
 function place() {
-  const [at, query] = location.hash.replace(/^#\/?/, '').split('?'), [view, word = ''] = at.split('/');
-  const decoded = new URLSearchParams('word=' + word).get('word');
+"#,
+    r#"  const [at, query] = here().split('?'), [view, word = ''] = at.split('/');
+  const decoded = new URLSearchParams('word=' + word.replaceAll('+', '%2B')).get('word');
   return [Object.hasOwn(VIEWS, view) ? view : 'stock', decoded, new URLSearchParams(query)];
 }
-// For half a second nothing is sent: a click that was meant for what stood there before, here or in another page's
-// window, does nothing.
-let calm = 0;
-const hush = () => { calm = performance.now() + 500; };
-addEventListener('focus', () => {
-  hush();
-  if (find) renew();
-});
+
+// What a view speaks of, as it was when it was shown; and what it does when the books change.
+let watched = new Map(), whenRead = [], isDirty = false, busy = 0;
+function watchRow(kind, id) {
+  const key = `${kind} ${id}`;
+  if (!watched.has(key)) watched.set(key, [kind, id, factOf(kind, id)]);
+}
+main.addEventListener('input', event => { if (!event.target.closest('[data-view]')) isDirty = true; });
+const isWriting = () => busy > 0 || isDirty || ['do', 'sheet', 'files'].includes(place()[0]) ||
+  main.contains(document.activeElement) &&
+  document.activeElement.matches('input:not([data-view]), select:not([data-view]), textarea');
+// Books that were changed by oneself are what one knows of.
+const rewatch = () => watched.forEach(it => { it[2] = factOf(it[0], it[1]); });
+
 function show(isMoved) {
   const [view, word, query] = place(), height = scrollY, kind = view === 'sheet' ? 'location' : view;
-  const row = ROWS[kind] && rowOf(kind, Number(word));
-  printing = [];
-  if (isMoved) hush();
+  const row = ROWS[kind] && rowOf(kind, Number(word)), focused = !isMoved && document.activeElement?.id;
+  const caret = focused && document.activeElement.selectionStart;
+  const opened = isMoved ? [] : [...main.querySelectorAll('details[open] > summary')].map(it => it.textContent);
+  if (flash && flash.at !== here().split('?')[0]) flash = null;
+  [printing, watched, whenRead, isDirty] = [[], new Map(), [], false];
+  byId('notices').querySelector('.news')?.remove();
+  if (isMoved) { hush(); offerOpen(); }
+  if (isOther) byId('notices').append(node('div.said warn news', { role: 'alert' },
+    'These are the books of another workshop than before. What was typed for that is gone.'));
+  isOther = false;
+  if (row && view !== 'sheet') watchRow(kind, row.id);
   const [title, ...inner] =
     ROWS[kind] && !row ? [`No ${kind} ${word}`, 'There is no such row.'] : VIEWS[view](row, query, word);
   const head = node('h1', { tabindex: -1 }, name(title));
-  main.replaceChildren(head, node('div', inner));
+  main.replaceChildren(head, ...flash ? [flash.made] : [], node('div', inner));
   document.title = `${title} - invdesk`;
-  byId('views').replaceChildren(...Object.keys(VIEWS).slice(0, 7).map(it =>
+  byId('views').replaceChildren(...Object.keys(VIEWS).slice(0, 9).map(it =>
     node('a', { href: '#/' + it, 'aria-current': (it === view || it === kind + 's') && 'page' }, capital(it))));
+  if (opened.length) for (const it of main.querySelectorAll('details > summary'))
+    if (opened.includes(it.textContent)) it.parentElement.open = true;
   if (isMoved) head.focus({ preventScroll: true });
+  else if (focused && byId(focused) && main.contains(byId(focused))) {
+    byId(focused).focus({ preventScroll: true });
+    if (caret != null && byId(focused).type === 'search') byId(focused).setSelectionRange(caret, caret);
+  }
   scrollTo(0, isMoved ? 0 : height);
+  if (isMoved && query.has('end')) main.querySelector('details[open]')?.scrollIntoView();
+}
+// After an act one is where one was, or in the form again, and is told what was done. Who went elsewhere stays there.
+function comeBack(from, to, made, form) {
+  if (!from.isConnected) { made.classList.add('news'); return byId('notices').append(made); }
+  flash = { at: to.split('?')[0], made };
+  history.replaceState(null, '', '#/' + to.replace(/\?end=1$/, ''));
+  hush();
+  show(false);
+  scrollTo(0, 0);
+  const again = form && main.querySelector(`form[aria-label="${form}"] input`);
+  (again?.checkVisibility() ? again : made).focus({ preventScroll: true });
 }
 const tell = text => { byId('status').textContent = text; };
 function askForToken() {
@@ -1053,6 +2508,7 @@ function askForToken() {
     node('label', 'The token of the program', box), node('button.main', 'Go on')));
 }
 function failed(fault) {
+  tag = null;   // what is read next is shown
   if (!byId('token')) main.replaceChildren(node('h1', "The program doesn't answer"),
     node('p.bad', { role: 'alert' }, fault.message), button('Try again', start));
 }
@@ -1062,18 +2518,107 @@ async function start() {
     await refresh();
     show(true);
     tell(`Read in ${Math.round(performance.now() - begun)} ms.`);
-  } catch (fault) { failed(fault); }
+    warmUp();
+    await named();
+  } catch (fault) { if (!find) failed(fault); }
 }
-// Reads anew. What is being written in a form or on a sheet stays.
-const isWriting = () => ['do', 'sheet'].includes(place()[0]);
-async function renew() {
+async function named() {
+  if (!await readNames(ownersShown())) return;
+  warmUp();
+  if (!isWriting()) show(false);
+}
+// What this window sent and was never answered is offered again, under its key; but not to other books.
+function offerOpen(isAsked) {
+  byId('notices').querySelectorAll('.open').forEach(it => it.remove());
+  for (const key of busy && !isAsked ? [] : store.keys(OPEN).map(it => it.slice(OPEN.length))) {
+    const { line, path, books, was } = openAt(key), told = name(path === RUN ? line : path);
+    const forget = button('Forget it', () => { store.drop(OPEN + key); made.remove(); });
+    const again = button('Send it again', async () => {
+      if (busy) return;
+      again.disabled = true;
+      const answer = await settle(key);
+      const refused = answer.report ? [...toldIn(answer.report)].filter(it => !it[1].ids) : [];
+      made.replaceChildren(!answer.isDone ? notDone(answer) : says(refused.length ? 'warn' : 'good',
+        'It is done now, once. ', refused.length > 0 && ['Refused: ', list(refused.map(([number, it]) =>
+          `row ${number}: ${it.refused}`))]));
+      if (place()[0] === 'sheet') show(false);
+      else renew();
+    });
+    const since = areThese(books) ? was.map(([kind, id, fact]) => [fact, factOf(kind, id)]).filter(it =>
+      it[0] !== it[1]) : [];
+    const made = node('div.said warn open', areThese(books) ? [node('b', 'Not answered: '), told, ' ', UNKNOWN,
+      since.length > 0 && ['Since it was sent: ', since.map(([was, now]) => [name(was), ' \u2192 ', name(now), '. '])],
+      again] : [node('b', 'Not answered, and of another workshop: '), told, " It isn't offered to this one."],
+    ' ', forget);
+    byId('notices').append(made);
+  }
+}
+function warmUp() {
+  const jobs = [find.sortedItems, ...FOUND.map(kind => () => choicesOf(kind))], of = find;
+  const next = () => {
+    if (of !== find || !jobs.length) return;
+    jobs.shift()();
+    (self.requestIdleCallback ?? setTimeout)(next);
+  };
+  (self.requestIdleCallback ?? setTimeout)(next);
+}
+// Reads anew. What is being written stays, and what changed of it is told.
+async function renew(isAsked) {
+  keepDay();
   try {
-    if (await refresh() && !isWriting()) show(false);
-    tell('The books are read.');
-  } catch (fault) { if (!isWriting()) failed(fault); }
+    const isNew = await refresh();
+    away();
+    if (isNew) warmUp();
+    if (isOther || isNew && !isWriting()) show(isOther);
+    else if (isNew) news();
+    if (isAsked) tell(isNew ? 'The books have changed.' : 'Nothing has changed.');
+    await named();
+  } catch (fault) {
+    if (isWriting()) away(fault);
+    else failed(fault);
+  }
 }
-addEventListener('hashchange', () => find && show(true));
-byId('again').addEventListener('click', renew);
+// Says that the program doesn't answer, while something is written that has to stay; and no more when it does.
+function away(fault) {
+  const told = byId('notices').querySelector('.away');
+  if (!fault) told?.remove();
+  else if (!told) byId('notices').append(node('div.said bad away', { role: 'alert' }, node('b',
+    "The program doesn't answer. "), fault.message, '. What you typed stays here, and is sent when you send it.'));
+}
+function news() {
+  if (busy) return;
+  whenRead.forEach(it => it());
+  const changed = [...watched.values()].map(([kind, id, was]) => [was, factOf(kind, id)]).filter(it => it[0] !== it[1]);
+  byId('notices').querySelector('.news')?.remove();
+  if (changed.length) byId('notices').append(node('div.said warn news', { role: 'alert' }, node('b',
+    'This has changed meanwhile: '), list(changed.slice(0, 8).map(([was, now]) => [name(was), ' \u2192 ', name(now)])),
+  'What you typed is still there. ', place()[0] !== 'do' && button('Show it anew, without that', () => show(false))));
+}
+// Takes the token out of the address, where it stands in it.
+function takeToken() {
+  const told = location.hash.match(/^#token=(.+)$/);
+  if (!told) return false;
+  token = told[1];
+  history.replaceState(null, '', '#/stock');
+  return true;
+}
+addEventListener('hashchange', () => {
+  if (takeToken()) start();
+  if (!find) return;
+  show(true);
+  renew();
+});
+addEventListener('focus', () => {
+  hush();
+  if (find) renew();
+});
+addEventListener('visibilitychange', () => { if (find && document.visibilityState === 'visible') renew(); });
+setInterval(() => {
+  keepDay();
+  if (find && document.visibilityState === 'visible') renew();
+}, 20000);
+setInterval(keepDay, 1000);
+byId('again').addEventListener('click', () => renew(true));
 byId('print').addEventListener('click', () => print());
 byId('find').addEventListener('submit', event => {
   event.preventDefault();
@@ -1082,21 +2627,18 @@ byId('find').addEventListener('submit', event => {
 addEventListener('keydown', event => {
   if (event.key !== '/' || event.ctrlKey || event.metaKey || event.target.matches('input, select')) return;
   event.preventDefault();
+  byId('find').text.value = '';
   byId('find').text.focus();
 });
-const now = new Date();
-byId('day').valueAsDate = new Date(now - 60000 * now.getTimezoneOffset());
-const told = location.hash.match(/^#token=(.+)$/);
-if (told) {
-  token = told[1];
-  history.replaceState(null, '', '#/stock');
-}
+keepDay();
+takeToken();
 start();
 </script>
 </body>
 </html>
-"#;
+"#,
+];
 
 /// What a browser may do for the page: run its one script, use its one style, and ask this service.
 pub const POLICY: &str =
-    "default-src 'none'; script-src 'sha256-6XOLvmNUG9209EMwV7RwbG667k1KKX3nk7hh8HhhEBY='; style-src 'sha256-37cmsE3hbnDMbh9owsampfb3f24K09j5bXLIeaVjpLE='; connect-src 'self'; img-src data:; base-uri 'none'; form-action 'none'; frame-ancestors 'none'; require-trusted-types-for 'script'; trusted-types 'none'";
+    "default-src 'none'; script-src 'sha256-E4N6MLkFn3vkkBGFlIJE39NBjgODC7fYPv5FM2OWrg0='; style-src 'sha256-cyzrRSYnJH2DRque8IBNnDUYeL4xZIFQAN1XT+fgws4='; connect-src 'self'; img-src data:; base-uri 'none'; form-action 'none'; frame-ancestors 'none'; require-trusted-types-for 'script'; trusted-types 'none'";

@@ -1,6 +1,6 @@
 //! Serves clients on the loopback.
-ghost use Rattle.std.specs.Prelude.{◌≡◌, ◌⊎◌, IfErr, IfOk, is_some};
-ghost use Rattle.invdesk.specs.Clients.{Offers, ServesClients};
+ghost use Rattle.std.specs.Prelude.{◌≡◌, ◌⊎◌, IfErr, IfOk, IfSome, is_some};
+ghost use Rattle.invdesk.specs.Clients.{IsInFile, Offers, OffersTo, ServesClients};
 
 use crate::page::{PAGE, POLICY};
 use crate::tell_line;
@@ -8,6 +8,8 @@ use crate::token::{TokenFault, token_at};
 use desk_app::{Books, BooksService};
 use desk_ends::RunEnd;
 use desk_http::{Access, Clients, Page, Site, Token, serve_connections};
+use std::alloc::{AllocError, Global};
+use std::boxed::Box;
 use std::io::{self, ErrorKind};
 use std::net::{Ipv4Addr, TcpListener};
 use std::time::{SystemTime, UNIX_EPOCH};
@@ -37,6 +39,7 @@ fn port_failed(rt: &HostRuntime, port: u16, error: &io::Error) -> RunEnd
 /// The token in the file at the path, if one is named.
 fn token_to_show(rt: &HostRuntime, path: Option<&str>) -> Result<Option<Token>, RunEnd>
     ensures there { IfOk result (λ token. is_some token ≡ is_some path.entry) }
+    ensures in_file { IfOk result (λ token. IfSome token IsInFile) }
     ensures why { IfErr result (λ end.
         (end ≡ RunEnd.ReadFailed) ⊎ (end ≡ RunEnd.Memory)) }
 {
@@ -53,33 +56,44 @@ fn token_to_show(rt: &HostRuntime, path: Option<&str>) -> Result<Option<Token>, 
     }
 }
 
-/// The page, where it is to be shown.
-fn page_to_show(shown: bool) -> Option<Page>
-    ensures { is_some result ≡ shown }
+/// The page, where it is to be shown: its parts are joined in memory that is never freed, since it lasts as long as the
+/// program.
+fn page_to_show(alloc: Global, shown: bool) -> Result<Option<Page>, AllocError>
+    ensures { IfOk result (λ page. is_some page ≡ shown) }
 {
-    if shown {
-        Some(Page {
-            text: PAGE,
-            policy: POLICY,
-        })
-    } else {
-        None
+    if !shown {
+        return Ok(None);
     }
+    let mut text = String::new(alloc);
+    for part in PAGE {
+        text.push_str(part)?;
+    }
+    let text: &'static String = Box::leak(Box::new(alloc, text)?);
+    Ok(Some(Page {
+        text: text.as_str(),
+        policy: POLICY,
+    }))
 }
 
-/// What is offered at that port: to whoever shows the token in the file at the path, if one is named, and with the page or
-/// without it.
-fn site(rt: &HostRuntime, port: u16, token: Option<&str>, page: bool) -> Result<Site, RunEnd>
-    ensures offers { IfOk result (Offers port (is_some token.entry) page) }
+/// What is offered at that port: to whoever shows this token, if there is one, and with the page or without it.
+fn site(alloc: Global, port: u16, token: Option<Token>, page: bool) -> Result<Site, AllocError>
+    ensures { IfOk result (Offers port token page) }
+{
+    Ok(Site {
+        access: Access::new(alloc, port, token)?,
+        page: page_to_show(alloc, page)?,
+    })
+}
+
+/// The same with the token in the file at the path, if one is named.
+fn site_for(rt: &HostRuntime, port: u16, path: Option<&str>, page: bool) -> Result<Site, RunEnd>
+    ensures offers { IfOk result (OffersTo port (is_some path.entry) page) }
     ensures why { IfErr result (λ end.
         (end ≡ RunEnd.ReadFailed) ⊎ (end ≡ RunEnd.Memory)) }
 {
-    let token = token_to_show(rt, token)?;
-    match Access::new(rt.alloc(), port, token) {
-        Ok(access) => Ok(Site {
-            access,
-            page: page_to_show(page),
-        }),
+    let token = token_to_show(rt, path)?;
+    match site(rt.alloc(), port, token, page) {
+        Ok(site) => Ok(site),
         Err(_) => Err(RunEnd::Memory),
     }
 }
@@ -113,10 +127,10 @@ pub fn serve<B: Books>(
 ) -> RunEnd
     requires { B.are_kept service.old.books }
     ensures kept { B.are_kept service.new.books }
-    ensures serves { ServesClients B.state_in B.failure_of B.may_leave service.old.names port
+    ensures serves { ServesClients B.state_in B.failure_of B.may_leave service.old.options port
         (is_some token.entry) page count service.old service.new result }
 {
-    let site = match site(rt, port, token, page) {
+    let site = match site_for(rt, port, token, page) {
         Ok(site) => site,
         Err(end) => return end,
     };

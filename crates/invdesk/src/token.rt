@@ -1,4 +1,7 @@
 //! The file of a token.
+ghost use Rattle.std.specs.Prelude.{◌≡◌, IfOk};
+ghost use Rattle.invdesk.specs.Clients.{IsInFile, token_in};
+
 use desk_http::{Token, first_line};
 use std::alloc::Global;
 use std::fmt;
@@ -41,19 +44,31 @@ impl From<io::Error> for TokenFault {
     }
 }
 
-/// The token that stands in an open file.
-fn token_in(alloc: Global, file: File) -> Result<Token, TokenFault> {
+/// The token in a file of these bytes: its first line, if that may be one.
+fn token_of(bytes: Vec<u8>) -> Option<Token>
+    ensures { result ≡ token_in bytes.items }
+{
+    let mut bytes = bytes;
+    let line = first_line(&bytes).len();
+    bytes.truncate(line);
+    Token::new(bytes)
+}
+
+/// The token in an open file.
+fn token_in(alloc: Global, file: File) -> Result<Token, TokenFault>
+    ensures { IfOk result IsInFile }
+{
     if file.metadata()?.permissions().mode() & TO_OTHERS != 0 {
         return Err(TokenFault::Shared);
     }
     let mut bytes = Vec::new(alloc);
     file.take(MOST).read_to_end(&mut bytes)?;
-    let line = first_line(&bytes).len();
-    bytes.truncate(line);
-    Token::new(bytes).ok_or(TokenFault::NoToken)
+    token_of(bytes).ok_or(TokenFault::NoToken)
 }
 
 /// The token in the first line of the file at the path, which only its owner may read or write.
-pub fn token_at(rt: &HostRuntime, path: &str) -> Result<Token, TokenFault> {
+pub fn token_at(rt: &HostRuntime, path: &str) -> Result<Token, TokenFault>
+    ensures { IfOk result IsInFile }
+{
     token_in(rt.alloc(), fs::open(rt, path)?)
 }

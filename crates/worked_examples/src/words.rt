@@ -1,5 +1,6 @@
 //! The words that the program is called with, and what they ask for.
 use desk_cli::{ReportOf, Task, early_status, read_words};
+use desk_wire::Sheet;
 use std::alloc::{AllocError, Global};
 use std::fs;
 use std::test::Fail;
@@ -24,6 +25,22 @@ fn explains(explain: bool) -> &'static str {
     if explain { " with reasons" } else { "" }
 }
 
+/// Whether requests get keys.
+fn journals(journal: bool) -> &'static str {
+    if journal { " with a journal" } else { "" }
+}
+
+/// What is told beside a file of records of a command.
+fn told_beside(alloc: Global, sheet: &Sheet<'_>) -> Result<String, AllocError> {
+    let (verb, document) = (sheet.form.verb, sheet.document.as_str());
+    let day = sheet.day.text(alloc)?;
+    let mut text = format!(in alloc; "{verb} {document} {day}")?;
+    for (member, said) in &sheet.said {
+        text.push_str(format!(in alloc; " {member}:{said:?}")?.as_str())?;
+    }
+    Ok(text)
+}
+
 /// What is asked for, on one line.
 fn told(alloc: Global, task: &Task<'_>) -> Result<String, AllocError> {
     match task {
@@ -33,12 +50,15 @@ fn told(alloc: Global, task: &Task<'_>) -> Result<String, AllocError> {
             stop,
             check,
             explain,
+            journal,
         } => {
             let (named, stops, checks) = (named(*names), stops(*stop), checks(*check));
-            let explains = explains(*explain);
+            let (explains, journals) = (explains(*explain), journals(*journal));
             match file {
-                None => format!(in alloc; "run{named}{stops}{checks}{explains}"),
-                Some(file) => format!(in alloc; "run{named}{stops}{checks}{explains} {file}"),
+                None => format!(in alloc; "run{named}{stops}{checks}{explains}{journals}"),
+                Some(file) => {
+                    format!(in alloc; "run{named}{stops}{checks}{explains}{journals} {file}")
+                }
             }
         }
         Task::Report { file, name, of } => match of {
@@ -68,6 +88,21 @@ fn told(alloc: Global, task: &Task<'_>) -> Result<String, AllocError> {
                 "import{named}{loosely}{explains} {file} {kind:?} {document} {day} {path}"
             )
         }
+        Task::Sheet {
+            file,
+            sheet,
+            path,
+            stop,
+            explain,
+        } => {
+            let (told, stops) = (told_beside(alloc, sheet)?, stops(*stop));
+            let explains = explains(*explain);
+            format!(in alloc; "import{stops}{explains} {file} {told} {path}")
+        }
+        Task::Lines { sheet, path } => {
+            let told = told_beside(alloc, sheet)?;
+            format!(in alloc; "lines {told} {path}")
+        }
         Task::Serve {
             file,
             port,
@@ -75,10 +110,11 @@ fn told(alloc: Global, task: &Task<'_>) -> Result<String, AllocError> {
             token,
             names,
             page,
+            journal,
         } => {
-            let named = named(*names);
+            let (named, journals) = (named(*names), journals(*journal));
             let paged = if *page { " with a page" } else { "" };
-            format!(in alloc; "serve{named}{paged} {file:?} {port} {count:?} {token:?}")
+            format!(in alloc; "serve{named}{journals}{paged} {file:?} {port} {count:?} {token:?}")
         }
         Task::Guide(topic) => format!(in alloc; "help on {topic}"),
         Task::Help(text) | Task::Wrong(text) => {

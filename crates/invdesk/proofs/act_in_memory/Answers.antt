@@ -19,10 +19,13 @@ returns-in-Serve c =
       empty = empty_with _ _ (ap state_of c.new-service.ensures.books ∙ c.new-books.ensures.state) (refl, refl);
       sound = c.serve.ensures.kept;
       serves =
-          subst (λ names. ServesClients {F = Failed} state_of (λ _. None) (λ _ _. ⊥) names c.in-Serve.port
+          subst (λ options. ServesClients {F = Failed} state_of (λ _. None) (λ _ _. ⊥) options c.in-Serve.port
           (is_some c.in-Serve.token) c.in-Serve.page c.in-Serve.count c.new-service.result c.serve.new.service
-          c.serve.result) c.new-service.ensures.names c.serve.ensures.serves;
+          c.serve.result) c.new-service.ensures.options c.serve.ensures.serves;
     })
 
 pub returns-in-Run : goal.returns-in-Run
-returns-in-Run c = rw c.in-Run.is c.answer_in_memory.ensures
+returns-in-Run c = rw c.in-Run.is (c.options_of-options.result, c.options_of-options.ensures, c.answer_in_memory.ensures)
+
+pub returns-in-Lines : goal.returns-in-Lines
+returns-in-Lines c = rw c.in-Lines.is c.print_lines.ensures

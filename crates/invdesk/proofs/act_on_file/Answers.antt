@@ -1,8 +1,8 @@
 use Rattle.desk_core.proofs.InOrder.{in_order}
 use Rattle.invdesk.proofs.act_on_file.Goals as goal
 
-pub returns : goal.returns
-returns c = record {
+pub returns-clause-acts : goal.returns-clause-acts
+returns-clause-acts c = record {
   before = c.in_ok-desk.desk;
   after = c.done-desk.result.0;
   worked = c.done-desk.result.1;

@@ -12,7 +12,7 @@ returns-clause-desk g c = rw (c.into_desk-desk.ensures, c.into_books.ensures) c.
 pub returns-clause-checks : goal.returns-clause-checks
 returns-clause-checks g c =
     along c.args.desk c.into_desk-desk.result c.new-explained.result.books.desk c.check-end.new.books.books.desk
-    (λ old new. ChecksOnDesk g.S.Store c.args.names c.args.stop old new c.check-end.result)
+    (λ old new. ChecksOnDesk g.S.Store c.args.options c.args.stop old new c.check-end.result)
     (ap (λ watched. watched.desk) c.new-explained.ensures.books ∙ c.new-watched.ensures.desk)
     (c.into_desk-desk.ensures ∙ ap (λ watched. watched.desk) c.into_books.ensures)
     c.check-end.ensures.checks

@@ -10,7 +10,8 @@ returns-in-Ok-clause-imports g c =
         stopped = rw c.deref.ensures.value at c.import_file.ensures.stopped;
         stays_open = c.import_file.ensures.stays_open;
         closed = c.import_file.ensures.closed;
-        left = rw c.deref.ensures.value at c.import_file.ensures.left;
+        left = c.import_file.ensures.left;
+        left_by_groups = rw c.deref.ensures.value at c.import_file.ensures.left_by_groups;
       },
     )
 

@@ -9,6 +9,9 @@ pub import-end-requires : goal.import-end-requires
 import-end-requires g c =
     rw (c.new-counted.ensures.books, c.new-explained.ensures.books, c.new-watched.ensures.desk) c.requires
 
+pub into_books-requires-2 : goal.into_books-requires-2
+into_books-requires-2 g c = rw c.into_books.ensures c.import-end.ensures.kept
+
 pub returns-clause-desk : goal.returns-clause-desk
 returns-clause-desk g c =
     rw (c.into_desk.ensures, c.into_books-2.ensures, c.into_books.ensures) c.import-end.ensures.kept

@@ -6,8 +6,8 @@ use Rattle.invdesk.specs.Prints.{PrintsList}
 use Rattle.invdesk.proofs.Printing.{list_closed, list_found, list_no_memory, list_unfound, prints_text}
 use Rattle.invdesk.proofs.print_of_list.Goals as goal
 
-pub returns-in-Ok : goal.returns-in-Ok
-returns-in-Ok g c =
+pub returns-after-says_item_too : goal.returns-after-says_item_too
+returns-after-says_item_too g c =
     list_found c.args.csv _ c.in-Ok.listing (state_of c.args.desk.now.shop) _ _ c.print_list.result c.in-Ok.ensures
     (prints_text _ _ _ c.print_list.result c.print_list.ensures.whole c.print_list.ensures.front
     c.print_list.ensures.nothing c.print_list.ensures.never)

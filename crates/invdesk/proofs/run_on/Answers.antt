@@ -12,7 +12,7 @@ returns-clause-desk g c = rw (c.into_desk.ensures, c.into_books.ensures) c.run_l
 pub returns-clause-runs : goal.returns-clause-runs
 returns-clause-runs g c =
     along c.args.desk c.into_desk.result c.new-explained.result.books.desk c.run_lines-end.new.books.books.desk
-    (λ old new. RunsOnDesk g.S.Store c.args.names c.args.stop old new c.run_lines-end.result)
+    (λ old new. RunsOnDesk g.S.Store c.args.options c.args.stop old new c.run_lines-end.result)
     (ap (λ watched. watched.desk) c.new-explained.ensures.books ∙ c.new-watched.ensures.desk)
     (c.into_desk.ensures ∙ ap (λ watched. watched.desk) c.into_books.ensures)
     (record {

@@ -20,8 +20,8 @@ returns-clause-serves c = record {
   was = ap (λ books. books.desk) c.new-service.ensures.books ∙ c.new-watched.ensures.desk;
   is = sym c.into_desk.ensures;
   serves =
-      subst (λ names. ServesClients {F = Failed} (λ watched. state_of watched.desk.shop)
-      (λ watched. watched.desk.failed) (λ watched. may_leave over_files watched.desk) names c.args.port
+      subst (λ options. ServesClients {F = Failed} (λ watched. state_of watched.desk.shop)
+      (λ watched. watched.desk.failed) (λ watched. may_leave over_files watched.desk) options c.args.port
       (is_some c.args.token) c.args.page c.args.count c.new-service.result c.serve-end.new.service
-      c.serve-end.result) c.new-service.ensures.names c.serve-end.ensures.serves;
+      c.serve-end.result) c.new-service.ensures.options c.serve-end.ensures.serves;
 }

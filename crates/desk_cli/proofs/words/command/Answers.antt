@@ -3,7 +3,7 @@ use Rattle.std.proofs.lemmas.Result.{IfOk-weaker}
 use Rattle.clap.specs.Words.{App, app_of, new_app, with_subcommand}
 use Rattle.clap.specs.Simple.{app_of_fields, on_top}
 use Rattle.desk_cli.specs.Words.{Places, top_line, run_line, report_line, export_line, migrate_line}
-use Rattle.desk_cli.specs.Words.{help_line, import_line, serve_line, show_line}
+use Rattle.desk_cli.specs.Words.{help_line, import_line, lines_line, serve_line, show_line}
 use Rattle.desk_cli.proofs.CommandLines.{line_added}
 use Rattle.desk_cli.proofs.words.command.Goals as goal
 
@@ -13,9 +13,17 @@ returns c =
     let export = c.in_ok-export_command.ensures in
     let show = c.in_ok-show_command.ensures in
     let import = c.in_ok-import_command.ensures in
+    let lines = c.in_ok-lines_command.ensures in
     let help = c.in_ok-help_command.ensures in
     let places : Places =
-    record { reports = report.0; tables = export.0; lists = show.0; kinds = import.0; topics = help.0 } in
+    record {
+      reports = report.0;
+      tables = export.0;
+      lists = show.0;
+      kinds = import.0;
+      line_kinds = lines.0;
+      topics = help.0;
+    } in
     let quiet_is : app_of c.disable_help_subcommand.result
     ≡ on_top (λ shape. record shape { disable_help_subcommand = true }) (new_app (codes "invdesk")) =
     ap app_of_fields c.disable_help_subcommand.ensures
@@ -29,7 +37,8 @@ returns c =
     let with_show : App = with_subcommand with_export (show_line show.0).top in
     let with_migrate : App = with_subcommand with_show migrate_line.top in
     let with_import : App = with_subcommand with_migrate (import_line import.0).top in
-    let with_serve : App = with_subcommand with_import serve_line.top in
+    let with_lines : App = with_subcommand with_import (lines_line lines.0).top in
+    let with_serve : App = with_subcommand with_lines serve_line.top in
     let one =
     line_added c.version.result c.in_ok-run_command.field-0 c.in_ok-subcommand.field-0 top_line run_line
     c.in_ok-subcommand.ensures refl top_is c.in_ok-run_command.ensures in
@@ -49,10 +58,13 @@ returns c =
     line_added c.in_ok-subcommand-5.field-0 c.in_ok-import_command.field-0 c.in_ok-subcommand-6.field-0 with_migrate
     (import_line import.0) c.in_ok-subcommand-6.ensures refl five import.1 in
     let seven =
-    line_added c.in_ok-subcommand-6.field-0 c.in_ok-serve_command.field-0 c.in_ok-subcommand-7.field-0 with_import
-    serve_line c.in_ok-subcommand-7.ensures refl six c.in_ok-serve_command.ensures in
-    IfOk-weaker c.subcommand-8.result _ _ (λ r added. (
+    line_added c.in_ok-subcommand-6.field-0 c.in_ok-lines_command.field-0 c.in_ok-subcommand-7.field-0 with_import
+    (lines_line lines.0) c.in_ok-subcommand-7.ensures refl six lines.1 in
+    let eight =
+    line_added c.in_ok-subcommand-7.field-0 c.in_ok-serve_command.field-0 c.in_ok-subcommand-8.field-0 with_lines
+    serve_line c.in_ok-subcommand-8.ensures refl seven c.in_ok-serve_command.ensures in
+    IfOk-weaker c.subcommand-9.result _ _ (λ r added. (
       places,
-      line_added c.in_ok-subcommand-7.field-0 c.in_ok-help_command.field-0 r with_serve (help_line help.0) added refl
-          seven help.1,
-    )) c.subcommand-8.ensures
+      line_added c.in_ok-subcommand-8.field-0 c.in_ok-help_command.field-0 r with_serve (help_line help.0) added refl
+          eight help.1,
+    )) c.subcommand-9.ensures

@@ -3,7 +3,7 @@ use Rattle.std.proofs.lemmas.Result.{IfOk-weaker}
 use Rattle.clap.specs.Words.{App, app_of, new_app, rule_of, with_rule}
 use Rattle.clap.specs.Simple.{app_of_fields}
 use Rattle.clap.specs.declared.builder.arg.Arg.{Arg}
-use Rattle.desk_cli.specs.Words.{file_rule, flag_rule, kind_rule, names_rule, option_rule, word_rule, needed}
+use Rattle.desk_cli.specs.Words.{file_rule, flag_rule, kind_rule, names_rule, option_rule, repeated_rule, word_rule, needed}
 use Rattle.desk_cli.proofs.CommandLines.{rule_added}
 use Rattle.desk_cli.proofs.words.import_command.Goals as goal
 
@@ -35,6 +35,9 @@ returns c =
     let two : App = with_rule explained (kind_rule kind.0) in
     let three : App = with_rule two (option_rule (codes "document")) in
     let four : App = with_rule three (option_rule (codes "day")) in
+    let five : App = with_rule four (repeated_rule (codes "set")) in
+    let six : App = with_rule five (repeated_rule (codes "column")) in
+    let seven : App = with_rule six (flag_rule (codes "stop")) in
     let one_is =
     rule_added c.after_help.result c.required.result c.in_ok-arg.field-0 (new_app (codes "import")) (needed file_rule)
     c.in_ok-arg.ensures file_local line_is file_is in
@@ -56,8 +59,17 @@ returns c =
     let four_is =
     rule_added c.in_ok-arg-6.field-0 c.help-day.result c.in_ok-arg-7.field-0 three (option_rule (codes "day"))
     c.in_ok-arg-7.ensures day_local three_is day_is in
-    IfOk-weaker c.arg-8.result _ _ (λ r added. (
+    let five_is =
+    rule_added c.in_ok-arg-7.field-0 c.set_option.result c.in_ok-arg-8.field-0 four (repeated_rule (codes "set"))
+    c.in_ok-arg-8.ensures c.set_option.ensures.local four_is c.set_option.ensures.rule in
+    let six_is =
+    rule_added c.in_ok-arg-8.field-0 c.column_option.result c.in_ok-arg-9.field-0 five (repeated_rule (codes "column"))
+    c.in_ok-arg-9.ensures c.column_option.ensures.local five_is c.column_option.ensures.rule in
+    let seven_is =
+    rule_added c.in_ok-arg-9.field-0 c.flag-2.result c.in_ok-arg-10.field-0 six (flag_rule (codes "stop"))
+    c.in_ok-arg-10.ensures c.flag-2.ensures.local six_is c.flag-2.ensures.rule in
+    IfOk-weaker c.arg-11.result _ _ (λ r added. (
       kind.0,
-      rule_added c.in_ok-arg-7.field-0 c.help-path.result r four (word_rule (codes "path")) added path_local
-          four_is path_is,
-    )) c.arg-8.ensures
+      rule_added c.in_ok-arg-10.field-0 c.help-path.result r seven (word_rule (codes "path")) added path_local
+          seven_is path_is,
+    )) c.arg-11.ensures

@@ -11,12 +11,11 @@ pub returns : goal.returns
 returns c =
     let line_is : app_of c.after_help.result ≡ new_app (codes "migrate") =
     ap app_of_fields c.after_help.ensures ∙ ap app_of_fields c.about.ensures ∙ c.new.ensures.app in
-    let file_is : rule_of c.help-file.result ≡ needed file_rule =
-    ap rule_of c.help-file.ensures ∙ (ap rule_of c.required.ensures ∙ ap needed c.file.ensures.rule) in
-    let file_local : c.help-file.result.global ≡ false =
-    ap (λ (a : Arg). a.global) c.help-file.ensures
-    ∙ (ap (λ (a : Arg). a.global) c.required.ensures ∙ c.file.ensures.local) in
+    let file_is : rule_of c.required.result ≡ needed file_rule =
+    ap rule_of c.required.ensures ∙ ap needed c.file.ensures.rule in
+    let file_local : c.required.result.global ≡ false =
+    ap (λ (a : Arg). a.global) c.required.ensures ∙ c.file.ensures.local in
     IfOk-weaker c.arg.result _ _
-    (λ r added. rule_added c.after_help.result c.help-file.result r (new_app (codes "migrate")) (needed file_rule) added
+    (λ r added. rule_added c.after_help.result c.required.result r (new_app (codes "migrate")) (needed file_rule) added
     file_local line_is file_is)
     c.arg.ensures

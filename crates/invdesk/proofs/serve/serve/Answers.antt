@@ -5,25 +5,25 @@ use Rattle.invdesk.proofs.serve.serve.Goals as goal
 
 pub returns-in-Err-clause-serves : goal.returns-in-Err-clause-serves
 returns-in-Err-clause-serves g c =
-    unserved g.B.Books.state_in g.B.Books.failure_of g.B.Books.may_leave c.args.service.now.names c.args.port
+    unserved g.B.Books.state_in g.B.Books.failure_of g.B.Books.may_leave c.args.service.now.options c.args.port
     (is_some c.args.token) c.args.page c.args.count
     c.args.service.now c.in-Err.end refl (of_serving c.in-Err.end c.in-Err.ensures.why)
 
 pub returns-in-Err-bind-clause-serves : goal.returns-in-Err-bind-clause-serves
 returns-in-Err-bind-clause-serves g c =
-    unserved g.B.Books.state_in g.B.Books.failure_of g.B.Books.may_leave c.args.service.now.names c.args.port
+    unserved g.B.Books.state_in g.B.Books.failure_of g.B.Books.may_leave c.args.service.now.options c.args.port
     (is_some c.args.token) c.args.page c.args.count
     c.args.service.now c.port_failed.result refl (of_serving c.port_failed.result c.port_failed.ensures)
 
 pub returns-in-Err-say_where-clause-serves : goal.returns-in-Err-say_where-clause-serves
 returns-in-Err-say_where-clause-serves g c =
-    unserved g.B.Books.state_in g.B.Books.failure_of g.B.Books.may_leave c.args.service.now.names c.args.port
+    unserved g.B.Books.state_in g.B.Books.failure_of g.B.Books.may_leave c.args.service.now.options c.args.port
     (is_some c.args.token) c.args.page c.args.count
     c.args.service.now c.failed.result refl (of_telling c.failed.result c.failed.ensures)
 
 pub returns-in-Ok-serve_connections-clause-serves : goal.returns-in-Ok-serve_connections-clause-serves
 returns-in-Ok-serve_connections-clause-serves g c = record {
-  named = refl;
+  taken = refl;
   site = c.in-Ok.site;
   offers = c.in-Ok.ensures.offers;
   steps =
@@ -37,7 +37,7 @@ returns-in-Ok-serve_connections-clause-serves g c = record {
 
 pub returns-clause-serves : goal.returns-clause-serves
 returns-clause-serves g c = record {
-  named = refl;
+  taken = refl;
   site = c.in-Ok.site;
   offers = c.in-Ok.ensures.offers;
   steps =

@@ -1,0 +1,25 @@
+use Rattle.std.proofs.Common.{◌∙◌, ap}
+use Rattle.desk_core.specs.ShopView.{state_of}
+use Rattle.desk_wire.specs.SheetViews.{shown_sheet}
+use Rattle.invdesk.specs.Rows.{ImportsSheet}
+use Rattle.invdesk.specs.Works.{may_leave}
+use Rattle.invdesk.proofs.Working.{along}
+use Rattle.invdesk.proofs.sheet_on.Goals as goal
+
+pub run_sheet-end-requires : goal.run_sheet-end-requires
+run_sheet-end-requires g c = rw (c.new-counted.ensures.books, c.new-explained.ensures.books) c.requires
+
+pub into_books-left-requires : goal.into_books-left-requires
+into_books-left-requires g c = rw c.into_books.ensures c.run_sheet-end.ensures.kept
+
+pub returns-clause-desk : goal.returns-clause-desk
+returns-clause-desk g c = rw (c.into_books-left.ensures, c.into_books.ensures) c.run_sheet-end.ensures.kept
+
+pub returns-clause-imports : goal.returns-clause-imports
+returns-clause-imports g c =
+    along c.args.desk c.into_books-left.result c.new-counted.result.books.books c.run_sheet-end.new.books.books.books
+    (λ old new. ImportsSheet (shown_sheet c.args.sheet.now) c.args.stop old.failed new.failed
+    (may_leave g.S.Store new) (state_of old.shop) (state_of new.shop) c.run_sheet-end.result)
+    (ap (λ explained. explained.books) c.new-counted.ensures.books ∙ c.new-explained.ensures.books)
+    (c.into_books-left.ensures ∙ ap (λ explained. explained.books) c.into_books.ensures)
+    c.run_sheet-end.ensures.imports
