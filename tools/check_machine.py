@@ -3,8 +3,9 @@
 send them, with and without a file, and looks at every answer, every report, the exit status and every table. With a
 file the program ends and begins again between, a delivery or a stocktake is imported each time, and in the end the
 books have small limits. Each tenth run is of lines that fit nothing, most of them faulty. In each third run rows are
-said by what they are called, on lines, in files and as words of a report. In the end every list is shown, in columns
-and as comma-separated values.
+said by what they are called, on lines, in files and as words of a report. Half of the runs have a journal: the keys
+that it gives stand in the table of what is kept, and where none of them is said the same lines are answered alike
+without it. In the end every list is shown, in columns and as comma-separated values.
 
 usage: tools/check_machine.py PROGRAM [--runs N] [--lines N] [--seed N]"""
 import contextlib
@@ -19,7 +20,7 @@ import sys
 import tempfile
 
 import compare_lines
-from machine import lists
+from machine import lists, traces
 from machine.imports import imported
 from machine.lines import COMMANDS, FIELDS, REPORTS
 from machine.machine import Machine
@@ -46,17 +47,20 @@ class Stop:
 class Run:
     """The lines of one run, what the machine answers each, and where the program is stopped and started again."""
 
-    def __init__(self, seed, with_names=False):
-        self.r, self.m, self.with_names = random.Random(seed), Machine(), with_names
+    def __init__(self, seed, with_names=False, journal=False):
+        self.r, self.m, self.with_names, self.journal = random.Random(seed), Machine(), with_names, journal
         self.maker = Maker(self.r, self.m, STRANGE_NAMES if with_names else ())
         self.caller = Caller(self.r, self.m) if with_names else None
         self.words = ["--names"] if with_names else []
+        self.run_words = [*self.words, "--journal"] if journal else self.words
+        # On a file requests say keys, too, that the journal would give, and may be KeyTaken by that.
+        self.says_soon = journal and seed % 2 == 1
         self.lines, self.wanted, self.stops, self.keyed, self.told = [], [], [], [], []
 
     def send(self, line):
         begin = self.stops[-1].at if self.stops else 0
         self.lines.append(line)
-        self.wanted.append(answer(self.m, line, len(self.lines) - begin, self.with_names))
+        self.wanted.append(answer(self.m, line, len(self.lines) - begin, self.with_names, self.journal))
         return self.wanted[-1]
 
     def stop(self, with_limits):
@@ -87,12 +91,15 @@ class Run:
         """A request's line: with or without a key, now and then an earlier one of a key, or one that is damaged."""
         r = self.r
         members = {"do": do, "day": f"20{r.randint(0, 99):02}-{r.randint(1, 12):02}-{r.randint(1, 28):02}"}
+        if self.journal and r.random() < 0.8:
+            members["day"] = r.choice(["2030-01-02", "2030-01-03"])
         for name, _, is_optional in FIELDS[do]:
             may_lack = is_optional and made[name] is None or made[name] is False
             if not may_lack or r.random() < 0.3:
                 members[name] = made[name]
         if r.random() < 0.1:
-            members["key"] = f"k{r.randint(1, 10**9)}"
+            soon = f"{members['day']}/{len(self.m.kept) + r.randint(1, 8)}"
+            members["key"] = soon if self.says_soon and r.random() < 0.4 else f"k{r.randint(1, 10**9)}"
             self.keyed.append(dict(members))
         elif self.keyed and r.random() < 0.03:
             members = {**r.choice(self.keyed), "day": members["day"]}
@@ -129,9 +136,9 @@ class Run:
                 self.report(name, number)
 
 
-def workshop(seed, count, with_names=False):
+def workshop(seed, count, **how):
     """A run of requests that fit the state."""
-    made = Run(seed, with_names)
+    made = Run(seed, **how)
     last = count - count // 8
     for at in range(count):
         if seed % 2 and at in (count // 3, 2 * count // 3, last):
@@ -143,10 +150,10 @@ def workshop(seed, count, with_names=False):
     return made
 
 
-def wild(seed, count, with_names=False):
+def wild(seed, count, **how):
     """A run of lines that fit nothing."""
-    made = Run(seed, with_names)
-    for line in compare_lines.lines(count, seed, 0.5 if with_names else 0):
+    made = Run(seed, **how)
+    for line in compare_lines.lines(count, seed, 0.5 if made.with_names else 0):
         made.send(line)
     return made
 
@@ -181,7 +188,7 @@ def told_by(program, made, path):
     answers, begin = [], 0
     for stop in [*made.stops, None]:
         end = stop.at if stop else len(made.lines)
-        told = run_on(program, made.words, path if made.stops else None, made.lines[begin:end])
+        told = run_on(program, made.run_words, path if made.stops else None, made.lines[begin:end])
         answers += told.stdout.decode().split("\n")[:-1]
         status = int(any(it and it.keys() & {"refused", "fault"} for it in made.wanted[begin:end]))
         if told.stderr or told.returncode != status:
@@ -196,6 +203,18 @@ def told_by(program, made, path):
             return answers, fault
         begin = end
     return answers, ""
+
+
+def plain_fault(program, made):
+    """Which answer of a run with a journal isn't that of the same lines without one, or None. Not looked at are runs
+    that may say keys which the journal gave: as their own, or as what rows are called."""
+    if not made.journal or made.says_soon or made.with_names:
+        return None
+    told = [run_on(program, words, None, made.lines).stdout.split(b"\n") for words in (made.run_words, made.words)]
+    if told[0] == told[1]:
+        return None
+    other = next((pair for pair in zip(*told) if pair[0] != pair[1]), [len(it) for it in told])
+    return f"with a journal {other[0]!r}, and {other[1]!r} without"
 
 
 def table_of(program, path, name):
@@ -234,6 +253,9 @@ def asked_lists(made):
         yield ["part", str(part)], lists.part(m, part)
     for item in r.sample(sorted(m.items), min(6, len(m.items))):
         yield ["item", str(item)], lists.item(m, item)
+        yield ["trace-back", str(item)], traces.back(m, [item])
+    for batch in sorted({it.batch for it in m.items.values() if it.batch}):
+        yield ["trace-forward", batch], traces.forward(m, traces.roots_forward(m, batch, None))
     for word in words_to_find(made):
         yield ["find", word], lists.find(m, word)
 
@@ -259,6 +281,7 @@ def difference(program, made):
         for (line, wanted), told in zip(asked, answers):
             if told != wanted:
                 return f"{line.decode(errors='replace')[:300]}\n  machine {wanted[:300]}\n  program {told[:300]}"
+        fault = fault or plain_fault(program, made)
         if fault or len(answers) != len(asked):
             return f"{len(answers)} answers to {len(asked)} lines; {fault}"
         if made.stops:
@@ -276,7 +299,7 @@ def main():
     told, sent, differ = {}, 0, 0
     for seed in range(said.seed, said.seed + said.runs):
         make = wild if seed % 10 == 0 else workshop
-        made = make(seed, said.lines, with_names=seed % 3 == 0)
+        made = make(seed, said.lines, with_names=seed % 3 == 0, journal=seed % 4 in (1, 2))
         sent += len(made.lines)
         for do, answer in made.told:
             told[do, answer] = told.get((do, answer), 0) + 1

@@ -1,6 +1,7 @@
 """How a delivery or a stocktake is read from comma-separated values, and what an import tells."""
 import csv
 import io
+import itertools
 import re
 
 from machine.checks import Refused
@@ -11,6 +12,10 @@ from machine.reports import answer_line
 HEADERS = {"receipts": "number line location quantity batch serials".split(), "counts": "number item quantity".split()}
 COMMAND_OF = {"receipts": "receive", "counts": "count"}
 MOST_BYTES = 16_777_216
+# What may stand between two fields of a file that is read loosely, in the order in which they are tried; and the fields
+# that need no column there.
+SEPARATORS = ",;\t"
+MAY_LACK = ("batch", "serials")
 
 
 class FileFault(Exception):
@@ -21,10 +26,10 @@ class FileFault(Exception):
         self.answer = fault.answer(record)
 
 
-def records(held):
+def records(held, separator=","):
     """The records of a file, each the bytes of its fields. (Latin 1 takes each byte as it is.)"""
     text = held.removeprefix(b"\xef\xbb\xbf").decode("latin-1")
-    for record in csv.reader(io.StringIO(text, newline="")):
+    for record in csv.reader(io.StringIO(text, newline=""), delimiter=separator):
         if record:
             yield [it.encode("latin-1") for it in record]
 
@@ -50,23 +55,87 @@ def field(kind, name, text, names):
     return serials_or_fault(text) if name == "serials" else whole(text)
 
 
-def rows(kind, held, names=None):
-    """The rows of a file, each its fields by name. With names a row of the books may be said by what it is called."""
-    if len(held) > MOST_BYTES:
-        raise FileFault(Fault("TooLong"), 0)
+def texts_of(record, most, least=0):
+    """The fields of a record as texts: Csv where one isn't, or where there are more or fewer."""
+    try:
+        texts = [it.decode() for it in record]
+    except UnicodeDecodeError:
+        raise Fault("Csv") from None
+    if not least <= len(texts) <= most:
+        raise Fault("Csv")
+    return texts
+
+
+def row(kind, texts, names):
+    return Row((name, field(kind, name, text, names)) for name, text in zip(HEADERS[kind], texts))
+
+
+def strict_rows(kind, held, names):
     header, *others = list(records(held)) or [None]
     if header != [it.encode() for it in HEADERS[kind]]:
         raise FileFault(Fault("Header"), 1)
     for at, record in enumerate(others, 2):
         try:
-            texts = [it.decode() for it in record]
-            if len(texts) != len(header):
-                raise Fault("Csv")
-            yield Row((name, field(kind, name, text, names)) for name, text in zip(HEADERS[kind], texts))
-        except UnicodeDecodeError:
-            raise FileFault(Fault("Csv"), at) from None
+            yield row(kind, texts_of(record, len(header), len(header)), names)
         except Fault as fault:
             raise FileFault(fault, at) from None
+
+
+def places_in(kind, record):
+    """Where each field of a row stands, None where it has no column; nothing where the record isn't such a header."""
+    try:
+        header = texts_of(record, len(record))
+    except Fault:
+        return None
+    found = [[at for at, it in enumerate(header) if it == name] for name in HEADERS[kind]]
+    if all(len(at) == 1 or not at and name in MAY_LACK for name, at in zip(HEADERS[kind], found)):
+        return [at[0] if at else None for at in found]
+    return None
+
+
+def loose_rows(kind, held, names):
+    """The rows by the columns that the header names. In quotes that are open a line end more is a part of the field."""
+    for separator in SEPARATORS:
+        header, *others = list(records(held, separator)) or [[]]
+        places = places_in(kind, header)
+        if places:
+            break
+    else:
+        raise FileFault(Fault("Header"), 1)
+    is_open = list(records(held + b"\n", separator)) != [header, *others]
+    if is_open and not others:
+        raise FileFault(Fault("Csv"), 1)
+    is_empty = True
+    for at, record in enumerate(others, 2):
+        try:
+            if is_open and at == len(others) + 1:
+                raise Fault("Csv")
+            texts = texts_of(record, len(header))
+            texts = ["" if it is None or it >= len(texts) else texts[it] for it in places]
+            if texts[HEADERS[kind].index("quantity")]:
+                is_empty = False
+                yield row(kind, texts, names)
+        except Fault as fault:
+            raise FileFault(fault, at) from None
+    if is_empty and others and len(others[0]) != len(header):
+        if any(len(header) == width_of(held, other) for other in SEPARATORS):
+            raise FileFault(Fault("Csv"), 2)
+
+
+def width_of(held, separator):
+    """How many fields the first record under the header has by this separator."""
+    try:
+        _, first, *_ = (texts_of(it, len(it)) for it in itertools.islice(records(held, separator), 2))
+    except (Fault, ValueError):
+        return None
+    return len(first)
+
+
+def rows(kind, held, names=None, loose=False):
+    """The rows of a file, each its fields by name. With names a row of the books may be said by what it is called."""
+    if len(held) > MOST_BYTES:
+        raise FileFault(Fault("TooLong"), 0)
+    yield from (loose_rows if loose else strict_rows)(kind, held, names)
 
 
 def imported(m, kind, document, day, held, with_names=False):

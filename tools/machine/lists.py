@@ -1,6 +1,7 @@
 """The lists that `show` prints: a line with the names of the columns, then the rows."""
 from machine.checks import BUILD_STATES
 from machine.lines import FLAGS
+from machine.recall import Recall
 from machine.reports import LINE_FLAGS, ledger, place_text, shortage, where_used
 
 ALLOCATABLE = "OK Attention Damaged Returned".split()
@@ -77,34 +78,38 @@ def placed(m, n, depth, there):
 
 
 def orders(m, only_open=False):
-    yield "order side state partner line part name wanted done allocated outstanding".split()
+    yield "order side state partner line part name wanted done allocated outstanding key day last".split()
+    recall = Recall(m)
     for n, it in sorted(m.orders.items()):
         is_open = it.state in ("Pending", "In progress")
-        head = n, it.side, STATE_WORDS[it.state], it.partner
+        head, made = (n, it.side, STATE_WORDS[it.state], it.partner), recall.origin(n)
+        tail = made.key, made.day, recall.last_of_order(n)
         lines = [(line, of) for line, of in sorted(m.order_lines.items()) if of.order == n]
         if only_open and not is_open:
             continue
         if not lines:
-            yield *head, *[""] * 7
+            yield *head, *[""] * 7, *tail
         for line, of in lines:
             meant = sum(a.quantity for a in m.allocations.values() if a.side == "order" and a.line == line)
             left = of.quantity - of.done if is_open else 0
-            yield *head, line, of.part, m.parts[of.part].name, of.quantity, of.done, meant, left
+            yield *head, line, of.part, m.parts[of.part].name, of.quantity, of.done, meant, left, *tail
 
 
 def builds(m, only_open=False):
     yield [*"build part name state wanted done line component".split(), "component name",
-           *"required allocated missing free".split()]
+           *"required allocated missing free key day last".split()]
+    recall = Recall(m)
     for n, it in sorted(m.builds.items()):
         if only_open and it.state not in BUILD_STATES[:3]:
             continue
         head = n, it.part, m.parts[it.part].name, BUILD_WORDS[it.state], it.quantity, it.done
+        tail = recall.origin(n).key, recall.origin(n).day, recall.last_of_build(n)
         wants = list(shortage(m, n))
         if not wants:
-            yield *head, *[""] * 7
+            yield *head, *[""] * 7, *tail
         for line, name, required, meant, missing in wants:
             component = m.lines[line].component
-            yield *head, line, component, name, required, meant, max(missing, 0), free_of_part(m, component)
+            yield *head, line, component, name, required, meant, max(missing, 0), free_of_part(m, component), *tail
 
 
 def shortages(m):
@@ -121,19 +126,25 @@ def shortages(m):
             yield n, m.parts[n].name, *wanted[n], left, max(wanted[n][2] - left, 0)
 
 
+def folded(text):
+    """The text with letters of either case alike: each character by its simple case folding."""
+    return "".join(next(it for it in (c.casefold(), c.lower(), c) if len(it) == 1) for c in text)
+
+
 def find(m, word):
     yield "kind number name where".split()
+    word = folded(word)
     for n, it in sorted(m.parts.items()):
-        if word in it.name:
+        if word in folded(it.name):
             yield "part", n, it.name, way(m.categories, it.category)
     for n, it in sorted(m.locations.items()):
-        if word in it.name:
+        if word in folded(it.name):
             yield "location", n, it.name, way(m.locations, n)
     for n, it in sorted(m.items.items()):
-        if word in (it.serial, it.batch):
+        if it.serial is not None and folded(it.serial).startswith(word) or word == (it.batch and folded(it.batch)):
             yield "item", n, m.parts[it.part].name, where(m, it.place)
     for key, it in sorted(m.kept.items(), key=lambda kept: kept[0].encode()):
-        if key.startswith(word):
+        if word in folded(key):
             yield "key", it.answer["ids"][0] if it.answer["ids"] else "", key, ""
 
 
@@ -148,13 +159,19 @@ def where(m, place):
 
 
 def item(m, number):
-    yield "kind number part name quantity batch serial status where day".split()
+    yield "kind number part name quantity batch serial status where day key".split()
     yield pieces(m, "item", number, 1)
     for n, depth in nested(m, number, 2):
         yield pieces(m, "inside", n, depth)
+    recall = Recall(m)
+    if number in recall.origins:
+        made = recall.origin(number)
+        order = recall.order_of(made.number) if made.kind == "received" else None
+        there = "" if order is None else f"order {order} from {m.orders[order].partner}"
+        yield "made", made.number, "", made.verb, *[""] * 4, there, made.day, made.key
     for it in m.history:
         if it.item == number:
-            yield "history", it.n, "", it.kind, it.quantity, "", "", "", where(m, it.place), it.day
+            yield "history", it.n, "", it.kind, it.quantity, "", "", "", where(m, it.place), it.day, ""
 
 
 def nested(m, number, depth):
@@ -166,24 +183,27 @@ def nested(m, number, depth):
 def pieces(m, heading, n, depth):
     it = m.items[n]
     name = "  " * (depth - 1) + m.parts[it.part].name
-    return heading, n, it.part, name, it.quantity, it.batch, it.serial, it.status, where(m, it.place), ""
+    return heading, n, it.part, name, it.quantity, it.batch, it.serial, it.status, where(m, it.place), "", ""
 
 
 def part(m, number):
     it = m.parts[number]
-    yield "kind number part name quantity more".split()
+    yield "kind number part name quantity more batch serial key".split()
     words = [flag for flag in FLAGS if flag in it.flags] + ["retired"] * it.retired
-    yield "part", number, "", it.name, "", " ".join(words)
+    yield "part", number, "", it.name, "", " ".join(words), "", "", ""
     _, *sums = ledger(m, number)
     sums = dict(sums)
     came = " + ".join(f"{name} {sums[name]}" for name in ("received", "found", "built", "returned"))
     went = " + ".join(f"{name} {sums[name]}" for name in ("present", "consumed", "shipped"))
-    yield "sums", "", "", "", sums["present"], f"{came} = {went} + written off {sums['written']}"
-    yield from bill(m, number, 1)
+    yield "sums", "", "", "", sums["present"], f"{came} = {went} + written off {sums['written']}", "", "", ""
+    for row in bill(m, number, 1):
+        yield *row, "", "", ""
     for n, name in where_used(m, number):
-        yield "used in", n, "", name, "", ""
+        yield "used in", n, "", name, "", "", "", "", ""
+    recall = Recall(m)
     for n in items_of(m, number):
-        yield "item", n, "", m.items[n].status, m.items[n].quantity, where(m, m.items[n].place)
+        it = m.items[n]
+        yield "item", n, "", it.status, it.quantity, where(m, it.place), it.batch, it.serial, recall.origin(n).key
 
 
 def bill(m, number, depth):

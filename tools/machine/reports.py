@@ -125,13 +125,17 @@ def answer_line(answer):
     return json.dumps(answer, ensure_ascii=False, sort_keys=True, separators=(",", ":"))
 
 
-def answer(m, line, at, with_names=False):
-    """What answers the line at that place, or None where nothing does."""
+def answer(m, line, at, with_names=False, journal=False):
+    """What answers the line at that place, or None where nothing does. With a journal a request has a key in any
+    case."""
     if line in (b"", b"\r"):
         return None
     try:
         do, *wish = wish_of(line, Names(m) if with_names else None)
-        return {"report": report(m, *reversed(wish))} if do is None else m.run(do, *wish)
+        if do is None:
+            return {"report": report(m, *reversed(wish))}
+        fields, day, key = wish
+        return m.run(do, fields, day, m.journal_key(day) if journal and key is None else key)
     except Fault as fault:
         return fault.answer(at)
     except Refused as refusal:
