@@ -25,15 +25,21 @@ names  20,000 lines of each of three kinds with names and with numbers of the sa
        memory disk, among 2,000 parts, items and locations and among 200,000 of each: parts by their names, locations by
        their ways, items by their parts and serials, and by keys. It prints seconds of a processor, and by what factor
        names take longer.
+sheets 50,000 and 100,000 rows of a file of stock, a key each, imported by the name of their command, on a memory disk;
+       and beside them the same lines, run with names, and with names once all have been looked at. It prints seconds,
+       how many times as long the import takes, peak memory, and by what factors both grow.
+recall 40,000 finds and removals with a journal and without, in memory and on a file on a memory disk; what a request
+       takes more of memory with a journal; and the lists trace-forward and trace-back on books of 200,000 items with as
+       many kept answers. It prints by what factor the journal takes longer, bytes, and seconds beside the opening.
 calls  Calls of the libraries, without the reading and writing of lines: the cycle test of bills, and transfers in
        part, each at 1,000 and at 2,000 rows. It prints milliseconds per call, and by what factor they grow.
 
-usage: tools/bench.py PROGRAM [lines] [file] [history] [http] [names] [calls]"""
+usage: tools/bench.py PROGRAM [lines] [file] [history] [http] [names] [sheets] [recall] [calls]"""
 import multiprocessing
 import sys
 
 from shared import reader_of_words
-from timings import calls, file, history, lines, names, service
+from timings import calls, file, history, lines, names, recall, service, sheets
 
 PARTS = {
     "lines": lines.time_lines,
@@ -41,6 +47,8 @@ PARTS = {
     "history": history.time_history,
     "http": service.time_service,
     "names": names.time_names,
+    "sheets": sheets.time_sheets,
+    "recall": recall.time_recall,
     "calls": calls.time_calls,
 }
 

@@ -6,8 +6,9 @@ after the first example byte for byte what they should be; that a first start th
 starts again; that a file is refused, with its name and the reason, that isn't a workshop's, or whose rows were
 changed, one change for each clause of what a sound state is; and that files of an earlier version of the program are
 recognised, and brought along with all that they have. That a look at a file that can't be opened makes nothing, and
-says what lies there; that a fault of the disk is reported once, with the file and the reason; that control characters
-are escaped; and what is said of wrong words.
+says what lies there; that words that only look, or bring along, leave no file, an empty file and a text as they find
+them; that a fault of the disk is reported once, with the file and the reason, and nothing is told of a line that it
+undid; that control characters are escaped; and what is said of wrong words.
 
 usage: tools/check_file.py PROGRAM"""
 import contextlib
@@ -309,11 +310,11 @@ def started_again(program, folder):
         look(path)
 
 
-def told(program, path, reason, what, **more):
+def told(program, path, reason, what, word="report", **more):
     """A file that is refused: the standard error names it, and why."""
-    report = run(program, "report", "--db", path, "ledger", "3", **more)
-    first = (report.stderr.splitlines() or [""])[0]
-    expect(report.returncode == 3 and report.stdout == "", f"{what} is taken: {report.stdout!r}")
+    ended = run(program, word, "--db", path, *(("ledger", "3") if word == "report" else ()), **more)
+    first = (ended.stderr.splitlines() or [""])[0]
+    expect(ended.returncode == 3 and ended.stdout == "", f"{what} is taken: {ended.stdout!r}")
     expect(first.startswith(f"invdesk: {path}: ") and reason in first, f"{what} is told as {first!r}")
     print(f"{what}: {first}")
 
@@ -504,7 +505,7 @@ def looked_at(program, folder, path):
     private = str(room / "private.db")
     shutil.copy(path, private)
     os.chmod(private, 0o600)
-    run(program, "report", "--db", private, "ledger", "3")
+    run(program, "run", "--db", private)
     expect(os.stat(private + "-wal").st_mode & 0o777 == 0o600, "a log that others may read")
     pathlib.Path(private + "-journal").write_bytes(bytes(512))
     expect(run(program, "report", "--db", private, "ledger", "3").returncode == 0, "an ended journal")
@@ -512,9 +513,79 @@ def looked_at(program, folder, path):
         os.chmod(room, 0o755)
         shutil.copy(path, room / "open.db")
         os.chmod(room / "open.db", 0o666)
-        told(program, str(room / "new.db"), "can't be made in its folder", "a folder of another user", user=NOBODY)
+        new = str(room / "new.db")
+        told(program, new, "can't be made in its folder", "a folder of another user", "run", user=NOBODY)
         told(program, str(room / "open.db"), "can't be made in its folder", "a log in that folder", user=NOBODY)
         expect(not (room / "new.db").exists(), "a file of another user's folder")
+
+
+def absent(_path):
+    """No file."""
+
+
+def emptied(path):
+    path.write_bytes(b"")
+
+
+def text(path):
+    path.write_text("not a database, and long enough to be looked at as one\n" * 100)
+
+
+def headed(path):
+    """What begins as a database does, and is none."""
+    path.write_bytes(b"SQLite format 3\0" + b"not a database\n" * 600)
+
+
+def strange(path):
+    """A database of others."""
+    with contextlib.closing(sqlite3.connect(path)) as conn:
+        conn.execute("CREATE TABLE note (id INTEGER PRIMARY KEY) STRICT")
+        conn.commit()
+
+
+# Words that only look, or bring along; and those with one that makes a workshop where there is nothing.
+LOOKS = [("show", "stock"), ("report", "ledger", "1"), ("export", "items"), ("migrate",)]
+WORDS = [*LOOKS, ("run",)]
+# What lies at a file's name, the words that leave it so, and why a word is refused there; where none stands here, what
+# it prints is that of a workshop that has nothing.
+LEFT = [
+    (absent, LOOKS, {"show": "there is no such file", "migrate": "there is no such file"}),
+    (emptied, LOOKS, {"migrate": "no workshop's"}),
+    (text, WORDS, {word: "no database" for word, *_ in WORDS}),
+    (headed, WORDS, {word: "no database" for word, *_ in WORDS}),
+    (strange, WORDS, {word: "no workshop's" for word, *_ in WORDS}),
+]
+
+
+def left_alone(program, folder):
+    """What only looks, or brings along, leaves what lies there as it is, and makes nothing beside it; and so does what
+    is refused."""
+    bare = str(folder / "bare.db")
+    expect(run(program, "run", "--db", bare).returncode == 0, "a workshop that has nothing")
+    room = folder / "alone"
+    room.mkdir()
+    shutil.copy(bare, room / "w.db")
+    before = listing(room)
+    for word, *more in LOOKS[:3]:
+        run(program, word, "--db", str(room / "w.db"), *more)
+        expect(listing(room) == before, f"{word} of a copy leaves {sorted(listing(room))}")
+    for number, (make, tried, reasons) in enumerate(LEFT):
+        for word, *more in tried:
+            room = folder / f"left{number}-{word}"
+            room.mkdir()
+            path = room / "w.db"
+            make(path)
+            before = listing(room)
+            ended = run(program, word, "--db", str(path), *more)
+            what = f"{word} of {make.__name__}"
+            expect(listing(room) == before, f"{what} leaves {sorted(listing(room))}")
+            if word in reasons:
+                is_told = ended.stderr.startswith(f"invdesk: {path}: ") and reasons[word] in ended.stderr
+                expect(is_told and (ended.returncode, ended.stdout) == (3, ""), f"{what} ends so: {ended}")
+            else:
+                wanted = run(program, word, "--db", bare, *more)
+                same = (ended.returncode, ended.stdout, ended.stderr) == (wanted.returncode, wanted.stdout, "")
+                expect(same, f"{what} ends so: {ended}, and not {wanted}")
 
 
 def is_plain(text):
@@ -568,6 +639,17 @@ def words(program, folder):
         expect(f"Usage: invdesk {word} " in ended.stderr, f"{word} is told as {ended.stderr!r}")
 
 
+def undone(program, path, size, line):
+    """Lines that come together as the disk gets full: what was undone has no answer, and no reason is told of it."""
+    wrong = '{"day":"2030-01-03","do":"remove","item":10,"quantity":1000000}\n'
+    lines = "".join(line % ("L" * 40 + str(number)) + wrong for number in range(2000))
+    ended = run(program, "run", "--explain", "--db", str(path), lines=lines, preexec_fn=few_bytes(size))
+    told = sum(reason.startswith("line ") for reason in ended.stderr.splitlines())
+    answered = ended.stdout.count('"refused"')
+    expect(ended.returncode == 3, f"run --explain on a full disk ends with {ended.returncode}")
+    expect(told == answered, f"{answered} lines are answered as refused, and the reasons of {told} are told")
+
+
 def faults(program, folder, path):
     """The disk is full as the program writes: the fault is told once, with the file and the reason."""
     line = '{"day":"2030-01-03","do":"add_location","name":"%s"}\n'
@@ -584,6 +666,7 @@ def faults(program, folder, path):
         expect(first.startswith(f"invdesk: {copy}: the database answered: "), f"{word} tells {first!r}")
         expect(rest == ["invdesk: store or device failed"], f"{word} tells {rest!r} besides")
         print(f"{word} on a full disk: {first}")
+    undone(program, shutil.copy(path, folder / "undone.db"), size, line)
     copy = shutil.copy(path, folder / "served.db")
     limit = few_bytes(4 * size)
     served, port = serve(program, "--db", str(copy), "--count", "60", preexec_fn=limit)
@@ -625,6 +708,7 @@ def main():
             brought(program, folder, old)
         not_brought(program, folder)
         looked_at(program, folder, path)
+        left_alone(program, folder)
         escaped(program, folder)
         words(program, folder)
         faults(program, folder, path)

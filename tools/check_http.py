@@ -1,11 +1,11 @@
 #!/usr/bin/env python3
 """Runs the program as a server on the loopback and asks it as clients do, with Python's http.client, with curl where it
-is there, and with bare sockets: each route and each error; rows that are said by what they are called; a request that
-is sent in pieces, cut off at a byte, or sent again under its key after its connection was dropped; made-up bytes; many
-connections one after another, of which no descriptor and no memory may stay; and a server that is killed, whose file
-has to be the books before or after each request. What a web page sends is refused, and who doesn't show the token;
-clients that are silent or slow are left; descriptors are waited for; and a server that goes on is stopped by a signal,
-and its books are copied. It takes about a minute.
+is there, and with bare sockets: each route and each error; rows that are said by what they are called; a journal; a
+request that is sent in pieces, cut off at a byte, or sent again under its key after its connection was dropped; clients
+that wait to be told that their body may come; made-up bytes; many connections one after another, of which no descriptor
+and no memory may stay; and a server that is killed, whose file has to be the books before or after each request. What a
+web page sends is refused, and who doesn't show the token; clients that are silent or slow are left; descriptors are
+waited for; and a server that goes on is stopped by a signal, and its books are copied. It takes about a minute.
 
 usage: tools/check_http.py PROGRAM"""
 import concurrent.futures
@@ -125,6 +125,7 @@ def routes(program):
         ("POST", f"/import/counts/D1/{DAY}", "number,item,quantity\n1,99,1\n", 200, b'1\t{"refused":"NoSuch"}\n'),
         ("POST", "/import/counts/D1/2030-02-30", "", 404, b'{"http":404}\n'),
         ("POST", "/import/prices/D1/2030-01-02", "", 404, b'{"http":404}\n'),
+        ("POST", f"/import/add_part/P1/{DAY}", "name,flags\nNut,component\n", 404, b'{"http":404}\n'),
         ("GET", "/report/stock/2", None, 200, b"5\t100\tOK\tat 1\tL1\t\n6\t50\tOK\tat 1\t\t\n"),
         ("GET", "/report/stock/002", None, 200, b"5\t100\tOK\tat 1\tL1\t\n6\t50\tOK\tat 1\t\t\n"),
         ("GET", "/report/where_used/2", None, 200, b""),
@@ -181,6 +182,24 @@ def names(program):
     expect(server.ended() == 0, "with names it doesn't end well")
 
 
+def journal(program, folder):
+    """With a journal each line that is done is kept, under its own key or the one that it is given, and answered as
+    without."""
+    sent = [LOCATION, LOCATION, dict(PART, key=f"{DAY}/3"), dict(LOCATION, name="B"), dict(PART, name="Nut"), "[]"]
+    told = []
+    for words in [], ["--journal"]:
+        path = os.path.join(folder, f"journal{len(words)}.db")
+        server = Server(program, len(sent) + 1, "--db", path, *words)
+        answers = [server.run(it) for it in sent]
+        answers.append(server.asked("POST", f"/import/counts/D1/{DAY}", COUNT))
+        told.append([(status, text) for status, _, text in answers])
+        expect(server.ended() == 0, f"{words}: it doesn't end well")
+    expect(told[0] == told[1], f"with a journal it is answered {told[1]}, and not {told[0]}")
+    kept = run(program, "export", "--db", path, "kept").stdout
+    keys = [line.split(",")[0] for line in kept.splitlines()[1:]]
+    expect(keys == [f"{DAY}/{n}" for n in (1, 3, 4, 5)], f"with a journal these keys are kept: {keys}")
+
+
 def heads(program):
     """Heads that are refused, and requests that aren't whole."""
     whole = posted(json.dumps(LOCATION))
@@ -224,6 +243,64 @@ def by_curl(program):
     for words, text in asked:
         done = run("curl", "-s", *words, lines=b"")
         expect(done.stdout == text, f"curl prints {done.stdout!r} for {words[-1]}")
+    expect(server.ended() == 0, "it doesn't end well")
+
+
+def expecting(program):
+    """A client that waits to be told that its body may come is told at once; nobody else is told so."""
+    body = json.dumps(LOCATION) + " " * 2_000
+    interim = b"HTTP/1.1 100 Continue\r\n\r\n"
+    expects = "Expect: 100-continue\r\n"
+    waiting = [(posted(body, fields=expects), 200), (posted(body, fields="expect:\t100-Continue \r\n"), 409)]
+    at_once = [(posted(body), 409), (posted(body, fields="Expect: 200-ok\r\n"), 409),
+               (posted(body, fields=expects).replace(b"HTTP/1.1", b"HTTP/1.0"), 409)]
+    rejected = [("/x", expects, 404), ("/run", f"{expects}Origin: null\r\n", 403),
+                ("/run", f"{expects}Content-Length: 9\r\n", 400)]
+    has_curl = shutil.which("curl") is not None
+    server = Server(program, len(waiting) + 2 * len(at_once) + len(rejected) + has_curl)
+    for data, status in waiting:
+        with socket.create_connection(("127.0.0.1", server.port), timeout=20) as stream:
+            head, _, rest = data.partition(b"\r\n\r\n")
+            begun = time.monotonic()
+            stream.sendall(head + b"\r\n\r\n")
+            told = b""
+            while len(told) < len(interim) and (piece := stream.recv(65536)):
+                told += piece
+            seconds = time.monotonic() - begun
+            expect(told == interim and seconds < 1, f"{head!r} is told {told!r} after {seconds:.1f} s")
+            stream.sendall(rest)
+            answer = stream.makefile("rb").read()
+            expect(answer.startswith(b"HTTP/1.1 %d " % status), f"{head!r} is answered {answer[:60]!r}")
+    for data, status in at_once:
+        for pieces in (1, 9):
+            answer = server.sent(data, pieces)
+            expect(answer.startswith(b"HTTP/1.1 %d " % status), f"{data[:60]!r} is answered {answer[:60]!r}")
+    for path, fields, status in rejected:
+        answer = server.sent(posted(body, path, fields).partition(b" " * 2_000)[0])
+        expect(answer.startswith(b"HTTP/1.1 %d " % status), f"{path} with {fields!r} is answered {answer[:60]!r}")
+    if has_curl:
+        begun = time.monotonic()
+        words = ["-s", "-H", "Expect: 100-continue", "-d", body, f"http://127.0.0.1:{server.port}/run"]
+        done = run("curl", *words, lines=b"")
+        seconds = time.monotonic() - begun
+        expect(done.stdout == b'{"refused":"NameTaken"}\n', f"curl prints {done.stdout!r}")
+        expect(seconds < 0.9, f"curl waits {seconds:.1f} s")
+    expect(server.ended() == 0, "it doesn't end well")
+
+
+def slow_answer(program):
+    """The time of an answer begins with it, though an interim response was written long before."""
+    server = Server(program, 1)
+    begun = time.monotonic()
+    with socket.create_connection(("127.0.0.1", server.port), timeout=60) as stream:
+        stream.sendall(HEAD.replace(b"\r\n\r\n", b"\r\nExpect: 100-continue\r\n\r\n"))
+        expect(stream.recv(65536) == b"HTTP/1.1 100 Continue\r\n\r\n", "an interim response isn't told")
+        for _ in range(100):
+            stream.sendall(b"a" * 4_000)
+            time.sleep(0.36)
+        answer = stream.makefile("rb").read()
+    seconds = time.monotonic() - begun
+    expect(answer.startswith(b"HTTP/1.1 400 ") and seconds > 34, f"after {seconds:.1f} s is answered {answer[:60]!r}")
     expect(server.ended() == 0, "it doesn't end well")
 
 
@@ -495,12 +572,14 @@ def words(program):
 def main():
     program = reader_of_words(__doc__).parse_args().program
     with concurrent.futures.ThreadPoolExecutor() as beside, tempfile.TemporaryDirectory() as folder:
-        waits = [beside.submit(slow, program) for slow in (slow_head, fair_body, slow_body, slow_taker)]
+        waits = [beside.submit(slow, program) for slow in (slow_head, fair_body, slow_body, slow_taker, slow_answer)]
         words(program)
         routes(program)
         names(program)
+        journal(program, folder)
         heads(program)
         by_curl(program)
+        expecting(program)
         pages(program)
         tokens(program, folder)
         silent(program)

@@ -5,11 +5,13 @@ ends in them. Then on files that LibreOffice saved of a spreadsheet, where its `
 program answers, and with sqlite3 at what is kept: that a file sent again, on another day too, is answered alike and
 changes nothing; that a row with another quantity is KeyTaken in its line alone; that of a faulty file nothing is run;
 that rows are found by what they are called, or told not to be; which status a missing path, a folder and wrong words
-end with; what a terminal shows of the rows that are done; and that a file of a MiB takes little memory, whatever
-serials its rows list. It prints the seconds that this takes. Where something differs it goes on, and counts what does.
+end with; that a file which is read loosely loses no row in silence, and is read as the rules written once more read it;
+what a terminal shows of the rows that are done; and that a file of a MiB takes little memory, whatever serials its rows
+list. It prints the seconds that this takes. Where something differs it goes on, and counts what does.
 
 usage: tools/check_import.py PROGRAM"""
 import codecs
+import collections
 import contextlib
 import csv
 import io
@@ -17,6 +19,7 @@ import itertools
 import os
 import pathlib
 import pty
+import random
 import shutil
 import sqlite3
 import subprocess
@@ -25,7 +28,9 @@ import tempfile
 from xml.sax.saxutils import escape
 
 import shared
+from machine import imports
 from machine.imports import HEADERS
+from machine.reports import answer_line
 
 DAY = '"day":"2030-01-02"'
 ORDERED = f"""{{{DAY},"do":"add_location","name":"A"}}
@@ -276,6 +281,90 @@ def counted(shop, rows):
     return shown.replace(b"\r\n", b"\n"), done.stderr
 
 
+# Files that were read loosely without a word of what was lost, each with what is told now.
+LOST = [
+    ("counts", b'number,item,quantity,note\n1,7,5,\n2,4,20,"open\n3,8,9,\n', '"Csv","line":3'),
+    ("counts", b'number,item,quantity,"note\n1,7,5,\n2,8,6,\n', '"Csv","line":1'),
+    ("counts", b'number;item;quantity\n1;7;5\n2;8;"6', '"Csv","line":3'),
+    ("counts", b'number,item,quantity,note\n1,7,x,\n2,4,20,"open\n', '"WrongType","line":2'),
+    ("counts", b'number,item,part,note,quantity\n2,4,Screw, M3, long,,20\n', '"Csv","line":2'),
+    ("receipts", b"number,line,part,location,batch,serials,note,quantity\n2,4,Screw, M3, long,A,L22,,1,20\n",
+     '"Csv","line":2'),
+    ("counts", b"number,item,quantity\n,,,\n1,7,5\n", '"Csv","line":2'),
+    ("counts", b"number,item,quantity\n1;7;5\n2;8;6\n", '"Csv","line":2'),
+    ("counts", b"number;item;note;quantity\n1\t7\tred, blue; green\t5\n", '"Csv","line":2'),
+    ("counts", b"number\titem\tquantity\n1,7,5\n", '"Csv","line":2'),
+]
+# Files whose rows have no quantity, of which the standard error tells.
+EMPTY = [
+    b"number,item,quantity\n", b"number,item,quantity\n1,7,\n2,8\n\n,,\n", b'number;item;quantity\n"1;7;5";\n',
+    b"number,item,quantity\nStock; March\n1,7,\n", b'number,item,quantity,"note"\n1,7,,"a ""b"""',
+]
+
+
+def lost(program):
+    with workshop(program) as shop:
+        before = shop.rows()
+        for kind, file, told in LOST:
+            wanted = f'{{"fault":{told}}}\n'.encode()
+            compare(f"{file!r} loosely", shop.imported(kind, file, words=["--loose"]), (1, wanted))
+        path = shop.folder / "empty.csv"
+        for file in EMPTY:
+            path.write_bytes(file)
+            words = (*shop.words_of_import("counts", "E"), "--loose", str(path))
+            done = subprocess.run(words, capture_output=True, check=False)
+            told = f"invdesk: {path}: no row has a quantity\n".encode()
+            compare(f"{file!r} loosely", (done.returncode, done.stdout, done.stderr), (0, b"", told))
+        compare("after files that lost rows", shop.rows() == before, True)
+        path.write_bytes(written(COUNTS, []))
+        done = subprocess.run((*shop.words_of_import("counts", "E"), str(path)), capture_output=True, check=False)
+        compare("a header alone, strictly", (done.returncode, done.stdout, done.stderr), (0, b"", b""))
+
+
+def kept_by_hand(r):
+    """A file as people keep one: its columns in any order, beside others, some short, now and then damaged."""
+    kind = r.choice(["receipts", "counts"])
+    columns = [it for it in HEADERS[kind] if it not in imports.MAY_LACK or r.random() < 0.7]
+    columns += r.sample(["note", "part", "way", ""], r.randint(0, 2))
+    r.shuffle(columns)
+    rows = [columns]
+    for number in range(1, r.choice([1, 2, 3, 10])):
+        said = {"number": number, "quantity": r.choice(["", "", 5, "5.0"]), "batch": r.choice(["", "L1"])}
+        said["serials"], said["note"] = "", r.choice([1, 7, "a;b", "c, d", 'x"', "e\nf"])
+        row = [said.get(it, 7) for it in columns]
+        rows.append(row[: r.choice([len(row), len(row), r.randint(0, len(row))])])
+    text, ends = io.StringIO(), r.choice(["\n", "\r\n", "\r"])
+    for begin, end in (0, 1), (1, len(rows)):
+        if begin == 0 or r.random() < 0.2:
+            separator = r.choice(imports.SEPARATORS)
+        csv.writer(text, delimiter=separator, lineterminator=ends).writerows(rows[begin:end])
+    held = bytearray(r.choice([b"", codecs.BOM_UTF8]) + text.getvalue().encode())
+    for _ in range(r.choice([0, 0, 1, 2])):
+        at = r.randint(0, len(held))
+        held[at:at + r.choice([0, 1])] = r.choice([b'"', b'""', b",", b";", b"\t", b"\n", b"\r", b"\xff", b"1"])
+    return kind, bytes(held)
+
+
+def loosely(program):
+    """Files as people keep them, beside the rules written once more. No item and no line of an order is there."""
+    r, counts = random.Random(64), collections.Counter()
+    with tempfile.TemporaryDirectory() as name:
+        shop = Workshop(program, pathlib.Path(name))
+        for number in range(400):
+            kind, file = kept_by_hand(r)
+            try:
+                found = imports.rows(kind, file, loose=True)
+                told = "".join(f'{it.number}\t{{"refused":"NoSuch"}}\n' for it in found)
+                wanted = (1 if told else 0), told.encode()
+                counts["rows" if told else "none"] += 1
+            except imports.FileFault as fault:
+                wanted = 1, (answer_line(fault.answer) + "\n").encode()
+                counts[fault.answer["fault"]] += 1
+            told = shop.imported(kind, file, f"F{number}", words=["--loose"])
+            compare(f"file {number}, {file!r}, loosely", told, wanted)
+    print(f"check_import: 400 files as people keep them: {dict(counts)}")
+
+
 def terminals(program):
     with workshop(program) as shop:
         shop.imported("receipts", written(RECEIPTS, DELIVERY))
@@ -305,7 +394,7 @@ def small(program):
 
 def main():
     program = shared.reader_of_words(__doc__).parse_args().program
-    for check in (forms, by_office, corrections, faults, names, statuses, terminals, small):
+    for check in (forms, by_office, corrections, faults, names, statuses, lost, loosely, terminals, small):
         check(program)
     print(f"check_import: {len(differences)} differ" if differences else "check_import: all as it should be")
     sys.exit(1 if differences else 0)

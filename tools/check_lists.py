@@ -1,8 +1,11 @@
 #!/usr/bin/env python3
 """Tries `show` on the built program: each list of a small workshop, in columns and as comma-separated values, beside
 rows that were worked out by hand; locations, parts and items by number and by name; words that go with no list; rows
-that aren't there; and that no list changes the file. Then it types at a terminal: a greeting, a prompt, `help`, and
-the same answers as from a pipe; and before a long file is read, it is said so.
+that aren't there; and that no list changes the file. Then books in which it is recalled where things came from and
+where they went: those that were worked out by hand, and made-up ones of 2,000 requests, with a journal and without,
+whose lists are compared with the rules written once more, also once what the file keeps was changed; and a chain of
+30,000 pieces, each cut off the one before. Then it types at a terminal: a greeting, a prompt, `help`, and the same
+answers as from a pipe, with a journal; and before a long file is read, it is said so.
 
 usage: tools/check_lists.py PROGRAM"""
 import contextlib
@@ -14,6 +17,7 @@ import pty
 import subprocess
 import tempfile
 
+import recalled
 from machine import lists
 from shared import expect, reader_of_words, run
 
@@ -58,15 +62,15 @@ STORE = [
     ["Store", "1", "16", "4", "Screw", "20", "20", "", "", "OK"],
 ]
 ORDERS = [
-    "order side state partner line part name wanted done allocated outstanding".split(),
-    ["14", "purchase", "in progress", "Acme", "15", "4", "Screw", "50", "20", "0", "30"],
-    ["21", "sale", "pending", "Bo, Ltd", "", "", "", "", "", "", ""],
+    "order side state partner line part name wanted done allocated outstanding key day last".split(),
+    ["14", "purchase", "in progress", "Acme", "15", "4", "Screw", "50", "20", "0", "30", "PO-1", "", ""],
+    ["21", "sale", "pending", "Bo, Ltd", "", "", "", "", "", "", "", "SO-1", "", ""],
 ]
 BUILDS = [
     [*"build part name state wanted done line component".split(), "component name",
-     *"required allocated missing free".split()],
-    ["17", "6", "Robot", "in production", "2", "0", "8", "4", "Screw", "8", "3", "5", "117"],
-    ["17", "6", "Robot", "in production", "2", "0", "9", "5", "Motor", "2", "1", "1", "0"],
+     *"required allocated missing free key day last".split()],
+    ["17", "6", "Robot", "in production", "2", "0", "8", "4", "Screw", "8", "3", "5", "117", "", "", ""],
+    ["17", "6", "Robot", "in production", "2", "0", "9", "5", "Motor", "2", "1", "1", "0", "", "", ""],
 ]
 SHORTAGES = [
     "part name required allocated missing free buy".split(),
@@ -82,19 +86,25 @@ SHEET = [
 ]
 FOUND = ["kind", "number", "name", "where"]
 MOTOR = [
-    "kind number part name quantity batch serial status where day".split(),
-    ["item", "12", "5", "Motor", "1", "", "M1", "OK", "Store", ""],
-    ["history", "2", "", "found", "1", "", "", "", "Store", DAY],
+    "kind number part name quantity batch serial status where day key".split(),
+    ["item", "12", "5", "Motor", "1", "", "M1", "OK", "Store", "", ""],
+    ["history", "2", "", "found", "1", "", "", "", "Store", DAY, ""],
+]
+SCREWS = [
+    MOTOR[0],
+    ["item", "11", "4", "Screw", "100", "L1", "", "OK", "Store / Shelf A", "", ""],
+    ["made", "", "", "found", "", "", "", "", "", "", "s1"],
+    ["history", "1", "", "found", "100", "", "", "", "Store / Shelf A", DAY, ""],
 ]
 ROBOT = [
-    "kind number part name quantity more".split(),
-    ["part", "6", "", "Robot", "", "assembly trackable salable"],
+    "kind number part name quantity more batch serial key".split(),
+    ["part", "6", "", "Robot", "", "assembly trackable salable", "", "", ""],
     ["sums", "", "", "", "0", "received 0 + found 0 + built 0 + returned 0"
-                          " = present 0 + consumed 0 + shipped 0 + written off 0"],
-    ["line", "8", "4", "Screw", "4", ""],
-    ["substitute", "10", "7", "Bölt", "", ""],
-    ["line", "9", "5", "Motor", "1", "variants"],
-    ["item", "19", "", "OK", "1", "output 17"],
+                          " = present 0 + consumed 0 + shipped 0 + written off 0", "", "", ""],
+    ["line", "8", "4", "Screw", "4", "", "", "", ""],
+    ["substitute", "10", "7", "Bölt", "", "", "", "", ""],
+    ["line", "9", "5", "Motor", "1", "variants", "", "", ""],
+    ["item", "19", "", "OK", "1", "output 17", "", "R1", ""],
 ]
 WANTED = [
     (["stock"], STOCK),
@@ -111,8 +121,14 @@ WANTED = [
     (["find", "ob"], [FOUND, ["part", "6", "Robot", ""]]),
     (["find", "t"], [FOUND, ["part", "5", "Motor", ""], ["part", "6", "Robot", ""], ["part", "7", "Bölt", ""],
                      ["location", "1", "Store", "Store"]]),
-    (["find", "L1"], [FOUND, ["item", "11", "Screw", "Store / Shelf A"]]),
-    (["find", "s"], [FOUND, ["key", "11", "s1", ""]]),
+    (["find", "l1"], [FOUND, ["item", "11", "Screw", "Store / Shelf A"]]),
+    (["find", "m"], [FOUND, ["part", "5", "Motor", ""], ["item", "12", "Motor", "Store"],
+                     ["item", "13", "Motor", "Store"]]),
+    (["find", "S"], [FOUND, ["part", "4", "Screw", "Fixings"], ["location", "1", "Store", "Store"],
+                     ["location", "2", "Shelf A", "Store / Shelf A"], ["key", "21", "SO-1", ""],
+                     ["key", "11", "s1", ""]]),
+    (["find", "o-1"], [FOUND, ["key", "14", "PO-1", ""], ["key", "21", "SO-1", ""]]),
+    (["item", "11"], SCREWS),
     (["item", '{"part":"Motor","serial":"M1"}'], MOTOR),
     (["item", "12"], MOTOR),
     (["part", "Robot"], ROBOT),
@@ -124,6 +140,8 @@ number  name   category  present  free  allocated  items
 6       Robot            0        0     0          1
 7       Bölt             0        0     0          0
 """
+# Made-up books: a seed, how many requests, whether there is a journal, and the share of requests with own keys.
+MADE_UP = [(1, 2_000, True, 0.1), (2, 2_000, False, 0.5), (3, 2_000, False, 0)]
 # Words that go with no list, and rows that there aren't: what is printed, and the status.
 WRONG = [
     ["stock", "Store"], ["stock", "--open"], ["stock", "--low", "few"], ["at"], ["at", "Store", "--open"],
@@ -192,6 +210,16 @@ def try_terminal(program, path, ends, *words):
     expect(piped.stdout == '{"fault":"NotJson","line":1}\n' and not piped.stderr, f"help from a pipe: {piped}")
 
 
+def try_journal(program, top, ends):
+    """A request that is typed has a key from the journal, without a word for it."""
+    path = os.path.join(top, "typed.db")
+    line = f'{{"day":"{DAY}","do":"add_location","name":"Typed"}}'
+    out, screen, status = typed(program, path, [line], ends)
+    expect((out, status) == ('{"entries":0,"ids":[1]}\n', 0), f"a typed request is answered {out!r}: {screen}")
+    kept = run(program, "export", "--db", path, "kept").stdout
+    expect(f"{DAY}/1," in kept, f"of a typed request is kept {kept!r}")
+
+
 def try_long(program, top, ends):
     """What is said at a terminal before a long file is read: the file is no workshop's, so that is the end of it."""
     hand, seat = ends
@@ -223,14 +251,19 @@ def main():
         try_wrong(program, path)
         with contextlib.closing(open(path, "rb")) as file:
             expect(file.read() == before, "a list changed the file")
+        compared = recalled.try_by_hand(program, top)
+        compared += sum(recalled.try_made_up(program, top, *books) for books in MADE_UP)
+        recalled.try_chain(program, top)
         ends = terminal()
         if ends:
             try_terminal(program, path, ends)
             try_terminal(program, path, terminal(), "--check")
+            try_journal(program, top, terminal())
             try_long(program, top, terminal())
     seen = "a terminal" if ends else "no terminal, as there is none here"
     absent = len(WRONG) + len(NONE)
-    print(f"check_lists: {len(WANTED)} lists, {absent} that aren't there, {seen}: all as they should be")
+    shown = f"{len(WANTED)} lists, {compared} of what is recalled, {absent} that aren't there"
+    print(f"check_lists: {shown}, {seen}: all as they should be")
 
 
 if __name__ == "__main__":

@@ -8,7 +8,7 @@
 - A definition: `Tables.forest_of` stands in specs/Tables.antt of the crate that is told before it (`forest`
   `Tables.forest_of`), or else of the crate that its table's header, its section or its heading names, or else of some
   crate. In a column of definitions a bare name stands in the module or the crate that was named last.
-- A path: `src/run.rt` is a file of such a crate, `docs/HTTP.md` one of the repository.
+- A path: `src/run.rt` is a file of such a crate, `docs/HTTP.md` or `contrib/views.sql` one of the repository.
 - A call: `Shop::accept` is a function of that crate, or of some.
 - Any other name of two words or more, as `is_visible` or `IsDesk`, stands in some source.
 
@@ -32,7 +32,8 @@ PLACE = re.compile(r"`([\w./-]+\.(?:rt|antt|py)):(\d+)(?:-(\d+))?`(?: `([^`]+)`)
 IN_ALL = re.compile(r"([\d,]+) lines in all")
 DEFINITION = re.compile(r"[A-Z]+[a-z]\w*\.[\w-]+")
 BARE = re.compile(r"[A-Za-z][\w-]*")
-PATH = re.compile(r"(?:src|specs|proofs|docs|tools|crates)/[\w/.-]+\.(?:rt|antt|py|md|jsonl)|[A-Z]\w*\.antt")
+PATH = re.compile(
+    r"(?:src|specs|proofs|docs|tools|crates|contrib)/[\w/.-]+\.(?:rt|antt|py|md|jsonl|sql)|[A-Z]\w*\.antt")
 NAME = re.compile(r"[a-z]\w*_\w+|[A-Z][a-z]\w*[A-Z]\w*")
 CALL = re.compile(r"([A-Z]\w*)::([a-z]\w*)")
 # What may stand between two names, of which the later is told of the crate before the earlier.
@@ -58,8 +59,9 @@ def text_of(crate, pattern):
 
 @functools.cache
 def words():
-    """All words of the crates' sources."""
-    return set().union(*(re.findall(r"\w+", text_of(crate, f"{folder}/**/*.{suffix}")) for crate in CRATES
+    """All words of the crates' sources, and of what is made of tables."""
+    views = set().union(*(re.findall(r"\w+", path.read_text()) for path in (TOP / "contrib").glob("*.sql")))
+    return views.union(*(re.findall(r"\w+", text_of(crate, f"{folder}/**/*.{suffix}")) for crate in CRATES
                          for folder, suffix in [("src", "rt"), ("specs", "antt"), ("proofs", "antt")]))
 
 
@@ -236,7 +238,7 @@ class Checker:
         self.fault(number, f"{module}.{name} isn't {where}" + (f", but in {', '.join(others)}" if others else ""))
 
     def path(self, number, crate, path):
-        if path.startswith(("docs/", "tools/", "crates/")):
+        if path.startswith(("docs/", "tools/", "crates/", "contrib/")):
             if not (TOP / path).exists():
                 self.fault(number, f"there is no {path}")
             return

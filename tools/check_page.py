@@ -30,7 +30,7 @@ import urllib.parse
 import make_page
 from browser import Broken, Firefox
 from made_workshop import DAY, HOSTILE, many_items, workshop
-from page_user import CONTRAST, FILL, H1, SENDER, Desk, Page, button, field
+from page_user import CHROMIUM, CONTRAST, FILL, H1, SENDER, Desk, Page, button, field
 from shared import COLUMNS, TOP, expect, reader_of_words, run
 
 DOCS = TOP / "docs"
@@ -40,6 +40,8 @@ WANTED = {"opened": 300, "again": 100, "task": 200}
 MISSED = 8
 # Faults that the browser tells as they are wanted: refusals and answers that were lost.
 TOLD = re.compile(r"status of (4(00|01|09)|500)|ERR_CONNECTION_RESET|insertAdjacentHTML|TrustedHTML")
+
+
 class Checks:
     """What was looked at, and how much of it failed."""
 
@@ -54,7 +56,7 @@ class Checks:
 # What the page is
 
 def check_source(c, desk, b):
-    page = make_page.PAGE.read_text()
+    page = make_page.page()
     status, headers, text = desk.ask("GET", "/")
     c.say("the program serves the page as it is", (status, text) == (200, page), f"{len(page.encode()):,} bytes")
     policy = headers["Content-Security-Policy"]
@@ -105,10 +107,9 @@ def check_books(c, desk, b):
     c.say("the page asks with what it has, and gets 304 where nothing changed", answers == [304] * 3, answers)
     desk.do("add_location", name="Made elsewhere")
     b.go("locations")
-    before = b.js("document.querySelector('main').textContent.includes('Made elsewhere')")
-    b.click("document.getElementById('again')")
     shown = b.wait("document.querySelector('main').textContent.includes('Made elsewhere')")
-    c.say("what another program made is shown when the books are read anew", shown and not before)
+    c.say("what another program made is shown as one goes to a view", shown)
+    b.rest()
     b.events.clear()
     b.js("(async () => { await refresh(); tag = null; await refresh(); })()")
     asked = [params["request"]["url"] for event, params in b.events if event == "Network.requestWillBeSent"]
@@ -140,6 +141,7 @@ def check_views(c, b, rows):
              (f"item/{rows['built']}", "Arm 0 A1"), (f"line/{rows['line']}", "Board 0: 3"), ("orders?all=1", "Orders"),
              (f"order/{rows['purchase']}", "Purchase"), (f"order/{rows['last_sale']}", "Sale"),
              ("recent", "Recent activity"), ("do", "What can be done"), ("find/motor", "Found: motor"),
+             ("files", "Rows from a file"), ("shopping?optional=1", "Shopping list"),
              ("part/999999999", "No part 999999999"), ("item/x", "No item x"), ("%E0%A4%A", "Stock")]
     for to, title in views:
         b.js("longest = 0; location.hash = '#/find/nothing%20at%20all'")
@@ -190,8 +192,7 @@ def check_views(c, b, rows):
     content = b.js("document.querySelector('main .tree').textContent")
     c.say("what lies in an item is a tree", content.startswith("Motor type 00 M0-1"))
     b.go("builds")
-    b.wait("![...document.querySelectorAll('main tbody tr')].some(it => it.lastChild.textContent === '...')", 60)
-    lacks = b.cells(4)
+    lacks = b.cells(5)
     some = "?" not in lacks and any("\u00d7" in it for it in lacks)
     c.say("each open build says what it misses", len(lacks) > 10 and some, lacks[-1][:60])
 
@@ -201,7 +202,7 @@ def check_new_views(c, desk, b, rows):
     b.go("low")
     few = b.count("main tbody tr")
     c.say("at first a part is low of which nothing is free", few == b.js(free.format(1)) > 0, few)
-    box = "document.querySelector('main input[type=number]')"
+    box = "document.querySelector('main input[inputmode=numeric]')"
     b.click(box)
     b.js(f"{box}.select()")
     b.type("4")
@@ -226,14 +227,15 @@ def check_new_views(c, desk, b, rows):
     c.say("one can look further back", told == f"Look further back than entry {entries - 1999}", told)
     b.go(f"part/{rows['hinge']}")
     kinds = b.cells(2, "main section:last-child")
-    latest = kinds[:2] == ["written off", "marked"]
-    c.say("a part's own entries are shown, the latest first", latest and "shipped" in kinds, kinds[:4])
+    latest = kinds[0].startswith("written off") and kinds[1].startswith("marked")
+    c.say("a part's own entries are shown, the latest first", latest and
+          any(it.startswith("shipped") for it in kinds), kinds[:4])
     b.js("printed = 0; window.print = () => { printed++; }; byId('print').click()")
     c.say("the button prints", b.js("printed") == 1)
 
 
 def check_sheet(c, desk, b, rows):
-    """Counts what lies at a location, by the keyboard, with an answer that is lost and a count that is refused."""
+    """The sheet on which stock is counted, with an answer that is lost. check_clerk.py looks how it is filled in."""
     place, items = desk.do("add_location", name="Counted shelf")[0], []
     for n, part in enumerate((rows["part"], rows["hinge"], rows["counted_part"])):
         items += desk.do("found", part=part, location=place, quantity=10 + n)
@@ -245,46 +247,29 @@ def check_sheet(c, desk, b, rows):
     b.rest()
     b.go(f"sheet/{place}")
     boxes = "[...document.querySelectorAll('main tbody input')]"
-    order, expected = [int(it) for it in b.cells(0)], b.cells(3)
+    order, expected = [int(it) for it in b.cells(1)], b.cells(2)
     shown, wanted = dict(zip(order, expected)), dict(zip(items, ["10", "11", "12"]))
     c.say("the sheet lists what lies there, with what is expected", shown == wanted, shown)
     counts = {items[0]: 12, items[1]: 3, items[2]: 12}
     b.js(f"{boxes}[0].focus()")
     for item in order:
         b.type(str(counts[item]))
-        b.key("Tab")
-    lost, sent = b.lose(1)
+        b.key("Enter")
+    b.click(button("Look at what will change"))
+    b.wait("document.querySelector('main').innerText.includes('Nothing is sent yet')")
     before = desk.entries()
-    b.key("Enter")
+    lost, sent = b.lose(1)
+    b.click(button("Send these 3 counts"))
     said = b.wait("document.querySelector('.said')?.textContent")
     b.rest()
     b.stop_intercepting()
-    told = dict(zip(order, b.cells(5)))
-    c.say("each count is told beside its row", told[items[0]] == "done, +2" and told[items[2]] == "done, as expected"
-          and "Allocated" in told[items[1]], told)
-    c.say("and all of them together", said == "Counted: 2. Refused: 1.", said)
+    c.say("what came of each count is told, and of all of them together", said == "Counted: 2. Refused: 1.", said)
     keys = [json.loads(it)["key"] for it in sent]
     c.say("each has a key of its own; the lost one was sent twice under one", len(keys) == 4 and len(set(keys)) == 3
-          and not lost["left"] and all(re.fullmatch("page-[0-9a-f]{24}", it) for it in keys), len(keys))
+          and not lost["left"] and all(re.fullmatch("....-..-../page-[0-9a-f]{24}", it) for it in keys), len(keys))
     found = {int(row[0]): row[5] for row in desk.table("items")}
     c.say("the books have what was counted, each once", desk.entries() == before + 1 and
           [found[it] for it in items] == ["12", "11", "12"])
-    done = b.js(f"{boxes}.map(it => it.disabled)")
-    c.say("what is done is locked, what is refused can be mended", done == [it != items[1] for it in order], done)
-    lost, sent = b.lose(3)
-    b.js(f"{boxes}[{order.index(items[1])}].focus(); {boxes}[{order.index(items[1])}].select()")
-    b.type("9")
-    b.key("Enter")
-    said = b.wait("document.querySelector('.said.warn')?.textContent")
-    b.rest()
-    c.say("three answers that are lost: the sheet says that it doesn't know", "isn't known" in said and
-          b.js(f"{boxes}.every(it => it.disabled)"), said[:60])
-    b.click(button("Send the counts"))
-    said = b.wait("document.querySelector('.said.good')?.textContent")
-    b.rest()
-    b.stop_intercepting()
-    same, once = len(set(sent)) == 1 and len(sent) == 4, desk.entries() == before + 2
-    c.say("sent again it is done once, under one key", said == "Counted: 1. Refused: 0." and same and once, said)
     b.call("Emulation.setEmulatedMedia", media="print", features=[])
     b.go(f"sheet/{rows['shelf']}")
     c.say("the sheet is printed with its boxes, without what is clicked", b.js(
@@ -336,15 +321,12 @@ def check_paths(c, desk, b):
     b.rest()
     c.say("a double click finds stock once", len(desk.table("items")) == before + 1)
     item = int(desk.table("items")[-1][0])
-    c.say("after the answer the form can't be sent again by accident",
-          b.js(f"{SENDER}.hidden && document.querySelector('form.card fieldset').disabled"))
-    c.say("another one begins a new request", b.wait(f"!{button('Another one like it')}.disabled"))
-    b.click(button("Another one like it"))
+    b.go(f"do/found?part={part}")
+    b.choose("Location", "yard / shelf 3.1")
     b.fill("Quantity", "7")
-    b.key("Enter")
-    b.wait("document.querySelector('.said')?.textContent")
-    b.rest()
-    c.say("and that one is done too", [it[5] for it in desk.table("items")[before:]] == ["50", "7"])
+    said = b.submit()
+    c.say("another one is a new request", "Done" in said and [it[5] for it in desk.table("items")[before:]] ==
+          ["50", "7"], said)
     b.go(f"item/{item}")
     b.click(button("Transfer"))
     b.wait("!!document.querySelector('form.card')")
@@ -384,7 +366,7 @@ def check_paths(c, desk, b):
     c.say("a form in which nothing is chosen isn't sent", not b.count(".said") and desk.table("meta") == entries)
     orders = len(desk.table("orders"))
     b.js("location.hash = '#/do/order?side=sale&partner=Early'")
-    b.wait(f"{H1} === 'New order'")
+    b.wait(f"{H1} === 'New sale'")
     b.js("show(true); document.querySelector('form.card').requestSubmit()")
     time.sleep(0.2)
     early = len(desk.table("orders")) == orders
@@ -487,7 +469,8 @@ def check_unread(c, b):
     b.js("dispatchEvent(new Event('focus'))")
     c.say("elsewhere it is told", b.wait(f"{H1} === \"The program doesn't answer\""))
     b.stop_intercepting()
-    b.click(button("Try again"))
+    if b.js(f"!!{button('Try again')}"):   # the page asks again by itself each 20 seconds
+        b.click(button("Try again"))
     c.say("and asked for again", b.wait(f"{H1} === 'Stock'"))
 
 
@@ -512,6 +495,7 @@ def check_hostile(c, b, rows):
 
 
 def check_log(c, b):
+    c.say("each line that the page sent has a key", b.lines and not b.keyless(), len(b.lines))
     told = [it for it in map(json.dumps, b.logged) if not TOLD.search(it)]
     c.say("no fault and no breach of the policy was logged", not told, told[:2] or "")
 
@@ -555,10 +539,10 @@ def check_looks(c, b, rows):
     c.say("a serial is found", b.js("document.querySelector('main tbody').textContent").count("M7-3") == 1)
     b.js("scrollTo(0, 0); document.activeElement.blur()")
     order = []
-    for _ in range(14):
+    for _ in range(20):
         b.key("Tab")
         order.append(b.js("(it => it.textContent || it.id || it.name)(document.activeElement)")[:14].strip())
-    top = "Stock Low Locations Builds Orders Recent Do text day".split()
+    top = "Stock Low Shopping Locations Builds Orders Recent Do Files text day".split()
     c.say("Tab goes through all controls from the top", " ".join(top) in " ".join(order), ", ".join(order))
 
 
@@ -574,6 +558,21 @@ def take_pictures(b, rows):
     b.js("[...document.querySelectorAll('h2')].find(it => it.textContent.startsWith('What one')).scrollIntoView()")
     b.picture(DOCS / "page-bill-dark.png")
     b.call("Emulation.setEmulatedMedia", media="", features=[])
+    b.call("Emulation.setDeviceMetricsOverride", width=375, height=720, deviceScaleFactor=2, mobile=True)
+    b.go(f"order/{rows['purchase']}")
+    b.picture(DOCS / "page-phone.png")
+    b.call("Emulation.clearDeviceMetricsOverride")
+    b.go(f"files?kind=receipts&order={rows['purchase']}")
+    b.js(f"""(() => {{
+        const [line] = find.linesOf({rows['purchase']}).filter(it => leftOf(it) > 0), part = partName(line.part);
+        byId('rows').value = `Part;Location;Quantity;Batch\\n${{part}};Goods in;${{leftOf(line)}};D-77\\n` +
+          `${{part}};Shelf 99;1;D-78\\n`;
+        byId('document').value = 'delivery-77';
+        byId('rows').dispatchEvent(new Event('input', {{ bubbles: true }})); }})()""")
+    b.click(button("Look at the rows"))
+    b.wait("document.querySelector('main h2')?.textContent === 'What the rows will do'")
+    b.js("document.querySelector('main dl').scrollIntoView()")
+    b.picture(DOCS / "page-files.png")
 
 
 # Who may ask
@@ -695,7 +694,8 @@ def check_firefox(c, desk, rows):
         b.wait(f"{H1} === 'Stock'", 60)
         views = [("low", "What is low"), ("builds", "Builds"), ("recent", "Recent activity"),
                  (f"part/{rows['cell']}", "Robot cell"), (f"item/{rows['motor']}", "Motor type"),
-                 (f"sheet/{rows['shelf']}", "Count sheet")]
+                 (f"sheet/{rows['shelf']}", "Count sheet"), ("shopping", "Shopping list"),
+                 ("files?kind=counts", "Rows from a file")]
         for to, title in views:
             b.js(f"location.hash = '#/{to}'")
             shown = b.wait(f"({H1} || '').startsWith('{title}') && !document.querySelector('[aria-busy=true]')")
@@ -706,9 +706,6 @@ def check_firefox(c, desk, rows):
         b.js("document.querySelector('form.card').requestSubmit()")
         said = b.wait("document.querySelector('.said')?.textContent")
         c.say("Firefox sends a form", said.startswith("Done"), said[:60])
-
-
-CHROMIUM = next(filter(None, map(shutil.which, ("chromium", "chromium-browser", "google-chrome"))), None)
 
 
 def look(c, desk, rows, with_pictures):
@@ -724,16 +721,14 @@ def look(c, desk, rows, with_pictures):
                     "present 335 + used up 40 + shipped 80 + written off 25 \u2713 balanced")
         same = told["wide"][0] == told["wide"][1]
         c.say("the ledger of a part to which everything happened", equation in told["text"] and same, told)
-        check_new_views(c, desk, b, rows)
-        check_books(c, desk, b)
-        check_paths(c, desk, b)
-        check_sheet(c, desk, b, rows)
-        check_forms(c, b)
-        check_lost(c, desk, b, rows)
-        check_unread(c, b)
-        check_hostile(c, b, rows)
-        check_looks(c, b, rows)
-        check_log(c, b)
+        for check, *given in ((check_new_views, desk, b, rows), (check_books, desk, b), (check_paths, desk, b),
+                              (check_sheet, desk, b, rows), (check_forms, b), (check_lost, desk, b, rows),
+                              (check_unread, b), (check_hostile, b, rows), (check_looks, b, rows), (check_log, b)):
+            try:
+                check(c, *given)
+            except Broken as fault:
+                c.say(f"{check.__name__} goes to its end", False, fault)
+                b.stop_intercepting()
 
 
 def main():

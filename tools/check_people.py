@@ -3,10 +3,12 @@
 refused or faulty, and `run --check`, which reads all lines first and runs none where one is faulty. Each is tried in
 memory and on a file, with names and without, alone and together, and by a pipe that brings the lines one by one. The
 lines that are run have to be answered as a plain run of them answers, and to leave the same rows.
-Then `--explain`, which says on the standard error why a line or a row isn't done, and changes nothing of the answers;
-so it is told at a terminal without the word. And `import --loose`, on the sheet of a stocktake and on deliveries that
-have their columns in another order, more of them, or something else between two fields; where LibreOffice's `soffice`
-is found, on the sheet as it saves it.
+Then `--explain`, which says on the standard error why a line or a row isn't done, and of a new name that it is near
+another or blank, and changes nothing of the answers; so it is told at a terminal without the word. Then `--journal`,
+which changes nothing of the answers either and keeps each that is accepted, under the key that a request has or gets,
+and which a run has without the word where its lines are typed at a terminal. And `import --loose`, on the sheet of a
+stocktake and on deliveries that have their columns in another order, more of them,
+or something else between two fields; where LibreOffice's `soffice` is found, on the sheet as it saves it.
 
 usage: tools/check_people.py PROGRAM"""
 import csv
@@ -161,6 +163,38 @@ REASONS = [
 ]
 
 
+def naming(kind, name, parent=None, **more):
+    """The line that makes a part, a category or a location."""
+    return {"do": f"add_{kind}", "day": DAY, "name": name,
+            **({"flags": []} if kind == "part" else {"parent": parent}), **more}
+
+
+# Lines that give names, each with what is told of it: the first row beside that is the same but for the case of
+# letters, blanks, punctuation and what has no width, or that nothing is seen of the name.
+NEAR = [
+    (naming("category", "Capacitors"), None),
+    (naming("category", "capacitors"), 'note: "capacitors" is new beside "Capacitors"'),
+    (naming("category", "Capacitor"), None),
+    (naming("category", "capacitors", 1), None),
+    (naming("category", "CAPACITORS ", 1), 'note: "CAPACITORS " is new beside "capacitors"'),
+    (naming("part", "LM 317"), None),
+    (naming("part", "capacitors"), None),
+    (naming("part", "lm-317"), 'note: "lm-317" is new beside "LM 317"'),
+    (naming("part", "LM 318"), None),
+    (naming("part", "LM+317"), None),
+    (naming("part", "L\u200bM317"), 'note: "L\u25a1M317" is new beside "LM 317"'),
+    (naming("part", "LM 317"), "NameTaken: name LM 317, flags none. Another part has the name, "),
+    (naming("part", "L.M.317", key="K"), 'note: "L.M.317" is new beside "LM 317"'),
+    (naming("part", "L.M.317", key="K"), None),
+    (naming("part", " \u2003"), 'note: the name " \u25a1" is blank'),
+    (naming("part", "\u2605"), None),
+    (naming("location", "REGAL \u00c4"), None),
+    (naming("location", "Regal: \u00e4"), 'note: "Regal: \u00e4" is new beside "REGAL \u00c4"'),
+    (naming("location", "regal \u00e4", 16), None),
+    (naming("location", "Capacitors"), None),
+]
+
+
 def reasons_of(text):
     """What is told on the standard error, a line each."""
     return [line for line in text.replace("\r", "").split("\n") if line]
@@ -193,13 +227,101 @@ def try_reasons(program, top):
         told = run(program, "run", "--explain", lines="".join(json.dumps(line) + "\n" for line in lines)).stderr
         wanted = f"line {len(lines)}: {front}"
         expect(told.startswith(wanted), f"{told!r} is told, and not {wanted!r}")
+    told = at_terminal(program, "[1]\n")
+    expect(told[-1].startswith("line 1: NotObject. "), f"at a terminal {told!r} is told")
+
+
+def try_near_names(program, top):
+    """Each name that is near another or blank, in memory, on a file and once all lines were looked at; what is told
+    where nothing is asked for; and at a terminal without the word. The answers are the same throughout."""
+    text = "".join(json.dumps(line) + "\n" for line, _ in NEAR)
+    wanted = [f"line {number}: {told}" for number, (_, told) in enumerate(NEAR, 1) if told]
+    answers = run(program, "run", lines=text)
+    expect(not answers.stderr, f"names: without the word {answers.stderr!r} is told")
+    path = os.path.join(top, "near.db")
+    for words in [], ["--check"], ["--db", path]:
+        done = run(program, "run", *words, "--explain", lines=text)
+        expect_same(f"names {words}", done, answers.stdout, answers.returncode)
+        told = reasons_of(done.stderr)
+        for line, front in zip(told, wanted, strict=True):
+            is_told = line == front if "note: " in front else line.startswith(front)
+            expect(is_told, f"names {words}: {line!r} is told, and not {front!r}")
+    more = json.dumps(naming("category", "capa citors")) + "\n"
+    told = run(program, "run", "--db", path, "--explain", lines=more).stderr
+    expect(told == 'line 1: note: "capa citors" is new beside "Capacitors"\n', f"names of a file: {told!r}")
+    expect(at_terminal(program, text_of("l") + json.dumps(naming("location", "a")) + "\n")[-1]
+           == 'line 2: note: "a" is new beside "A"', "names at a terminal")
+
+
+def kept(program, path):
+    """The keys under which a file keeps answers."""
+    table = csv.DictReader(io.StringIO(run(program, "export", "--db", path, "kept").stdout))
+    return {row["word"] for row in table}
+
+
+def by_hand(request, key):
+    """The request with a key that a person gives."""
+    return {**request, "key": key}
+
+
+# Requests with the keys that are kept of them then: the third finds the key of its number given, and the fourth is
+# refused and leaves its number to the next.
+JOURNAL = [
+    (LINES["l"], f"{DAY}/1"),
+    (by_hand({**LINES["l"], "name": "B"}, f"{DAY}/3"), f"{DAY}/3"),
+    (LINES["p"], f"{DAY}/4"),
+    (LINES["l"], None),
+    ({**LINES["l"], "day": "2030-01-05", "name": "C"}, "2030-01-05/4"),
+    (LINES["m"], None),
+    (by_hand({**LINES["l"], "name": "B"}, f"{DAY}/3"), f"{DAY}/3"),
+]
+
+
+def typed(program, path, text):
+    """What a run on a file answers whose lines are typed at a terminal."""
+    master, slave = pty.openpty()
+    words = [program, "run", "--db", path]
+    with subprocess.Popen(words, stdin=slave, stdout=subprocess.PIPE, stderr=subprocess.PIPE) as typing:
+        os.close(slave)
+        os.write(master, text.encode() + b"\x04")
+        answers = typing.communicate(timeout=10)[0].decode()
+    os.close(master)
+    return answers
+
+
+def try_journal(program, top):
+    """A journal of lines as they come and of lines that were looked at, and with names; one that goes on in a further
+    run; what is kept without the word; and a run at a terminal."""
+    text = "".join(json.dumps(line) + "\n" for line, _ in JOURNAL)
+    plain_path = os.path.join(top, "plain.db")
+    answers = run(program, "run", "--db", plain_path, lines=text)
+    expect(kept(program, plain_path) == {f"{DAY}/3"}, f"without a journal {kept(program, plain_path)} are kept")
+    keys = {key for _, key in JOURNAL if key}
+    for number, words in enumerate([[], ["--check"], ["--names"], ["--explain"]]):
+        path = os.path.join(top, f"journal-{number}.db")
+        done = run(program, "run", "--journal", *words, "--db", path, lines=text)
+        expect_same(f"--journal {words}", done, answers.stdout, answers.returncode)
+        expect(kept(program, path) == keys, f"--journal {words}: {kept(program, path)} are kept, and not {keys}")
+        same = exports(program, path)[:-1] == exports(program, plain_path)[:-1]
+        expect(same, f"--journal {words}: the file has other rows")
+        run(program, "run", "--journal", "--db", path, lines=json.dumps({**LINES["l"], "name": "D"}) + "\n")
+        expect(kept(program, path) == keys | {f"{DAY}/5"}, f"--journal {words}: then {kept(program, path)} are kept")
+    expect_same("--journal", run(program, "run", "--journal", lines=text), answers.stdout, answers.returncode)
+    path = os.path.join(top, "typed.db")
+    told = typed(program, path, text)
+    expect(told == answers.stdout, f"typed lines are answered by {told!r}")
+    expect(kept(program, path) == keys, f"of typed lines {kept(program, path)} are kept, and not {keys}")
+
+
+def at_terminal(program, text):
+    """What a run tells where the standard error is a terminal."""
     master, slave = pty.openpty()
     with subprocess.Popen([program, "run"], stdin=subprocess.PIPE, stdout=subprocess.PIPE, stderr=slave) as typed:
-        typed.communicate(b"[1]\n", timeout=10)
+        typed.communicate(text.encode(), timeout=10)
         told = os.read(master, 65_536).decode()
     os.close(slave)
     os.close(master)
-    expect(reasons_of(told)[-1].startswith("line 1: NotObject. "), f"at a terminal {told!r} is told")
+    return reasons_of(told)
 
 
 # Deliveries that are read loosely, each with what is told of it: `P` is the line of the order, `S` the location.
@@ -317,6 +439,8 @@ def main():
         try_by_hand(program)
         try_long(program, top)
         try_reasons(program, top)
+        try_near_names(program, top)
+        try_journal(program, top)
         try_loose(program, top)
         sheets = try_sheet(program, top)
     count, reasons = len(texts) + len(texts + named), len(REASONS) + len(REFUSED)

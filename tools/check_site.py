@@ -2,8 +2,9 @@
 """Runs the program as a server with its page, and asks it for all that a page reads: each route, good and bad, with its
 fields byte for byte; the page as it lies in the repository, and whether its policy is that of its scripts and styles;
 the books beside what the program exports of each table; the history in steps of a thousand; the tag, which only what is
-taken changes; and who may ask, with a token and without. Without '--page' the same paths have to be unknown, and each
-answer has to be as before. Then 2,000 readings, of which no descriptor and no memory may stay.
+taken changes; files of commands, good and bad, and sent again; and who may ask, with a token and without. Without
+'--page' the same paths have to be unknown, and each answer has to be as before. Then 2,000 readings, of which no
+descriptor and no memory may stay.
 
 usage: tools/check_site.py PROGRAM"""
 import base64
@@ -19,7 +20,8 @@ import socket
 import tempfile
 import time
 
-from shared import COLUMNS, TOP, expect, reader_of_words, run, serve
+import make_page
+from shared import COLUMNS, expect, reader_of_words, run, serve
 
 DAY = "2030-01-02"
 TOKEN = "0123456789abcdefghijklmnopqrstuvwxyz~!"
@@ -82,8 +84,16 @@ class Site:
 
 
 def status_line(status):
-    names = {200: "OK", 304: "Not Modified", 401: "Unauthorized", 403: "Forbidden", 404: "Not Found",
-             405: "Method Not Allowed", 421: "Misdirected Request"}
+    names = {
+        200: "OK",
+        304: "Not Modified",
+        400: "Bad Request",
+        401: "Unauthorized",
+        403: "Forbidden",
+        404: "Not Found",
+        405: "Method Not Allowed",
+        421: "Misdirected Request",
+    }
     return f"HTTP/1.1 {status} {names[status]}"
 
 
@@ -111,7 +121,7 @@ def policy_of(page):
 def page_itself(site):
     """The page and its fields."""
     head, body = site.sent("GET", "/")
-    page = (TOP / "page" / "page.html").read_text(encoding="utf-8")
+    page = make_page.page()
     expect(body == page.encode(), "the page isn't that of the repository")
     policy = f"Content-Security-Policy: {policy_of(page)}"
     expect_head("the page", head, 200, "text/html; charset=utf-8", len(body), *OF_PAGE, policy)
@@ -191,6 +201,51 @@ def tags(site):
     expect(tag().split("-")[1] == '3"', "a file that was taken isn't counted")
 
 
+def sheets(site):
+    """Files of commands: what is answered to them, and that nothing is done of one with a fault."""
+
+    def tag():
+        head, _ = site.sent("GET", "/books")
+        return next(field.removeprefix("ETag: ") for field in head if field.startswith("ETag: "))
+
+    def sent(command, document, text, status, media):
+        path = f"/import/{command}/{document}/{DAY}"
+        head, body = site.sent("POST", path, body=text)
+        expect_head(f"{path} with {text!r}", head, status, media, len(body))
+        return body
+
+    plain, as_json = "text/plain; charset=utf-8", "application/json"
+    parts = b"name;flags;price\nWasher;component;0,2\n;;\nStud;component;1\n"
+    first = sent("add_part", "P1", parts, 200, plain)
+    expect(len(first.splitlines()) == 2 and all(b'"ids":[' in told for told in first.splitlines()),
+           f"a file of parts is answered {first!r}")
+    known = tag()
+    expect(sent("add_part", "P1", parts, 200, plain) == first, "a file that is sent again is answered otherwise")
+    expect(tag() != known, "a file that was taken isn't counted")
+    known = tag()
+    for text, faults in (
+        (b"part,location,quantity\nWasher,Store,1\nStud,Store,x\n", b'{"fault":"WrongType","line":3}\n'),
+        (b"part,location,quantity\nWasher,Store,\n", b'{"fault":"NoField","line":2}\n'),
+        (b"part,location\nWasher,Store\n", b'{"fault":"Header","line":1}\n'),
+        (b"\xff\xfep\0", b'{"fault":"Header","line":1}\n'),
+        (b"part,location,quantity\nWasher,Store,1,2\n", b'{"fault":"Csv","line":2}\n'),
+    ):
+        expect(sent("found", "S1", text, 400, as_json) == faults, f"{text!r} isn't told to have the fault {faults!r}")
+    two = b"part,location,quantity\nWasher,Store,x\nWasher,Store,1\nStud,Store,1.5\n"
+    faults = b'{"fault":"WrongType","line":2}\n{"fault":"WrongType","line":4}\n'
+    expect(sent("found", "S1", two, 400, plain) == faults, "two faults aren't told as lines")
+    expect(tag() == known, "what has a fault changes the tag")
+    named = b"part,location,quantity\nWasher,Store,3\nNo such part,Store,1\nStud,Store,2\n"
+    told = sent("found", "S1", named, 200, plain).splitlines()
+    expect(len(told) == 3 and told[1] == b'{"fault":"NoName","field":"part","line":3}', f"names are answered {told}")
+    told = sent("add_part", "P2", b"name,flags\nWasher,component\n", 200, plain)
+    expect(told == b'{"refused":"NameTaken"}\n', f"a name that is taken is answered {told!r}")
+    for command in ("receive", "count", "receipt", "add_parts", "Add_part", "add-part"):
+        expect(sent(command, "P1", b"name\n", 404, as_json) == b'{"http":404}\n', f"there is a command {command}")
+    head, body = site.sent("GET", f"/import/add_part/P1/{DAY}")
+    expect_head("a file that is asked for", head, 405, as_json, len(body), "Allow: POST")
+
+
 def wrong_paths(site):
     """What is no path, and what has another method."""
     for path in ("/index.html", "/export", "/export/", "/export/robots", "/export/Items", "/export/items/1", "/books/",
@@ -250,6 +305,8 @@ def without_a_page(program, path):
         head, body = site.sent("GET", asked)
         expect(body == b'{"http":404}\n', f"without a page {asked} is answered {body!r}")
         expect_head(asked, head, 404, "application/json", len(body), guards=False)
+    head, body = site.sent("POST", f"/import/add_part/P9/{DAY}", body=b"name,flags\nRivet,component\n")
+    expect_head("a file of a command", head, 404, "application/json", len(body), guards=False)
     head, body = site.sent("GET", "/report/ledger/2")
     expect_head("a report", head, 200, "text/plain; charset=utf-8", len(body), guards=False)
     site.ended()
@@ -297,6 +354,7 @@ def main():
         wrong_paths(site)
         who_may_ask(site)
         tags(site)
+        sheets(site)
         many(site)
         site.ended()
         again(program, path, first)

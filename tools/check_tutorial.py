@@ -1,20 +1,25 @@
 #!/usr/bin/env python3
-"""Does what `docs/TUTORIAL.md` says, on the built program. The commands of its blocks are run in their order, each by a
-shell, in one temporary folder, and what comes back is compared byte for byte with what stands there. Then it looks
-whether the tables of `docs/REFUSALS.md` have one row for each word that the program says: each refusal, each fault,
-what is told of a file or a token, and each status, as the sources have them.
+"""Does what `docs/TUTORIAL.md`, `docs/MOVING-IN.md`, `docs/RECALL.md` and `docs/MISTAKES.md` say, on the built program.
+The commands of the blocks of each are run in their order, each by a shell, in one temporary folder, and what comes back
+is compared byte for byte with what stands there. What lies in `docs` in a folder of the document's name, in small
+letters, is in it at first. Then it looks whether the tables of `docs/REFUSALS.md` have one row for each word that the
+program says: each refusal, each fault, what is told of a file or a token, and each status, as the sources have them;
+and whether those of `docs/MISTAKES.md` have a row for each command, and its blocks a line for each that mends one.
 
 usage: tools/check_tutorial.py PROGRAM"""
 import os
 import pathlib
 import re
+import shutil
 import subprocess
 import sys
 import tempfile
 
+from machine.lines import FIELDS
 from shared import TOP, expect, reader_of_words
 
-TUTORIAL, REFUSALS = TOP / "docs" / "TUTORIAL.md", TOP / "docs" / "REFUSALS.md"
+DOCUMENTS = ["TUTORIAL.md", "MOVING-IN.md", "RECALL.md", "MISTAKES.md"]
+REFUSALS, MISTAKES = TOP / "docs" / "REFUSALS.md", TOP / "docs" / "MISTAKES.md"
 # What is told of a variant, behind its name: a text, a text that is written, or one that is written with values in it.
 ARM = r'::(\w+)(?:\([\w()]*\))? =>\s*\{?\s*(?:f\.write_str\(|write!\(f,)?\s*"([^"]*)"'
 # Another fault, which has texts of its own.
@@ -23,11 +28,11 @@ OTHER = ["{fault}", "{failed}"]
 HIDDEN = ["OpenFault::Memory", "OpenFault::Foreign", "OpenFault::Old", "Cause::NoTable"]
 
 
-def commands():
-    """Each command of the tutorial: the number of its line, its text, and the output that stands behind it."""
+def commands(document):
+    """Each command of a document: the number of its line, its text, and the output that stands behind it."""
     found, end, is_inside = [], None, False
-    for number, line in enumerate(TUTORIAL.read_text().splitlines(), 1):
-        where = f"docs/TUTORIAL.md:{number}"
+    for number, line in enumerate((TOP / "docs" / document).read_text().splitlines(), 1):
+        where = f"docs/{document}:{number}"
         if line.startswith("```"):
             is_inside = not is_inside
             expect(line == "```console" or not is_inside, f"{where}: a block isn't one of commands")
@@ -39,20 +44,24 @@ def commands():
             end = None if line == end else end
         elif line.startswith("$ "):
             found.append([number, line[2:] + "\n", ""])
-            document = re.search(r"<<'(\w+)'", line)
-            end = document and document[1]
+            here = re.search(r"<<'(\w+)'", line)
+            end = here and here[1]
         else:
             expect(found, f"{where}: an output stands before any command")
             found[-1][2] += line + "\n"
     return found
 
 
-def outputs(program, steps):
-    """What each command writes, to the standard error too, in a folder that has nothing in it at first."""
+def outputs(program, steps, *beside, **more):
+    """What each command writes, to the standard error too, in a folder that has what lies in these beside the document,
+    where there are more programs of these names."""
     with tempfile.TemporaryDirectory() as top:
         for name in ("bin", "workshop"):
             pathlib.Path(top, name).mkdir()
-        pathlib.Path(top, "bin", "invdesk").symlink_to(program)
+        for folder in filter(pathlib.Path.is_dir, beside):
+            shutil.copytree(folder, f"{top}/workshop", dirs_exist_ok=True)
+        for name, path in {"invdesk": program, **more}.items():
+            pathlib.Path(top, "bin", name).symlink_to(path)
         words = {**os.environ, "PATH": f"{top}/bin:{os.environ['PATH']}"}
         how = {"cwd": f"{top}/workshop", "env": words, "stdin": subprocess.DEVNULL, "stdout": subprocess.PIPE}
         for _, command, _ in steps:
@@ -67,6 +76,14 @@ def difference(wanted, told):
     wanted, told = wanted.split("\n"), told.split("\n")
     pairs = (f"{ours!r} and not {theirs!r}" for ours, theirs in zip(told, wanted) if ours != theirs)
     return next(pairs, f"{len(told)} lines and not {len(wanted)}")
+
+
+def differing(program, document):
+    """What comes back otherwise than a document says, and how many commands it has."""
+    steps = commands(document)
+    told = outputs(program, steps, TOP / "docs" / pathlib.Path(document).stem.lower())
+    differences = [(number, difference(wanted, it)) for (number, _, wanted), it in zip(steps, told)]
+    return [f"docs/{document}:{at}: the command answers {it}" for at, it in differences if it], len(steps)
 
 
 def source(path):
@@ -121,18 +138,30 @@ def wrong_rows(wanted, found):
                 yield f"{title}: {rows.count(word)} rows have {word!r}"
 
 
+def unmended():
+    """Each command that no row of the mistakes has, and each that mends one and stands in no line there."""
+    text = MISTAKES.read_text()
+    rows = [line.split(" | ") for line in text.split("\n") if line.startswith("| `")]
+    told = {row[0].strip("|` ") for row in rows}
+    mending = {word for row in rows for word in re.findall(r"`(\w+)`", row[2])}
+    for words, what in (FIELDS.keys() - told, "no row"), (told - FIELDS.keys(), "a row, and is none"):
+        yield from (f"the command {it} has {what}" for it in sorted(words))
+    yield from (f"{it} mends something, and no line has it" for it in sorted(mending) if f'"do":"{it}"' not in text)
+
+
 def main():
     program = reader_of_words(__doc__).parse_args().program
-    steps, words = commands(), words_of_sections()
-    faults = []
-    for (number, _, wanted), told in zip(steps, outputs(program, steps)):
-        found = difference(wanted, told)
-        if found:
-            faults.append(f"docs/TUTORIAL.md:{number}: the command answers {found}")
-    faults += [f"docs/REFUSALS.md: {fault}" for fault in wrong_rows(words, rows_of_sections())]
+    words, counts = words_of_sections(), []
+    faults = [f"docs/REFUSALS.md: {fault}" for fault in wrong_rows(words, rows_of_sections())]
+    faults += [f"docs/MISTAKES.md: {fault}" for fault in unmended()]
+    for document in DOCUMENTS:
+        found, count = differing(program, document)
+        faults += found
+        counts.append(f"{count} commands of {document}")
     for fault in faults:
         print(f"check_tutorial: {fault}")
-    print(f"check_tutorial: {len(steps)} commands and {sum(map(len, words.values()))} words, {len(faults)} differ")
+    told = ", ".join([*counts, f"{sum(map(len, words.values()))} words"])
+    print(f"check_tutorial: {told}, {len(faults)} differ")
     sys.exit(1 if faults else 0)
 
 

@@ -5,19 +5,26 @@ First it looks whether each wrong body still applies, whether each name that the
 whether the worked examples with names ask for what those with numbers do, and say each field in each form, and
 whether the page has what it takes from the documents, and the program the page. Then 'rt ci' proves every crate from
 nothing, tries the must-fail edits, and runs the tests and the program. The program that this built is then tried as
-its owner would: with the examples with names and the tutorial, with the words of a clerk, with lists, files, imports,
-clients of HTTP, what its page reads, and kills, and beside the rules written once more. Where a step fails, those
-behind it are not run. The last line is 'N passed, M failed': what 'rt ci' counts, and one for each script. It takes
-two to three hours, of which the scripts take five minutes.
+its owner would: with the examples with names, the tutorial, the move from spreadsheets, a recall and mistakes, with the
+words of a clerk, with lists, files, imports, questions to the tables, clients of HTTP, what its page reads, and kills,
+and beside the rules written once more.
+Where a step fails, those behind it are not run. The last line is 'N passed, M failed': what 'rt ci' counts, and one
+for each script. Before it stands a table of what each crate's proof, tests and wrong bodies took, and waited for. It
+takes two to three hours, of which the scripts take six minutes.
 
-usage: tools/gate.py [--jobs N]     N proofs side by side; else as many as there are processors with 5.5 GB each"""
+usage: tools/gate.py [--jobs N | --only CHECK | --table [--graph FILE]]
+  --jobs N       N proofs side by side; else as many as there are processors with 5.5 GB each
+  --only CHECK   the scripts whose names have this word alone, as 'http', on the program that is built
+  --table        the table of the last gate here; with --graph a picture of it (SVG) into the file, too"""
 import argparse
 import os
+import pathlib
 import re
 import subprocess
 import sys
 
-from shared import TOP
+import proof_times
+from shared import TOP, expect
 
 PROGRAM = "crates/invdesk/out/invdesk"
 # The memory that there has to be for each proof. The largest takes 7 GB, and most 2 to 4.
@@ -30,6 +37,8 @@ AFTER = [
     f"check_lists.py {PROGRAM}",
     f"check_file.py {PROGRAM}",
     f"check_import.py {PROGRAM}",
+    f"check_sheets.py {PROGRAM}",
+    f"check_tables.py {PROGRAM}",
     f"check_http.py {PROGRAM}",
     f"check_site.py {PROGRAM}",
     f"check_kills.py {PROGRAM}",
@@ -60,21 +69,45 @@ def count_proofs(jobs):
     last = ""
     environment = {**os.environ, "RT_JOBS": str(jobs or proofs_at_once())}
     how = {"stdout": subprocess.PIPE, "text": True, "errors": "replace"}
+    watch = proof_times.Watch()
+    watch.start()
     with subprocess.Popen(["rt", "ci"], cwd=TOP, env=environment, **how) as ran:
         for last in ran.stdout:
             print(last, end="", flush=True)
+    steps = watch.stop()
+    proof_times.keep(steps)
+    print("\n".join(proof_times.table_of(steps)), flush=True)
     counts = re.fullmatch(r"(\d+) passed, (\d+) failed", last.strip())
     passed, failed = map(int, counts.groups()) if counts else (0, 1)
     return passed, failed or int(ran.returncode != 0)
 
 
+def show_table(graph):
+    """Prints the table of the last gate, and writes its picture where one is asked for."""
+    steps = proof_times.kept()
+    print("\n".join(proof_times.table_of(steps) if steps else ["no gate ran here yet"]))
+    if steps and graph:
+        graph.write_text("\n".join(proof_times.graph_of(steps)) + "\n")
+
+
 def main():
+    does, called = __doc__.split("\nusage: ")
     plain = argparse.RawDescriptionHelpFormatter
-    words = argparse.ArgumentParser(description=__doc__, formatter_class=plain)
-    words.add_argument("--jobs", type=int, metavar="N")
-    jobs = words.parse_args().jobs
+    words = argparse.ArgumentParser(usage=called, description=does, formatter_class=plain)
+    words.add_argument("--jobs", type=int)
+    words.add_argument("--only")
+    words.add_argument("--table", action="store_true")
+    words.add_argument("--graph", type=pathlib.Path)
+    given = words.parse_args()
+    if given.table:
+        return show_table(given.graph)
+    steps = [lambda: count_scripts(BEFORE), lambda: count_proofs(given.jobs), lambda: count_scripts(AFTER)]
+    if given.only:
+        chosen = [it for it in [*BEFORE, *AFTER] if given.only in it.split()[0]]
+        expect(chosen, f"no script has {given.only!r} in its name")
+        steps = [lambda: count_scripts(chosen)]
     passed = failed = 0
-    for step in (lambda: count_scripts(BEFORE), lambda: count_proofs(jobs), lambda: count_scripts(AFTER)):
+    for step in steps:
         if not failed:
             more, failed = step()
             passed += more

@@ -1,5 +1,6 @@
 """The page as its user has it: served by the program, opened in Chromium, looked at and used."""
 import json
+import shutil
 
 from browser import Chromium
 from made_workshop import DAY
@@ -10,6 +11,8 @@ IS_AT_REST = "typeof reading !== 'undefined' && find && !reading && !document.qu
 # The roles of what has to have a name for who can't see it.
 NAMED = set("button link textbox searchbox combobox checkbox spinbutton listbox option navigation image img Date form"
             " table".split())
+# Chromium, where it is.
+CHROMIUM = next(filter(None, map(shutil.which, ("chromium", "chromium-browser", "google-chrome"))), None)
 # The worst contrast of a text on its ground.
 CONTRAST = r"""(() => {
   const light = text => {
@@ -68,7 +71,14 @@ class Desk:
     """The program, serving the page of a file."""
 
     def __init__(self, program, path, *words):
-        self.process, self.port = serve(program, "--db", path, "--page", *words, stderr=None)
+        self.program, self.path, self.words, self.port = program, path, words, None
+        self.start()
+
+    def start(self, path=None, **more):
+        """Starts the program, at its port where it had one before; with another file if one is named."""
+        self.path = path or self.path
+        words = [self.program, "--db", self.path, "--page", *self.words]
+        self.process, self.port = serve(*words, stderr=None, port=self.port, **more)
         self.url = f"http://127.0.0.1:{self.port}/"
 
     def ask(self, method, path, body=None, **fields):
@@ -87,13 +97,31 @@ class Desk:
     def entries(self):
         return int(self.table("meta")[0][3])
 
+    def kill(self):
+        """Ends it as a power cut would."""
+        self.process.kill()
+        self.process.wait()
+
     def close(self):
         self.process.terminate()
         self.process.wait()
 
 
 class Page(Chromium):
-    """The page in Chromium."""
+    """The page in Chromium. All lines that it sends are kept."""
+
+    def __init__(self, program, *words):
+        super().__init__(program, *words)
+        self.lines = []
+
+    def take(self, event, params):
+        if event == "Network.requestWillBeSent" and params["request"]["url"].endswith("/run"):
+            self.lines.append(params["request"].get("postData", ""))
+        super().take(event, params)
+
+    def keyless(self):
+        """The lines that were sent without a key."""
+        return [it for it in self.lines if not (it and json.loads(it).get("key"))]
 
     def go(self, to):
         self.js(f"location.hash = '#/{to}'")

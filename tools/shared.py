@@ -50,9 +50,10 @@ def free_port():
         return taken.getsockname()[1]
 
 
-def serve(program, *words, stderr=subprocess.PIPE, **more):
-    """Starts the program as a server, and waits until it can be asked: the process and its port."""
-    port = free_port()
+def serve(program, *words, stderr=subprocess.PIPE, port=None, **more):
+    """Starts the program as a server, at a free port or that one, and waits until it can be asked: the process and its
+    port."""
+    port = port or free_port()
     words = [program, "serve", *words, "--port", str(port)]
     process = subprocess.Popen(words, stdout=subprocess.PIPE, stderr=stderr, **more)
     said = process.stdout.readline()
