@@ -24,19 +24,23 @@ install: build
 	install -D $(PROGRAM) $(PREFIX)/bin/invdesk
 
 # Lines per second and peak memory over 20,000 and 40,000 lines of each kind, in memory and with a file; files beside
-# Python's sqlite3, a C program and the kit's sqlite alone; imports beside lines; requests over HTTP beside Python's
-# http.server; lines with names beside lines with numbers; and how calls of the libraries grow. 'make bench WHAT=file'
-# times files alone; 'tools/bench.py --help' tells the words.
+# Python's sqlite3, a C program and the kit's sqlite alone; imports beside lines, those of counts and those of a
+# command; requests over HTTP beside Python's http.server; lines with names beside lines with numbers; what a journal
+# costs, and the lists that read it; and how calls of the libraries grow. 'make bench WHAT=file' times files alone;
+# 'tools/bench.py --help' tells the words.
 bench: build
 	python3 tools/bench.py $(PROGRAM) $(WHAT)
 
 # Files as Python's sqlite3 finds them, and files that are refused; the program killed amid a pipe of lines (all of it
 # by '--kills 100 --lines 100000'); deliveries and stocktakes that Python's csv and, where it is there, LibreOffice
-# wrote.
+# wrote; files of every command, beside the same definition in Python; and the tables as docs/TABLES.md tells and asks
+# them, by PostgreSQL too where a server of it is here.
 file: build
 	python3 tools/check_file.py $(PROGRAM)
 	python3 tools/check_kills.py $(PROGRAM)
 	python3 tools/check_import.py $(PROGRAM)
+	python3 tools/check_sheets.py $(PROGRAM)
+	python3 tools/check_tables.py $(PROGRAM)
 
 # The program as a server, asked by Python's http.client, by curl and by bare sockets, and killed; and with its page,
 # asked for all that the page reads.
@@ -44,14 +48,17 @@ http: build
 	python3 tools/check_http.py $(PROGRAM)
 	python3 tools/check_site.py $(PROGRAM)
 
-# The page of 'serve --page' in Chromium, which has to be here, and in Firefox where that is. 'tools/make_page.py' writes
-# the page into the program.
+# The page of 'serve --page' in Chromium, which has to be here, and in Firefox where that is; as a clerk uses it, at a
+# desk and on a phone; and where answers are lost, others work too, or the file fails. 'tools/make_page.py' writes the
+# page into the program from the files of 'page/'.
 page: build
 	python3 tools/check_page.py $(PROGRAM)
+	python3 tools/check_clerk.py $(PROGRAM)
+	python3 tools/check_hazards.py $(PROGRAM)
 
-# The program on the worked examples with names and on the tutorial, as a clerk asks it to stop, to check or to show a
-# list, and beside the rules written once more in Python: answers, reports, lists and tables of requests that are made
-# up, and which changed files it opens.
+# The program on the worked examples with names, on the tutorial, on the move from spreadsheets, on a recall and on
+# mistakes, as a clerk asks it to stop, to check or to show a list, and beside the rules written once more in Python:
+# answers, reports, lists and tables of requests that are made up, and which changed files it opens.
 machine: build
 	python3 tools/check_examples.py $(PROGRAM)
 	python3 tools/check_tutorial.py $(PROGRAM)
