@@ -7,7 +7,8 @@ whose lists are compared with the rules written once more, also once what the fi
 30,000 pieces, each cut off the one before. Then it types at a terminal: a greeting, a prompt, `help`, and the same
 answers as from a pipe, with a journal; and before a long file is read, it is said so.
 
-usage: tools/check_lists.py PROGRAM"""
+usage: tools/check_lists.py PROGRAM [--few]
+  --few   made-up books of 200 requests and a chain of 300 pieces, for a program that isn't optimised"""
 import contextlib
 import csv
 import io
@@ -22,6 +23,8 @@ from machine import lists
 from shared import expect, reader_of_words, run
 
 DAY = "2030-01-02"
+# How many seconds a run may take that reads a few lines, or fails at once.
+MOST = 60
 LINES = [
     {"do": "add_location", "name": "Store"},
     {"do": "add_location", "name": "Shelf A", "parent": "Store"},
@@ -140,8 +143,10 @@ number  name   category  present  free  allocated  items
 6       Robot            0        0     0          1
 7       Bölt             0        0     0          0
 """
-# Made-up books: a seed, how many requests, whether there is a journal, and the share of requests with own keys.
-MADE_UP = [(1, 2_000, True, 0.1), (2, 2_000, False, 0.5), (3, 2_000, False, 0)]
+# Made-up books: a seed, whether there is a journal, and the share of requests with own keys.
+MADE_UP = [(1, True, 0.1), (2, False, 0.5), (3, False, 0)]
+# How many requests these have, and how many pieces the chain; and how many where few are asked for.
+MANY, FEW = (2_000, 30_000), (200, 300)
 # Words that go with no list, and rows that there aren't: what is printed, and the status.
 WRONG = [
     ["stock", "Store"], ["stock", "--open"], ["stock", "--low", "few"], ["at"], ["at", "Store", "--open"],
@@ -190,7 +195,7 @@ def typed(program, path, lines, ends, *words):
     with subprocess.Popen([program, "run", "--names", *words, "--db", path], **how) as process:
         os.close(seat)
         os.write(hand, "".join(line + "\n" for line in lines).encode() + b"\x04")
-        out, screen = process.communicate(timeout=20)
+        out, screen = process.communicate(timeout=MOST)
         os.close(hand)
     return out.decode(), screen.decode(), process.returncode
 
@@ -227,7 +232,7 @@ def try_long(program, top, ends):
     with open(path, "wb") as file:
         file.truncate(33 * 1024 * 1024)
     words = [program, "show", "--db", path, "stock"]
-    done = subprocess.run(words, stdout=subprocess.PIPE, stderr=seat, timeout=20, check=False)
+    done = subprocess.run(words, stdout=subprocess.PIPE, stderr=seat, timeout=MOST, check=False)
     os.close(seat)
     screen = os.read(hand, 65_536).decode()
     os.close(hand)
@@ -239,7 +244,10 @@ def try_long(program, top, ends):
 
 
 def main():
-    program = reader_of_words(__doc__).parse_args().program
+    words = reader_of_words(__doc__)
+    words.add_argument("--few", action="store_true")
+    given = words.parse_args()
+    program, (requests, pieces) = given.program, FEW if given.few else MANY
     with tempfile.TemporaryDirectory() as top:
         path = os.path.join(top, "workshop.db")
         lines = "".join(json.dumps({"day": DAY, **line}) + "\n" for line in LINES)
@@ -252,8 +260,8 @@ def main():
         with contextlib.closing(open(path, "rb")) as file:
             expect(file.read() == before, "a list changed the file")
         compared = recalled.try_by_hand(program, top)
-        compared += sum(recalled.try_made_up(program, top, *books) for books in MADE_UP)
-        recalled.try_chain(program, top)
+        compared += sum(recalled.try_made_up(program, top, requests, *books) for books in MADE_UP)
+        recalled.try_chain(program, top, pieces)
         ends = terminal()
         if ends:
             try_terminal(program, path, ends)

@@ -25,6 +25,8 @@ import tempfile
 from shared import expect, reader_of_words, run
 
 DAY = "2030-01-02"
+# How many seconds a run may take that reads a few lines.
+MOST = 60
 # What the lines ask for, by a letter: the first three make rows, the others read or change them.
 LINES = {
     "l": {"do": "add_location", "day": DAY, "name": "A"},
@@ -122,9 +124,9 @@ def try_by_hand(program):
             typed.stdin.flush()
             told = json.loads(typed.stdout.readline())
             expect(is_fine(told) == (letter != "r"), f"by hand: {letter} is answered {told}")
-        expect(typed.wait(10) == 1, "by hand: the run doesn't end behind a refusal")
+        expect(typed.wait(MOST) == 1, "by hand: the run doesn't end behind a refusal")
     with subprocess.Popen([program, "run", "--check"], **how) as typed:
-        out, _ = typed.communicate(text_of("lpf"), timeout=10)
+        out, _ = typed.communicate(text_of("lpf"), timeout=MOST)
         expect(len(out.splitlines()) == 3, f"by hand: {out!r} is answered at the end")
 
 
@@ -284,7 +286,7 @@ def typed(program, path, text):
     with subprocess.Popen(words, stdin=slave, stdout=subprocess.PIPE, stderr=subprocess.PIPE) as typing:
         os.close(slave)
         os.write(master, text.encode() + b"\x04")
-        answers = typing.communicate(timeout=10)[0].decode()
+        answers = typing.communicate(timeout=MOST)[0].decode()
     os.close(master)
     return answers
 
@@ -317,7 +319,7 @@ def at_terminal(program, text):
     """What a run tells where the standard error is a terminal."""
     master, slave = pty.openpty()
     with subprocess.Popen([program, "run"], stdin=subprocess.PIPE, stdout=subprocess.PIPE, stderr=slave) as typed:
-        typed.communicate(text.encode(), timeout=10)
+        typed.communicate(text.encode(), timeout=MOST)
         told = os.read(master, 65_536).decode()
     os.close(slave)
     os.close(master)

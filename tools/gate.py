@@ -4,13 +4,14 @@
 First it looks whether each wrong body still applies, whether each name that the documents cite stands where they say,
 whether the worked examples with names ask for what those with numbers do, and say each field in each form, and
 whether the page has what it takes from the documents, and the program the page. Then 'rt ci' proves every crate from
-nothing, tries the must-fail edits, and runs the tests and the program. The program that this built is then tried as
-its owner would: with the examples with names, the tutorial, the move from spreadsheets, a recall and mistakes, with the
-words of a clerk, with lists, files, imports, questions to the tables, clients of HTTP, what its page reads, and kills,
-and beside the rules written once more.
+nothing, tries the must-fail edits, and runs the tests and the program. On four processors the crate that all others
+stand on comes first, by itself, so that it gets two of them. The program that this built is then tried as its owner
+would: with the examples with names, the tutorial, the move from spreadsheets, a recall and mistakes, with the words of
+a clerk, with lists, files, imports, questions to the tables, clients of HTTP, what its page reads, and kills, and
+beside the rules written once more.
 Where a step fails, those behind it are not run. The last line is 'N passed, M failed': what 'rt ci' counts, and one
-for each script. Before it stands a table of what each crate's proof, tests and wrong bodies took, and waited for. It
-takes two to three hours, of which the scripts take six minutes.
+for each script. Before it stands a table of what each crate's proof, tests and wrong bodies took, and waited for, and
+then what failed, once more. It takes two to three hours, of which the scripts take six minutes.
 
 usage: tools/gate.py [--jobs N | --only CHECK | --table [--graph FILE]]
   --jobs N       N proofs side by side; else as many as there are processors with 5.5 GB each
@@ -22,11 +23,16 @@ import pathlib
 import re
 import subprocess
 import sys
+import tempfile
 
 import proof_times
-from shared import TOP, expect
+from shared import TOP, copy_crates, expect
 
 PROGRAM = "crates/invdesk/out/invdesk"
+# All crates stand on it, so nothing is proved beside it.
+FIRST = "part_core"
+# What 'rt ci' writes of a proof, a wrong body, a test or a program that failed. Much comes behind it.
+LOST = re.compile(r"^rt: .*(NOT PROVED|NOT REFUSED|NOT TRIED|BAD EDIT|FAILED)|^test .* FAILED$")
 # The memory that there has to be for each proof. The largest takes 7 GB, and most 2 to 4.
 FOR_EACH = 5_500 * 1024**2
 BEFORE = ["check_edits.py", "check_names.py", "name_lines.py --check", "make_page.py --check", "make_guide.py --check"]
@@ -64,22 +70,49 @@ def proofs_at_once():
     return max(1, min(len(os.sched_getaffinity(0)), memory // FOR_EACH))
 
 
-def count_proofs(jobs):
-    """Runs 'rt ci': how many passed, and how many failed, by its last line."""
-    last = ""
-    environment = {**os.environ, "RT_JOBS": str(jobs or proofs_at_once())}
-    how = {"stdout": subprocess.PIPE, "text": True, "errors": "replace"}
-    watch = proof_times.Watch()
-    watch.start()
-    with subprocess.Popen(["rt", "ci"], cwd=TOP, env=environment, **how) as ran:
+def echoed(words, **how):
+    """Runs a command, and shows what it writes as it comes: its lines that tell of what failed, its last line, and its
+    status."""
+    lost, last = [], ""
+    with subprocess.Popen(words, stdout=subprocess.PIPE, text=True, errors="replace", **how) as ran:
         for last in ran.stdout:
             print(last, end="", flush=True)
+            lost += [last.rstrip()] * bool(LOST.search(last))
+    return lost, last.strip(), ran.returncode
+
+
+def may_prove_first():
+    """Whether FIRST is proved sooner by itself: where 'rt ci' chooses how many proofs run side by side, it gives one
+    alone two of four processors. What it proved has to be kept for the 'rt ci' behind it, and CI allows no names."""
+    told = subprocess.run(["rt", "help"], capture_output=True, text=True, check=False).stdout
+    is_kept = "What a run passed is kept" in told
+    return is_kept and len(os.sched_getaffinity(0)) >= 4 and os.environ.get("CI") != "true"
+
+
+def is_first_refused():
+    """Proves FIRST by itself, in a copy without wrong bodies, which are tried beside other proofs later: whether it
+    isn't proved. Where 'rt' judged nothing, the 'rt ci' behind it has to say why."""
+    words = {name: value for name, value in os.environ.items() if name != "RT_JOBS"}
+    with tempfile.TemporaryDirectory(prefix="gate-") as folder:
+        copy_crates(folder, "must-fail")
+        print(f"== {FIRST}, before the others", flush=True)
+        return echoed(["rt", "ci", FIRST], cwd=folder, env=words)[-1] == 1
+
+
+def count_proofs(jobs):
+    """Runs 'rt ci': how many passed, and how many failed, by its last line."""
+    watch = proof_times.Watch()
+    watch.start()
+    lost, last, status = [], "0 passed, 1 failed", 1
+    if jobs or not may_prove_first() or not is_first_refused():
+        environment = {**os.environ, "RT_JOBS": str(jobs or proofs_at_once())}
+        lost, last, status = echoed(["rt", "ci"], cwd=TOP, env=environment)
     steps = watch.stop()
     proof_times.keep(steps)
-    print("\n".join(proof_times.table_of(steps)), flush=True)
-    counts = re.fullmatch(r"(\d+) passed, (\d+) failed", last.strip())
+    print("\n".join(proof_times.table_of(steps)), *lost, sep="\n", flush=True)
+    counts = re.fullmatch(r"(\d+) passed, (\d+) failed", last)
     passed, failed = map(int, counts.groups()) if counts else (0, 1)
-    return passed, failed or int(ran.returncode != 0)
+    return passed, failed or int(status != 0)
 
 
 def show_table(graph):

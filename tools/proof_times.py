@@ -17,10 +17,15 @@ KINDS = ("proof", "tests", "wrong bodies")
 AT_ONCE = 15
 
 
+def listed():
+    """The crates of the repository, each with the libraries that it uses, as crates.txt lists them."""
+    lines = [line.split("#")[0].split(":") for line in (TOP / "crates.txt").read_text().splitlines() if ":" in line]
+    return {line[0].split()[0]: line[1].split() for line in lines}
+
+
 def dependencies():
     """The crates of the repository, each with those that it stands on."""
-    lines = [line.split("#")[0].split(":") for line in (TOP / "crates.txt").read_text().splitlines() if ":" in line]
-    named = {line[0].split()[0]: line[1].split() for line in lines}
+    named = listed()
     return {name: [it for it in below if it in named] for name, below in named.items()}
 
 

@@ -198,7 +198,6 @@ WANTED = [
 JOURNAL_KEYS = ["2030-03-04/9", "2030-03-05/11", "2030-03-05/12", "2030-03-06/13", "2030-03-20/39"]
 NONE = ["L9", "98", '{"part":"Lamp","serial":"A3"}', '{"part":"Lamp"', "[1]", '{"key":"SO-9"}']
 DAY = "2030-03-25"
-CHAIN = 30_000
 
 
 def lines_of(said_lines):
@@ -347,7 +346,7 @@ def change_kept(path, books):
             file.execute("update kept set answer = ? where word = ?", (answer_line(m.kept[key].answer), key))
 
 
-def try_made_up(program, top, seed, count, journal, share):
+def try_made_up(program, top, count, seed, journal, share):
     """Made-up books: answers, what is kept, and lists; and lists of the file once what is kept was changed in it."""
     books, path = Books(seed, count, journal, share), os.path.join(top, f"made-{seed}.db")
     answers, _ = run_lines(program, path, books.lines, *["--journal"] * journal)
@@ -362,18 +361,18 @@ def try_made_up(program, top, seed, count, journal, share):
     return shown
 
 
-def try_chain(program, top):
+def try_chain(program, top, pieces):
     """A piece that was cut off a piece, and so on: no list of them ends otherwise than well."""
     path, begin = os.path.join(top, "chain.db"), f'{{"day":"{DAY}","do":'
     lines = [f'{begin}"add_location","name":"A"}}', f'{begin}"add_part","name":"P","flags":["component"]}}',
-             f'{begin}"found","location":1,"part":2,"quantity":{CHAIN + 9},"batch":"B"}}',
-             *(f'{begin}"split","item":{3 + at},"quantity":{CHAIN + 8 - at}}}' for at in range(CHAIN))]
+             f'{begin}"found","location":1,"part":2,"quantity":{pieces + 9},"batch":"B"}}',
+             *(f'{begin}"split","item":{3 + at},"quantity":{pieces + 8 - at}}}' for at in range(pieces))]
     _, status = run_lines(program, path, [it.encode() for it in lines], "--journal")
     expect(status == 0, f"a chain of pieces ends with {status}")
-    first, last = "3", str(3 + CHAIN)
+    first, last = "3", str(3 + pieces)
     for name, root, how, end in ("back", last, "it was cut off this", first), ("forward", first, "cut off it", last):
         rows, _ = rows_shown(program, path, [f"trace-{name}", root])
-        is_whole = len(rows) == CHAIN + 2 and (rows[-1][0], rows[-1][2], rows[-1][9]) == (str(CHAIN), end, how)
+        is_whole = len(rows) == pieces + 2 and (rows[-1][0], rows[-1][2], rows[-1][9]) == (str(pieces), end, how)
         expect(is_whole, f"trace-{name} of a chain: {len(rows)} rows, the last {rows[-1]}")
     rows, _ = rows_shown(program, path, ["trace-forward", "B"])
-    expect(len(rows) == 2 * CHAIN + 2 and rows[-1][9] == "above", f"of the batch of a chain: {len(rows)} rows")
+    expect(len(rows) == 2 * pieces + 2 and rows[-1][9] == "above", f"of the batch of a chain: {len(rows)} rows")
