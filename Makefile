@@ -77,8 +77,9 @@ machine: build
 memory: build
 	python3 tools/check_memory.py $(PROGRAM)
 
-# The wrong bodies that the gate leaves out: each has to be refused. It takes hours; 'make refuse CRATES=forest' tries
-# those of one crate, and 'make refuse RANDOM=20' twenty, chosen anew each time.
+# The wrong bodies that the gate leaves out: each has to be refused, and says the rule that it breaks. It takes about as
+# long as the gate; 'make refuse CRATES=forest' tries those of one crate, and 'make refuse RANDOM=20' twenty, chosen
+# anew each time.
 refuse:
 	python3 tools/refuse.py $(if $(RANDOM),--random $(RANDOM)) $(CRATES)
 

@@ -1,9 +1,10 @@
 #!/usr/bin/env python3
 """Tries the wrong bodies that the gate leaves out: the prover has to refuse each.
 
-The gate tries those that say most. The others lie in tools/wrong_bodies, a folder for each crate, in the form of its
-must-fail edits. They are tried by 'rt must-fail' in a copy of the crates that has them in their place. Names of crates
-as words: theirs alone. One takes about a minute, of desk_store up to five.
+The gate tries those that say most. The others, mostly one for a rule, lie in tools/wrong_bodies, a folder for each
+crate, in the form of its must-fail edits, each below the rule that it breaks. They are tried by 'rt must-fail' in a
+copy of the crates that has them in their place. Names of crates as words: theirs alone. One takes about a minute, of
+desk_store up to five, and all take about as long as the gate.
 
 usage: tools/refuse.py [--random N] [CRATE..]     N of them, chosen anew each time, else all"""
 import argparse
