@@ -2,8 +2,8 @@
 """Looks whether each wrong body still applies: those that the gate tries (must-fail/ of the crates) and those that it
 leaves out (tools/wrong_bodies). An edit is lines 'file: PATH', 'old: TEXT' and 'new: TEXT'; the old text has to stand
 exactly once in the crate's file, as the pairs before it left that. Before them stands the rule that the body breaks,
-as a sentence: '# A refused request changes nothing.' One that the gate tries may lack it. Tells each edit that doesn't
-apply, lacks its rule, changes nothing or has a line that isn't read.
+as a sentence: '# A refused request changes nothing.' Tells each edit that doesn't apply, lacks its rule, changes
+nothing or has a line that isn't read.
 
 usage: tools/check_edits.py [CRATE..]"""
 import pathlib
@@ -50,12 +50,9 @@ def applied(crate, lines):
 def fault_of(edit):
     """Why an edit doesn't apply, or an empty text."""
     # In must-fail/ the crate's folder is the one above, in tools/wrong_bodies the folder has its name.
-    in_gate = edit.parent.name == "must-fail"
-    crate = edit.parent.parent.name if in_gate else edit.parent.name
-    lines = edit.read_text().split("\n")
-    if RULE.fullmatch(lines[0]):
-        del lines[0]
-    elif not in_gate:
+    crate = edit.parent.parent.name if edit.parent.name == "must-fail" else edit.parent.name
+    rule, *lines = edit.read_text().split("\n")
+    if not RULE.fullmatch(rule):
         return "its first line isn't the rule that it breaks, as '# A refused request changes nothing.'"
     try:
         were, texts = applied(crate, lines)
