@@ -1,5 +1,7 @@
 PROGRAM = crates/invdesk/out/invdesk
 PREFIX ?= /usr/local
+BELOW = $(DESTDIR)$(PREFIX)
+DOCUMENTS = $(BELOW)/share/doc/invdesk
 
 # A first look: the first example, run before any proof, in about three minutes. It is slow, and nothing is proved of
 # it.
@@ -26,8 +28,22 @@ test:
 build:
 	cd crates/invdesk && rt run < /dev/null
 
+# Installs the program with the unit of systemd, its user, and the documents. Whoever packs it installs it below DESTDIR
+# first: 'make install DESTDIR=/tmp/x PREFIX=/usr'.
 install: build
-	install -D $(PROGRAM) $(PREFIX)/bin/invdesk
+	install -D -m 755 $(PROGRAM) $(BELOW)/bin/invdesk
+	install -D -m 644 contrib/invdesk.sysusers $(BELOW)/lib/sysusers.d/invdesk.conf
+	install -d $(BELOW)/lib/systemd/system
+	sed 's|/usr/bin/|$(PREFIX)/bin/|' contrib/invdesk.service > $(BELOW)/lib/systemd/system/invdesk.service
+	chmod 644 $(BELOW)/lib/systemd/system/invdesk.service
+	install -d $(DOCUMENTS)/contrib
+	umask 022 && cp -R README.md docs $(DOCUMENTS) && cp contrib/*.sql $(DOCUMENTS)/contrib
+
+# Takes away what was installed. Books stay.
+uninstall:
+	rm -f $(BELOW)/bin/invdesk
+	rm -f $(BELOW)/lib/sysusers.d/invdesk.conf $(BELOW)/lib/systemd/system/invdesk.service
+	rm -rf $(DOCUMENTS)
 
 # Lines per second and peak memory over 20,000 and 40,000 lines of each kind, in memory and with a file; files beside
 # Python's sqlite3, a C program and the kit's sqlite alone; imports beside lines, those of counts and those of a
@@ -83,4 +99,4 @@ memory: build
 refuse:
 	python3 tools/refuse.py $(if $(RANDOM),--random $(RANDOM)) $(CRATES)
 
-.PHONY: try check run test build install bench file http page machine memory refuse
+.PHONY: try check run test build install uninstall bench file http page machine memory refuse

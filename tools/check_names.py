@@ -33,7 +33,7 @@ IN_ALL = re.compile(r"([\d,]+) lines in all")
 DEFINITION = re.compile(r"[A-Z]+[a-z]\w*\.[\w-]+")
 BARE = re.compile(r"[A-Za-z][\w-]*")
 PATH = re.compile(
-    r"(?:src|specs|proofs|docs|tools|crates|contrib)/[\w/.-]+\.(?:rt|antt|py|md|jsonl|sql)|[A-Z]\w*\.antt")
+    r"(?:src|specs|proofs|docs|tools|crates|contrib)/[\w/.-]+\.(?:rt|antt|py|md|jsonl|sql|service)|[A-Z]\w*\.antt")
 NAME = re.compile(r"[a-z]\w*_\w+|[A-Z][a-z]\w*[A-Z]\w*")
 CALL = re.compile(r"([A-Z]\w*)::([a-z]\w*)")
 # What may stand between two names, of which the later is told of the crate before the earlier.
@@ -59,10 +59,11 @@ def text_of(crate, pattern):
 
 @functools.cache
 def words():
-    """All words of the crates' sources, and of what is made of tables."""
-    views = set().union(*(re.findall(r"\w+", path.read_text()) for path in (TOP / "contrib").glob("*.sql")))
-    return views.union(*(re.findall(r"\w+", text_of(crate, f"{folder}/**/*.{suffix}")) for crate in CRATES
-                         for folder, suffix in [("src", "rt"), ("specs", "antt"), ("proofs", "antt")]))
+    """All words of the crates' sources, of what is made of tables, and of the unit of the service."""
+    beside = [path for kind in ("sql", "service") for path in (TOP / "contrib").glob(f"*.{kind}")]
+    others = set().union(*(re.findall(r"\w+", path.read_text()) for path in beside))
+    return others.union(*(re.findall(r"\w+", text_of(crate, f"{folder}/**/*.{suffix}")) for crate in CRATES
+                          for folder, suffix in [("src", "rt"), ("specs", "antt"), ("proofs", "antt")]))
 
 
 def declares(text, name):
