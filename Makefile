@@ -28,10 +28,12 @@ test:
 build:
 	cd crates/invdesk && rt run < /dev/null
 
-# Installs the program with the unit of systemd, its user, and the documents. Whoever packs it installs it below DESTDIR
-# first: 'make install DESTDIR=/tmp/x PREFIX=/usr'.
+# Installs the program with its page of man, the completions of bash, the unit of systemd with its user, and the
+# documents. Whoever packs it installs it below DESTDIR first: 'make install DESTDIR=/tmp/x PREFIX=/usr'.
 install: build
 	install -D -m 755 $(PROGRAM) $(BELOW)/bin/invdesk
+	install -D -m 644 contrib/invdesk.1 $(BELOW)/share/man/man1/invdesk.1
+	install -D -m 644 contrib/invdesk.bash $(BELOW)/share/bash-completion/completions/invdesk
 	install -D -m 644 contrib/invdesk.sysusers $(BELOW)/lib/sysusers.d/invdesk.conf
 	install -d $(BELOW)/lib/systemd/system
 	sed 's|/usr/bin/|$(PREFIX)/bin/|' contrib/invdesk.service > $(BELOW)/lib/systemd/system/invdesk.service
@@ -41,7 +43,7 @@ install: build
 
 # Takes away what was installed. Books stay.
 uninstall:
-	rm -f $(BELOW)/bin/invdesk
+	rm -f $(BELOW)/bin/invdesk $(BELOW)/share/man/man1/invdesk.1 $(BELOW)/share/bash-completion/completions/invdesk
 	rm -f $(BELOW)/lib/sysusers.d/invdesk.conf $(BELOW)/lib/systemd/system/invdesk.service
 	rm -rf $(DOCUMENTS)
 

@@ -3,12 +3,12 @@
 
 First it looks whether each wrong body still applies, whether each name that the documents cite stands where they say,
 whether the worked examples with names ask for what those with numbers do, and say each field in each form, and
-whether the page has what it takes from the documents, and the program the page. Then 'rt ci' proves every crate from
-nothing, tries the must-fail edits, and runs the tests and the program. On four processors the crate that all others
-stand on comes first, by itself, so that it gets two of them. The program that this built is then tried as its owner
-would: with the examples with names, the tutorial, the move from spreadsheets, a recall and mistakes, with the words of
-a clerk, with lists, files, imports, questions to the tables, clients of HTTP, what its page reads, and kills, and
-beside the rules written once more.
+whether the page, the help, the page of man and the completions have what they take from the documents and from the
+program's words, and the program the page. Then 'rt ci' proves every crate from nothing, tries the must-fail edits, and
+runs the tests and the program. On four processors the crate that all others stand on comes first, by itself, so that
+it gets two of them. The program that this built is then tried as its owner would: with the examples with names, the
+tutorial, the move from spreadsheets, a recall and mistakes, with the words of a clerk, with lists, files, imports,
+questions to the tables, clients of HTTP, what its page reads, and kills, and beside the rules written once more.
 Where a step fails, those behind it are not run. The last line is 'N passed, M failed': what 'rt ci' counts, and one
 for each script. Before it stands a table of what each crate's proof, tests and wrong bodies took, and waited for, and
 then what failed, once more. It takes two to three hours, of which the scripts take six minutes.
@@ -35,7 +35,9 @@ FIRST = "part_core"
 LOST = re.compile(r"^rt: .*(NOT PROVED|NOT REFUSED|NOT TRIED|BAD EDIT|FAILED)|^test .* FAILED$")
 # The memory that there has to be for each proof. The largest takes 7 GB, and most 2 to 4.
 FOR_EACH = 5_500 * 1024**2
-BEFORE = ["check_edits.py", "check_names.py", "name_lines.py --check", "make_page.py --check", "make_guide.py --check"]
+BEFORE = [
+    "check_edits.py", "check_names.py", "name_lines.py --check", "make_page.py --check", "make_guide.py --check",
+    "make_man.py --check"]
 AFTER = [
     f"check_examples.py {PROGRAM}",
     f"check_tutorial.py {PROGRAM}",
