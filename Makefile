@@ -47,6 +47,10 @@ uninstall:
 	rm -f $(BELOW)/lib/sysusers.d/invdesk.conf $(BELOW)/lib/systemd/system/invdesk.service
 	rm -rf $(DOCUMENTS)
 
+# A package of Debian, in the folder 'out'.
+deb: build
+	python3 tools/make_deb.py $(PROGRAM)
+
 # Lines per second and peak memory over 20,000 and 40,000 lines of each kind, in memory and with a file; files beside
 # Python's sqlite3, a C program and the kit's sqlite alone; imports beside lines, those of counts and those of a
 # command; requests over HTTP beside Python's http.server; lines with names beside lines with numbers; what a journal
@@ -101,4 +105,4 @@ memory: build
 refuse:
 	python3 tools/refuse.py $(if $(RANDOM),--random $(RANDOM)) $(CRATES)
 
-.PHONY: try check run test build install uninstall bench file http page machine memory refuse
+.PHONY: try check run test build install uninstall deb bench file http page machine memory refuse
