@@ -95,6 +95,11 @@ machine: build
 	python3 tools/check_machine.py $(PROGRAM)
 	python3 tools/check_opening.py $(PROGRAM)
 
+# What is installed and packed: the page of man, the completions as bash asks for them, the unit with the words in it,
+# and the package of Debian with the program out of it.
+package: build
+	python3 tools/check_package.py $(PROGRAM)
+
 # The program with growths of memory refused to it, by a small C library that is loaded before it.
 memory: build
 	python3 tools/check_memory.py $(PROGRAM)
@@ -105,4 +110,4 @@ memory: build
 refuse:
 	python3 tools/refuse.py $(if $(RANDOM),--random $(RANDOM)) $(CRATES)
 
-.PHONY: try check run test build install uninstall deb bench file http page machine memory refuse
+.PHONY: try check run test build install uninstall deb bench file http page machine package memory refuse

@@ -8,7 +8,8 @@ program's words, and the program the page. Then 'rt ci' proves every crate from 
 runs the tests and the program. On four processors the crate that all others stand on comes first, by itself, so that
 it gets two of them. The program that this built is then tried as its owner would: with the examples with names, the
 tutorial, the move from spreadsheets, a recall and mistakes, with the words of a clerk, with lists, files, imports,
-questions to the tables, clients of HTTP, what its page reads, and kills, and beside the rules written once more.
+questions to the tables, clients of HTTP, what its page reads, and kills, beside the rules written once more, and
+installed and packed.
 Where a step fails, those behind it are not run. The last line is 'N passed, M failed': what 'rt ci' counts, and one
 for each script. Before it stands a table of what each crate's proof, tests and wrong bodies took, and waited for, and
 then what failed, once more. It takes two to three hours, of which the scripts take six minutes.
@@ -52,6 +53,7 @@ AFTER = [
     f"check_kills.py {PROGRAM}",
     f"check_machine.py {PROGRAM} --runs 9",
     f"check_opening.py {PROGRAM} --runs 3",
+    f"check_package.py {PROGRAM}",
 ]
 
 
