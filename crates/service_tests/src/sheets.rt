@@ -75,31 +75,44 @@ fn files_of_commands(rt: HostRuntime) -> Result<(), Fail> {
     has_tag(&service, Some(4))
 }
 
+/// The file of the command is replied to so, and changes nothing.
+fn is_refused<B: Books>(
+    alloc: Global,
+    service: &mut BooksService<B>,
+    sent: (&str, &str),
+    reply: (&str, &str),
+) -> Result<(), Fail>
+    requires { B.are_kept service.old.books }
+    ensures { B.are_kept service.new.books }
+{
+    is_told(alloc, service, sent, reply)?;
+    has_tag(service, Some(0))
+}
+
 #[test]
 fn faulty_files_of_commands(rt: HostRuntime) -> Result<(), Fail> {
     let alloc = rt.alloc();
     let mut service = service(alloc, 0);
-    for (file, reply) in [
-        (
-            ("add_part", "flags\n"),
-            ("fault", "{\"fault\":\"Header\",\"line\":1}\n"),
-        ),
-        (
-            ("add_part", "name,flags\nA,component\nB,metal\n"),
-            ("fault", "{\"fault\":\"BadWord\",\"line\":3}\n"),
-        ),
-        (
-            ("add_part", "name,flags\nA,wood\nB,component\nC,metal\n"),
-            (
-                "faults",
-                "{\"fault\":\"BadWord\",\"line\":2}\n{\"fault\":\"BadWord\",\"line\":4}\n",
-            ),
-        ),
-        (("receive", "line,location,quantity\n"), ("unknown", "")),
-        (("Add_part", "name,flags\n"), ("unknown", "")),
-    ] {
-        is_told(alloc, &mut service, file, reply)?;
-        has_tag(&service, Some(0))?;
-    }
-    Ok(())
+    let headless = ("add_part", "flags\n");
+    let header = ("fault", "{\"fault\":\"Header\",\"line\":1}\n");
+    is_refused(alloc, &mut service, headless, header)?;
+    let misspelt = ("add_part", "name,flags\nA,component\nB,metal\n");
+    let word = ("fault", "{\"fault\":\"BadWord\",\"line\":3}\n");
+    is_refused(alloc, &mut service, misspelt, word)?;
+    let twice = ("add_part", "name,flags\nA,wood\nB,component\nC,metal\n");
+    let words = (
+        "faults",
+        "{\"fault\":\"BadWord\",\"line\":2}\n{\"fault\":\"BadWord\",\"line\":4}\n",
+    );
+    is_refused(alloc, &mut service, twice, words)
+}
+
+#[test]
+fn files_of_no_command(rt: HostRuntime) -> Result<(), Fail> {
+    let alloc = rt.alloc();
+    let mut service = service(alloc, 0);
+    let receive = ("receive", "line,location,quantity\n");
+    is_refused(alloc, &mut service, receive, ("unknown", ""))?;
+    let capital = ("Add_part", "name,flags\n");
+    is_refused(alloc, &mut service, capital, ("unknown", ""))
 }
