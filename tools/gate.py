@@ -88,7 +88,8 @@ def echoed(words, **how):
 def may_prove_first():
     """Whether FIRST is proved sooner by itself: where 'rt ci' chooses how many proofs run side by side, it gives one
     alone two of four processors. What it proved has to be kept for the 'rt ci' behind it, and CI allows no names."""
-    told = subprocess.run(["rt", "help"], capture_output=True, text=True, check=False).stdout
+    how = {"stdout": subprocess.PIPE, "stderr": subprocess.STDOUT, "text": True, "check": False}
+    told = subprocess.run(["rt", "help"], **how).stdout
     is_kept = "What a run passed is kept" in told
     return is_kept and len(os.sched_getaffinity(0)) >= 4 and os.environ.get("CI") != "true"
 
