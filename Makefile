@@ -9,8 +9,8 @@ try:
 	cd crates/invdesk && rt try < stdin
 
 # What to run after a first change: every crate's tests, the worked examples, and the program with examples, documents,
-# lists and beside Python, all unproved, in about a quarter of an hour on four processors. 'make check CRATE=order_core'
-# runs what stands on that crate, and 'make check JOBS=2' at most two side by side.
+# lists and beside Python, all unproved. It is some 50 minutes of a processor, which are shared by as many as there are.
+# 'make check CRATE=order_core' runs what stands on that crate, and 'make check JOBS=2' at most two side by side.
 check:
 	python3 tools/check.py $(if $(CRATE),--crate $(CRATE)) $(if $(JOBS),--jobs $(JOBS))
 
