@@ -1,5 +1,6 @@
 -- Steps of a loop that adds the rows of one after another to what is there.
-use Rattle.std.proofs.Common.{◌≡◌, ◌∙◌, ℕ, ◌+◌, ◌<◌, List, [], ◌∷◌, ◌++◌, ap, append_assoc, drop, get_or, length, map, sym}
+use Rattle.std.proofs.Common.{◌≡◌, ◌∙◌, ℕ, ◌+◌, ◌<◌, Bool, true, false, List, [], ◌∷◌, ◌++◌}
+use Rattle.std.proofs.Common.{ap, append_assoc, cond, drop, filter, get_or, length, map, sym}
 use Rattle.std.proofs.lemmas.List.{drop_more, map-append}
 use Rattle.std.specs.List.{flat_map}
 
@@ -30,4 +31,35 @@ module _ {X Z Y : Type 0} (f : X → Z) (xs : List X) (i : ℕ) (x : X) (lt : i 
       ap (λ l. l ++ rest) told
       ∙ append_assoc old (rows (f x)) rest
       ∙ ap (λ l. old ++ flat_map rows (map f l)) (sym (next xs i x lt is))
+      ∙ h
+
+-- of a list from the index on, rows are added for those alone that are kept
+module _ {X V Y : Type 0} (kept : X → Bool) (row : X → Y) (g : V → Y) (xs : List X) (i : ℕ) (x : X)
+    (lt : i < length xs) (is : x ≡ get_or xs i x) where
+  next_kept : (told : Bool) → told ≡ kept x
+      → filter kept (drop i xs) ≡ cond told (x ∷ filter kept (drop (i + 1) xs)) (filter kept (drop (i + 1) xs))
+  next_kept told e =
+      ap (filter kept) (next xs i x lt is)
+      ∙ ap (λ b. cond b (x ∷ filter kept (drop (i + 1) xs)) (filter kept (drop (i + 1) xs))) (sym e)
+
+  -- a row is added for the next, which is kept
+  pub kept_added : (new old : List V) (line : V) (all : List Y) → true ≡ kept x → new ≡ old ++ line ∷ []
+      → g line ≡ row x → map g old ++ map row (filter kept (drop i xs)) ≡ all
+      → map g new ++ map row (filter kept (drop (i + 1) xs)) ≡ all
+  kept_added new old line all here told e h =
+      let rest = map row (filter kept (drop (i + 1) xs)) in
+      ap (λ l. map g l ++ rest) told
+      ∙ ap (λ l. l ++ rest) (map-append g old (line ∷ []))
+      ∙ append_assoc (map g old) (g line ∷ []) rest
+      ∙ ap (λ y. map g old ++ y ∷ rest) e
+      ∙ ap (λ l. map g old ++ map row l) (sym (next_kept true here))
+      ∙ h
+
+  -- none is for the next, which isn't
+  pub kept_skipped : (new old : List V) (all : List Y) → false ≡ kept x → new ≡ old
+      → map g old ++ map row (filter kept (drop i xs)) ≡ all
+      → map g new ++ map row (filter kept (drop (i + 1) xs)) ≡ all
+  kept_skipped new old all left same h =
+      ap (λ l. map g l ++ map row (filter kept (drop (i + 1) xs))) same
+      ∙ ap (λ l. map g old ++ map row l) (sym (next_kept false left))
       ∙ h

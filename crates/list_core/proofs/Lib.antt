@@ -6,6 +6,7 @@ pub mod Commas
 pub mod FactsLeft
 pub mod FreeKept
 pub mod Gathered
+pub mod ItemWords
 pub mod KeyFronts
 pub mod LastDays
 pub mod Left

@@ -5,11 +5,14 @@ use Rattle.desk_core.specs.Machine.{State}
 use Rattle.list_core.specs.BuildList.{build_list}
 use Rattle.list_core.specs.CountSheet.{count_sheet}
 use Rattle.list_core.specs.FindList.{find_list}
+use Rattle.list_core.specs.HistoryList.{history_list, span_of}
 use Rattle.list_core.specs.ItemList.{item_list}
 use Rattle.report_core.specs.Lines.{Gives, Lines}
+use Rattle.list_core.specs.NamedReports.{named_report}
 use Rattle.list_core.specs.OrderList.{order_list}
 use Rattle.list_core.specs.PartList.{part_list}
 use Rattle.list_core.specs.PlaceList.{place_list}
+use Rattle.list_core.specs.ReceiptSheet.{receipt_sheet}
 use Rattle.list_core.specs.ShortageList.{shortage_list}
 use Rattle.list_core.specs.StockList.{stock_list}
 use Rattle.list_core.specs.Trace.{batch_items, item_roots}
@@ -32,6 +35,9 @@ listing_lines (listing.TraceBatch batch) s = trace_list Forward s (batch_items b
 listing_lines (listing.TraceForward item) s = trace_list Forward s (item_roots item s)
 listing_lines (listing.TraceBack item) s = trace_list Back s (item_roots item s)
 listing_lines (listing.CountSheet location) s = count_sheet location s
+listing_lines (listing.ReceiptSheet order) s = receipt_sheet order s
+listing_lines (listing.History of days) s = history_list of (span_of days) s
+listing_lines (listing.Report name number) s = named_report name number s
 
 -- what is told is the list's lines; or NoSuch where there is no such row; or it ran out of memory
 abbrev pub Lists : State → Listing → Result Lines CoreFault → Type 0

@@ -5,15 +5,16 @@ use Rattle.part_core.specs.declared.part.Part.{Part}
 use Rattle.bom_core.specs.Bills.{part_rows}
 use Rattle.desk_core.specs.Machine.{State}
 use Rattle.list_core.specs.Amounts.{allocated_of, free_amount, free_of, items_of, present_of}
+use Rattle.list_core.specs.Lies.{lies_text}
 use Rattle.report_core.specs.Lines.{Lines}
 use Rattle.list_core.specs.Ways.{way_text}
 
 abbrev pub stock_header : List (List ℕ)
 stock_header =
     codes "number" ∷ codes "name" ∷ codes "category" ∷ codes "present" ∷ codes "free" ∷ codes "allocated"
-    ∷ codes "items" ∷ []
+    ∷ codes "items" ∷ codes "where" ∷ []
 
--- a part with its category's way, what is present, free and allocated of it, and how many items it has
+-- a part with its category's way, what is present, free and allocated of it, how many items it has, and where they lie
 abbrev pub stock_row : State → Part → List (List ℕ)
 stock_row s part =
     decimal part.number
@@ -23,6 +24,7 @@ stock_row s part =
     ∷ decimal (sum_by (free_of s) (items_of part.number s))
     ∷ decimal (sum_by (allocated_of s) (items_of part.number s))
     ∷ decimal (length (items_of part.number s))
+    ∷ lies_text s part.number
     ∷ []
 
 -- whether so much is less than the amount; where none is given, it is

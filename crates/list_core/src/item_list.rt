@@ -29,7 +29,7 @@ pub(crate) fn where_field(alloc: Global, shop: &Shop, place: Place) -> Result<St
 }
 
 /// The name of what an entry says was done.
-fn kind_name(kind: Kind) -> &'static str
+pub(crate) fn kind_name(kind: Kind) -> &'static str
     ensures { result.now ≡ kind_name kind }
 {
     match kind {

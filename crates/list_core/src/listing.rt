@@ -1,6 +1,8 @@
 //! Which list is asked for.
 
+use crate::history_list::Days;
 use part_core::Id;
+use report_core::ReportName;
 
 /// A list of the shop's rows.
 #[derive(Clone, Copy, Debug)]
@@ -30,4 +32,10 @@ pub enum Listing<'a> {
     TraceBack(Id),
     /// What is to be counted at this location and below it, or everywhere.
     CountSheet(Option<Id>),
+    /// What is still to come by purchases that are under way, or by this order, with fields for what came.
+    ReceiptSheet(Option<Id>),
+    /// The history of these days, in words: all of it, or that of the part, the item or the order of this number.
+    History(Option<Id>, Days<'a>),
+    /// The report of that name, of the part, the item or the build of this number, in its second form.
+    Report(ReportName, Id),
 }

@@ -6,11 +6,14 @@ ghost use Rattle.list_core.specs.Listings.{Lists};
 use crate::build_list::build_list;
 use crate::count_sheet::count_sheet;
 use crate::find_list::find_list;
+use crate::history_list::history_list;
 use crate::item_list::item_list;
 use crate::listing::Listing;
 use crate::order_list::order_list;
 use crate::part_list::part_list;
 use crate::place_list::place_list;
+use crate::receipt_sheet::receipt_sheet;
+use crate::report_form::named_report;
 use crate::shortage_list::shortage_list;
 use crate::stock_list::stock_list;
 use crate::trace_list::{batch_list, item_trace};
@@ -39,5 +42,8 @@ pub fn listed(alloc: Global, shop: &Shop, listing: Listing<'_>) -> Result<Report
         Listing::TraceForward(item) => item_trace(alloc, shop, Direction::Forward, item),
         Listing::TraceBack(item) => item_trace(alloc, shop, Direction::Back, item),
         Listing::CountSheet(location) => count_sheet(alloc, shop, location),
+        Listing::ReceiptSheet(order) => receipt_sheet(alloc, shop, order),
+        Listing::History(of, days) => history_list(alloc, shop, of, &days),
+        Listing::Report(name, number) => named_report(alloc, shop, name, number),
     }
 }

@@ -102,7 +102,7 @@ fn sent_for(place: Place) -> Option<Id>
 }
 
 /// The order of which something was delivered or sent by the entry.
-fn order_of(shop: &Shop, origins: &IndexedSheet<Origin>, entry: &Entry) -> Option<Id>
+pub(crate) fn order_of(shop: &Shop, origins: &IndexedSheet<Origin>, entry: &Entry) -> Option<Id>
     ensures { result ≡ order_of (state_of shop.now) (now_of origins.now) entry.now }
 {
     match entry.note.kind {
@@ -170,7 +170,7 @@ fn gather_day(days: &mut Sheet<LastDay>, number: Option<Id>, day: Day) -> Result
 }
 
 /// All entries, in order.
-fn whole_history(shop: &Shop) -> &[Entry]
+pub(crate) fn whole_history(shop: &Shop) -> &[Entry]
     ensures { result.now ≡ table.values (state_of shop.now).stock.history }
 {
     shop.yard().whole_history().as_slice()

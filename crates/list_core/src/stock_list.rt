@@ -2,10 +2,12 @@
 ghost use Rattle.std.specs.Prelude.{◌≡◌, ◌∷◌, [], decimal, filter, map, IfOk};
 ghost use Rattle.desk_core.specs.ShopView.{state_of};
 ghost use Rattle.report_core.specs.Lines.{fields_of, lines_of};
+ghost use Rattle.list_core.specs.Lies.{lies_text};
 ghost use Rattle.list_core.specs.StockList.{is_below, is_low, stock_header, stock_list, stock_row};
 ghost use Rattle.list_core.specs.Ways.{way_text};
 
 use crate::amounts::{Amounts, amounts_of};
+use crate::lies::lies_field;
 use crate::ways::way_field;
 use desk_core::Shop;
 use part_core::Part;
@@ -26,11 +28,12 @@ fn header(alloc: Global) -> Result<Vec<String>, AllocError>
         String::from_str(alloc, "free")?,
         String::from_str(alloc, "allocated")?,
         String::from_str(alloc, "items")?,
+        String::from_str(alloc, "where")?,
     ]?;
     Ok(line)
 }
 
-/// A part with its category's way and these amounts.
+/// A part with its category's way, these amounts, and where it lies.
 fn row_with(
     alloc: Global,
     shop: &Shop,
@@ -41,7 +44,8 @@ fn row_with(
         ≡ decimal part.now.number ∷ part.now.name
         ∷ way_text part.now.category (state_of shop.now).parts.categories
         ∷ decimal amounts.now.present ∷ decimal amounts.now.free
-        ∷ decimal amounts.now.allocated ∷ decimal amounts.now.items ∷ []) }
+        ∷ decimal amounts.now.allocated ∷ decimal amounts.now.items
+        ∷ lies_text (state_of shop.now) part.now.number ∷ []) }
 {
     let number = number_field(alloc, part.number)?;
     let name = String::from_str(alloc, part.name.as_str())?;
@@ -50,7 +54,8 @@ fn row_with(
     let free = amount_field(alloc, amounts.free)?;
     let allocated = amount_field(alloc, amounts.allocated)?;
     let items = number_field(alloc, amounts.items as u64)?;
-    Ok(vec![in alloc; number, name, way, present, free, allocated, items]?)
+    let lies = lies_field(alloc, shop, part.number)?;
+    Ok(vec![in alloc; number, name, way, present, free, allocated, items, lies]?)
 }
 
 /// Whether so much is less than the amount, where one is given; where none is, it is.
@@ -84,9 +89,9 @@ fn rows_of(
     Ok(lines)
 }
 
-/// What there is of each part, in order of number: what is present, what of it is free, what is allocated, and how many
-/// items that is. With an amount the list has those parts alone of which less is free. It goes over each part's items
-/// once. An error is one of memory.
+/// What there is of each part, in order of number: what is present, what of it is free, what is allocated, how many items
+/// that is, and where they lie. With an amount the list has those parts alone of which less is free. It goes over each
+/// part's items twice. An error is one of memory.
 pub fn stock_list(alloc: Global, shop: &Shop, low: Option<u64>) -> Result<Report, AllocError>
     ensures { IfOk result (λ list. list ≡ stock_list low (state_of shop.now)) }
 {

@@ -60,7 +60,7 @@ fn how_text(how: How) -> &'static str
 }
 
 /// Where something is: of what was sent for an order also to whom.
-fn trace_where(alloc: Global, shop: &Shop, place: Place) -> Result<String, AllocError>
+pub(crate) fn trace_where(alloc: Global, shop: &Shop, place: Place) -> Result<String, AllocError>
     ensures { IfOk result (λ text. string_bytes text ≡ trace_where (state_of shop.now) place) }
 {
     let Place::Sent(number) = place else {

@@ -12,8 +12,8 @@ use crate::requests::{
     location, order_line, part, part_in, purchase, receive, remove, sale, serialised, set_status,
 };
 use desk_core::{Request, Shop};
-use list_core::{Listing, listed};
-use part_core::{CoreFault, Flags, Limits, Refusal, Status};
+use list_core::{Listing, called_text, listed, serial_found};
+use part_core::{CoreFault, Flags, Found, Limits, Refusal, Status};
 use std::alloc::Global;
 use std::test::Fail;
 
@@ -139,17 +139,17 @@ fn finds_nothing(alloc: Global, shop: &Shop, listing: Listing<'_>) -> Result<(),
     )
 }
 
-const STOCK: &'static str = "number\tname\tcategory\tpresent\tfree\tallocated\titems";
+const STOCK: &'static str = "number\tname\tcategory\tpresent\tfree\tallocated\titems\twhere";
 
-/// A motor in a robot is present and isn't free; an output isn't present; what is damaged is free, and what is
+/// A motor in a robot is present, lies where the robot does, and isn't free; an output isn't present; what is damaged is free, and what is
 /// quarantined isn't. With an amount, those parts are listed of which less is free.
 #[test]
 fn lists_stock(rt: HostRuntime) -> Result<(), Fail> {
     let alloc = rt.alloc();
     let shop = filled(alloc)?;
-    let screw = "7\tScrew\t\t29\t14\t9\t4";
-    let motor = "8\tMotor A-1\tDrives / Motors\t2\t0\t1\t2";
-    let robot = "9\tRobot\tDrives\t1\t1\t0\t2";
+    let screw = "7\tScrew\t\t29\t14\t9\t4\tHall / Shelf / Bin A-1; Yard; Hall; Hall / Shelf";
+    let motor = "8\tMotor A-1\tDrives / Motors\t2\t0\t1\t2\tHall / Shelf; Hall";
+    let robot = "9\tRobot\tDrives\t1\t1\t0\t2\tHall";
     tells(
         alloc,
         &shop,
@@ -469,4 +469,46 @@ fn lists_what_is_to_be_counted(rt: HostRuntime) -> Result<(), Fail> {
         [SHEET, bin, motor, "3\t21\tScrew\tHall / Shelf\t\t\t8\t"].as_slice(),
     )?;
     finds_nothing(alloc, &shop, Listing::CountSheet(Some(9)))
+}
+
+const DELIVERY: &'static str =
+    "number\tline\torder\tpartner\tpart\toutstanding\tlocation\tquantity\tbatch\tserials";
+
+/// What is sold isn't awaited, nor what a purchase wants that is cancelled.
+#[test]
+fn lists_what_is_to_come(rt: HostRuntime) -> Result<(), Fail> {
+    let alloc = rt.alloc();
+    let shop = filled(alloc)?;
+    let bolts = "1\t20\t19\tBolts\tScrew\t12\t\t\t\t";
+    for order in [None, Some(19)] {
+        tells(
+            alloc,
+            &shop,
+            Listing::ReceiptSheet(order),
+            [DELIVERY, bolts].as_slice(),
+        )?;
+    }
+    for order in [22, 26] {
+        tells(
+            alloc,
+            &shop,
+            Listing::ReceiptSheet(Some(order)),
+            [DELIVERY].as_slice(),
+        )?;
+    }
+    finds_nothing(alloc, &shop, Listing::ReceiptSheet(Some(7)))
+}
+
+/// A serial is that of one item, as it is written.
+#[test]
+fn says_items_by_serials(rt: HostRuntime) -> Result<(), Fail> {
+    let alloc = rt.alloc();
+    let shop = filled(alloc)?;
+    holds(
+        serial_found(&shop, "A-10")? == Found::One(14),
+        "another item",
+    )?;
+    holds(serial_found(&shop, "A-2")? == Found::Nothing, "an item")?;
+    let told = called_text(alloc, &shop, "A-1")?;
+    holds(told.as_str() == "Motor A-1 (item 13)", "other items")
 }

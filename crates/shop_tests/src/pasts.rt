@@ -13,7 +13,7 @@ use crate::requests::{
     transfer,
 };
 use desk_core::{Request, Shop};
-use list_core::Listing;
+use list_core::{Days, Listing};
 use part_core::{Day, Limits};
 use std::alloc::Global;
 use std::test::Fail;
@@ -212,5 +212,62 @@ fn lists_keys_of_a_part(rt: HostRuntime) -> Result<(), Fail> {
             "item\t18\t\tOK\t5\tYard\t\t\t2030-02-01/1",
         ]
         .as_slice(),
+    )
+}
+
+const HISTORY: &'static str =
+    "entry\tday\twhat\tquantity\tpart\titem\tbatch\tserial\twhere\torder\tpartner\torder key\tkey";
+
+/// A text, if it isn't empty.
+fn said(text: &str) -> Option<&str> {
+    if text.is_empty() { None } else { Some(text) }
+}
+
+/// The history of these days, with these lines under its header.
+fn tells_history(
+    alloc: Global,
+    shop: &Shop,
+    of: Option<u64>,
+    days: [&str; 2],
+    wanted: &[&'static str],
+) -> Result<(), Fail>
+    requires { IsSoundState (state_of shop.now) }
+{
+    let days = Days {
+        first: said(days[0]),
+        last: said(days[1]),
+    };
+    let mut lines = vec![in alloc; HISTORY]?;
+    for line in wanted {
+        lines.push(*line)?;
+    }
+    tells(alloc, shop, Listing::History(of, days), lines.as_slice())
+}
+
+/// Of an order what came or went by it; of a part the entries on its items. Both days are among those that are listed. Of
+/// what came by a request without a key the order isn't known.
+#[test]
+fn lists_the_history_in_words(rt: HostRuntime) -> Result<(), Fail> {
+    let alloc = rt.alloc();
+    let shop = filled(alloc)?;
+    let first =
+        "1\t2030-01-06\treceived\t8\tScrew\t8\t\t\tHall\t6\tBolts\t2030-01-04/1\t2030-01-05/7";
+    let second =
+        "2\t2030-01-08\treceived\t20\tScrew\t9\t\t\tHall\t6\tBolts\t2030-01-04/1\tBolts/second";
+    let third = "3\t2030-01-09\treceived\t2\tScrew\t10\t\t\tHall\t\t\t\t";
+    let cut = "4\t2030-01-12\tcut\t3\tScrew\t14\t\t\tHall\t\t\t\t";
+    let sent = "5\t2030-01-12\tshipped\t3\tScrew\t14\t\t\tsent 11 to Acme\t11\tAcme\tacme-7\t";
+    let built = "9\t2030-02-05\tbuilt\t1\tRobot\t20\t\tR1\tHall\t\t\t\t2030-02-03/2";
+    tells_history(alloc, &shop, Some(6), ["", ""], &[first, second])?;
+    tells_history(alloc, &shop, Some(6), ["2030-01-07", ""], &[second])?;
+    tells_history(alloc, &shop, Some(11), ["", ""], &[sent])?;
+    tells_history(alloc, &shop, Some(4), ["", "2030-02-05"], &[built])?;
+    tells_history(alloc, &shop, Some(10), ["", ""], &[third])?;
+    tells_history(
+        alloc,
+        &shop,
+        None,
+        ["2030-01-09", "2030-01-12"],
+        &[third, cut, sent],
     )
 }

@@ -1,0 +1,10 @@
+use Rattle.std.proofs.Common.{◌≡◌, ◌++◌, drop, map}
+use Rattle.std.specs.String.{string_bytes}
+use Rattle.report_core.specs.Lines.{fields_of}
+use Rattle.list_core.proofs.report_form.push_copies.Given as goal
+
+-- the fields so far and those of what is left are all fields
+abbrev pub invariant-loop-field : goal.invariant-loop-field
+invariant-loop-field l =
+    fields_of l.line ++ map string_bytes (drop l.field-index l.fields)
+    ≡ fields_of l.initial.line ++ map string_bytes l.fields
