@@ -12,6 +12,8 @@ from machine.reports import answer_line
 HEADERS = {"receipts": "number line location quantity batch serials".split(), "counts": "number item quantity".split()}
 COMMAND_OF = {"receipts": "receive", "counts": "count"}
 MOST_BYTES = 16_777_216
+# What a sheet calls what the books had: of an item how many there were, of a line how many were still to come.
+EXPECTED = {"receipts": "outstanding", "counts": "expected"}
 # What may stand between two fields of a file that is read loosely, in the order in which they are tried; and the fields
 # that need no column there.
 SEPARATORS = ",;\t"
@@ -93,8 +95,17 @@ def places_in(kind, record):
     return None
 
 
-def loose_rows(kind, held, names):
-    """The rows by the columns that the header names. In quotes that are open a line end more is a part of the field."""
+def booked(m, kind, found):
+    """What the books have now of what a row is of, or None where it isn't there."""
+    if kind == "counts":
+        return m.items[found["item"]].quantity if found["item"] in m.items else None
+    line = m.order_lines.get(found["line"])
+    return line and line.quantity - line.done
+
+
+def loose_rows(kind, held, names, still=None):
+    """The rows by the columns that the header names. In quotes that are open a line end more is a part of the field. With
+    `still` it is asked of each row whether the books have what the text says that they had."""
     for separator in SEPARATORS:
         header, *others = list(records(held, separator)) or [[]]
         places = places_in(kind, header)
@@ -111,10 +122,14 @@ def loose_rows(kind, held, names):
             if is_open and at == len(others) + 1:
                 raise Fault("Csv")
             texts = texts_of(record, len(header))
+            expected = next((it for name, it in zip(header, texts) if name.decode() == EXPECTED[kind]), "")
             texts = ["" if it is None or it >= len(texts) else texts[it] for it in places]
             if texts[HEADERS[kind].index("quantity")]:
                 is_empty = False
-                yield row(kind, texts, names)
+                found = row(kind, texts, names)
+                if still and expected and not still(found, expected):
+                    raise Fault("Changed")
+                yield found
         except Fault as fault:
             raise FileFault(fault, at) from None
     if is_empty and others and len(others[0]) != len(header):
@@ -131,17 +146,25 @@ def width_of(held, separator):
     return len(first)
 
 
-def rows(kind, held, names=None, loose=False):
+def rows(kind, held, names=None, loose=False, still=None):
     """The rows of a file, each its fields by name. With names a row of the books may be said by what it is called."""
     if len(held) > MOST_BYTES:
         raise FileFault(Fault("TooLong"), 0)
-    yield from (loose_rows if loose else strict_rows)(kind, held, names)
+    yield from loose_rows(kind, held, names, still) if loose else strict_rows(kind, held, names)
 
 
-def imported(m, kind, document, day, held, with_names=False):
-    """What the import of a file prints, and its status. Names are looked up before anything is run."""
+def is_booked(m, kind, document, found, expected):
+    """Whether the books have that number of what a row is of. Of a row that was done before it isn't asked."""
+    number = None if f"{kind}/{document}/{found['number']}" in m.kept else booked(m, kind, found)
+    return number is None or re.fullmatch(r"[0-9]{1,19}", expected) and int(expected) == number
+
+
+def imported(m, kind, document, day, held, with_names=False, unchanged=False):
+    """What the import of a file prints, and its status. Names are looked up before anything is run. One that is read
+    loosely may be asked whether the books are unchanged."""
+    still = (lambda found, expected: is_booked(m, kind, document, found, expected)) if unchanged else None
     try:
-        found = list(rows(kind, held, Names(m) if with_names else None))
+        found = list(rows(kind, held, Names(m) if with_names else None, unchanged, still))
     except FileFault as fault:
         return answer_line(fault.answer) + "\n", 1
     told, status = "", 0

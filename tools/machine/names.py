@@ -41,7 +41,7 @@ class Names:
         if type(held) is str and table == "parts":
             return self.parts(held)
         if type(held) is str and table in TREES:
-            return self.way(table, [held])
+            return self.way(table, [held]) or self.way(table, held.split(" / "))
         if type(held) is list and held and table in TREES and all(type(it) is str for it in held):
             return self.way(table, held)
         if type(held) is dict and "key" in held:

@@ -27,7 +27,7 @@ use Rattle.desk_wire.specs.Records.{Fields, are_texts, config_by}
 use Rattle.desk_wire.specs.RowWords.{number_of, row_at_word}
 use Rattle.desk_wire.specs.Imports.{AreAlikeFiles, Columns, NamesChangeFilesLittle, Reads, arranged, batch_of, command_of}
 use Rattle.desk_wire.specs.Imports.{field, key_of, layout_by, loosely, names_of, quantity_at, row_list, row_of, rows_by}
-use Rattle.desk_wire.specs.Imports.{records_under, rows_under, unless_other}
+use Rattle.desk_wire.specs.Imports.{records_under, rows_under, unless_changed, unless_other}
 use Rattle.desk_wire.specs.Imports.{rows_in, rows_of_text, separators, serials_of, strictly, with_rows}
 use Rattle.desk_wire.proofs.Alike.{both, later, same}
 
@@ -123,6 +123,12 @@ strictly_alike names kind document day fields =
     both (row_of None kind document day fields) (row_of (Some names) kind document day fields) (λ row. Ok (Some row))
     (λ row. Ok (Some row)) (row_alike names kind document day fields) (λ row. inr refl)
 
+-- readings that are alike are so with what the books are asked
+asked_alike : (columns : Columns) (fields : Fields) (off on : Result (Option ImportRow) What) → AreAlike off on
+    → AreAlike (unless_changed columns fields off) (unless_changed columns fields on)
+asked_alike columns fields off on (inl e) = inl (ap (unless_changed columns fields) e)
+asked_alike columns fields off on (inr e) = inr (ap (unless_changed columns fields) e)
+
 loosely_alike : (names : Naming) (kind : ImportKind) (document : List ℕ) (day : CivilDay) (columns : Columns)
     → AreAlikeReads (loosely None kind document day columns) (loosely (Some names) kind document day columns)
 unfolding loosely
@@ -134,7 +140,9 @@ loosely_alike names kind document day columns fields = go (field (quantity_at ki
     go (b ∷ bs) e =
         rw e (later (must Csv (are_texts fields)) _ _
         (λ texts. later (must Csv (nat_le (length fields) columns.width)) _ _
-        (λ fits. strictly_alike names kind document day (arranged columns fields))))
+        (λ fits. asked_alike columns fields (strictly None kind document day (arranged columns fields))
+        (strictly (Some names) kind document day (arranged columns fields))
+        (strictly_alike names kind document day (arranged columns fields)))))
 
 rows_alike : (names : Naming) (kind : ImportKind) (document : List ℕ) (day : CivilDay) (rs : List Fields)
     → AreAlikeFiles (rows_in None kind document day rs) (rows_in (Some names) kind document day rs)

@@ -8,7 +8,7 @@ use Rattle.std.specs.Prelude.{Option, Some, None, is_some, option_map}
 use Rattle.std.specs.Str.{bytes_eq, is_utf8}
 use Rattle.std.proofs.lemmas.Bool.{and_parts, false≢true, true≢false}
 use Rattle.csv.specs.Records.{field_at}
-use Rattle.desk_wire.specs.Imports.{Columns, arranged, column_by, columns_of, field, field_at_place}
+use Rattle.desk_wire.specs.Imports.{Columns, arranged, column_by, columns_at, columns_of, field, field_at_place}
 use Rattle.desk_wire.specs.Imports.{names_of, places_from, places_of}
 use Rattle.desk_wire.specs.Layouts.{place_list}
 use Rattle.desk_wire.specs.Records.{Fields, are_texts}
@@ -76,7 +76,7 @@ columns-lack names header done i d h e =
 
 pub columns-are : (kind : ImportKind) (header : Fields) (places : List (Option ℕ)) → are_texts header ≡ true
     → places_of (names_of kind) header ≡ Some places
-    → columns_of kind header ≡ Some (record { places = places; width = length header })
+    → columns_of kind header ≡ Some (columns_at kind header places)
 columns-are kind header places t e = rw (t, e) refl
 
 pub columns-none : (kind : ImportKind) (header : Fields) → are_texts header ≡ true

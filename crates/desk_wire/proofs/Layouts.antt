@@ -1,14 +1,17 @@
 -- What the code reads of a file at a time, and all of the file.
 use Rattle.std.proofs.Common.{◌≡◌, ℕ, ◌==◌, Bool, true, false, List, [], ◌∷◌, drop, length, refl, sym, ap, ◌∙◌}
 use Rattle.std.proofs.Common.{inl, inr}
-use Rattle.std.specs.Prelude.{Option, Some, None, Ok, Err, nat_le}
+use Rattle.std.specs.Prelude.{Option, Some, None, Result, Ok, Err, nat_le}
 use Rattle.std.specs.Str.{bytes_eq}
 use Rattle.std.specs.Cmp.Lexicographic.{pointwise}
 use Rattle.std.proofs.lemmas.Bool.{cases_Bool, true≢false}
 use Rattle.csv.specs.Reading.{records, strip_bom}
 use Rattle.part_core.specs.Day.{CivilDay}
 use Rattle.desk_core.specs.Naming.{Naming}
+use Rattle.desk_wire.specs.declared.fault.FileError.{FileError}
 use Rattle.desk_wire.specs.declared.fault.FileError.TheVariants as error
+use Rattle.desk_wire.specs.declared.fault.WireFault.{WireFault}
+use Rattle.desk_wire.specs.declared.row.ImportRow.{ImportRow}
 use Rattle.desk_wire.specs.declared.fault.Unread.TheVariants.{Wrong}
 use Rattle.desk_wire.specs.declared.fault.What.{What}
 use Rattle.desk_wire.specs.declared.fault.What.TheVariants.{Csv, Header, TooLong}
@@ -18,8 +21,10 @@ use Rattle.desk_wire.specs.declared.layout.Layout.TheVariants.{Strict, Loose}
 use Rattle.desk_wire.specs.Imports.{Columns, arranged, field, first_columns, first_wrong}
 use Rattle.desk_wire.specs.Imports.{layout_by, loosely, names_of, quantity_at, row_of, rows_by, rows_in}
 use Rattle.desk_wire.specs.Imports.{rows_of_text, strictly, with_rows, wrong_by, wrong_in_file, wrong_in_row, wrong_in_text}
-use Rattle.desk_wire.specs.Imports.{import, rows_under, unless_other, wrong_loosely, wrong_strictly, wrong_under}
-use Rattle.desk_wire.specs.Layouts.{ReadsRow, reads_by, wrong_in}
+use Rattle.desk_wire.specs.Imports.{import, rows_under, unless_changed, unless_other, wrong_loosely, wrong_strictly}
+use Rattle.desk_wire.specs.Imports.{wrong_under}
+use Rattle.desk_wire.specs.Imports as imports
+use Rattle.desk_wire.specs.Layouts.{IsReadAs, ReadsRow, reads_by, wrong_in}
 use Rattle.desk_wire.specs.Quotes.{closed_of, ends_in_quotes}
 use Rattle.desk_wire.specs.Records.{BytesReader, Fields, ReadsRecord, are_texts, config_by, left}
 use Rattle.desk_wire.specs.Steps.{◌>>=◌, at}
@@ -79,7 +84,8 @@ not-empty (b ∷ bs) h = (b, bs, refl)
 pub loose-in : (names : Option Naming) (kind : ImportKind) (document : List ℕ) (day : CivilDay) (columns : Columns)
     (fields : Fields) (b : ℕ) (bs : List ℕ) → are_texts fields ≡ true
     → field (quantity_at kind) (arranged columns fields) ≡ b ∷ bs → nat_le (length fields) columns.width ≡ true
-    → (loosely names kind document day columns fields ≡ strictly names kind document day (arranged columns fields))
+    → (loosely names kind document day columns fields
+    ≡ unless_changed columns fields (strictly names kind document day (arranged columns fields)))
     × (wrong_loosely names kind columns (Some fields) ≡ wrong_in_row names kind (arranged columns fields))
 unfolding loosely
 loose-in names kind document day columns fields b bs t e fits = (rw (t, fits, e) refl, rw (t, fits) refl)
@@ -160,3 +166,19 @@ pub import-fits : (loose : Bool) (names : Option Naming) (kind : ImportKind) (do
     × (wrong_in_file loose names kind document day bytes
     ≡ wrong_in_text loose names kind document day (strip_bom bytes))
 import-fits loose names kind document day bytes h = (rw h refl, rw h refl)
+
+-- ---- a record of which the books are asked
+
+asked-fault : (number : ℕ) (columns : Columns) (fields : Fields) (reading : Result (Option ImportRow) What)
+    (fault : WireFault) → at number reading ≡ Err fault
+    → at number (unless_changed columns fields reading) ≡ Err fault
+asked-fault number columns fields (Ok row) fault h = cc h
+asked-fault number columns fields (Err what) fault h = h
+
+-- what is wrong with it otherwise
+pub asked-wrong : (number : ℕ) (columns : Columns) (fields : Fields) (reading : Result (Option ImportRow) What)
+    (wrong : Option imports.Wrong) (e : FileError) → IsReadAs reading wrong number (Err e)
+    → IsReadAs (unless_changed columns fields reading) wrong number (Err e)
+asked-wrong number columns fields reading wrong error.Memory h = tt
+asked-wrong number columns fields reading wrong (error.Wrong fault field) h =
+    (asked-fault number columns fields reading fault h.0, h.1)

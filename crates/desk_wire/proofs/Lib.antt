@@ -27,3 +27,4 @@ pub mod SheetKeys
 pub mod SheetReads
 pub mod SheetTexts
 pub mod ClosedRecords
+pub mod Strokes

@@ -1,7 +1,7 @@
 -- A file that is read strictly, and has no quote open at its end, is read so loosely.
 use Rattle.std.proofs.Common.{◌≡◌, ℕ, ◌+◌, ◌++◌, ◌==◌, ◌&&◌, true, false, List, [], ◌∷◌, length, arith, refl, sym, ap}
 use Rattle.std.proofs.Common.{◌∙◌, inl, inr}
-use Rattle.std.specs.Prelude.{Option, Some, Result, Ok, Err, is_err, nat_le}
+use Rattle.std.specs.Prelude.{Option, Some, None, Result, Ok, Err, is_err, nat_le}
 use Rattle.std.specs.Str.{bytes_eq}
 use Rattle.std.specs.Cmp.Lexicographic.{pointwise}
 use Rattle.std.proofs.lemmas.Bool.{and_parts, cases_Bool, eqb-true, false≢true, le-leb}
@@ -19,8 +19,8 @@ use Rattle.desk_wire.specs.declared.kind.ImportKind.TheVariants.{Receipts, Count
 use Rattle.desk_wire.specs.declared.row.ImportRow.{ImportRow}
 use Rattle.desk_wire.specs.Imports.{Columns, LooseReadsStrict, Reads, arranged, columns_of, command_of, field}
 use Rattle.desk_wire.specs.Imports.{layout_by, loosely, names_of, quantity_at, row_list, row_of, rows_by, rows_in}
-use Rattle.desk_wire.specs.Imports.{has_other_separator, rows_under, separators, strictly, unless_other}
-use Rattle.desk_wire.specs.Imports.{with_rows}
+use Rattle.desk_wire.specs.Imports.{columns_at, has_other_separator, rows_under, separators, strictly, unless_changed}
+use Rattle.desk_wire.specs.Imports.{unless_other, with_rows}
 use Rattle.desk_wire.specs.Numbers.{row_number_in}
 use Rattle.desk_wire.specs.Quotes.{ends_in_quotes}
 use Rattle.desk_wire.specs.Records.{Fields, are_texts}
@@ -38,7 +38,7 @@ strict_places Receipts = Some 0 ∷ Some 1 ∷ Some 2 ∷ Some 3 ∷ Some 4 ∷ 
 strict_places Counts = Some 0 ∷ Some 1 ∷ Some 2 ∷ []
 
 abbrev strict_columns : ImportKind → Columns
-strict_columns kind = record { places = strict_places kind; width = length (names_of kind) }
+strict_columns kind = columns_at kind (names_of kind) (strict_places kind)
 
 header-columns : (kind : ImportKind) → columns_of kind (names_of kind) ≡ Some (strict_columns kind)
 header-columns Receipts =
@@ -149,6 +149,10 @@ loosely-same names kind document day fields row h = go (field (quantity_at kind)
         let e = eqb-true (length fields) (length (names_of kind)) long in
         le-leb (length fields) (length (names_of kind)) (omega arith)
 
+    unasked : (read : Option ImportRow) → unless_changed (strict_columns kind) fields (Ok read) ≡ Ok read
+    unasked None = refl
+    unasked (Some x) = refl
+
     go : (quantity : List ℕ) → field (quantity_at kind) fields ≡ quantity
         → loosely names kind document day (strict_columns kind) fields ≡ Ok row
     go [] e = absurd (no-row names kind document day fields row h e)
@@ -157,7 +161,8 @@ loosely-same names kind document day fields row h = go (field (quantity_at kind)
         ap (field (quantity_at kind)) same ∙ e in
         (loose-in names kind document day (strict_columns kind) fields b bs
         (are-texts names kind document day fields row h) there fits).0
-        ∙ ap (strictly names kind document day) same ∙ h
+        ∙ ap (λ read. unless_changed (strict_columns kind) fields read) (ap (strictly names kind document day) same ∙ h)
+        ∙ unasked row
 
 -- ---- all records
 

@@ -5,7 +5,7 @@ use Rattle.desk_wire.specs.declared.fault.What.{What}
 use Rattle.desk_wire.specs.declared.fault.What.TheVariants.{TooLong, NotJson, NotObject, NoField, WrongType}
 use Rattle.desk_wire.specs.declared.fault.What.TheVariants.{UnknownCommand, UnknownField, BadKey, BadDay}
 use Rattle.desk_wire.specs.declared.fault.What.TheVariants.{BadText, BadSerials, BadWord}
-use Rattle.desk_wire.specs.declared.fault.What.TheVariants.{NoName, Ambiguous, Csv, Header}
+use Rattle.desk_wire.specs.declared.fault.What.TheVariants.{NoName, Ambiguous, Csv, Header, Changed}
 use Rattle.desk_wire.specs.declared.fault.WrongField.{WrongField}
 
 abbrev pub fault_name : What → List ℕ
@@ -25,6 +25,7 @@ fault_name (NoName field) = codes "NoName"
 fault_name (Ambiguous field) = codes "Ambiguous"
 fault_name Csv = codes "Csv"
 fault_name Header = codes "Header"
+fault_name Changed = codes "Changed"
 
 -- a field that can't be read: its name, and what stands in it
 abbrev pub shown_field : WrongField → List ℕ × Option (List ℕ)

@@ -1,7 +1,8 @@
 -- What a file of comma-separated values asks, or its first fault.
 use Rattle.std.specs.Prelude.{ℕ, ◌≡◌, ◌⊎◌, ◌+◌, ◌==◌, ◌&&◌, ◌||◌, ◌++◌, ◌∷◌, List, [], length, map, drop, nat_le, not}
 use Rattle.std.specs.Prelude.{codes, decimal, Bool, true, false, if◌then◌else◌, Option, Some, None, option_map, option_and_then}
-use Rattle.std.specs.Prelude.{unwrap_or, Result, Ok, Err}
+use Rattle.std.specs.Prelude.{◌-◌, is_some, unwrap_or, Result, Ok, Err}
+use Rattle.std.specs.FinMap as finmap
 use Rattle.std.specs.List.{list_any}
 use Rattle.std.specs.Str.{bytes_eq}
 use Rattle.std.specs.Cmp.Lexicographic.{pointwise}
@@ -13,20 +14,24 @@ use Rattle.part_core.specs.declared.field.RowKind.TheVariants as table
 use Rattle.stock_core.specs.declared.stock_command.StockCommand.TheVariants.{Count}
 use Rattle.order_core.specs.declared.order_command.OrderCommand.TheVariants.{Receive}
 use Rattle.desk_core.specs.Naming.{Naming}
+use Rattle.desk_core.specs.Machine.{State}
 use Rattle.desk_core.specs.declared.command.Command.{Command}
+use Rattle.desk_core.specs.declared.command.Request.{Request}
 use Rattle.desk_core.specs.declared.command.Command.TheVariants.{Order, Stock}
 use Rattle.desk_wire.specs.declared.fault.What.{What}
-use Rattle.desk_wire.specs.declared.fault.What.TheVariants.{TooLong, Csv, Header, WrongType}
+use Rattle.desk_wire.specs.declared.fault.What.TheVariants.{TooLong, Csv, Header, WrongType, Changed}
 use Rattle.desk_wire.specs.declared.fault.WireFault.{WireFault}
 use Rattle.desk_wire.specs.declared.kind.ImportKind.{ImportKind}
 use Rattle.desk_wire.specs.declared.kind.ImportKind.TheVariants.{Receipts, Counts}
+use Rattle.desk_wire.specs.declared.kind.FileReading.{FileReading}
+use Rattle.desk_wire.specs.declared.kind.FileReading.TheVariants.{Strict, Loose, Unchanged}
 use Rattle.desk_wire.specs.declared.row.ImportRow.{ImportRow}
 use Rattle.desk_wire.specs.declared.fault.FileError.{FileError}
 use Rattle.desk_wire.specs.declared.fault.FileError.TheVariants as error
 use Rattle.desk_wire.specs.Faults.{shown_field}
 use Rattle.desk_wire.specs.Steps.{◌>>=◌, or_fault, must, at, at_fault}
 use Rattle.desk_wire.specs.Texts.{row_text_from, listed}
-use Rattle.desk_wire.specs.Numbers.{row_number_in}
+use Rattle.desk_wire.specs.Numbers.{number_in, row_number_in}
 use Rattle.desk_wire.specs.RowWords.{number_of, row_at_word}
 use Rattle.desk_wire.specs.Kinds.{import_kind_name}
 use Rattle.desk_wire.specs.Quotes.{but_last, closed_of, ends_in_quotes}
@@ -91,11 +96,13 @@ row_of names kind document day fields = do
 abbrev pub separators : List ℕ
 separators = 44 ∷ 59 ∷ 9 ∷ []
 
--- where each of the row's fields stands, of which one that has no column is empty; and how many fields a record has at
--- most
+-- where each of the row's fields stands, of which one that has no column is empty; how many fields a record has at most;
+-- where a sheet says what the books had, if it does; and the books that are still to have it, where they are asked
 pub record Columns : Type 0 where
   pub places : List (Option ℕ)
   pub width : ℕ
+  pub expected : Option ℕ
+  pub books : Option State
 
 -- at which places the name stands, from that place on
 abbrev pub places_from : ℕ → List ℕ → Fields → List ℕ
@@ -120,12 +127,30 @@ places_of (name ∷ names) header =
     option_and_then (λ place. option_map (λ places. place ∷ places) (places_of names header))
     (column_by name (places_from 0 name header))
 
+-- what a sheet calls what the books had: of a line how many were still to come, of an item how many there were
+abbrev pub expected_name : ImportKind → List ℕ
+expected_name Receipts = codes "outstanding"
+expected_name Counts = codes "expected"
+
+-- the first of places, if there is one
+abbrev pub first_place : List ℕ → Option ℕ
+first_place [] = None
+first_place (i ∷ is) = Some i
+
+-- columns at these places, of a header
+abbrev pub columns_at : ImportKind → Fields → List (Option ℕ) → Columns
+columns_at kind header places =
+    record {
+      places = places;
+      width = length header;
+      expected = first_place (places_from 0 (expected_name kind) header);
+      books = None;
+    }
+
 -- the columns that a file's first record names, whatever else it names
 abbrev pub columns_of : ImportKind → Fields → Option Columns
 columns_of kind header =
-    if are_texts header
-    then option_map (λ places. record { places = places; width = length header }) (places_of (names_of kind) header)
-    else None
+    if are_texts header then option_map (columns_at kind header) (places_of (names_of kind) header) else None
 
 abbrev pub field_at_place : Option ℕ → Fields → List ℕ
 field_at_place None fields = []
@@ -152,8 +177,48 @@ strictly names kind document day fields = do
   row ← row_of names kind document day fields
   Ok (Some row)
 
+-- what the books have now of what a row is of: how much there is of an item that is counted, how much is still to come of
+-- the line of a receipt
+abbrev pub booked : State → Command → Option ℕ
+booked s (Stock (Count item quantity)) = option_map (λ x. x.quantity) (finmap.get s.stock.items (item ∷ []))
+booked s (Order (Receive line location what)) = option_map (λ l. l.quantity - l.done) (finmap.get s.order_lines (line ∷ []))
+booked s _ = None
+
+abbrev pub was_done : State → Option (List ℕ) → Bool
+was_done s None = false
+was_done s (Some key) = is_some (finmap.get s.answers key)
+
+-- of a row that was done before nothing is asked
+abbrev pub still_booked : State → Request → Option ℕ
+still_booked s request = if was_done s request.key then None else booked s request.command
+
+abbrev pub is_number : Option ℕ → ℕ → Bool
+is_number None n = false
+is_number (Some m) n = m == n
+
+-- a text says that number, where there is one, or nothing
+abbrev pub says : List ℕ → Option ℕ → Bool
+says [] n = true
+says (b ∷ bs) None = true
+says (b ∷ bs) (Some n) = is_number (number_in (b ∷ bs)) n
+
+-- what the sheet says the books had of a row is what they have, where they are asked
+abbrev pub is_unchanged : Columns → Fields → ImportRow → Bool
+is_unchanged columns fields row = by_books columns.books
+  where
+    by_books : Option State → Bool
+    by_books None = true
+    by_books (Some s) = says (field_at_place columns.expected fields) (still_booked s row.request)
+
+-- a row of which the books have another number than the sheet says they had is `Changed`
+abbrev pub unless_changed : Columns → Fields → Result (Option ImportRow) What → Result (Option ImportRow) What
+unless_changed columns fields (Err what) = Err what
+unless_changed columns fields (Ok None) = Ok None
+unless_changed columns fields (Ok (Some row)) =
+    if is_unchanged columns fields row then Ok (Some row) else Err Changed
+
 -- `Csv` is a record of more fields than the header. Of the others one without a quantity is left out, and so is an empty
--- one. Any other is a row by its columns.
+-- one. Any other is a row by its columns, unless the books have changed.
 unfoldable pub loosely : Option Naming → ImportKind → List ℕ → CivilDay → Columns → Reads
 loosely names kind document day columns fields = do
   texts ← must Csv (are_texts fields)
@@ -162,7 +227,7 @@ loosely names kind document day columns fields = do
   where
     by_quantity : List ℕ → Result (Option ImportRow) What
     by_quantity [] = Ok None
-    by_quantity (b ∷ bs) = strictly names kind document day (arranged columns fields)
+    by_quantity (b ∷ bs) = unless_changed columns fields (strictly names kind document day (arranged columns fields))
 
 -- ---- all records
 
@@ -263,6 +328,26 @@ import loose names kind document day bytes = do
   fits ← at 0 (must TooLong (nat_le (length bytes) 16777216))
   rows_of_text loose names kind document day (strip_bom bytes)
 
+-- ---- unless the books have changed
+
+-- the columns, with the books that are asked, if any are
+abbrev pub asked_by : Option State → Columns → Columns
+asked_by None columns = columns
+asked_by (Some s) columns = record columns { books = Some s }
+
+abbrev pub asking : Option State → Option (ℕ × Columns) → Option (ℕ × Columns)
+asking None layout = layout
+asking (Some s) layout = option_map (λ l. (l.0, asked_by (Some s) l.1)) layout
+
+-- the rows of a file that is read loosely, of which these books have what the sheet says; else `Changed` at the first that
+-- they have otherwise, where no record before it has another fault
+abbrev pub import_unchanged : State → Option Naming → ImportKind → List ℕ → CivilDay → List ℕ
+    → Result (List ImportRow) WireFault
+import_unchanged s names kind document day bytes = do
+  fits ← at 0 (must TooLong (nat_le (length bytes) 16777216))
+  rows_by names kind document day (strip_bom bytes)
+      (asking (Some s) (layout_by kind (strip_bom bytes) separators))
+
 -- ---- what is wrong with a record
 
 -- the name of a field, and what stands in it
@@ -329,6 +414,28 @@ wrong_in_text true names kind document day text =
 abbrev pub wrong_in_file : Bool → Option Naming → ImportKind → List ℕ → CivilDay → List ℕ → Option Wrong
 wrong_in_file loose names kind document day bytes =
     if nat_le (length bytes) 16777216 then wrong_in_text loose names kind document day (strip_bom bytes) else None
+
+-- the same of a file that is read unless the books have changed
+abbrev pub wrong_in_unchanged : State → Option Naming → ImportKind → List ℕ → CivilDay → List ℕ → Option Wrong
+wrong_in_unchanged s names kind document day bytes =
+    if nat_le (length bytes) 16777216
+    then wrong_by names kind document day (strip_bom bytes)
+    (asking (Some s) (layout_by kind (strip_bom bytes) separators))
+    else None
+
+-- ---- as it is asked for
+
+abbrev pub import_by : FileReading → State → Option Naming → ImportKind → List ℕ → CivilDay → List ℕ
+    → Result (List ImportRow) WireFault
+import_by Strict s names kind document day bytes = import false names kind document day bytes
+import_by Loose s names kind document day bytes = import true names kind document day bytes
+import_by Unchanged s names kind document day bytes = import_unchanged s names kind document day bytes
+
+abbrev pub wrong_in_file_by : FileReading → State → Option Naming → ImportKind → List ℕ → CivilDay → List ℕ
+    → Option Wrong
+wrong_in_file_by Strict s names kind document day bytes = wrong_in_file false names kind document day bytes
+wrong_in_file_by Loose s names kind document day bytes = wrong_in_file true names kind document day bytes
+wrong_in_file_by Unchanged s names kind document day bytes = wrong_in_unchanged s names kind document day bytes
 
 -- an error tells the fault of a reading, and the field that is wrong there, unless memory ran out
 abbrev pub Tells : {X : Type 0} → Result X WireFault → Option Wrong → FileError → Type 0

@@ -5,6 +5,7 @@ use Rattle.csv.specs.declared.parser.State.{State}
 use Rattle.csv.specs.declared.parser.State.TheVariants as st
 use Rattle.part_core.specs.Day.{CivilDay}
 use Rattle.desk_core.specs.Naming.{Naming}
+use Rattle.desk_core.specs.ShopView.{state_of}
 use Rattle.desk_wire.specs.declared.columns.HeaderColumns.{HeaderColumns}
 use Rattle.desk_wire.specs.declared.fault.FileError.{FileError}
 use Rattle.desk_wire.specs.declared.fault.FileError.TheVariants.{Memory, Wrong}
@@ -67,7 +68,13 @@ EndsAt (Some last) number = last ≡ number
 
 -- the columns, as the code keeps them
 abbrev pub columns_in : HeaderColumns → Columns
-columns_in columns = record { places = columns.places.items; width = columns.width }
+columns_in columns =
+    record {
+      places = columns.places.items;
+      width = columns.width;
+      expected = columns.expected;
+      books = option_map (λ shop. state_of shop.now) columns.books;
+    }
 
 -- a separator and the columns that the header has by it
 abbrev pub layout_in : ℕ × HeaderColumns → ℕ × Columns

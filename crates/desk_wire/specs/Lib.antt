@@ -2,6 +2,7 @@ pub mod Faults
 pub mod Steps
 pub mod Texts
 pub mod Values
+pub mod TextWays
 pub mod RowNames
 pub mod RowWords
 pub mod Fields

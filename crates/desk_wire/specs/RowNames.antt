@@ -13,6 +13,7 @@ use Rattle.desk_wire.specs.declared.fault.What.{What}
 use Rattle.desk_wire.specs.declared.fault.What.TheVariants.{WrongType, UnknownField, BadSerials, NoName, Ambiguous}
 use Rattle.desk_wire.specs.Steps.{◌>>=◌, or_fault, must}
 use Rattle.desk_wire.specs.Members.{knows_all}
+use Rattle.desk_wire.specs.TextWays.{by_text_way}
 use Rattle.desk_wire.specs.Values.{number_of, text_of, key_of, member_in, text_in, are_texts}
 
 -- the row of a number, whether or not there is one
@@ -27,12 +28,12 @@ through Nothing next = Ok Nothing
 through (One n) next = next n
 through Several next = Ok Several
 
--- ---- a text: the name of a part, or of what stands at the top of its tree
+-- ---- a text: the name of a part, or of what stands at the top of its tree, or else the way to it
 
 abbrev pub by_text : Naming → RowKind → List ℕ → Result Found What
 by_text names Part text = Ok (names.part text)
-by_text names Category text = Ok (names.category None text)
-by_text names Location text = Ok (names.location None text)
+by_text names Category text = Ok (by_text_way names.category text)
+by_text names Location text = Ok (by_text_way names.location text)
 by_text names _ text = Err WrongType
 
 -- ---- an array: the names on the way from the top of a tree

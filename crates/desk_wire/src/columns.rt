@@ -3,17 +3,21 @@
 ghost use Rattle.std.specs.Prelude.{◌≡◌, true, IfOk, option_map};
 ghost use Rattle.csv.specs.Reading.{records, strip_bom};
 ghost use Rattle.csv.specs.Records.{fields_of};
+ghost use Rattle.desk_core.specs.ShopView.{state_of};
 ghost use Rattle.desk_wire.specs.Imports.{arranged, column_by, columns_of, field_at_place};
 ghost use Rattle.desk_wire.specs.Imports.{first_columns, layout_by, may_lack, places_from};
-ghost use Rattle.desk_wire.specs.Imports.{first_width, has_other_separator, separators};
+ghost use Rattle.desk_wire.specs.Imports.{asked_by, expected_name, first_place, first_width};
+ghost use Rattle.desk_wire.specs.Imports.{has_other_separator, is_unchanged, says, separators};
 ghost use Rattle.desk_wire.specs.Layouts.{ReadsText, columns_in, layout_in};
 ghost use Rattle.desk_wire.specs.Records.{IsReading, are_texts, config_by};
 
 use crate::fault::Unread;
 use crate::kind::ImportKind;
+use crate::number::number_in;
 use crate::records::{next_record, records_of};
-use crate::row::{field, header};
+use crate::row::{ImportRow, field, header};
 use csv::{Reader, StringRecord};
+use desk_core::Shop;
 use std::alloc::{AllocError, Global};
 
 /// What may stand between two fields, in the order in which they are tried.
@@ -21,11 +25,37 @@ const SEPARATORS: [u8; 3] = [b',', b';', b'\t'];
 
 /// The columns that a header names.
 #[derive(Drop)]
-pub struct HeaderColumns {
+pub struct HeaderColumns<'a> {
     /// Where each of a row's fields stands. One that has no column is empty.
     places: Vec<Option<usize>>,
     /// How many fields a record may have.
     width: usize,
+    /// Where a sheet says what the books had, if it does.
+    expected: Option<usize>,
+    /// The books that are still to have it, where they are asked.
+    books: Option<&'a Shop>,
+}
+
+/// What a sheet calls what the books had.
+fn expected_name(kind: ImportKind) -> &'static str
+    ensures { result.now ≡ expected_name kind }
+{
+    match kind {
+        ImportKind::Receipts => "outstanding",
+        ImportKind::Counts => "expected",
+    }
+}
+
+/// The first column of that name, if there is one.
+fn first_column(name: &str, header: &StringRecord) -> Option<usize>
+    ensures { result ≡ first_place (places_from 0 name.now (fields_of header.now)) }
+{
+    for index in 0..header.len() {
+        if name == field(header, index) {
+            return Some(index);
+        }
+    }
+    None
 }
 
 /// Whether the field of that name may have no column.
@@ -56,11 +86,11 @@ fn column_by(name: &str, header: &StringRecord) -> Option<Option<usize>>
 }
 
 /// The columns that a file's first record names, whatever else it names.
-fn columns_of(
+fn columns_of<'a>(
     alloc: Global,
     kind: ImportKind,
     first: &StringRecord,
-) -> Result<Option<HeaderColumns>, AllocError>
+) -> Result<Option<HeaderColumns<'a>>, AllocError>
     requires { are_texts (fields_of first.now) ≡ true }
     ensures { IfOk result (λ columns. option_map columns_in columns
         ≡ columns_of kind (fields_of first.now)) }
@@ -75,16 +105,18 @@ fn columns_of(
     Ok(Some(HeaderColumns {
         places,
         width: first.len(),
+        expected: first_column(expected_name(kind), first),
+        books: None,
     }))
 }
 
 /// The columns that the first record names, where that separator stands between two fields.
-fn columns_by(
+fn columns_by<'a>(
     alloc: Global,
     kind: ImportKind,
     separator: u8,
     bytes: &[u8],
-) -> Result<Option<HeaderColumns>, AllocError>
+) -> Result<Option<HeaderColumns<'a>>, AllocError>
     ensures { IfOk result (λ columns. option_map columns_in columns
         ≡ first_columns kind (records (config_by separator) (strip_bom bytes.now))) }
 {
@@ -99,11 +131,11 @@ fn columns_by(
 }
 
 /// The first separator by which the first record names the columns, with the columns.
-pub fn layout_of(
+pub fn layout_of<'a>(
     alloc: Global,
     kind: ImportKind,
     bytes: &[u8],
-) -> Result<Option<(u8, HeaderColumns)>, AllocError>
+) -> Result<Option<(u8, HeaderColumns<'a>)>, AllocError>
     ensures { IfOk result (λ layout. option_map layout_in layout
         ≡ layout_by kind (strip_bom bytes.now) separators) }
 {
@@ -178,7 +210,44 @@ fn field_at_place(place: Option<usize>, fields: &StringRecord) -> &str
     }
 }
 
-impl HeaderColumns {
+/// Whether a text says that number, or nothing.
+fn says(text: &str, number: Option<u64>) -> bool
+    ensures { result ≡ says text.now number }
+{
+    if text.is_empty() {
+        return true;
+    }
+    match number {
+        None => true,
+        Some(number) => number_in(text) == Some(number),
+    }
+}
+
+impl<'a> HeaderColumns<'a> {
+    /// The columns, with the books that are asked, if any are.
+    pub fn asking(self, books: Option<&'a Shop>) -> Self
+        ensures { columns_in result
+            ≡ asked_by (option_map (λ shop. state_of shop.now) books.entry) (columns_in self.entry) }
+    {
+        match books {
+            None => self,
+            Some(_) => HeaderColumns { books, ..self },
+        }
+    }
+
+    /// Whether the books have what the record of a row says they had, where they are asked.
+    pub fn is_unchanged(&self, fields: &StringRecord, row: &ImportRow) -> bool
+        ensures { result ≡ is_unchanged (columns_in self.now) (fields_of fields.now) row.now }
+    {
+        match self.books {
+            None => true,
+            Some(shop) => says(
+                field_at_place(self.expected, fields),
+                row.still_booked(shop),
+            ),
+        }
+    }
+
     /// How many fields a record may have.
     pub fn width(&self) -> usize
         ensures { result ≡ (columns_in self.now).width }

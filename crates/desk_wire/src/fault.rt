@@ -45,6 +45,8 @@ pub enum What {
     /// loosely, it doesn't name each column just once; where the file is of any command, it doesn't name a column that
     /// a line has to have, or names one twice.
     Header,
+    /// The books have another number now than a record of a sheet says they had.
+    Changed,
 }
 
 impl What {
@@ -69,6 +71,7 @@ impl What {
             What::Ambiguous(_) => "Ambiguous",
             What::Csv => "Csv",
             What::Header => "Header",
+            What::Changed => "Changed",
         }
     }
 

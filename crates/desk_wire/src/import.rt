@@ -3,14 +3,16 @@ ghost use Rattle.std.specs.Prelude.{◌≡◌, ◌+◌, ◌∷◌, IfOk, IsSome,
 ghost use Rattle.std.specs.Prelude.{false, true, is_some, option_map};
 ghost use Rattle.csv.specs.Reading.{records, strip_bom};
 ghost use Rattle.desk_wire.specs.declared.fault.FileError.TheVariants.{Wrong};
-ghost use Rattle.desk_wire.specs.declared.fault.What.TheVariants.{Header};
+ghost use Rattle.desk_wire.specs.declared.fault.What.TheVariants.{Header, TooLong};
 ghost use Rattle.desk_wire.specs.declared.kind.ImportKind.TheVariants as kinds;
 ghost use Rattle.desk_wire.specs.Records.{Fields, IsReading, config_by, left};
 ghost use Rattle.desk_wire.specs.Quotes.{closed_of};
 ghost use Rattle.desk_wire.specs.Layouts.{EndsAt, IsLast, ReadsRow, columns_in, reads_by, wrong_in};
 ghost use Rattle.desk_wire.specs.Imports.{Imports, LooseReadsStrict, NamesChangeFilesLittle, Tells};
-ghost use Rattle.desk_wire.specs.Imports.{first_wrong, import, rows_by, rows_of_text, rows_under};
-ghost use Rattle.desk_wire.specs.Imports.{wrong_by, wrong_in_text};
+ghost use Rattle.desk_wire.specs.Imports.{asking, first_wrong, import, import_unchanged, layout_by, rows_by};
+ghost use Rattle.desk_wire.specs.Imports.{rows_of_text, rows_under, separators, wrong_by, wrong_in_text};
+ghost use Rattle.desk_wire.specs.Imports.{wrong_in_unchanged};
+ghost use Rattle.desk_core.specs.ShopView.{state_of};
 
 use crate::columns::{HeaderColumns, has_other_separator, layout_of};
 use crate::document::Document;
@@ -21,12 +23,25 @@ use crate::quotes::open_record;
 use crate::records::{next_record, records_of};
 use crate::row::{ImportRow, is_header};
 use csv::{Reader, StringRecord};
-use desk_core::Names;
+use desk_core::{Names, Shop};
 use part_core::Day;
 use std::alloc::Global;
 
 /// How many bytes a file may have.
 const MOST_BYTES: usize = 16_777_216;
+
+/// The file has too many bytes.
+fn too_long() -> FileError
+    ensures { result ≡ Wrong (record { line = 0; what = TooLong }) None }
+{
+    FileError::Wrong(
+        WireFault {
+            line: 0,
+            what: What::TooLong,
+        },
+        None,
+    )
+}
 
 /// The file has no header.
 fn no_header() -> FileError
@@ -45,7 +60,7 @@ fn no_header() -> FileError
 fn next_row<N: Names>(
     alloc: Global,
     names: Option<&N>,
-    layout: &Layout,
+    layout: &Layout<'_>,
     reader: &mut Reader<&[u8]>,
     fields: &mut StringRecord,
     number: u64,
@@ -76,7 +91,7 @@ fn next_row<N: Names>(
 fn next_closed_row<N: Names>(
     alloc: Global,
     names: Option<&N>,
-    layout: &Layout,
+    layout: &Layout<'_>,
     reader: &mut Reader<&[u8]>,
     fields: &mut StringRecord,
     unclosed: Option<u64>,
@@ -109,7 +124,7 @@ fn next_closed_row<N: Names>(
 fn rows<N: Names>(
     alloc: Global,
     names: Option<&N>,
-    layout: &Layout,
+    layout: &Layout<'_>,
     reader: &mut Reader<&[u8]>,
     unclosed: Option<u64>,
     kind: ImportKind,
@@ -193,7 +208,7 @@ fn rows_by<N: Names>(
     names: Option<&N>,
     bytes: &[u8],
     separator: u8,
-    columns: HeaderColumns,
+    columns: HeaderColumns<'_>,
     reader: &mut Reader<&[u8]>,
     kind: ImportKind,
     document: &Document,
@@ -204,7 +219,7 @@ fn rows_by<N: Names>(
         × (records (config_by separator) (strip_bom bytes.now) ≡ header ∷ left reader.old) }
     ensures { let naming = option_map (λ n. N.naming_of n.now) names.entry in
         let text = strip_bom bytes.now in
-        let layout = Some (separator, columns_in columns) in
+        let layout = Some (separator, columns_in columns.entry) in
         let reading = rows_by naming kind document.now day text layout in
         MatchResult result (λ rows. reading ≡ Ok rows.items)
         (Tells reading (wrong_by naming kind document.now day text layout)) }
@@ -222,9 +237,11 @@ fn rows_by<N: Names>(
     Ok(rows)
 }
 
-/// The rows of a file by the columns that its header names.
+/// The rows of a file by the columns that its header names. Where books are asked, they are to have what the file says that
+/// they had.
 fn loose_rows<N: Names>(
     alloc: Global,
+    books: Option<&Shop>,
     names: Option<&N>,
     bytes: &[u8],
     kind: ImportKind,
@@ -232,13 +249,17 @@ fn loose_rows<N: Names>(
     day: Day,
 ) -> Result<Vec<ImportRow>, FileError>
     ensures { let naming = option_map (λ n. N.naming_of n.now) names.entry in
-        let reading = rows_of_text true naming kind document.now day (strip_bom bytes.now) in
+        let text = strip_bom bytes.now in
+        let layout = asking (option_map (λ shop. state_of shop.now) books.entry)
+        (layout_by kind text separators) in
+        let reading = rows_by naming kind document.now day text layout in
         MatchResult result (λ rows. reading ≡ Ok rows.items)
-        (Tells reading (wrong_in_text true naming kind document.now day (strip_bom bytes.now))) }
+        (Tells reading (wrong_by naming kind document.now day text layout)) }
 {
     let Some((separator, columns)) = layout_of(alloc, kind, bytes)? else {
         return Err(no_header());
     };
+    let columns = columns.asking(books);
     let mut reader = records_of(alloc, separator, bytes);
     let mut header = StringRecord::new(alloc);
     // By this record the columns were found.
@@ -290,19 +311,38 @@ pub fn import_rows<N: Names>(
         (λ error. Imports loose naming kind document.now day bytes.now (Err error)) }
 {
     if bytes.len() > MOST_BYTES {
-        return Err(FileError::Wrong(
-            WireFault {
-                line: 0,
-                what: What::TooLong,
-            },
-            None,
-        ));
+        return Err(too_long());
     }
     if loose {
-        loose_rows(alloc, names, bytes, kind, document, day)
+        loose_rows(alloc, None, names, bytes, kind, document, day)
     } else {
         strict_rows(alloc, names, bytes, kind, document, day)
     }
+}
+
+/// The rows of a file that is read loosely, or its first fault: those of `import_rows`, and `Changed` of a record that says
+/// what the books had, in a column `expected` of counts and `outstanding` of receipts, where they have another number now, or
+/// it says no number. It isn't asked of a record that says nothing there, of one that was done before under its key, nor
+/// where the item or the line isn't there.
+pub fn import_unchanged<N: Names>(
+    alloc: Global,
+    books: &Shop,
+    names: Option<&N>,
+    bytes: &[u8],
+    kind: ImportKind,
+    document: &Document,
+    day: Day,
+) -> Result<Vec<ImportRow>, FileError>
+    ensures { let naming = option_map (λ n. N.naming_of n.now) names.entry in
+        let s = state_of books.now in
+        let reading = import_unchanged s naming kind document.now day bytes.now in
+        MatchResult result (λ rows. reading ≡ Ok rows.items)
+        (Tells reading (wrong_in_unchanged s naming kind document.now day bytes.now)) }
+{
+    if bytes.len() > MOST_BYTES {
+        return Err(too_long());
+    }
+    loose_rows(alloc, Some(books), names, bytes, kind, document, day)
 }
 
 /// The receipts of a document: `receive` with the keys `receipts/DOCUMENT/NUMBER`.

@@ -23,6 +23,17 @@ impl ImportKind {
     }
 }
 
+/// How a file is read.
+#[derive(Clone, Copy, Debug, PartialEq, Eq)]
+pub enum FileReading {
+    /// Its first record is the header as it is told, and each other a row.
+    Strict,
+    /// Columns are taken by their names, and records without a quantity are left out.
+    Loose,
+    /// So, too, and the books have to have what the file says that they had.
+    Unchanged,
+}
+
 /// The kind of that name.
 pub fn import_kind_named(name: &str) -> Option<ImportKind>
     ensures { result ≡ import_kind_named name.now }

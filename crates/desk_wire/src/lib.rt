@@ -57,6 +57,7 @@ mod fault;
 mod field_name;
 mod fields;
 mod import;
+mod json_fault;
 mod kind;
 mod layout;
 mod line_faults;
@@ -76,6 +77,7 @@ mod serial_list;
 mod sheet;
 mod sheet_columns;
 mod sheet_values;
+mod text_ways;
 mod texts;
 mod values;
 mod verbs;
@@ -85,15 +87,18 @@ pub use document::Document;
 pub use fault::{FileError, ReadError, Unread, What, WireFault, WrongField};
 pub use field_name::FieldName;
 pub use import::{
-    import_counts, import_receipts, import_rows, loose_reads_strict, names_change_files_little,
+    import_counts, import_receipts, import_rows, import_unchanged, loose_reads_strict,
+    names_change_files_little,
 };
-pub use kind::{ImportKind, import_kind_named};
+pub use json_fault::json_stop;
+pub use kind::{FileReading, ImportKind, import_kind_named};
 pub use line_faults::wrong_field;
 pub use number::number_in;
 pub use read::{Wish, lines_are_commands, names_change_little, read_line, read_request, table_of};
 pub use report::{import_report, push_report_line};
 pub use row::ImportRow;
-pub use row_words::{row_at_word, words_are_numbers};
+pub use row_names::one_row;
+pub use row_words::{is_json, row_at_word, words_are_numbers};
 pub use sheet::{
     Sheet, keys_tell_records, lines_ask_under_keys, records_have_keys, sheet_text, sheets_are_lines,
 };

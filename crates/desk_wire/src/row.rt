@@ -10,7 +10,8 @@ ghost use Rattle.desk_wire.specs.Records.{are_texts};
 ghost use Rattle.desk_wire.specs.Steps.{Gives, GivesBy};
 ghost use Rattle.desk_wire.specs.RowCommands.{command_by};
 ghost use Rattle.desk_wire.specs.Imports.{names_of, field, batch_of, serials_of, command_of, key_of, row_of};
-ghost use Rattle.desk_wire.specs.Imports.{quantity_at};
+ghost use Rattle.desk_wire.specs.Imports.{quantity_at, still_booked};
+ghost use Rattle.desk_core.specs.ShopView.{state_of};
 ghost use Rattle.desk_wire.specs.RowWords.{number_of};
 
 use crate::document::Document;
@@ -22,7 +23,7 @@ use crate::row_words::row_at_word;
 use crate::serial_list::SerialList;
 use crate::texts::row_text_from;
 use csv::StringRecord;
-use desk_core::{Key, Names, Request};
+use desk_core::{Key, Names, Request, Shop};
 use part_core::{Batch, Day, RowKind};
 use std::alloc::{AllocError, Global};
 use std::marker::Model;
@@ -53,6 +54,17 @@ impl ImportRow {
         ensures { result ≡ self.now.number }
     {
         self.number
+    }
+
+    /// What the books have now of the item or the line that the row is of: of a row that was done before, and of what isn't
+    /// there, nothing is told.
+    pub fn still_booked(&self, shop: &Shop) -> Option<u64>
+        ensures { result ≡ still_booked (state_of shop.now) self.now.request }
+    {
+        if shop.answers().get(self.key.text()).is_some() {
+            return None;
+        }
+        self.command.booked(shop)
     }
 
     /// The request that the row is, with its serials made out.

@@ -1,9 +1,11 @@
 //! What a row asks for.
 ghost use Rattle.std.specs.Prelude.{◌≡◌, IfOk, Option};
+ghost use Rattle.desk_core.specs.ShopView.{state_of};
+ghost use Rattle.desk_wire.specs.Imports.{booked};
 ghost use Rattle.desk_wire.specs.RowCommands.{command_by};
 
 use crate::serial_list::SerialList;
-use desk_core::Command;
+use desk_core::{Command, Shop};
 use order_core::OrderCommand;
 use part_core::{Batch, Serials};
 use std::alloc::{AllocError, Global};
@@ -46,6 +48,22 @@ fn made_out(alloc: Global, list: &Option<SerialList>) -> Result<Option<Serials>,
 }
 
 impl RowCommand {
+    /// What the books have now of the item or the line that the row is of, where it is there.
+    pub fn booked(&self, shop: &Shop) -> Option<u64>
+        ensures { result ≡ booked (state_of shop.now) (command_by self.now) }
+    {
+        match self {
+            RowCommand::Receive { line, .. } => match shop.orders().line(*line) {
+                Some(line) => Some(line.quantity.saturating_sub(line.done)),
+                None => None,
+            },
+            RowCommand::Count { item, .. } => match shop.yard().item(*item) {
+                Some(item) => Some(item.quantity),
+                None => None,
+            },
+        }
+    }
+
     /// The command that the row asks for.
     pub fn command(&self, alloc: Global) -> Result<Command, AllocError>
         ensures { IfOk result (λ command. command ≡ command_by self.now) }

@@ -1,6 +1,7 @@
 //! The number of a row, as a field says it: the number itself or, where names are allowed, what a clerk calls the row.
 //!
-//! - A text is the name of a part, or of a category or a location at the top.
+//! - A text is the name of a part, or of a category or a location at the top; where none at the top is called so, it is a
+//!   way to a category or a location, with ` / ` between two names, as lists show it.
 //! - An array of texts is the way from the top to a category or a location.
 //! - An object with `key` is the one row that the request of that key made.
 //! - An object with `part` and `serial` is the newest item of that part with that serial, and one that is gone only
@@ -19,6 +20,7 @@ ghost use Rattle.desk_wire.specs.RowNames.{by_serial, by_object, by_name, one_ro
 use crate::fault::{Unread, What};
 use crate::field_name::FieldName;
 use crate::members::knows_all;
+use crate::text_ways::{category_by_text, location_by_text};
 use crate::values::{are_texts, key_of, member, number_of, text, text_of};
 use desk_core::Names;
 use part_core::{Found, Id, RowKind, Serial};
@@ -38,8 +40,8 @@ pub fn by_text<N: Names>(names: &N, table: RowKind, text: &str) -> Result<Found,
 {
     match table {
         RowKind::Part => Ok(names.part(text)?),
-        RowKind::Category => Ok(names.category(None, text)?),
-        RowKind::Location => Ok(names.location(None, text)?),
+        RowKind::Category => category_by_text(names, text),
+        RowKind::Location => location_by_text(names, text),
         _ => Err(Unread::Wrong(What::WrongType)),
     }
 }

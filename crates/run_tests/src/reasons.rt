@@ -8,7 +8,7 @@ use desk_app::{
 };
 use desk_core::Shop;
 use desk_ends::{RunEnd, guide_to};
-use desk_wire::ImportKind;
+use desk_wire::{FileReading, ImportKind};
 use part_core::Limits;
 use std::alloc::Global;
 use std::str;
@@ -34,7 +34,21 @@ const TOLD: [&str; 5] = [
     "line 5: NoSuch: of 9 (no such row). A number, or a key, says no row",
     "line 6: flags: BadWord: [\"purchasable\"] (did you mean purchaseable?). There is no such",
     "line 7: location: NoName: \"B\". Nothing is called so.",
-    "line 8: NotJson. The line is no JSON, or not UTF-8",
+    "line 8: NotJson: at byte 1. The line is no JSON, or not UTF-8",
+];
+
+/// Lines of which the last two are refused, about names that a terminal acts on, or that turn text.
+const HIDDEN: &str = "{\"day\":\"2030-01-02\",\"do\":\"add_location\",\"name\":\"A\u{85}B\"}
+{\"day\":\"2030-01-02\",\"do\":\"add_part\",\"flags\":[\"component\"],\"name\":\"Screw\u{202e}\"}
+{\"day\":\"2030-01-02\",\"do\":\"found\",\"location\":1,\"part\":2,\"quantity\":4,\"batch\":\"\u{2066}L\"}
+{\"day\":\"2030-01-02\",\"do\":\"remove\",\"item\":3,\"quantity\":5}
+{\"of\":1,\"report\":\"stock\"}
+";
+
+/// How each line begins that is told of them.
+const ESCAPED: [&str; 2] = [
+    "line 4: Short: item 3 (Screw\\u{202e}, batch \\u{2066}L, A\\u{85}B, 4, 4 free, OK), quantity 5. There",
+    "line 5: NoSuch: of 1 (no such row). A number",
 ];
 
 /// The rows of a stocktake, of which one is refused, with columns in another order, and a row that wasn't counted.
@@ -56,11 +70,17 @@ fn begin_so(told: &Sink, fronts: &[&str]) -> Result<(), Fail> {
 }
 
 /// Runs the lines on the books, so many bytes at a time, and tells why one isn't done.
-fn explains_lines<B: Books + Drop>(alloc: Global, books: B, step: usize, told: &mut Sink) -> RunEnd
+fn explains_lines<B: Books + Drop>(
+    alloc: Global,
+    books: B,
+    lines: &str,
+    step: usize,
+    told: &mut Sink,
+) -> RunEnd
     requires { B.are_kept books }
 {
     let mut answers = Sink::new(alloc, 4096);
-    let mut source = Source::new(LINES.as_bytes(), step);
+    let mut source = Source::new(lines.as_bytes(), step);
     let mut explained = ExplainedBooks::new(alloc, books, Some(told));
     let end = run_lines(
         alloc,
@@ -80,11 +100,21 @@ fn tells_why_lines_are_not_done(rt: HostRuntime) -> Result<(), Fail> {
     for step in [4096, 1] {
         let mut told = Sink::new(alloc, step);
         let shop = Shop::new(alloc, Limits::LARGEST);
-        let end = explains_lines(alloc, shop, step, &mut told);
+        let end = explains_lines(alloc, shop, LINES, step, &mut told);
         holds(end == RunEnd::Done(false), "another end")?;
         begin_so(&told, TOLD.as_slice())?;
     }
     Ok(())
+}
+
+#[test]
+fn escapes_what_a_terminal_acts_on(rt: HostRuntime) -> Result<(), Fail> {
+    let alloc = rt.alloc();
+    let mut told = Sink::new(alloc, 4096);
+    let shop = Shop::new(alloc, Limits::LARGEST);
+    let end = explains_lines(alloc, shop, HIDDEN, 4096, &mut told);
+    holds(end == RunEnd::Done(false), "another end")?;
+    begin_so(&told, ESCAPED.as_slice())
 }
 
 #[test]
@@ -151,7 +181,7 @@ fn explains_rows<B: Books + Drop>(
     alloc: Global,
     books: B,
     file: &str,
-    loose: bool,
+    reading: FileReading,
     sink: &mut Sink,
     told: &mut Sink,
 ) -> Result<(), Fail>
@@ -166,7 +196,7 @@ fn explains_rows<B: Books + Drop>(
         kind,
         &document,
         day,
-        loose,
+        reading,
         false,
         sink,
         &mut explained,
@@ -179,13 +209,13 @@ fn explains_rows<B: Books + Drop>(
 fn takes(
     alloc: Global,
     file: &str,
-    loose: bool,
+    reading: FileReading,
     report: &str,
     fronts: &[&str],
 ) -> Result<(), Fail> {
     let (mut sink, mut told) = (Sink::new(alloc, 4096), Sink::new(alloc, 4096));
     let shop = stocked(alloc)?;
-    explains_rows(alloc, shop, file, loose, &mut sink, &mut told)?;
+    explains_rows(alloc, shop, file, reading, &mut sink, &mut told)?;
     holds(sink.bytes.as_slice() == report.as_bytes(), "another report")?;
     begin_so(&told, fronts)
 }
@@ -196,23 +226,37 @@ fn tells_why_rows_are_not_done(rt: HostRuntime) -> Result<(), Fail> {
     takes(
         alloc,
         SHEET,
-        true,
+        FileReading::Loose,
         "1\t{\"entries\":1,\"ids\":[]}\n3\t{\"refused\":\"NoSuch\"}\n",
         &["row 3: NoSuch: item 9 (no such row), quantity 1. A number,"],
     )?;
     takes(
         alloc,
         SHEET,
-        false,
+        FileReading::Strict,
         "{\"fault\":\"Header\",\"line\":1}\n",
         &["record 1: Header: number,item,quantity is wanted. The first record isn't the header"],
     )?;
     takes(
         alloc,
         "number;item;quantity\n1;3;10.0\n",
-        true,
+        FileReading::Loose,
         "{\"fault\":\"WrongType\",\"line\":2}\n",
         &["record 2: quantity: WrongType: 10.0. A field has something of another kind"],
+    )?;
+    takes(
+        alloc,
+        "number;item;expected;quantity\n1;3;40;41\n2;3;39;\n",
+        FileReading::Unchanged,
+        "1\t{\"entries\":1,\"ids\":[]}\n",
+        &[],
+    )?;
+    takes(
+        alloc,
+        "number;item;expected;quantity\n1;3;40;41\n2;3;39;41\n",
+        FileReading::Unchanged,
+        "{\"fault\":\"Changed\",\"line\":3}\n",
+        &["record 3: Changed. "],
     )
 }
 

@@ -3,7 +3,8 @@ use Rattle.std.specs.Prelude.{Some, nat_le, option_map}
 use Rattle.std.proofs.lemmas.Bool.Decides.{nat_tests}
 use Rattle.std.proofs.lemmas.Grind.{common_steps}
 use Rattle.csv.specs.Records.{fields_of}
-use Rattle.desk_wire.specs.Imports.{Tells, arranged, field, loosely, quantity_at, strictly, wrong_loosely}
+use Rattle.desk_wire.specs.Imports.{Tells, arranged, field, loosely, quantity_at, strictly, unless_changed, wrong_in_row}
+use Rattle.desk_wire.specs.Imports.{wrong_loosely}
 use Rattle.desk_wire.specs.Layouts.{IsReadAs, columns_in}
 use Rattle.desk_wire.specs.Records.{are_texts}
 use Rattle.desk_wire.specs.Steps.{at}
@@ -35,8 +36,8 @@ returns-then-is_empty g c =
     let fits : nat_le (length fields) columns.width ≡ true = grind (arith, nat_tests) in
     loose-out names c.args.kind c.args.document.now c.args.day columns fields c.requires fits (sym is ∙ empty)
 
-pub told_row-requires : goal.told_row-requires
-told_row-requires g c =
+pub told_row-read-requires : goal.told_row-read-requires
+told_row-read-requires g c =
     let columns = columns_in c.args.columns.now in
     ap are_texts c.in_ok-arranged.ensures ∙ arranged-texts columns (fields_of c.args.fields.now) c.requires
 
@@ -54,7 +55,14 @@ returns g c =
     let (b, bs, there) = not-empty c.field.result.now some in
     let t =
     loose-in names c.args.kind c.args.document.now c.args.day columns fields b bs c.requires (sym is ∙ there) fits in
-    subst (λ r. IsReadAs r (wrong_loosely names c.args.kind columns (Some fields)) c.args.number c.told_row.result)
-    (sym t.0) (subst (λ w. IsReadAs (strictly names c.args.kind c.args.document.now c.args.day (arranged columns fields)) w c.args.number
-    c.told_row.result) (sym t.1)
-    (rw c.in_ok-arranged.ensures at c.told_row.ensures))
+    let row = arranged columns fields in
+    let read =
+    c.unless_changed.ensures (strictly names c.args.kind c.args.document.now c.args.day
+    (fields_of c.in_ok-arranged.arranged)) c.told_row-read.ensures in
+    let moved =
+    subst (λ r. IsReadAs (unless_changed columns fields (strictly names c.args.kind c.args.document.now c.args.day r))
+    (wrong_in_row names c.args.kind r) c.args.number c.unless_changed.result) c.in_ok-arranged.ensures read in
+    subst (λ r. IsReadAs r (wrong_loosely names c.args.kind columns (Some fields)) c.args.number
+    c.unless_changed.result) (sym t.0)
+    (subst (λ w. IsReadAs (unless_changed columns fields (strictly names c.args.kind c.args.document.now c.args.day
+    row)) w c.args.number c.unless_changed.result) (sym t.1) moved)
