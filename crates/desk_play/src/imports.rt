@@ -1,7 +1,7 @@
 //! A file of comma-separated values that is imported to books.
 use desk_app::{Books, import_file};
 use desk_ends::RunEnd;
-use desk_wire::ImportKind;
+use desk_wire::{FileReading, ImportKind};
 use std::alloc::Global;
 use std::io::Write;
 use std::test::Fail;
@@ -26,7 +26,7 @@ pub fn imports<B: Books, W: Write>(
         kind,
         &document(alloc)?,
         day(on)?,
-        false,
+        FileReading::Strict,
         false,
         writer,
         books,

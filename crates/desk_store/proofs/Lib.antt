@@ -12,6 +12,9 @@ pub mod Migrations
 pub mod Opens
 pub mod Readings
 pub mod Exporting
+pub mod Dumping
+pub mod ReadingRows
+pub mod CutShort
 pub mod Sent
 pub mod Breaking
 pub mod Grouping

@@ -8,5 +8,8 @@ pub mod Opening
 pub mod Migrating
 pub mod Loading
 pub mod Exports
+pub mod Dumps
+pub mod DumpLaws
+pub mod RowForms
 pub mod Shown
 pub mod Records

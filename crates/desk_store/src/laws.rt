@@ -1,9 +1,10 @@
-//! What the proofs have to be told of a shop before its state goes into a file.
+//! What the proofs have to be told of a shop before its state goes into a file, and what a dump can be relied on for.
 //!
-//! The function does nothing when it is run, and is called for its contract alone.
+//! The functions do nothing when they are run, and are called for their contracts alone.
 ghost use Rattle.desk_core.specs.Machine.{IsSoundState};
 ghost use Rattle.desk_core.specs.ShopView.{state_before, state_of};
 ghost use Rattle.desk_core.specs.Staying.{AllStay};
+ghost use Rattle.desk_store.specs.DumpLaws.{CutDumpsCommitNothing, RowsAreRead};
 ghost use Rattle.desk_store.specs.Saving.{MayFollow};
 
 use desk_core::{Shop, rows_are_small};
@@ -17,3 +18,15 @@ pub fn may_follow(shop: &Shop)
 {
     rows_are_small();
 }
+
+/// The law that the line of a dump that puts a row is read, by the rules of SQL for literals, as that row, whatever its
+/// texts are: a text in quotes ends at the quote that isn't doubled.
+pub fn rows_are_read()
+    ensures { RowsAreRead }
+{}
+
+/// The law that a dump that was cut short has no COMMIT, whatever its texts are, so that a database that is given it keeps
+/// nothing.
+pub fn cut_dumps_commit_nothing()
+    ensures { CutDumpsCommitNothing }
+{}

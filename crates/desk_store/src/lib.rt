@@ -4,10 +4,12 @@
 mod add;
 mod create;
 mod desk;
+mod dump;
 mod export;
 mod fault;
 mod group;
 mod history;
+mod insert;
 mod laws;
 mod load;
 mod meta;
@@ -20,8 +22,10 @@ mod sending;
 mod shown;
 
 pub use desk::Desk;
+pub use dump::write_dump;
 pub use export::{ExportFault, table_text};
 pub use fault::{Fault, OpenFault};
+pub use laws::{cut_dumps_commit_nothing, rows_are_read};
 pub use meta::MetaRow;
 pub use records::records_text;
 pub use sending::{WriteFailed, send};

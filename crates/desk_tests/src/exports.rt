@@ -214,6 +214,8 @@ fn closes_amid_lines<S: Alter + Drop>(alloc: Global, mut desk: Desk<S>) -> Resul
     holds(exported == Err(ExportFault::Closed), "an export")?;
     let told = desk.history(3, &mut sink);
     holds(told == Err(ExportFault::Closed), "a history")?;
+    let dumped = desk.dump(&mut sink);
+    holds(dumped == Err(ExportFault::Closed), "a dump")?;
     holds(sink.calls == 0, "something is written")?;
     Ok(true)
 }

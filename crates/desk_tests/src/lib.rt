@@ -7,6 +7,8 @@ mod assembled;
 #[cfg(test)]
 mod damaged;
 #[cfg(test)]
+mod dumps;
+#[cfg(test)]
 mod exports;
 #[cfg(test)]
 mod flushes;

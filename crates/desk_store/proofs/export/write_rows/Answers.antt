@@ -1,12 +1,13 @@
 use Rattle.std.proofs.Common.{Err, map, refl, rules}
 use Rattle.std.specs.Borrow.{Bor}
-use Rattle.desk_store.specs.Exports.{Sends, lines_of, row_line}
+use Rattle.desk_store.specs.Exports.{Sends}
+use Rattle.desk_store.specs.RowForms.{line_in, lines_in}
 use Rattle.desk_store.proofs.Exporting.{all-sent, front-of, next-sent, none-sent, sends-front}
 use Rattle.desk_store.proofs.export.write_rows.Goals as goal
 
 pub loop-row-init : goal.loop-row-init
 loop-row-init g c =
-    none-sent (λ (row : Bor _). row.now) (lines_of g.R.Stored.columns_of) (g.W.Write.contents c.args.writer.now)
+    none-sent (λ (row : Bor _). row.now) (lines_in c.args.form g.R.Stored.columns_of) (g.W.Write.contents c.args.writer.now)
     c.args.rows.now
 
 pub returns-in_err-write_row : goal.returns-in_err-write_row
@@ -16,16 +17,16 @@ returns-in_err-write_row g c =
     let b = g.W.Write.contents c.loop-row.writer in
     let d = g.W.Write.contents c.write_row.new.writer in
     let fault = c.in_err-write_row.field-0.0 in
-    let it : Sends a d (lines_of columns (map (λ (row : Bor _). row.now) c.args.rows.now)) (Err fault) =
-    sends-front a b d (row_line (columns c.row-item.result.now)) _ fault c.in_err-write_row.ensures
-    (front-of (λ (row : Bor _). row.now) (lines_of columns) (λ r. row_line (columns r)) refl (λ r rs. refl) a b d
+    let it : Sends a d (lines_in c.args.form columns (map (λ (row : Bor _). row.now) c.args.rows.now)) (Err fault) =
+    sends-front a b d (line_in c.args.form (columns c.row-item.result.now)) _ fault c.in_err-write_row.ensures
+    (front-of (λ (row : Bor _). row.now) (lines_in c.args.form columns) (λ r. line_in c.args.form (columns r)) refl (λ r rs. refl) a b d
     c.loop-row.row-index c.args.rows.now c.row-item.result c.loop-row-test.true c.row-item.is c.loop-row.invariant) in
     search rules
 
 pub loop-row-preserved : goal.loop-row-preserved
 loop-row-preserved g c =
     let columns = g.R.Stored.columns_of in
-    next-sent (λ (row : Bor _). row.now) (lines_of columns) (λ r. row_line (columns r)) refl (λ r rs. refl)
+    next-sent (λ (row : Bor _). row.now) (lines_in c.args.form columns) (λ r. line_in c.args.form (columns r)) refl (λ r rs. refl)
     (g.W.Write.contents c.args.writer.now) (g.W.Write.contents c.loop-row.writer)
     (g.W.Write.contents c.write_row.new.writer) c.loop-row.row-index c.args.rows.now c.row-item.result
     c.loop-row-test.true c.row-item.is c.loop-row.invariant c.in_ok-write_row.ensures
@@ -33,6 +34,6 @@ loop-row-preserved g c =
 pub returns : goal.returns
 returns g c =
     let columns = g.R.Stored.columns_of in
-    all-sent (λ (row : Bor _). row.now) (lines_of columns) (λ r. row_line (columns r)) refl (λ r rs. refl)
+    all-sent (λ (row : Bor _). row.now) (lines_in c.args.form columns) (λ r. line_in c.args.form (columns r)) refl (λ r rs. refl)
     (g.W.Write.contents c.args.writer.now) (g.W.Write.contents c.loop-row.writer) c.loop-row.row-index
     c.args.rows.now c.loop-row-test.false c.loop-row.invariant

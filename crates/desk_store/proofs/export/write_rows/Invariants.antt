@@ -1,9 +1,9 @@
 use Rattle.std.specs.Borrow.{Bor}
-use Rattle.desk_store.specs.Exports.{lines_of}
+use Rattle.desk_store.specs.RowForms.{lines_in}
 use Rattle.desk_store.proofs.Exporting.{AreSent}
 use Rattle.desk_store.proofs.export.write_rows.Given as goal
 
 abbrev pub invariant-loop-row : goal.invariant-loop-row
 invariant-loop-row g l =
-    AreSent (λ (row : Bor _). row.now) (lines_of g.R.Stored.columns_of) (g.W.Write.contents l.initial.writer)
+    AreSent (λ (row : Bor _). row.now) (lines_in l.form g.R.Stored.columns_of) (g.W.Write.contents l.initial.writer)
     (g.W.Write.contents l.writer) l.row-index l.rows
