@@ -1,2 +1,4 @@
 pub mod Empty
 pub mod Escaping
+pub mod Cutting
+pub mod Listing

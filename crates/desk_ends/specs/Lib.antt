@@ -3,3 +3,6 @@ pub mod Printed
 pub mod Empty
 pub mod Named
 pub mod Escaped
+pub mod Cut
+pub mod Lists
+pub mod WordRows

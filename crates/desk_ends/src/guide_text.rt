@@ -1,5 +1,5 @@
-//! What `help` tells at a terminal. This file is written by `tools/make_guide.py` from `docs/MACHINE.md` and
-//! `docs/REFUSALS.md`.
+//! What `help` tells. This file is written by `tools/make_guide.py` from `docs/MACHINE.md`, `docs/REFUSALS.md` and
+//! `docs/MISTAKES.md`.
 
 /// The entries, an empty line between two.
 pub const GUIDE: &str = r#"help
@@ -9,8 +9,9 @@ pub const GUIDE: &str = r#"help
       reinstate order order_line issue_order receive allocate_sale ship return_item close_order
       cancel_order build issue_build hold_build cancel_build outputs complete_output cancel_output
       scrap_output allocate_build auto_allocate complete_build consume release
+  help commands says of each what it does, help flags what the flags of a part are for.
   help refusals lists the words by which a request is refused, help faults those of a line
-  that can't be read. Ctrl-D ends the run.
+  that can't be read, and help mistakes what mends what. quit or Ctrl-D ends the run.
 
 commands
   add_category: a category
@@ -493,6 +494,16 @@ release
   Does: the allocation goes.
   Example: {"do":"release","day":"2030-01-02","allocation":1}
 
+flags
+  template: Another part may name it as its template, and is a variant of it then.
+  assembly: It has a bill, and may be built.
+  component: It may stand on a bill, and as a substitute of a line.
+  trackable: Its pieces may have serials, and a line of a bill with it is tracked.
+  purchaseable: It may be ordered by a purchase.
+  salable: It may be ordered by a sale.
+  virtual: There is no stock of it: it is never found nor ordered, and stands on lines that are
+    consumable alone.
+
 refusals
   KeyTaken: Another request was done under this key. If this one is new, give it a new key. If you
     meant to send an old one again, send it as it was. A serial may say another piece by now: then
@@ -684,8 +695,9 @@ faults
     the lines in several runs, or without --check.
   NotJson: The line is no JSON, or not UTF-8; a number in it is too large for a double, as 1e400; a
     text has one half of a surrogate pair, as \ud800; or 128 arrays and objects stand in one
-    another. Look for a quote, a comma or a brace that is missing. Write a number with fewer digits,
-    a character as itself and not as \u, and fewer braces in one another.
+    another. Look for a quote, a comma or a brace that is missing, near the byte that --explain
+    tells. Write a number with fewer digits, a character as itself and not as \u, and fewer braces
+    in one another.
   NotObject: The line is JSON, but doesn't stand in braces. Write it as {"do":..}.
   NoField: A field is missing: do, day, or one that the command needs. In a file its cell is empty.
     Add it. docs/MACHINE.md has the fields of each command.
@@ -707,7 +719,7 @@ faults
   BadWord: There is no such status, side, flag or report; or a flag stands twice. Mend the word.
     Large and small letters differ: OK, but purchase.
   NoName: Nothing is called so. field says where the name stands. Mend the name, or make the row
-    first. A shelf needs the way to it, as ["Store","Shelf A"].
+    first. A shelf needs the way to it, as "Store / Shelf A" or ["Store","Shelf A"].
   Ambiguous: Several rows are called so, as the request of that key made several. Say a piece by its
     part and serial, or the row by its number.
   Csv: The record has more or fewer fields than the header, or isn't UTF-8. With --loose also: a
@@ -719,6 +731,9 @@ faults
     columns. Write number,line,location,quantity,batch,serials for receipts, number,item,quantity
     for counts; for a command head each column as its field, or say how it is headed by --column.
     Save the file as UTF-8: of a command's that begins as UTF-16 does --explain says so.
+  Changed: With --unchanged: the sheet says that there were so many, in its column expected or
+    outstanding, and the books have another number now. Look what was done since (invdesk show
+    history), and print the sheet again. Without --unchanged the file is run as it stands.
 
 TooLong
   The line has more than 65,536 bytes; or the file, or with run --check all lines together, more
@@ -730,8 +745,8 @@ TooLong
 NotJson
   The line is no JSON, or not UTF-8; a number in it is too large for a double, as 1e400; a text has
     one half of a surrogate pair, as \ud800; or 128 arrays and objects stand in one another.
-  Look for a quote, a comma or a brace that is missing. Write a number with fewer digits, a
-    character as itself and not as \u, and fewer braces in one another.
+  Look for a quote, a comma or a brace that is missing, near the byte that --explain tells. Write a
+    number with fewer digits, a character as itself and not as \u, and fewer braces in one another.
 
 NotObject
   The line is JSON, but doesn't stand in braces.
@@ -778,7 +793,8 @@ BadWord
 
 NoName
   Nothing is called so. field says where the name stands.
-  Mend the name, or make the row first. A shelf needs the way to it, as ["Store","Shelf A"].
+  Mend the name, or make the row first. A shelf needs the way to it, as "Store / Shelf A" or
+    ["Store","Shelf A"].
 
 Ambiguous
   Several rows are called so, as the request of that key made several.
@@ -796,7 +812,83 @@ Header
     a column that is needed, or has one twice. A quote in it that nothing closes may hide columns.
   Write number,line,location,quantity,batch,serials for receipts, number,item,quantity for counts;
     for a command head each column as its field, or say how it is headed by --column. Save the file
-    as UTF-8: of a command's that begins as UTF-16 does --explain says so."#;
+    as UTF-8: of a command's that begins as UTF-16 does --explain says so.
+
+Changed
+  With --unchanged: the sheet says that there were so many, in its column expected or outstanding,
+    and the books have another number now.
+  Look what was done since (invdesk show history), and print the sheet again. Without --unchanged
+    the file is run as it stands.
+
+mistakes
+  What is put right by which request. docs/MISTAKES.md says what stays then, with examples.
+  add_category: It has a wrong name, or is under the wrong one. Make the right one for the parts to
+    come.
+  add_location: The same. Make the right one, and bring over what lies there by transfer.
+  add_part: It has a wrong name, flag, category or template. Make a part of another name, and put
+    that on the bills. Take the stock off the wrong one by remove, enter it for the right one by
+    found, and retire the wrong one.
+  retire_part: It was the wrong part. Make a part of another name. What there is of the old one may
+    still be moved, counted and used, or be entered anew as above.
+  add_line: A wrong component, quantity or flag. drop_line, and add it again. While a build goes by
+    the bill it is InUse: complete or cancel that first.
+  drop_line: It was the wrong line. Add it again, and its substitutes, under new keys.
+  add_substitute: It was the wrong part, or the wrong line. drop_substitute
+  drop_substitute: It was the wrong one. Add it again, under a new key.
+  found: Too many. remove what is too much.
+  found: The wrong part, batch or serial. remove all of it, and found as it is.
+  found: The wrong location. transfer
+  add: Too many. remove what is too much.
+  remove: Too many, or of the wrong item. add them again; where none was left, found with the same
+    batch; a piece with a serial by reinstate.
+  count: A wrong number. count again, under another key, or in a file under another number.
+  count: 0, and it is there. As after remove.
+  transfer: Too many, or to the wrong place. transfer back; what was cut off a heap goes into it
+    again by merge.
+  split: Too many, or for nothing. merge
+  merge: The wrong heaps. split
+  serialise: A wrong serial. remove the piece, add one to the heap, and serialise again. If none of
+    the heap is left, found with the serial.
+  set_status: The wrong status, or of the wrong item. set_status again.
+  install: The wrong piece, or into the wrong one. uninstall, and install the right one.
+  uninstall: It is in there. install it again.
+  disassemble: It was the wrong one. reinstate it, and install what was in it, piece by piece.
+  reinstate: It isn't there. remove it; where something lies in it, count it as 0.
+  order: The wrong partner or side. cancel_order, and make it again.
+  order_line: Too few. Add a line for the rest.
+  order_line: Too many, or the wrong part. Take what comes, and then cancel_order: what is left of
+    it isn't expected any more.
+  issue_order: Too early. Lines may still be added. Or cancel_order, and make it again.
+  receive: Too many. remove what is too much. If it is still to come, add a line for that.
+  receive: The wrong line, batch or serial. remove it, and receive it as it is, for the right line
+    or for one that you add. Where goods of the wrong line are still to come, add a line for those,
+    too.
+  receive: The wrong location. transfer
+  close_order: Something is still to come. A new order for that.
+  cancel_order: It was the wrong one. A new order.
+  allocate_sale: The wrong item, or too many. release, and allocate again.
+  release: It was the wrong one. Allocate again.
+  ship: The wrong piece, or it hasn't gone. return_item, and set_status as it was; what was cut off
+    a heap may be merged with it again. For the right one add a line, and allocate and ship that.
+  return_item: It is still with the customer. Add a line to the order, or make a new order, and
+    allocate and ship it again.
+  return_item: The wrong location. transfer
+  build: The wrong part, or too many. cancel_build, and make it again. If something was used up
+    already, see below.
+  build: Too few. One more build for the rest.
+  issue_build: Too early. hold_build
+  hold_build: It goes on. issue_build
+  cancel_build: It was the wrong one. A new build.
+  outputs: Too many, or a wrong serial. cancel_output, and begin it again.
+  cancel_output: It was the wrong one. outputs with the same serial, and allocate for it again.
+  allocate_build: The wrong item, or too many. release, and allocate again.
+  auto_allocate: It took the wrong ones. release those, and allocate_build the right ones.
+  complete_output: Another piece is in it. uninstall the one and install the other.
+  complete_output: It isn't finished. set_status Quarantined until it is.
+  complete_output: The wrong location. transfer
+  scrap_output: It was the wrong one. reinstate it, and install what is in it.
+  consume: It wasn't used. add it to its heap, or found.
+  complete_build: Other stock was used than was allocated. count both heaps."#;
 
 /// The names of the commands.
 pub const COMMANDS: [&str; 43] = [
