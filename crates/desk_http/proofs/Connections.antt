@@ -4,7 +4,7 @@ use Rattle.std.specs.Prelude.{Option, Some, None, Result, Ok, Err}
 use Rattle.desk_http.specs.Sites.{SiteRules}
 use Rattle.desk_http.specs.Responses.{Response}
 use Rattle.desk_http.specs.Services.{Operation, ReplyView}
-use Rattle.desk_http.specs.Serving.{AreSteps, IsOneStep, IsOneOperation, Answers, Received, Incomplete, Rejected}
+use Rattle.desk_http.specs.Serving.{AreSteps, IsOneStep, IsOneOperation, IsTaken, Answers, Received, Incomplete, Rejected}
 use Rattle.desk_http.specs.Serving.{ForPage, Complete, Responds, Serves, ServesOne, IsReceived, Waits}
 use Rattle.desk_http.specs.declared.service.NoReply.{NoReply}
 use Rattle.desk_http.specs.declared.service.NoReply.TheVariants.{Failed}
@@ -50,11 +50,11 @@ module _ {D : Type 0} (performs : D → Operation → Result ReplyView NoReply �
   one_operation wait are d d' w w' r (inr (inr (b, h, between, told, serves))) = served are d d' between w' r serves
 
   -- and so many connections so many
-  pub operations : (n : ℕ) (d d' : D) → AreSteps (IsOneStep performs site) n d d'
-      → AreSteps (IsOneOperation performs) n d d'
-  operations zero d d' h = h
-  operations (suc n) d d' (middle, steps, (xs, r, serves)) = (
+  pub operations : (over : D → Bool) (n : ℕ) (d d' : D) → AreSteps (IsTaken over (IsOneStep performs site)) n d d'
+      → AreSteps (IsTaken over (IsOneOperation performs)) n d d'
+  operations over zero d d' h = h
+  operations over (suc n) d d' (middle, steps, (taken, (xs, r, serves))) = (
     middle,
-    operations n d middle steps,
-    one_operation (Waits site (Some xs)) (IsReceived site (Some xs)) middle d' None None r serves,
+    operations over n d middle steps,
+    (taken, one_operation (Waits site (Some xs)) (IsReceived site (Some xs)) middle d' None None r serves),
   )

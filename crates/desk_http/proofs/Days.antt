@@ -8,25 +8,25 @@ use Rattle.std.proofs.lemmas.Str.{IsUtf8-from_ascii}
 use Rattle.std.proofs.lemmas.Bool.Decides.{nat_tests}
 use Rattle.part_core.specs.Pattern.{fits_pattern, is_digit_or}
 use Rattle.part_core.specs.Day.{day_of}
-use Rattle.desk_http.specs.Targets.{slash_in}
+use Rattle.desk_http.specs.Targets.{place_in}
 
 no : (c : Bool) → (c && false) ≡ false
 no true = refl
 no false = refl
 
 -- a text with a slash doesn't fit a pattern without one
-unslashed : (ws s : List ℕ) (i : ℕ) → list_all (λ w. not (is_digit_or w 47)) ws ≡ true → slash_in s ≡ Some i
+unslashed : (ws s : List ℕ) (i : ℕ) → list_all (λ w. not (is_digit_or w 47)) ws ≡ true → place_in 47 s ≡ Some i
     → fits_pattern ws s ≡ false
-unfolding slash_in
+unfolding place_in
 unslashed [] [] i h e = absurd (cc)
 unslashed [] (b ∷ s) i h e = refl
 unslashed (w ∷ ws) [] i h e = refl
-unslashed (w ∷ ws) (b ∷ s) i h e = by (is_digit_or w 47) refl (b == 47) refl (slash_in s) refl h e (unslashed ws s)
+unslashed (w ∷ ws) (b ∷ s) i h e = by (is_digit_or w 47) refl (b == 47) refl (place_in 47 s) refl h e (unslashed ws s)
   where
-    by : (d : Bool) → is_digit_or w 47 ≡ d → (c : Bool) → (b == 47) ≡ c → (o : Option ℕ) → slash_in s ≡ o
+    by : (d : Bool) → is_digit_or w 47 ≡ d → (c : Bool) → (b == 47) ≡ c → (o : Option ℕ) → place_in 47 s ≡ o
         → (not d && list_all (λ w. not (is_digit_or w 47)) ws) ≡ true
         → cond c (Some 0) (option_map (λ n. n + 1) o) ≡ Some i
-        → ((j : ℕ) → list_all (λ w. not (is_digit_or w 47)) ws ≡ true → slash_in s ≡ Some j → fits_pattern ws s ≡ false)
+        → ((j : ℕ) → list_all (λ w. not (is_digit_or w 47)) ws ≡ true → place_in 47 s ≡ Some j → fits_pattern ws s ≡ false)
         → (is_digit_or w b && fits_pattern ws s) ≡ false
     by true p c q o r h' e' ih = absurd (cc)
     by false p true q o r h' e' ih =
@@ -38,7 +38,7 @@ unslashed (w ∷ ws) (b ∷ s) i h e = by (is_digit_or w 47) refl (b == 47) refl
 unfit : (s : List ℕ) → fits_pattern (codes "0000-00-00") s ≡ false → day_of s ≡ None
 unfit s e = rw e refl
 
-pub no_slash : (s : List ℕ) (i : ℕ) → slash_in s ≡ Some i → day_of s ≡ None
+pub no_slash : (s : List ℕ) (i : ℕ) → place_in 47 s ≡ Some i → day_of s ≡ None
 no_slash s i e = unfit s (unslashed (codes "0000-00-00") s i refl e)
 
 ascii_digit : (w b : ℕ) → w < 128 → is_digit_or w b ≡ true → b < 128

@@ -12,7 +12,7 @@ use Rattle.matchit.specs.Level.{IsText}
 use Rattle.matchit.proofs.SeekLemmas.{own-append, step-append, step-miss, or_else-none}
 use Rattle.matchit.proofs.SeekLemmas.{param_step-empty, seek-empty, seek-drop, first-prefix}
 use Rattle.matchit.proofs.ParamLemmas.{seek-after, drop-length, one_less}
-use Rattle.desk_http.specs.Targets.{slash_in}
+use Rattle.desk_http.specs.Targets.{place_in}
 
 -- rows that all begin with a byte go on with the path's byte
 pub lit : (r : Rows) (y : ℕ) (p : List ℕ) → step param_token r ≡ [] → step catch_all_token r ≡ []
@@ -72,15 +72,15 @@ joined w a b path h k = rw (first-prefix w (a ++ b) path h, first-prefix w a pat
 
 -- ---- a parameter's segment
 
-pub seg_at : (s : List ℕ) (i : ℕ) → slash_in s ≡ Some i → (length (segment s) ≡ i + 1) × (drop i (segment s) ≡ 47 ∷ [])
+pub seg_at : (s : List ℕ) (i : ℕ) → place_in 47 s ≡ Some i → (length (segment s) ≡ i + 1) × (drop i (segment s) ≡ 47 ∷ [])
     × (drop i s ≡ 47 ∷ drop (i + 1) s) × (has_slash s ≡ true)
-unfolding slash_in
+unfolding place_in
 seg_at [] i e = absurd (cc)
-seg_at (b ∷ bs) i e = by (b == 47) refl (slash_in bs) refl e (seg_at bs)
+seg_at (b ∷ bs) i e = by (b == 47) refl (place_in 47 bs) refl e (seg_at bs)
   where
-    by : (c : Bool) → (b == 47) ≡ c → (o : Option ℕ) → slash_in bs ≡ o
+    by : (c : Bool) → (b == 47) ≡ c → (o : Option ℕ) → place_in 47 bs ≡ o
         → cond c (Some 0) (option_map (λ n. n + 1) o) ≡ Some i
-        → ((j : ℕ) → slash_in bs ≡ Some j → (length (segment bs) ≡ j + 1) × (drop j (segment bs) ≡ 47 ∷ [])
+        → ((j : ℕ) → place_in 47 bs ≡ Some j → (length (segment bs) ≡ j + 1) × (drop j (segment bs) ≡ 47 ∷ [])
         × (drop j bs ≡ 47 ∷ drop (j + 1) bs) × (has_slash bs ≡ true))
         → (length (segment (b ∷ bs)) ≡ i + 1) × (drop i (segment (b ∷ bs)) ≡ 47 ∷ [])
         × (drop i (b ∷ bs) ≡ 47 ∷ drop (i + 1) (b ∷ bs)) × (has_slash (b ∷ bs) ≡ true)
@@ -95,14 +95,14 @@ seg_at (b ∷ bs) i e = by (b == 47) refl (slash_in bs) refl e (seg_at bs)
         let l : suc (j + 1) ≡ suc j + 1 = omega arith in
         rw (← at, q) (ap suc h.0 ∙ l, h.1, h.2 ∙ ap (λ k. 47 ∷ drop k (b ∷ bs)) l, h.3)
 
-pub seg_none : (s : List ℕ) → slash_in s ≡ None → (segment s ≡ s) × (has_slash s ≡ false)
-unfolding slash_in
+pub seg_none : (s : List ℕ) → place_in 47 s ≡ None → (segment s ≡ s) × (has_slash s ≡ false)
+unfolding place_in
 seg_none [] e = (refl, refl)
-seg_none (b ∷ bs) e = by (b == 47) refl (slash_in bs) refl e (seg_none bs)
+seg_none (b ∷ bs) e = by (b == 47) refl (place_in 47 bs) refl e (seg_none bs)
   where
-    by : (c : Bool) → (b == 47) ≡ c → (o : Option ℕ) → slash_in bs ≡ o
+    by : (c : Bool) → (b == 47) ≡ c → (o : Option ℕ) → place_in 47 bs ≡ o
         → cond c (Some 0) (option_map (λ n. n + 1) o) ≡ None
-        → (slash_in bs ≡ None → (segment bs ≡ bs) × (has_slash bs ≡ false))
+        → (place_in 47 bs ≡ None → (segment bs ≡ bs) × (has_slash bs ≡ false))
         → (segment (b ∷ bs) ≡ b ∷ bs) × (has_slash (b ∷ bs) ≡ false)
     by true q o r e' ih = absurd (cc)
     by false q (Some j) r e' ih = absurd (cc)
@@ -173,10 +173,10 @@ cut_more seg i e d =
     ∙ ap (λ n. pointwise nat_eq (47 ∷ []) (drop n seg)) less ∙ ap (pointwise nat_eq (47 ∷ [])) d
 
 pub param_mid : (t : List ℕ) (k : ℕ) (path : List ℕ) → Bytes path
-    → first ((param_token ∷ 47 ∷ t, k) ∷ []) path ≡ rest_of ((t, k) ∷ []) path (slash_in path)
-unfolding seek slash_in
+    → first ((param_token ∷ 47 ∷ t, k) ∷ []) path ≡ rest_of ((t, k) ∷ []) path (place_in 47 path)
+unfolding seek place_in
 param_mid t k [] h = refl
-param_mid t k (b ∷ p) h = param_head k b (47 ∷ t) p h.0 ∙ by (slash_in (b ∷ p)) refl
+param_mid t k (b ∷ p) h = param_head k b (47 ∷ t) p h.0 ∙ by (place_in 47 (b ∷ p)) refl
   where
     rows : Rows
     rows = (47 ∷ t, k) ∷ []
@@ -184,7 +184,7 @@ param_mid t k (b ∷ p) h = param_head k b (47 ∷ t) p h.0 ∙ by (slash_in (b 
     goes : ℕ × Rows → Option ℕ
     goes q = seek (q.0 - 1) q.1 p
 
-    by : (o : Option ℕ) → slash_in (b ∷ p) ≡ o → goes (param_step rows (b ∷ p)) ≡ rest_of ((t, k) ∷ []) (b ∷ p) o
+    by : (o : Option ℕ) → place_in 47 (b ∷ p) ≡ o → goes (param_step rows (b ∷ p)) ≡ rest_of ((t, k) ∷ []) (b ∷ p) o
     by None e =
         let s = seg_none (b ∷ p) e in
         let none : has_slash (segment (b ∷ p)) ≡ false = ap has_slash s.0 ∙ s.1 in
@@ -211,10 +211,10 @@ last_of k (b ∷ p) None = Some k
 last_of k (b ∷ p) (Some i) = None
 
 pub param_end : (k : ℕ) (path : List ℕ) → Bytes path
-    → first ((param_token ∷ [], k) ∷ []) path ≡ last_of k path (slash_in path)
-unfolding seek slash_in
+    → first ((param_token ∷ [], k) ∷ []) path ≡ last_of k path (place_in 47 path)
+unfolding seek place_in
 param_end k [] h = refl
-param_end k (b ∷ p) h = param_head k b [] p h.0 ∙ by (slash_in (b ∷ p)) refl
+param_end k (b ∷ p) h = param_head k b [] p h.0 ∙ by (place_in 47 (b ∷ p)) refl
   where
     rows : Rows
     rows = ([], k) ∷ []
@@ -222,7 +222,7 @@ param_end k (b ∷ p) h = param_head k b [] p h.0 ∙ by (slash_in (b ∷ p)) re
     goes : ℕ × Rows → Option ℕ
     goes q = seek (q.0 - 1) q.1 p
 
-    by : (o : Option ℕ) → slash_in (b ∷ p) ≡ o → goes (param_step rows (b ∷ p)) ≡ last_of k (b ∷ p) o
+    by : (o : Option ℕ) → place_in 47 (b ∷ p) ≡ o → goes (param_step rows (b ∷ p)) ≡ last_of k (b ∷ p) o
     by None e =
         let s = seg_none (b ∷ p) e in
         ap goes (stepped rows (b ∷ p) [] false refl s.1)

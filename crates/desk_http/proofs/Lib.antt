@@ -14,3 +14,5 @@ pub mod Finding
 pub mod Routing
 pub mod Plain
 pub mod Readings
+pub mod Queries
+pub mod Dumping

@@ -1,5 +1,5 @@
 -- What is planned with a page, and without one.
-use Rattle.std.proofs.Common.{◌≡◌, ap, ℕ, List, [], ◌∷◌, Bool, true, false, cond, drop}
+use Rattle.std.proofs.Common.{◌≡◌, ap, refl, ℕ, List, [], ◌∷◌, Bool, true, false, cond, drop}
 use Rattle.std.specs.Prelude.{Option, Some, None, Result, Ok, Err, codes, nat_eq}
 use Rattle.std.specs.List.{starts_with}
 use Rattle.part_core.specs.Day.{day_of}
@@ -24,12 +24,12 @@ either : (c : Bool) (a b : Option Resource) → AreOfProgram a → AreOfProgram 
 either true a b h k = h
 either false a b h k = k
 
-imports : (bytes : List ℕ) → AreOfProgram (import_resource bytes)
+imports : (bytes : List ℕ) → AreOfProgram (import_resource false bytes)
 imports bytes =
     then_of (cut bytes) _
     (λ parts. then_of (kind_of parts.0) _
     (λ kind. then_of (cut parts.1) _
-    (λ rest. then_of (where_it is_document rest.0) _ (λ document. then_of (day_of rest.1) _ (λ day. tt)))))
+    (λ rest. then_of (where_it is_document rest.0) _ (λ document. then_of (day_of rest.1) _ (λ day. refl)))))
 
 reports : (bytes : List ℕ) → AreOfProgram (report_resource bytes)
 reports bytes =

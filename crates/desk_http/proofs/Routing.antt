@@ -20,7 +20,7 @@ use Rattle.desk_http.specs.declared.target.ReportName.{ReportName}
 use Rattle.desk_http.specs.declared.target.ReportName.TheVariants.{Ledger}
 use Rattle.desk_http.specs.declared.route.Route.{Route}
 use Rattle.desk_http.specs.declared.route.Route.TheVariants.{ImportRoute, ReportRoute, RunRoute}
-use Rattle.desk_http.specs.Targets.{Resource, Run, Report, Import, ◌then◌, where_it, slash_in}
+use Rattle.desk_http.specs.Targets.{Resource, Run, Report, Import, ◌then◌, where_it, place_in}
 use Rattle.desk_http.specs.Targets.{cut_at, kind_of, name_of, number_of, is_document, file_resource}
 use Rattle.desk_http.specs.Targets.{import_resource, report_resource, run_resource, resource_of}
 use Rattle.part_core.specs.Day.{day_of}
@@ -132,18 +132,18 @@ bytes_drop zero s h = h
 bytes_drop (suc n) [] h = h
 bytes_drop (suc n) (b ∷ s) h = bytes_drop n s h.1
 
-no_all : (f : ℕ → Bool) (s : List ℕ) (i : ℕ) → f 47 ≡ false → slash_in s ≡ Some i → list_all f s ≡ false
-unfolding slash_in
+no_all : (f : ℕ → Bool) (s : List ℕ) (i : ℕ) → f 47 ≡ false → place_in 47 s ≡ Some i → list_all f s ≡ false
+unfolding place_in
 no_all f [] i n e = absurd (cc)
-no_all f (b ∷ s) i n e = by (b == 47) refl (slash_in s) refl e (no_all f s)
+no_all f (b ∷ s) i n e = by (b == 47) refl (place_in 47 s) refl e (no_all f s)
   where
     also : (c : Bool) → (c && false) ≡ false
     also true = refl
     also false = refl
 
-    by : (c : Bool) → (b == 47) ≡ c → (o : Option ℕ) → slash_in s ≡ o
+    by : (c : Bool) → (b == 47) ≡ c → (o : Option ℕ) → place_in 47 s ≡ o
         → cond c (Some 0) (option_map (λ n. n + 1) o) ≡ Some i
-        → ((j : ℕ) → f 47 ≡ false → slash_in s ≡ Some j → list_all f s ≡ false) → list_all f (b ∷ s) ≡ false
+        → ((j : ℕ) → f 47 ≡ false → place_in 47 s ≡ Some j → list_all f s ≡ false) → list_all f (b ∷ s) ≡ false
     by true q o r e' ih =
         let is : b ≡ 47 = grind (arith, nat_tests) in
         ap (λ v. f v && list_all f s) is ∙ ap (λ v. v && list_all f s) n
@@ -151,65 +151,65 @@ no_all f (b ∷ s) i n e = by (b == 47) refl (slash_in s) refl e (no_all f s)
     by false q (Some j) r e' ih = ap (λ v. f b && v) (ih j n r) ∙ also (f b)
 
 last_found : (kind : ImportKind) (document s : List ℕ)
-    → FoundAs 0 (last_of 0 s (slash_in s)) (day_of s then λ day. Some (Import kind document day))
-unfolding slash_in
+    → FoundAs 0 (last_of 0 s (place_in 47 s)) (day_of s then λ day. Some (Import false kind document day))
+unfolding place_in
 last_found kind document [] = refl
-last_found kind document (b ∷ s) = by (slash_in (b ∷ s)) refl
+last_found kind document (b ∷ s) = by (place_in 47 (b ∷ s)) refl
   where
-    by : (o : Option ℕ) → slash_in (b ∷ s) ≡ o
-        → FoundAs 0 (last_of 0 (b ∷ s) o) (day_of (b ∷ s) then λ day. Some (Import kind document day))
+    by : (o : Option ℕ) → place_in 47 (b ∷ s) ≡ o
+        → FoundAs 0 (last_of 0 (b ∷ s) o) (day_of (b ∷ s) then λ day. Some (Import false kind document day))
     by None e = refl
-    by (Some i) e = ap (λ o. o then λ day. Some (Import kind document day)) (no_slash (b ∷ s) i e)
+    by (Some i) e = ap (λ o. o then λ day. Some (Import false kind document day)) (no_slash (b ∷ s) i e)
 
 file_found : (kind : ImportKind) (s : List ℕ) → Bytes s
-    → FoundAs 0 (first ((param_token ∷ 47 ∷ param_token ∷ [], 0) ∷ []) s) (file_resource kind s)
+    → FoundAs 0 (first ((param_token ∷ 47 ∷ param_token ∷ [], 0) ∷ []) s) (file_resource false kind s)
 file_found kind s h =
-    subst (λ o. FoundAs 0 o (file_resource kind s)) (sym (param_mid (param_token ∷ []) 0 s h)) (by (slash_in s) refl)
+    subst (λ o. FoundAs 0 o (file_resource false kind s)) (sym (param_mid (param_token ∷ []) 0 s h)) (by (place_in 47 s) refl)
   where
     on : List ℕ × List ℕ → Option Resource
-    on a = where_it is_document a.0 then λ document. day_of a.1 then λ day. Some (Import kind document day)
+    on a = where_it is_document a.0 then λ document. day_of a.1 then λ day. Some (Import false kind document day)
 
-    by : (o : Option ℕ) → slash_in s ≡ o → FoundAs 0 (rest_of ((param_token ∷ [], 0) ∷ []) s o) (cut_at s o then on)
+    by : (o : Option ℕ) → place_in 47 s ≡ o → FoundAs 0 (rest_of ((param_token ∷ [], 0) ∷ []) s o) (cut_at s o then on)
     by None e = refl
     by (Some zero) e = refl
     by (Some (suc i)) e =
         let r = drop (suc i + 1) s in
         let d = take (suc i) s in
         subst (λ o. FoundAs 0 o (on (d, r))) (sym (param_end 0 r (bytes_drop (suc i + 1) s h)))
-        (late (is_document d) (last_of 0 r (slash_in r)) d r (last_found kind d r))
+        (late (is_document d) (last_of 0 r (place_in 47 r)) d r (last_found kind d r))
       where
-        late : (c : Bool) (o : Option ℕ) (d r : List ℕ) → FoundAs 0 o (day_of r then λ day. Some (Import kind d day))
-            → FoundAs 0 o (cond c (Some d) None then λ document. day_of r then λ day. Some (Import kind document day))
+        late : (c : Bool) (o : Option ℕ) (d r : List ℕ) → FoundAs 0 o (day_of r then λ day. Some (Import false kind d day))
+            → FoundAs 0 o (cond c (Some d) None then λ document. day_of r then λ day. Some (Import false kind document day))
         late true o d r k = k
         late false o d r k = fewer 0 o _ k
 
-import_found : (s : List ℕ) → Bytes s → FoundAs 0 (first import_rows s) (import_resource s)
+import_found : (s : List ℕ) → Bytes s → FoundAs 0 (first import_rows s) (import_resource false s)
 unfolding import_rows
 import_found s h =
-    subst (λ o. FoundAs 0 o (import_resource s)) (sym (param_mid (param_token ∷ 47 ∷ param_token ∷ []) 0 s h))
-    (by (slash_in s) refl)
+    subst (λ o. FoundAs 0 o (import_resource false s)) (sym (param_mid (param_token ∷ 47 ∷ param_token ∷ []) 0 s h))
+    (by (place_in 47 s) refl)
   where
     rows : Rows
     rows = (param_token ∷ 47 ∷ param_token ∷ [], 0) ∷ []
 
     on : List ℕ × List ℕ → Option Resource
-    on a = kind_of a.0 then λ kind. file_resource kind a.1
+    on a = kind_of a.0 then λ kind. file_resource false kind a.1
 
     late : (k : Option ImportKind) (r : List ℕ) → Bytes r
-        → FoundAs 0 (first rows r) (k then λ kind. file_resource kind r)
-    late None r b = fewer 0 (first rows r) (file_resource Receipts r) (file_found Receipts r b)
+        → FoundAs 0 (first rows r) (k then λ kind. file_resource false kind r)
+    late None r b = fewer 0 (first rows r) (file_resource false Receipts r) (file_found Receipts r b)
     late (Some kind) r b = file_found kind r b
 
-    by : (o : Option ℕ) → slash_in s ≡ o → FoundAs 0 (rest_of rows s o) (cut_at s o then on)
+    by : (o : Option ℕ) → place_in 47 s ≡ o → FoundAs 0 (rest_of rows s o) (cut_at s o then on)
     by None e = refl
     by (Some zero) e = refl
     by (Some (suc i)) e = late (kind_of (take (suc i) s)) (drop (suc i + 1) s) (bytes_drop (suc i + 1) s h)
 
 number_found : (name : ReportName) (s : List ℕ)
-    → FoundAs 1 (last_of 1 s (slash_in s)) (number_of s then λ n. Some (Report name n))
-unfolding slash_in
+    → FoundAs 1 (last_of 1 s (place_in 47 s)) (number_of s then λ n. Some (Report name n))
+unfolding place_in
 number_found name [] = refl
-number_found name (b ∷ s) = by (slash_in (b ∷ s)) refl
+number_found name (b ∷ s) = by (place_in 47 (b ∷ s)) refl
   where
     never : (c d : Bool) → (c && d && false) ≡ false
     never true true = refl
@@ -217,7 +217,7 @@ number_found name (b ∷ s) = by (slash_in (b ∷ s)) refl
     never false true = refl
     never false false = refl
 
-    by : (o : Option ℕ) → slash_in (b ∷ s) ≡ o
+    by : (o : Option ℕ) → place_in 47 (b ∷ s) ≡ o
         → FoundAs 1 (last_of 1 (b ∷ s) o) (number_of (b ∷ s) then λ n. Some (Report name n))
     by None e = refl
     by (Some i) e =
@@ -229,7 +229,7 @@ number_found name (b ∷ s) = by (slash_in (b ∷ s)) refl
 report_found : (s : List ℕ) → Bytes s → FoundAs 1 (first report_rows s) (report_resource s)
 unfolding report_rows
 report_found s h =
-    subst (λ o. FoundAs 1 o (report_resource s)) (sym (param_mid (param_token ∷ []) 1 s h)) (by (slash_in s) refl)
+    subst (λ o. FoundAs 1 o (report_resource s)) (sym (param_mid (param_token ∷ []) 1 s h)) (by (place_in 47 s) refl)
   where
     rows : Rows
     rows = (param_token ∷ [], 1) ∷ []
@@ -248,7 +248,7 @@ report_found s h =
     late None r b = fewer 1 (first rows r) _ (some Ledger r b)
     late (Some name) r b = some name r b
 
-    by : (o : Option ℕ) → slash_in s ≡ o → FoundAs 1 (rest_of rows s o) (cut_at s o then on)
+    by : (o : Option ℕ) → place_in 47 s ≡ o → FoundAs 1 (rest_of rows s o) (cut_at s o then on)
     by None e = refl
     by (Some zero) e = refl
     by (Some (suc i)) e = late (name_of (take (suc i) s)) (drop (suc i + 1) s) (bytes_drop (suc i + 1) s h)
@@ -257,7 +257,7 @@ report_found s h =
 
 abbrev ByNumber : List ℕ → Option ℕ → Option Resource → Type 0
 ByNumber t None resource = resource ≡ None
-ByNumber t (Some zero) resource = (8 ≤ length t) × (resource ≡ import_resource (drop 8 t))
+ByNumber t (Some zero) resource = (8 ≤ length t) × (resource ≡ import_resource false (drop 8 t))
 ByNumber t (Some (suc zero)) resource = (8 ≤ length t) × (resource ≡ report_resource (drop 8 t))
 ByNumber t (Some (suc (suc n))) resource = resource ≡ Some Run
 
@@ -282,10 +282,10 @@ numbered t h =
     eu : ◌≢◌ {A = ℕ} 101 117
     eu e = omega (arith, e)
 
-    imported : (o : Option ℕ) → 8 ≤ length t → FoundAs 0 o (import_resource (drop 8 t))
-        → ByNumber t (or_else o None) (import_resource (drop 8 t))
+    imported : (o : Option ℕ) → 8 ≤ length t → FoundAs 0 o (import_resource false (drop 8 t))
+        → ByNumber t (or_else o None) (import_resource false (drop 8 t))
     imported None l k = k
-    imported (Some j) l k = subst (λ v. ByNumber t (Some v) (import_resource (drop 8 t))) (sym k) (l, refl)
+    imported (Some j) l k = subst (λ v. ByNumber t (Some v) (import_resource false (drop 8 t))) (sym k) (l, refl)
 
     reported : (o : Option ℕ) → 8 ≤ length t → FoundAs 1 o (report_resource (drop 8 t))
         → ByNumber t (or_else o None) (report_resource (drop 8 t))
@@ -300,7 +300,7 @@ numbered t h =
         → starts_with nat_eq t (codes "/report/") ≡ d → (f : Bool) → starts_with nat_eq t (codes "/run") ≡ f
         → ByNumber t (or_else (cond c (first import_rows (drop 8 t)) None)
         (or_else (cond d (first report_rows (drop 8 t)) None) (cond f (first run_rows (drop 4 t)) None)))
-        (cond c (import_resource (drop 8 t))
+        (cond c (import_resource false (drop 8 t))
         (cond d (report_resource (drop 8 t)) (cond f (run_resource (drop 4 t)) None)))
     by true e true q f r =
         let no : starts_with nat_eq t (codes "/report/") ≡ false =
@@ -328,7 +328,7 @@ numbered t h =
 
 abbrev pub ByRoute : List ℕ → Option Route → Option Resource → Type 0
 ByRoute t None resource = resource ≡ None
-ByRoute t (Some ImportRoute) resource = (8 ≤ length t) × (resource ≡ import_resource (drop 8 t))
+ByRoute t (Some ImportRoute) resource = (8 ≤ length t) × (resource ≡ import_resource false (drop 8 t))
 ByRoute t (Some ReportRoute) resource = (8 ≤ length t) × (resource ≡ report_resource (drop 8 t))
 ByRoute t (Some RunRoute) resource = resource ≡ Some Run
 

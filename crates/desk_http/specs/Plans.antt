@@ -1,5 +1,5 @@
 -- What a head asks for, by the checks in their order.
-use Rattle.std.specs.Prelude.{◌==◌, ◌&&◌, nat_lt, ℕ, Bool, false, List, Option, Some, None, Result, Ok, Err}
+use Rattle.std.specs.Prelude.{◌≡◌, ◌==◌, ◌&&◌, nat_lt, ℕ, Bool, false, List, Option, Some, None, Result, Ok, Err}
 use Rattle.std.specs.Prelude.{length, if◌then◌else◌, codes}
 use Rattle.std.specs.List.{list_any}
 use Rattle.std.specs.Str.{bytes_eq, str_eq_ignore_ascii_case}
@@ -7,8 +7,8 @@ use Rattle.desk_http.specs.AccessRules.{access_fault, has_to_say, page_fault}
 use Rattle.desk_http.specs.Fields.{Said, Nothing, One, Several, said, is_named}
 use Rattle.desk_http.specs.Heads.{HeadParts, Class, WellFormed, TooManyFields, Malformed}
 use Rattle.desk_http.specs.Sites.{PageView, SiteRules, page_view}
-use Rattle.desk_http.specs.Targets.{Resource, Run, Import, Report, Export, Books, HistoryFrom, Sheet, resource}
-use Rattle.desk_http.specs.Targets.{resource_at, page_at, number_of, some_text, IsProper}
+use Rattle.desk_http.specs.Targets.{Resource, Run, Import, Report, Export, Books, HistoryFrom, Sheet, Show, RunAll, Stop}
+use Rattle.desk_http.specs.Targets.{Dump, resource, resource_at, page_at, number_of, some_text, IsProper}
 use Rattle.desk_http.specs.declared.plan.Work.{Work}
 use Rattle.desk_http.specs.declared.plan.Work.TheVariants as work
 use Rattle.desk_http.specs.declared.rejection.Rejection.{Rejection}
@@ -45,22 +45,30 @@ unless_post method = if bytes_eq method (codes "POST") then None else Some OnlyP
 
 abbrev pub method_fault : List ℕ → Resource → Option Rejection
 method_fault method Run = unless_post method
-method_fault method (Import kind document day) = unless_post method
+method_fault method (Import loose kind document day) = unless_post method
 method_fault method (Report name number) = unless_get method
 method_fault method (Export table) = unless_get method
 method_fault method Books = unless_get method
 method_fault method (HistoryFrom number) = unless_get method
 method_fault method (Sheet command document day) = unless_post method
+method_fault method (Show list word said) = unless_get method
+method_fault method (RunAll said) = unless_post method
+method_fault method Stop = unless_post method
+method_fault method Dump = unless_get method
 
--- how many bytes of body are read for a resource: for what is only read none
+-- how many bytes of body are read for a resource: for what is only read none, and none to stop
 abbrev pub length_for : Resource → List (List ℕ × List ℕ) → Result ℕ Rejection
 length_for Run fields = body_length fields
-length_for (Import kind document day) fields = body_length fields
+length_for (Import loose kind document day) fields = body_length fields
 length_for (Report name number) fields = Ok 0
 length_for (Export table) fields = Ok 0
 length_for Books fields = Ok 0
 length_for (HistoryFrom number) fields = Ok 0
 length_for (Sheet command document day) fields = body_length fields
+length_for (Show list word said) fields = Ok 0
+length_for (RunAll said) fields = body_length fields
+length_for Stop fields = Ok 0
+length_for Dump fields = Ok 0
 
 abbrev pub unless : {A : Type 0} → Option Rejection → Result A Rejection → Result A Rejection
 unless (Some rejection) result = Err rejection
@@ -112,15 +120,19 @@ open_plan_of page TooManyFields = Err HeadTooLarge
 open_plan_of page Malformed = Err BadRequest
 open_plan_of page (WellFormed parts) = plan_by None None page parts (page_at page parts.target)
 
--- what is done without a page: a line, an import or a report
+-- what is done without a page: a line, an import that isn't read loosely, or a report
 abbrev pub IsOfProgram : Resource → Type 0
 IsOfProgram Run = Unit {0}
-IsOfProgram (Import kind document day) = Unit {0}
+IsOfProgram (Import loose kind document day) = loose ≡ false
 IsOfProgram (Report name number) = Unit {0}
 IsOfProgram (Export table) = ⊥
 IsOfProgram Books = ⊥
 IsOfProgram (HistoryFrom number) = ⊥
 IsOfProgram (Sheet command document day) = ⊥
+IsOfProgram (Show list word said) = ⊥
+IsOfProgram (RunAll said) = ⊥
+IsOfProgram Stop = ⊥
+IsOfProgram Dump = ⊥
 
 abbrev pub ShowsNoPage : Result Plan Rejection → Type 0
 ShowsNoPage (Ok (ShowPage page)) = ⊥

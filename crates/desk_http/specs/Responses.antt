@@ -11,6 +11,7 @@ use Rattle.desk_http.specs.declared.rejection.Rejection.TheVariants.{Misdirected
 use Rattle.desk_http.specs.declared.service.Outcome.{Outcome}
 use Rattle.desk_http.specs.declared.service.Outcome.TheVariants.{Answered, Refused, Faulty, Reported}
 use Rattle.desk_http.specs.declared.service.Outcome.TheVariants.{Exported, Shown, Unchanged, Unknown, FaultyLines}
+use Rattle.desk_http.specs.declared.service.Outcome.TheVariants.{AnsweredLines, Dumped}
 use Rattle.desk_http.specs.declared.service.Failure.{Failure}
 use Rattle.desk_http.specs.declared.service.Failure.TheVariants.{Store, Memory}
 use Rattle.desk_http.specs.declared.service.Tag.{Tag}
@@ -65,7 +66,13 @@ head_bytes page status media count further =
     ++ line (codes "Content-Length: ") (decimal count)
     ++ further ++ guards page ++ line (codes "Connection: close") [] ++ crlf
 
--- the same and the body
+-- the head of a response whose body ends with the connection, since how long it is isn't known before
+abbrev pub open_head : Option PageView → ℕ → List ℕ → List ℕ
+open_head page status media =
+    line (codes "HTTP/1.1 ") (status_words status) ++ line (codes "Content-Type: ") media ++ guards page
+    ++ line (codes "Connection: close") [] ++ crlf
+
+-- a head, and a body as long as it says
 abbrev pub response_bytes : Option PageView → ℕ → List ℕ → List ℕ → List ℕ → List ℕ
 response_bytes page status media further body = head_bytes page status media (length body) further ++ body
 
@@ -77,6 +84,12 @@ plain_text = codes "text/plain; charset=utf-8"
 
 abbrev pub csv : List ℕ
 csv = codes "text/csv; charset=utf-8"
+
+abbrev pub json_lines : List ℕ
+json_lines = codes "application/x-ndjson"
+
+abbrev pub sql : List ℕ
+sql = codes "application/sql"
 
 abbrev pub html : List ℕ
 html = codes "text/html; charset=utf-8"
@@ -149,6 +162,8 @@ outcome_status (Shown tag) = 200
 outcome_status (Unchanged tag) = 304
 outcome_status Unknown = 404
 outcome_status FaultyLines = 400
+outcome_status AnsweredLines = 200
+outcome_status Dumped = 200
 
 abbrev pub media_of : Outcome → List ℕ
 media_of Answered = json
@@ -160,6 +175,8 @@ media_of (Shown tag) = json
 media_of (Unchanged tag) = json
 media_of Unknown = json
 media_of FaultyLines = plain_text
+media_of AnsweredLines = json_lines
+media_of Dumped = sql
 
 abbrev pub tag_line : Tag → List ℕ
 tag_line tag = line (codes "ETag: ") (tag_text tag)
@@ -176,6 +193,8 @@ tag_of Exported = []
 tag_of (Unchanged tag) = []
 tag_of Unknown = []
 tag_of FaultyLines = []
+tag_of AnsweredLines = []
+tag_of Dumped = []
 
 -- what was replied, whole
 abbrev pub told_response : Option PageView → Outcome → List ℕ → Response
@@ -190,6 +209,10 @@ unchanged_response page tag =
     (line (codes "HTTP/1.1 ") (status_words 304) ++ tag_line tag ++ guards page ++ line (codes "Connection: close") []
     ++ crlf)
 
+-- all tables, which are sent as they are written
+abbrev pub dump_response : Option PageView → List ℕ → Response
+dump_response page body = response 200 (open_head page 200 sql ++ body)
+
 abbrev pub outcome_response : Option PageView → Outcome → List ℕ → Response
 outcome_response page (Unchanged tag) body = unchanged_response page tag
 outcome_response page Unknown body = rejection_response page NotFound
@@ -200,6 +223,8 @@ outcome_response page Reported body = told_response page Reported body
 outcome_response page Exported body = told_response page Exported body
 outcome_response page (Shown tag) body = told_response page (Shown tag) body
 outcome_response page FaultyLines body = told_response page FaultyLines body
+outcome_response page AnsweredLines body = told_response page AnsweredLines body
+outcome_response page Dumped body = dump_response page body
 
 abbrev pub reply_response : Option PageView → ReplyView → Response
 reply_response page reply = outcome_response page reply.0 reply.1

@@ -174,6 +174,10 @@ module _ {D : Type 0} (performs : D → Operation → Result ReplyView NoReply �
   IsOneOperation d d' =
       (d' ≡ d) ⊎ ((o : Operation) × (outcome : Result ReplyView NoReply) × performs d o outcome d')
 
+-- a step of a service that takes a request yet
+abbrev pub IsTaken : {D : Type 0} → (D → Bool) → (D → D → Type 0) → D → D → Type 0
+IsTaken is_over is_step d d' = (is_over d ≡ false) × is_step d d'
+
 -- Steps of one kind, one after another.
 module _ {D : Type 0} (is_step : D → D → Type 0) where
   -- so many

@@ -3,6 +3,7 @@
 #![tactic(auto)]
 
 mod access;
+mod asked;
 mod body_length;
 mod expect;
 mod field;
@@ -11,6 +12,7 @@ mod head_end;
 mod loopback;
 mod pace;
 mod plan;
+mod query;
 mod receive;
 mod rejection;
 mod respond;
@@ -28,12 +30,13 @@ pub use access::Access;
 pub use head::one_class;
 pub use loopback::{Clients, serve_connections};
 pub use plan::{nothing_is_read_without_a_page, untold_requests_pass};
+pub use query::{LineWords, ListWords};
 pub use rejection::Rejection;
 pub use response::statuses_are_named;
 pub use serve::serve_one;
 pub use served::Served;
 pub use service::{
-    Failure, NoReply, Outcome, Reply, Service, Tag, readings_change_nothing,
+    CutShort, Failure, NoReply, Outcome, Reply, Service, Tag, readings_change_nothing,
     unchanged_books_are_known,
 };
 pub use site::{Page, Site};

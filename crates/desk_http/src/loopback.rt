@@ -1,7 +1,7 @@
 //! Clients on the loopback, a request a connection, one connection after another.
-ghost use Rattle.std.specs.Prelude.{◌≡◌, ◌+◌, ◌<◌, ◌≤◌, ◌^◌, ℕ, OnErr, OnOk};
+ghost use Rattle.std.specs.Prelude.{◌≡◌, ◌⊎◌, ◌+◌, ◌<◌, ◌≤◌, ◌^◌, ℕ, true, OnErr, OnOk};
 ghost use Rattle.desk_http.specs.Services.{Performs};
-ghost use Rattle.desk_http.specs.Serving.{AreSteps, IsOneOperation, IsOneStep};
+ghost use Rattle.desk_http.specs.Serving.{AreSteps, IsOneOperation, IsOneStep, IsTaken};
 
 use crate::pace::{PacedReader, PacedWriter, read_off};
 use crate::serve::serve_one;
@@ -49,7 +49,7 @@ fn answer<C: Clock, S: Service>(
         service.old service.new }
 {
     let mut reader = PacedReader::new(clock, stream);
-    let mut writer = PacedWriter::new(clock, stream);
+    let mut writer = PacedWriter::new(clock, alloc, stream);
     let served = serve_one(alloc, &mut reader, &mut writer, service, site);
     end(clock, stream, served)
 }
@@ -116,9 +116,9 @@ fn lacks_descriptor(error: &io::Error) -> bool {
     }
 }
 
-/// Accepts so many connections and answers each as `serve_one` does, whatever it gives. A client that says nothing is
-/// left after a second, and one that is slow when it doesn't keep the pace. An error is one of the listener, which gives
-/// no connection.
+/// Accepts so many connections and answers each as `serve_one` does, whatever it gives; none is accepted once the service
+/// is over. A client that says nothing is left after a second, and one that is slow when it doesn't keep the pace. An error
+/// is one of the listener, which gives no connection.
 pub fn serve_connections<C: Clock, L: OpenListener<Stream = TcpStream> + Drop, S: Service>(
     clock: &C,
     alloc: Global,
@@ -131,14 +131,20 @@ pub fn serve_connections<C: Clock, L: OpenListener<Stream = TcpStream> + Drop, S
     requires room { clients.old.accepted + count < 2 ^ 64 }
     ensures kept { S.is_kept service.new }
     ensures steps { (n : ℕ) × (n ≤ count)
-        × AreSteps (IsOneStep (Performs S.state S.machine S.left S.relates) site.now) n
+        × AreSteps (IsTaken S.over
+        (IsOneStep (Performs S.state S.machine S.left S.relates) site.now)) n
         service.old service.new }
     ensures operations { (n : ℕ) × (n ≤ count)
-        × AreSteps (IsOneOperation (Performs S.state S.machine S.left S.relates)) n
+        × AreSteps (IsTaken S.over
+        (IsOneOperation (Performs S.state S.machine S.left S.relates))) n
         service.old service.new }
-    ensures accepted { OnOk result (clients.new.accepted ≡ clients.old.accepted + count) }
+    ensures accepted { OnOk result ((clients.new.accepted ≡ clients.old.accepted + count)
+        ⊎ (S.over service.new ≡ true)) }
 {
     for done in 0..count {
+        if service.is_over() {
+            return Ok(());
+        }
         let stream = clients.accept_patiently(clock)?;
         let _ = answer(clock, alloc, &stream, service, site);
     }

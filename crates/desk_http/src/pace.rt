@@ -1,4 +1,7 @@
 //! How long clients are waited for.
+ghost use Rattle.std.specs.Prelude.{◌≤◌, IfOk, length};
+
+use std::alloc::Global;
 use std::io::{self, ErrorKind, Read, Write};
 use std::net::TcpStream;
 use std::time::{Clock, Duration, Instant};
@@ -16,6 +19,10 @@ const BYTES_A_SECOND: u64 = 10_240;
 
 /// How many bytes of an answer are handed over at a time, so that a client which takes none shows.
 const PIECE: usize = 65_536;
+
+/// How many bytes of an answer are gathered before they are handed over, so that a text of many short lines takes few calls
+/// of the system.
+const GATHERED: usize = 16_384;
 
 /// For how many seconds a piece is waited for. One of which a part is taken at once is waited for twice.
 const PIECE_SECONDS: u64 = 15;
@@ -98,26 +105,19 @@ impl<C: Clock> Read for PacedReader<'_, C> {
     }
 }
 
-/// Writes what a client is answered, as long as it takes it and keeps the pace.
+/// Hands over what a client is answered, as long as it takes it and keeps the pace.
 #[derive(Drop)]
-pub struct PacedWriter<'a, C: Clock> {
+struct Taker<'a, C: Clock> {
     clock: &'a C,
     stream: &'a TcpStream,
     pace: Option<Pace>,
 }
 
-impl<'a, C: Clock> PacedWriter<'a, C> {
-    pub fn new(clock: &'a C, stream: &'a TcpStream) -> Self {
-        PacedWriter {
-            clock,
-            stream,
-            pace: None,
-        }
-    }
-}
-
-impl<C: Clock> Write for PacedWriter<'_, C> {
-    fn write(&mut self, buf: &[u8]) -> io::Result<usize> {
+impl<C: Clock> Taker<'_, C> {
+    /// Hands over bytes, and tells how many were taken.
+    fn hand_over(&mut self, bytes: &[u8]) -> io::Result<usize>
+        ensures { IfOk result (λ n. n ≤ length bytes.now) }
+    {
         let mut pace = match self.pace {
             None => Pace::start(self.clock)?,
             Some(pace) => pace,
@@ -125,15 +125,72 @@ impl<C: Clock> Write for PacedWriter<'_, C> {
         let left = pace.time_left(self.clock, PIECE_SECONDS)?;
         self.stream.set_write_timeout(Some(left))?;
         let mut stream = self.stream;
-        let n = stream.write(&buf[..buf.len().min(PIECE)])?;
+        let n = stream.write(&bytes[..bytes.len().min(PIECE)])?;
         pace.count(n);
         self.pace = Some(pace);
         Ok(n)
     }
 
+    /// Hands over all the bytes.
+    fn hand_over_all(&mut self, bytes: &[u8]) -> io::Result<()> {
+        let mut at = 0;
+        while at < bytes.len() {
+            match self.hand_over(&bytes[at..])? {
+                0 => return Err(io::Error::new(ErrorKind::WriteZero, "nothing is taken")),
+                n => at += n,
+            }
+        }
+        Ok(())
+    }
+}
+
+/// Writes what a client is answered. It is gathered, and handed over when it is flushed, or when there is much of it.
+#[derive(Drop)]
+pub struct PacedWriter<'a, C: Clock> {
+    taker: Taker<'a, C>,
+    gathered: Vec<u8>,
+}
+
+impl<'a, C: Clock> PacedWriter<'a, C> {
+    pub fn new(clock: &'a C, alloc: Global, stream: &'a TcpStream) -> Self {
+        PacedWriter {
+            taker: Taker {
+                clock,
+                stream,
+                pace: None,
+            },
+            gathered: Vec::new(alloc),
+        }
+    }
+
+    fn hand_over_gathered(&mut self) -> io::Result<()> {
+        self.taker.hand_over_all(&self.gathered)?;
+        self.gathered.clear();
+        Ok(())
+    }
+
+    /// Whether so many bytes more are gathered with those that there are.
+    fn has_room(&self, bytes: usize) -> bool {
+        self.gathered.len() <= GATHERED && bytes <= GATHERED - self.gathered.len()
+    }
+}
+
+impl<C: Clock> Write for PacedWriter<'_, C> {
+    fn write(&mut self, buf: &[u8]) -> io::Result<usize> {
+        if !self.has_room(buf.len()) {
+            self.hand_over_gathered()?;
+        }
+        if buf.len() <= GATHERED && self.gathered.extend_from_slice(buf).is_ok() {
+            return Ok(buf.len());
+        }
+        self.hand_over_gathered()?;
+        self.taker.hand_over(buf)
+    }
+
     /// What is written next is an answer of its own, with its own time: the body of a request may come in between.
     fn flush(&mut self) -> io::Result<()> {
-        self.pace = None;
+        self.hand_over_gathered()?;
+        self.taker.pace = None;
         Ok(())
     }
 }

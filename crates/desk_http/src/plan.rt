@@ -58,10 +58,17 @@ fn check_method(method: &[u8], target: &Target<'_>) -> Result<(), Rejection>
     ensures { result_err result ≡ method_fault method.now (resource target.now) }
 {
     match target {
-        Target::Run | Target::Import(_, _, _) | Target::Sheet(_, _, _) => check_post(method),
-        Target::Report(_, _) | Target::Export(_) | Target::Books | Target::HistoryFrom(_) => {
-            check_get(method)
-        }
+        Target::Run
+        | Target::Import(_, _, _, _)
+        | Target::Sheet(_, _, _)
+        | Target::RunAll(_)
+        | Target::Stop => check_post(method),
+        Target::Report(_, _)
+        | Target::Export(_)
+        | Target::Books
+        | Target::HistoryFrom(_)
+        | Target::Dump
+        | Target::Show(_, _, _) => check_get(method),
     }
 }
 
@@ -71,10 +78,15 @@ fn length_for(head: &[u8], target: &Target<'_>, spans: &[HeaderSpan]) -> Result<
     ensures { result ≡ length_for (resource target.now) (map (header_bytes head.now) spans.now) }
 {
     match target {
-        Target::Run | Target::Import(_, _, _) | Target::Sheet(_, _, _) => {
-            read_body_length(head, spans)
-        }
-        Target::Report(_, _) | Target::Export(_) | Target::Books | Target::HistoryFrom(_) => Ok(0),
+        Target::Run | Target::Import(_, _, _, _) | Target::Sheet(_, _, _) | Target::RunAll(_) =>
+            read_body_length(head, spans),
+        Target::Report(_, _)
+        | Target::Export(_)
+        | Target::Books
+        | Target::HistoryFrom(_)
+        | Target::Show(_, _, _)
+        | Target::Stop
+        | Target::Dump => Ok(0),
     }
 }
 
@@ -167,7 +179,7 @@ pub fn untold_requests_pass()
 {}
 
 /// Where there is no page, none is shown, nor is anything asked for that is there with a page alone: what is asked for is a
-/// line, an import of receipts or counts, or a report. Nor has a response a field more.
+/// line, an import of receipts or counts that isn't read loosely, or a report. Nor has a response a field more.
 pub fn nothing_is_read_without_a_page()
     ensures planned { (access : AccessRules) (class : Class)
         → ShowsNoPage (plan_of (record { access = access; page = None }) class) }

@@ -1,25 +1,29 @@
 //! A request is done by the service and answered, or rejected.
-ghost use Rattle.std.specs.Prelude.{◌≡◌, IfOk, MatchResult};
+ghost use Rattle.std.specs.Prelude.{◌≡◌, false, IfOk, MatchResult, option_map, string_bytes};
 ghost use Rattle.std.specs.Str.{bytes_eq};
-ghost use Rattle.desk_http.specs.Responses.{error_response, failure_response, page_response};
+ghost use Rattle.desk_http.specs.Responses.{dump_response, error_response, failure_response};
+ghost use Rattle.desk_http.specs.Responses.{page_response};
 ghost use Rattle.desk_http.specs.Responses.{rejection_response, reply_response, told_response};
 ghost use Rattle.desk_http.specs.Responses.{unchanged_response};
-ghost use Rattle.desk_http.specs.Services.{Performs, ShowBooks, heard, operation, reply_view, tag_text};
+ghost use Rattle.desk_http.specs.Services.{Performs, ShowBooks, ShowDump, ShowList, heard, operation};
+ghost use Rattle.desk_http.specs.Services.{reply_view, tag_text};
 ghost use Rattle.desk_http.specs.Serving.{PerformsAndSends, Sends};
 ghost use Rattle.desk_http.specs.Sites.{page_view, some_page};
-ghost use Rattle.desk_http.specs.Targets.{resource, some_text, IsProper};
+ghost use Rattle.desk_http.specs.Targets.{is_dump, meant, resource, some_text, IsProper};
 
+use crate::query::ListWords;
 use crate::rejection::Rejection;
 use crate::response::{
-    error_body, failure_status, further_line, head_text, media_type, outcome_status, page_lines,
-    rejection_status, tag_of, tag_text, unchanged_text,
+    dump_head, error_body, failure_status, further_line, head_text, media_type, outcome_status,
+    page_lines, rejection_status, tag_of, tag_text, unchanged_text,
 };
-use crate::send::send_response;
+use crate::send::{send_dump, send_response};
 use crate::served::Stop;
 use crate::service::{Failure, NoReply, Outcome, Reply, Service, Tag};
 use crate::site::{Page, Site};
 use crate::target::Target;
 use http::StatusCode;
+use percent_encoding::percent_decode;
 use std::alloc::{AllocError, Global};
 use std::io::Write;
 
@@ -117,6 +121,20 @@ fn tell_body<W: Write>(
     send_response(writer, status, head.as_str(), body)
 }
 
+/// Writes a dump that was replied whole.
+fn tell_whole_dump<W: Write>(
+    alloc: Global,
+    writer: &mut W,
+    page: &Option<Page>,
+    body: &[u8],
+) -> Result<u16, Stop>
+    ensures { Sends (dump_response (some_page page.now) body.now)
+        (W.contents writer.old) (W.contents writer.new) result }
+{
+    let head = dump_head(alloc, page)?;
+    send_response(writer, StatusCode::OK, head.as_str(), body)
+}
+
 /// Writes what the service replied.
 fn tell<W: Write>(
     alloc: Global,
@@ -130,6 +148,7 @@ fn tell<W: Write>(
     match reply.outcome {
         Outcome::Unchanged(tag) => tell_unchanged(alloc, writer, page, tag),
         Outcome::Unknown => reject(alloc, writer, page, Rejection::NotFound),
+        Outcome::Dumped => tell_whole_dump(alloc, writer, page, &reply.body),
         outcome => tell_body(alloc, writer, page, outcome, &reply.body),
     }
 }
@@ -171,6 +190,45 @@ fn show_books<S: Service>(
     }
 }
 
+/// The text that a word of a target stands for.
+fn meant(alloc: Global, word: &[u8]) -> Result<String, AllocError>
+    ensures { IfOk result (λ text. string_bytes text ≡ meant word.now) }
+{
+    let mut bytes = Vec::new(alloc);
+    percent_decode(word).append_to(&mut bytes)?;
+    String::from_utf8_lossy(alloc, &bytes)
+}
+
+/// Has the service show a list, of what a word says if there is one.
+fn show_list<S: Service>(
+    alloc: Global,
+    service: &S,
+    list: &str,
+    word: Option<&[u8]>,
+    said: ListWords,
+) -> Result<Result<Reply, NoReply>, AllocError>
+    requires { S.is_kept service.now }
+    ensures { IfOk result (λ outcome. Performs S.state S.machine S.left S.relates service.now
+        (ShowList list.now (option_map (λ w. meant w.now) word.entry) said)
+        (heard outcome) service.now) }
+{
+    let Some(word) = word else {
+        return Ok(service.show(alloc, list, None, said));
+    };
+    let word = meant(alloc, word)?;
+    Ok(service.show(alloc, list, Some(word.as_str()), said))
+}
+
+/// Whether all tables are asked for.
+fn is_dump(target: &Target<'_>) -> bool
+    ensures { result ≡ is_dump (resource target.now) }
+{
+    match target {
+        Target::Dump => true,
+        _ => false,
+    }
+}
+
 /// Has the service do what the target names, with the body. An error is that there was no memory to ask it.
 fn perform<S: Service>(
     alloc: Global,
@@ -181,6 +239,7 @@ fn perform<S: Service>(
 ) -> Result<Result<Reply, NoReply>, AllocError>
     requires kept { S.is_kept service.old }
     requires proper { IsProper target.now }
+    requires replied { is_dump (resource target.now) ≡ false }
     ensures kept { S.is_kept service.new }
     ensures performs { MatchResult result
         (λ outcome. Performs S.state S.machine S.left S.relates service.old
@@ -190,8 +249,8 @@ fn perform<S: Service>(
 {
     match target {
         Target::Run => Ok(service.run(alloc, body)),
-        Target::Import(kind, document, day) => {
-            Ok(service.import(alloc, *kind, document, *day, body))
+        Target::Import(loose, kind, document, day) => {
+            Ok(service.import(alloc, *loose, *kind, document, *day, body))
         }
         Target::Report(name, number) => Ok(service.report(alloc, *name, *number)),
         Target::Export(table) => Ok(service.export(alloc, table)),
@@ -200,6 +259,73 @@ fn perform<S: Service>(
         Target::Sheet(command, document, day) => {
             Ok(service.import_sheet(alloc, command, document, *day, body))
         }
+        Target::Show(list, word, said) => show_list(alloc, service, list, *word, *said),
+        Target::RunAll(said) => Ok(service.run_lines(alloc, *said, body)),
+        Target::Stop => Ok(service.stop(alloc)),
+        Target::Dump => unreachable!(),
+    }
+}
+
+/// Answers with the dump of a service that may be dumped.
+fn tell_dump<W: Write, S: Service>(
+    alloc: Global,
+    writer: &mut W,
+    service: &S,
+    page: &Option<Page>,
+) -> Result<u16, Stop>
+    requires { S.is_kept service.now }
+    ensures { Sends (dump_response (some_page page.now)
+        (S.machine.show_dump (S.state service.now)))
+        (W.contents writer.old) (W.contents writer.new) result }
+{
+    let head = dump_head(alloc, page)?;
+    send_dump(alloc, writer, service, head.as_str())
+}
+
+/// Answers with the dump of a service, or that it failed.
+fn respond_with_dump<W: Write, S: Service>(
+    alloc: Global,
+    writer: &mut W,
+    service: &S,
+    site: &Site,
+) -> Result<u16, Stop>
+    requires { S.is_kept service.now }
+    ensures { PerformsAndSends (Performs S.state S.machine S.left S.relates) site.now
+        service.now ShowDump service.now (W.contents writer.old) (W.contents writer.new) result }
+{
+    match service.may_dump() {
+        Ok(()) => tell_dump(alloc, writer, service, &site.page),
+        Err(NoReply::Failed(failure)) => tell_failure(alloc, writer, &site.page, failure),
+        Err(NoReply::Untold) => Err(Stop::Memory),
+    }
+}
+
+/// Has the service do what the target names, of which it replies, and answers it.
+fn respond_with_reply<W: Write, S: Service>(
+    alloc: Global,
+    writer: &mut W,
+    service: &mut S,
+    site: &Site,
+    target: &Target<'_>,
+    known: Option<&[u8]>,
+    body: &[u8],
+) -> Result<u16, Stop>
+    requires kept { S.is_kept service.old }
+    requires proper { IsProper target.now }
+    requires replied { is_dump (resource target.now) ≡ false }
+    ensures kept { S.is_kept service.new }
+    ensures sends { PerformsAndSends (Performs S.state S.machine S.left S.relates) site.now
+        service.old (operation (resource target.now) (some_text known.entry) body.now)
+        service.new (W.contents writer.old) (W.contents writer.new) result }
+{
+    let outcome = perform(alloc, service, target, known, body)?;
+    let why = match outcome {
+        Ok(reply) => return tell(alloc, writer, &site.page, &reply),
+        Err(why) => why,
+    };
+    match why {
+        NoReply::Failed(failure) => tell_failure(alloc, writer, &site.page, failure),
+        NoReply::Untold => Err(Stop::Memory),
     }
 }
 
@@ -220,13 +346,9 @@ pub fn respond<W: Write, S: Service>(
         service.old (operation (resource target.now) (some_text known.entry) body.now)
         service.new (W.contents writer.old) (W.contents writer.new) result }
 {
-    let outcome = perform(alloc, service, target, known, body)?;
-    let why = match outcome {
-        Ok(reply) => return tell(alloc, writer, &site.page, &reply),
-        Err(why) => why,
-    };
-    match why {
-        NoReply::Failed(failure) => tell_failure(alloc, writer, &site.page, failure),
-        NoReply::Untold => Err(Stop::Memory),
+    if is_dump(target) {
+        respond_with_dump(alloc, writer, service, site)
+    } else {
+        respond_with_reply(alloc, writer, service, site, target, known, body)
     }
 }

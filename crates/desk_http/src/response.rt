@@ -1,7 +1,7 @@
 //! Responses, byte by byte.
 ghost use Rattle.std.specs.Prelude.{◌≡◌, ◌++◌, decimal, length, IfOk, OnOk, string_bytes};
 ghost use Rattle.desk_http.specs.Responses.{AreNamed, guards, head_bytes, line, page_fields, status_words};
-ghost use Rattle.desk_http.specs.Responses.{error_body, tag_line, tag_of, unchanged_response};
+ghost use Rattle.desk_http.specs.Responses.{error_body, open_head, sql, tag_line, tag_of, unchanged_response};
 ghost use Rattle.desk_http.specs.Responses.{rejection_status, further_of, outcome_status, media_of, failure_status};
 ghost use Rattle.desk_http.specs.Services.{tag_text};
 ghost use Rattle.desk_http.specs.Sites.{page_view, some_page};
@@ -68,6 +68,20 @@ pub fn head_text(
     push_line(&mut text, "Content-Type: ", media)?;
     push_line(&mut text, "Content-Length: ", length.as_str())?;
     text.push_str(further)?;
+    push_guards(&mut text, page)?;
+    push_line(&mut text, "Connection: close", "")?;
+    text.push_str("\r\n")?;
+    Ok(text)
+}
+
+/// The head of a dump, whose body ends with the connection.
+pub fn dump_head(alloc: Global, page: &Option<Page>) -> Result<String, AllocError>
+    ensures { IfOk result (λ text. string_bytes text ≡ open_head (some_page page.now) 200 sql) }
+{
+    let status_words = status_text(alloc, StatusCode::OK)?;
+    let mut text = String::new(alloc);
+    push_line(&mut text, "HTTP/1.1 ", status_words.as_str())?;
+    push_line(&mut text, "Content-Type: ", "application/sql")?;
     push_guards(&mut text, page)?;
     push_line(&mut text, "Connection: close", "")?;
     text.push_str("\r\n")?;
@@ -177,6 +191,8 @@ pub fn outcome_status(outcome: Outcome) -> StatusCode
         Outcome::Unchanged(_) => StatusCode::NOT_MODIFIED,
         Outcome::Unknown => StatusCode::NOT_FOUND,
         Outcome::FaultyLines => StatusCode::BAD_REQUEST,
+        Outcome::AnsweredLines => StatusCode::OK,
+        Outcome::Dumped => StatusCode::OK,
     }
 }
 
@@ -186,6 +202,8 @@ pub fn media_type(outcome: Outcome) -> &'static str
     match outcome {
         Outcome::Reported | Outcome::FaultyLines => "text/plain; charset=utf-8",
         Outcome::Exported => "text/csv; charset=utf-8",
+        Outcome::AnsweredLines => "application/x-ndjson",
+        Outcome::Dumped => "application/sql",
         _ => "application/json",
     }
 }

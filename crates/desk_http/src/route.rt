@@ -61,7 +61,7 @@ fn find_routed<'b>(router: &Router<Route>, target: &'b [u8]) -> Option<Target<'b
         Ok(path) => match find_route(router, path) {
             None => None,
             Some(Route::RunRoute) => Some(Target::Run),
-            Some(Route::ImportRoute) => read_import(behind_first(target)),
+            Some(Route::ImportRoute) => read_import(false, behind_first(target)),
             Some(Route::ReportRoute) => read_report(behind_first(target)),
         },
     }

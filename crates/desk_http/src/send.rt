@@ -5,7 +5,9 @@ ghost use Rattle.desk_http.specs.Responses.{interim_bytes, response};
 ghost use Rattle.desk_http.specs.Serving.{AppendsFront, Sends};
 
 use crate::served::Stop;
+use crate::service::Service;
 use http::StatusCode;
+use std::alloc::Global;
 use std::io::Write;
 
 /// Writes all the bytes; else a front of them.
@@ -71,6 +73,27 @@ pub fn send_response<W: Write>(
     match send(writer, body) {
         Ok(()) => match writer.flush() {
             Ok(()) => Ok(status.as_u16()),
+            Err(_) => Err(Stop::WriteFailed),
+        },
+        Err(_) => Err(Stop::WriteFailed),
+    }
+}
+
+/// Sends a response of status 200, its head and then the dump of a service, as it is written.
+pub fn send_dump<W: Write, S: Service>(
+    alloc: Global,
+    writer: &mut W,
+    service: &S,
+    head: &str,
+) -> Result<u16, Stop>
+    requires { S.is_kept service.now }
+    ensures { Sends (response 200 (head.now ++ S.machine.show_dump (S.state service.now)))
+        (W.contents writer.old) (W.contents writer.new) result }
+{
+    send(writer, head.as_bytes())?;
+    match service.dump(alloc, writer) {
+        Ok(()) => match writer.flush() {
+            Ok(()) => Ok(200),
             Err(_) => Err(Stop::WriteFailed),
         },
         Err(_) => Err(Stop::WriteFailed),

@@ -1,13 +1,18 @@
 //! The service that requests are handed to.
-ghost use Rattle.std.specs.Prelude.{◌≡◌, ℕ, List, Option, Some, None, true, IfOk, IfErr};
-ghost use Rattle.desk_http.specs.Targets.{is_document};
+ghost use Rattle.std.specs.Prelude.{◌≡◌, ℕ, Bool, List, Option, Some, None, true, IfOk, IfErr, OnErr, OnOk};
+ghost use Rattle.std.specs.Io.KnownBytes.{Appends};
+ghost use Rattle.desk_http.specs.Targets.{is_document, some_text};
 ghost use Rattle.desk_http.specs.Services.{Machine, Operation, RunLine, ImportFile, ShowReport};
 ghost use Rattle.desk_http.specs.Services.{ShowTable, ShowBooks, ShowHistory, ImportSheet};
+ghost use Rattle.desk_http.specs.Services.{ShowList, RunLines, ShowDump, StopService};
+ghost use Rattle.desk_http.specs.Serving.{AppendsFront};
 ghost use Rattle.desk_http.specs.Services.{IsReading, Stops, reply_view, step, tag_text, why_none};
 
+use crate::query::{LineWords, ListWords};
 use crate::target::{ImportKind, ReportName};
 use part_core::Day;
 use std::alloc::Global;
+use std::io::Write;
 
 /// What tells the books of a service from what they were, and will be: when the service began, in nanoseconds since 1970,
 /// and how many requests it has accepted since.
@@ -34,10 +39,14 @@ pub enum Outcome {
     Shown(Option<Tag>),
     /// The books are still those of this tag: 304, and no body is told.
     Unchanged(Tag),
-    /// There is no table, or no command, of the name: 404, and no body is told.
+    /// There is no table, no command or no list of the name: 404, and no body is told.
     Unknown,
     /// Lines of the body aren't what they have to be: 400, as plain text, a line for each.
     FaultyLines,
+    /// Lines were run: 200, as lines of JSON.
+    AnsweredLines,
+    /// All tables: 200, as SQL.
+    Dumped,
 }
 
 /// What the service replies, the LF at its end too.
@@ -64,7 +73,12 @@ pub enum NoReply {
     Untold,
 }
 
-/// A service that runs lines, takes files in, shows reports, and tells a page what the books hold.
+/// A text was not written whole: the writer failed, or a growth was refused.
+#[derive(Clone, Copy, Debug)]
+pub struct CutShort;
+
+/// A service that runs lines, takes files in, shows reports and lists, and tells a page what the books hold, until it is
+/// over.
 ///
 /// It is a state, and a machine on states that says of each operation what it does to the state and what is replied.
 pub trait Service {
@@ -84,6 +98,9 @@ pub trait Service {
     // what holds of the service before a call and after it
     ghost is_kept: { Self → Type 0 };
 
+    // whether it takes no further request
+    ghost over: { Self → Bool };
+
     // what is to be said besides of the service before an operation and after it, and why there was no reply, if so
     ghost relates: { Self → Operation → Option NoReply → Self → Type 0 };
 
@@ -97,10 +114,12 @@ pub trait Service {
             (RunLine line.now) (state self.new)) }
         ensures relates { relates self.old (RunLine line.now) (why_none result) self.new };
 
-    /// Takes the rows of a file in, as those of a document on a day.
+    /// Takes the rows of a file in, as those of a document on a day. Where `loose` is true, its columns are taken by their
+    /// names.
     fn import(
         &mut self,
         alloc: Global,
+        loose: bool,
         kind: ImportKind,
         document: &str,
         day: Day,
@@ -110,10 +129,10 @@ pub trait Service {
         requires document { is_document document.now ≡ true }
         ensures kept { is_kept self.new }
         ensures ok { IfOk result (λ reply. (state self.new, reply_view reply)
-            ≡ step machine (state self.old) (ImportFile kind document.now day rows.now)) }
+            ≡ step machine (state self.old) (ImportFile loose kind document.now day rows.now)) }
         ensures err { IfErr result (λ e. Stops machine left e (state self.old)
-            (ImportFile kind document.now day rows.now) (state self.new)) }
-        ensures relates { relates self.old (ImportFile kind document.now day rows.now)
+            (ImportFile loose kind document.now day rows.now) (state self.new)) }
+        ensures relates { relates self.old (ImportFile loose kind document.now day rows.now)
             (why_none result) self.new };
 
     /// Shows a report of the number.
@@ -170,6 +189,61 @@ pub trait Service {
             (ImportSheet command.now document.now day file.now) (state self.new)) }
         ensures relates { relates self.old (ImportSheet command.now document.now day file.now)
             (why_none result) self.new };
+
+    /// Shows the list of a name, of what a word says if there is one; or replies that there is no such list, or that the
+    /// word says nothing.
+    fn show(
+        &self,
+        alloc: Global,
+        list: &str,
+        word: Option<&str>,
+        said: ListWords,
+    ) -> Result<Reply, NoReply>
+        requires { is_kept self.now }
+        ensures ok { IfOk result (λ reply. (state self.now, reply_view reply)
+            ≡ step machine (state self.now) (ShowList list.now (some_text word.entry) said)) }
+        ensures relates { relates self.now (ShowList list.now (some_text word.entry) said)
+            (why_none result) self.now };
+
+    /// Runs the lines of a text, of which one that is refused or faulty keeps none of the others from being run, unless it
+    /// is said so.
+    fn run_lines(&mut self, alloc: Global, said: LineWords, text: &[u8]) -> Result<Reply, NoReply>
+        requires { is_kept self.old }
+        ensures kept { is_kept self.new }
+        ensures ok { IfOk result (λ reply. (state self.new, reply_view reply)
+            ≡ step machine (state self.old) (RunLines said text.now)) }
+        ensures err { IfErr result (λ e. Stops machine left e (state self.old)
+            (RunLines said text.now) (state self.new)) }
+        ensures relates { relates self.old (RunLines said text.now) (why_none result) self.new };
+
+    /// Whether all tables may be dumped: else why they can't be.
+    fn may_dump(&self) -> Result<(), NoReply>
+        requires { is_kept self.now }
+        ensures { relates self.now ShowDump (why_none result) self.now };
+
+    /// Writes all tables as SQL, as one that may be dumped does: else a front of that text is written. It is not flushed.
+    fn dump<W: Write>(&self, alloc: Global, writer: &mut W) -> Result<(), CutShort>
+        requires { is_kept self.now }
+        ensures whole { OnOk result (Appends (W.contents writer.old) (W.contents writer.new)
+            (machine.show_dump (state self.now))) }
+        ensures front { OnErr result (AppendsFront (W.contents writer.old)
+            (W.contents writer.new) (machine.show_dump (state self.now))) };
+
+    /// Stops: once that is replied it is over.
+    fn stop(&mut self, alloc: Global) -> Result<Reply, NoReply>
+        requires { is_kept self.old }
+        ensures kept { is_kept self.new }
+        ensures ok { IfOk result (λ reply. (state self.new, reply_view reply)
+            ≡ step machine (state self.old) StopService) }
+        ensures err { IfErr result (λ e. Stops machine left e (state self.old)
+            StopService (state self.new)) }
+        ensures over { OnOk result (over self.new ≡ true) }
+        ensures relates { relates self.old StopService (why_none result) self.new };
+
+    /// Whether it takes no further request.
+    fn is_over(&self) -> bool
+        requires { is_kept self.now }
+        ensures { result ≡ over self.now };
 }
 
 /// What only reads leaves a service in the state that it was in, whether it is replied to or not.

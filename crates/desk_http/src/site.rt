@@ -10,8 +10,8 @@ pub struct Page {
     pub policy: &'static str,
 }
 
-/// Who may ask, and the page that is shown at `/`, if one is. What a page reads, and a file of a command, is answered where
-/// there is one. A clause sees the rules and the page.
+/// Who may ask, and the page that is shown at `/`, if one is. What a page reads, lists, lines, files of commands, files that
+/// are read loosely and the stop are there where there is one. A clause sees the rules and the page.
 #[derive(Drop)]
 pub struct Site {
     pub access: Access,

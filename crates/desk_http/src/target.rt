@@ -1,14 +1,17 @@
-//! What the target of a request names. It is looked at byte by byte: nothing is decoded, and there is no query.
+//! What the target of a request names. It is looked at byte by byte: nothing is decoded, and what may be said behind a `?`
+//! is read elsewhere.
 ghost use Rattle.std.specs.Prelude.{◌≡◌, ◌<◌, IfSome, true, length};
 ghost use Rattle.std.specs.List.{list_all};
 ghost use Rattle.part_core.specs.Day.{day_of};
-ghost use Rattle.desk_http.specs.Targets.{number_of, cut, kind_of, name_of, slash_in, is_document_byte};
+ghost use Rattle.desk_http.specs.Targets.{number_of, cut, kind_of, name_of, place_in, is_document_byte};
 ghost use Rattle.desk_http.specs.Targets.{is_document, where_it, file_resource, import_resource};
 ghost use Rattle.desk_http.specs.Targets.{report_resource, some_parts, some_resource, some_text, IsProper};
 ghost use Rattle.desk_http.specs.Targets.{is_name, is_name_byte, export_resource, history_at, history_resource};
 ghost use Rattle.desk_http.specs.Targets.{page_resource_of, part_at, reading_of};
-ghost use Rattle.desk_http.specs.Targets.{sheet_at, sheet_of, sheet_resource};
+ghost use Rattle.desk_http.specs.Targets.{asked_resource, first_of, sheet_at, sheet_of, sheet_resource};
 
+use crate::asked::read_asked;
+use crate::query::{LineWords, ListWords};
 use part_core::Day;
 
 /// What the rows of a file are.
@@ -33,8 +36,8 @@ pub enum ReportName {
 #[derive(Clone, Copy)]
 pub enum Target<'b> {
     Run,
-    /// An import, of a document and on a day.
-    Import(ImportKind, &'b str, Day),
+    /// An import, of a document and on a day, which may be read loosely.
+    Import(bool, ImportKind, &'b str, Day),
     /// A report, and the number of what it is of.
     Report(ReportName, u64),
     /// The table of that name, as it is exported.
@@ -45,6 +48,14 @@ pub enum Target<'b> {
     HistoryFrom(u64),
     /// The import of a file of the command of that name, of a document and on a day.
     Sheet(&'b str, &'b str, Day),
+    /// The list of that name, with the word that says what it is of, as it stands in the target.
+    Show(&'b str, Option<&'b [u8]>, ListWords),
+    /// The service that runs lines.
+    RunAll(LineWords),
+    /// The service that stops.
+    Stop,
+    /// All tables, as SQL.
+    Dump,
 }
 
 /// A number of 1 to 19 digits.
@@ -64,9 +75,9 @@ pub fn read_number(bytes: &[u8]) -> Option<u64>
     Some(value)
 }
 
-#[tactic(auto, unfolding(crate::specs::Targets::slash_in))]
+#[tactic(auto, unfolding(crate::specs::Targets::place_in))]
 fn find_slash(bytes: &[u8]) -> Option<usize>
-    ensures at { result ≡ slash_in bytes.now }
+    ensures at { result ≡ place_in 47 bytes.now }
     ensures within { IfSome result (λ i. i < length bytes.now) }
 {
     for (i, b) in bytes.iter().enumerate() {
@@ -79,7 +90,7 @@ fn find_slash(bytes: &[u8]) -> Option<usize>
 
 /// The bytes before the first slash, and those behind it.
 #[tactic(auto, using(crate::proofs::Numbers::from_index))]
-fn split(bytes: &[u8]) -> Option<(&[u8], &[u8])>
+pub fn split(bytes: &[u8]) -> Option<(&[u8], &[u8])>
     ensures { some_parts result ≡ cut bytes.now }
 {
     match find_slash(bytes) {
@@ -163,24 +174,24 @@ fn read_day(bytes: &[u8]) -> Option<Day>
 }
 
 /// A document and a day, behind the kind of an import.
-fn read_file(kind: ImportKind, bytes: &[u8]) -> Option<Target>
-    ensures value { some_resource result ≡ file_resource kind bytes.now }
+fn read_file(loose: bool, kind: ImportKind, bytes: &[u8]) -> Option<Target>
+    ensures value { some_resource result ≡ file_resource loose kind bytes.now }
     ensures proper { IfSome result IsProper }
 {
     let (document_part, day_part) = split(bytes)?;
     let document = read_document(document_part)?;
     let day = read_day(day_part)?;
-    Some(Target::Import(kind, document, day))
+    Some(Target::Import(loose, kind, document, day))
 }
 
-/// What stands behind `/import/`.
-pub fn read_import(bytes: &[u8]) -> Option<Target>
-    ensures value { some_resource result ≡ import_resource bytes.now }
+/// What stands behind `/import/`, which may be read loosely.
+pub fn read_import(loose: bool, bytes: &[u8]) -> Option<Target>
+    ensures value { some_resource result ≡ import_resource loose bytes.now }
     ensures proper { IfSome result IsProper }
 {
     let (kind_part, rest) = split(bytes)?;
     let kind = read_kind(kind_part)?;
-    read_file(kind, rest)
+    read_file(loose, kind, rest)
 }
 
 /// What stands behind `/report/`.
@@ -313,6 +324,18 @@ fn read_sheet_target(target: &[u8]) -> Option<Target>
     }
 }
 
+/// What a whole target names that is the import of a file of a command, or of which something may be said behind a `?`.
+fn read_sent(target: &[u8]) -> Option<Target>
+    ensures value { some_resource result
+        ≡ first_of (sheet_at target.now) (asked_resource target.now) }
+    ensures proper { IfSome result IsProper }
+{
+    match read_sheet_target(target) {
+        Some(sheet) => Some(sheet),
+        None => read_asked(target),
+    }
+}
+
 /// What a whole target names that is there with a page alone.
 pub fn read_page_target(target: &[u8]) -> Option<Target>
     ensures value { some_resource result ≡ page_resource_of target.now }
@@ -320,6 +343,6 @@ pub fn read_page_target(target: &[u8]) -> Option<Target>
 {
     match read_reading(target) {
         Some(reading) => Some(reading),
-        None => read_sheet_target(target),
+        None => read_sent(target),
     }
 }

@@ -1,10 +1,13 @@
 -- A service that counts the bytes that it is sent.
-use Rattle.std.specs.Prelude.{◌≡◌, ℕ, ◌+◌, ◌%◌, ◌==◌, ◌++◌, List, [], ◌∷◌, length, decimal, codes, if◌then◌else◌}
+use Rattle.std.specs.Prelude.{◌≡◌, ℕ, Bool, ◌&&◌, ◌+◌, ◌%◌, ◌==◌, ◌++◌, List, [], ◌∷◌, length, decimal, codes, if◌then◌else◌}
 use Rattle.std.specs.Prelude.{Option, Some, None, replicate}
 use Rattle.std.specs.Str.{bytes_eq}
 use Rattle.desk_http.specs.Services.{Machine, Operation, ReplyView}
 use Rattle.desk_http.specs.declared.service.Outcome.TheVariants.{Answered, Refused, Faulty, Reported}
-use Rattle.desk_http.specs.declared.service.Outcome.TheVariants.{Exported, FaultyLines, Unknown}
+use Rattle.desk_http.specs.declared.service.Outcome.TheVariants.{AnsweredLines, Exported, FaultyLines, Unknown}
+use Rattle.desk_http.specs.declared.service.Outcome.{Outcome}
+use Rattle.desk_http.specs.declared.query.LineWords.{LineWords}
+use Rattle.desk_http.specs.declared.query.ListWords.{ListWords}
 use Rattle.desk_http.specs.declared.service.Tag.{Tag}
 use Rattle.desk_http.specs.declared.service.Failure.{Failure}
 
@@ -38,21 +41,54 @@ sheet_said total command document file =
     else (more total file, (Reported, document ++ 10 ∷ [])))
     else (total, (Unknown, []))
 
+-- as comma-separated values, or in columns
+abbrev pub list_outcome : ListWords → Outcome
+list_outcome said = if said.csv then Exported else Reported
+
+abbrev pub low_or : ℕ → Option ℕ → ℕ
+low_or total None = total
+low_or total (Some low) = low
+
+-- the list `stock` has the count, or what is low; each other has its word, and there is none without one. No list has open
+-- ones
+abbrev pub word_said : Option (List ℕ) → ListWords → ReplyView
+word_said None said = (Unknown, [])
+word_said (Some word) said = (list_outcome said, word ++ 10 ∷ [])
+
+abbrev pub list_said : ℕ → List ℕ → Option (List ℕ) → ListWords → ReplyView
+list_said total list word said =
+    if said.only_open then (Refused, number_line total)
+    else (if bytes_eq list (codes "stock") then (list_outcome said, number_line (low_or total said.low))
+    else word_said word said)
+
+-- lines are counted and the count is told, or none where they stop at the first; `faulty` is a fault where they are looked at
+abbrev pub lines_said : ℕ → LineWords → List ℕ → ℕ × ReplyView
+lines_said total said text =
+    if said.check && bytes_eq text (codes "faulty") then (total, (FaultyLines, number_line total))
+    else (more total text, (AnsweredLines, number_line (if said.stop then 0 else more total text)))
+
+-- nothing but the begin and the end is dumped
+abbrev pub dumped : ℕ → List ℕ
+dumped total = codes "BEGIN;\nCOMMIT;\n"
+
 abbrev pub counting : Machine ℕ
 counting = record {
   run_line = λ total body.
       if length body == 0 then (total, (Refused, number_line total))
       else (if bytes_eq body (codes "faulty") then (total, (Faulty, number_line total))
       else (more total body, (Answered, number_line (more total body))));
-  import_file = λ total kind document day rows.
+  import_file = λ total loose kind document day rows.
       if bytes_eq rows (codes "faulty") then (total, (Faulty, number_line total))
-      else (more total rows, (Reported, document ++ 10 ∷ []));
+      else (more total rows, (Reported, document ++ (if loose then 126 ∷ 10 ∷ [] else 10 ∷ [])));
   show_report = λ total name number. report_said number;
   tag = total_tag;
   show_table = table_said;
   show_books = number_line;
   show_history = λ total from. number_line from;
   import_sheet = λ total command document day file. sheet_said total command document file;
+  show_list = list_said;
+  run_lines = lines_said;
+  show_dump = dumped;
 }
 
 -- a failure leaves the count as it was

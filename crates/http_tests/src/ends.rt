@@ -16,7 +16,7 @@ fn served(
     source: &mut Source,
     sink: &mut Sink,
 ) -> Result<(Served, u64), AllocError> {
-    let mut service = Counting { total: 0 };
+    let mut service = Counting::new(0);
     let served = serve_one(alloc, source, sink, &mut service, &open(alloc)?);
     Ok((served, service.total))
 }
@@ -112,7 +112,7 @@ fn writes_nothing(rt: HostRuntime) -> Result<(), Fail> {
     let untold = "POST /run HTTP/1.1\r\nContent-Length: 6\r\n\r\nuntold";
     let mut source = Source::new(untold.as_bytes(), 4096);
     let mut sink = Sink::new(alloc, 4096);
-    let mut service = Counting { total: 0 };
+    let mut service = Counting::new(0);
     let end = serve_one(alloc, &mut source, &mut sink, &mut service, &open(alloc)?);
     assert!(rt; end == Served::Memory && sink.calls == 0);
     Ok(())
@@ -159,7 +159,7 @@ fn reads_are_bounded(rt: HostRuntime) -> Result<(), Fail> {
     let alloc = rt.alloc();
     let mut source = Interrupted { calls: 0 };
     let mut sink = Sink::new(alloc, 4096);
-    let mut service = Counting { total: 0 };
+    let mut service = Counting::new(0);
     let end = serve_one(alloc, &mut source, &mut sink, &mut service, &open(alloc)?);
     assert!(rt; end == Served::ReadFailed);
     assert!(rt; source.calls == 2_000_000 && sink.calls == 0);

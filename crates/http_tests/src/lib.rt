@@ -3,6 +3,8 @@
 
 #[cfg(test)]
 mod access;
+#[cfg(test)]
+mod asked;
 mod counting;
 #[cfg(test)]
 mod devices;

@@ -105,7 +105,7 @@ fn serves_behind(rt: &HostRuntime, faults: &[i32]) -> Result<(u64, bool), Fail> 
         calls,
     });
     let clock = SteppingClock::new(0);
-    let mut service = Counting { total: 0 };
+    let mut service = Counting::new(0);
     let served = serve_connections(&clock, alloc, &mut clients, 1, &mut service, &open(alloc)?);
     if served.is_err() {
         return Ok((clock.sleeps.get(), false));
@@ -159,7 +159,7 @@ fn answers_at(
     let listener = TcpListener::bind(rt, (Ipv4Addr::LOCALHOST, 0))?;
     let client = asked(rt, &listener, request)?;
     let clock = SteppingClock::new(step);
-    let mut service = Counting { total: 0 };
+    let mut service = Counting::new(0);
     let mut clients = Clients::of(listener);
     serve_connections(&clock, alloc, &mut clients, 1, &mut service, &open(alloc)?)?;
     Ok(is_answered(alloc, client, status)?)
@@ -192,7 +192,7 @@ fn silent_clients(rt: HostRuntime) -> Result<(), Fail> {
     let silent = TcpStream::connect(&rt, listener.local_addr()?)?;
     let early = asked(&rt, &listener, b"GET /repo")?;
     let third = asked(&rt, &listener, REPORT)?;
-    let mut service = Counting { total: 0 };
+    let mut service = Counting::new(0);
     let mut clients = Clients::of(listener);
     serve_connections(&rt, alloc, &mut clients, 3, &mut service, &open(alloc)?)?;
     assert!(rt; is_answered(alloc, silent, None)?);

@@ -83,7 +83,7 @@ fn reads(rt: HostRuntime) -> Result<(), Fail> {
 }
 
 /// Requests that are for a page: without one there is no such target.
-const OF_A_PAGE: [&str; 11] = [
+const OF_A_PAGE: [&str; 17] = [
     "GET / HTTP/1.1\r\n\r\n",
     "HEAD / HTTP/1.1\r\n\r\n",
     "GET / HTTP/1.1\r\nHost: evil.example\r\n\r\n",
@@ -95,6 +95,12 @@ const OF_A_PAGE: [&str; 11] = [
     "GET /history/1 HTTP/1.1\r\n\r\n",
     "POST /import/add_part/P1/2030-01-02 HTTP/1.1\r\nContent-Length: 3\r\n\r\nabc",
     "GET /import/add_part/P1/2030-01-02 HTTP/1.1\r\n\r\n",
+    "GET /show/stock HTTP/1.1\r\n\r\n",
+    "GET /show/part/Screw?csv HTTP/1.1\r\n\r\n",
+    "POST /lines HTTP/1.1\r\nContent-Length: 3\r\n\r\nabc",
+    "POST /lines?stop HTTP/1.1\r\nContent-Length: 3\r\n\r\nabc",
+    "POST /import/receipts/D7/2030-03-01?loose HTTP/1.1\r\nContent-Length: 3\r\n\r\nabc",
+    "POST /stop HTTP/1.1\r\n\r\n",
 ];
 
 #[test]
@@ -197,7 +203,7 @@ fn is_taken(
 ) -> bool {
     let mut source = Source::new(request.as_bytes(), 4096);
     let mut sink = Sink::new(alloc, 65_536);
-    let mut service = Counting { total: 0 };
+    let mut service = Counting::new(0);
     let served = serve_one(alloc, &mut source, &mut sink, &mut service, site);
     served == Served::Answered(status)
         && sink.bytes.as_slice() == wanted
@@ -444,7 +450,7 @@ fn large_bodies(rt: HostRuntime) -> Result<(), Fail> {
     for step in [7, 4096, 1_000_000] {
         let mut source = Source::new(b"GET /export/items HTTP/1.1\r\n\r\n", 4096);
         let mut sink = Sink::new(alloc, step);
-        let mut service = Counting { total: 60_000 };
+        let mut service = Counting::new(60_000);
         let site = with_page(alloc)?;
         let served = serve_one(alloc, &mut source, &mut sink, &mut service, &site);
         assert!(rt; served == Served::Answered(200));
@@ -474,7 +480,7 @@ fn each_write_fails(rt: HostRuntime) -> Result<(), Fail> {
             let mut source = Source::new(request.as_bytes(), 4096);
             let mut sink = Sink::new(alloc, step);
             sink.fails = fails;
-            let mut service = Counting { total: 0 };
+            let mut service = Counting::new(0);
             let served = serve_one(alloc, &mut source, &mut sink, &mut service, &site);
             let written = sink.bytes.as_slice();
             if sink.calls < fails {

@@ -75,7 +75,7 @@ pub fn with_page(alloc: Global) -> Result<Site, AllocError> {
 pub fn status_of(alloc: Global, site: &Site, request: &str) -> (u16, u64) {
     let mut source = Source::new(request.as_bytes(), 4096);
     let mut sink = Sink::new(alloc, 4096);
-    let mut service = Counting { total: 0 };
+    let mut service = Counting::new(0);
     match serve_one(alloc, &mut source, &mut sink, &mut service, site) {
         Served::Answered(status) => (status, service.total),
         _ => (0, service.total),
@@ -86,7 +86,7 @@ pub fn status_of(alloc: Global, site: &Site, request: &str) -> (u16, u64) {
 pub fn answer_of(alloc: Global, site: &Site, request: &str) -> (u16, Vec<u8>) {
     let mut source = Source::new(request.as_bytes(), 4096);
     let mut sink = Sink::new(alloc, 4096);
-    let mut service = Counting { total: 0 };
+    let mut service = Counting::new(0);
     match serve_one(alloc, &mut source, &mut sink, &mut service, site) {
         Served::Answered(status) => (status, sink.bytes),
         _ => (0, sink.bytes),
@@ -104,7 +104,7 @@ pub fn is_read(
 ) -> bool {
     let mut source = Source::new(request.as_bytes(), 4096);
     let mut sink = Sink::new(alloc, 65_536);
-    let mut service = Counting { total };
+    let mut service = Counting::new(total);
     let served = serve_one(alloc, &mut source, &mut sink, &mut service, site);
     served == Served::Answered(status) && sink.bytes.as_slice() == wanted && service.total == total
 }
@@ -120,7 +120,7 @@ pub fn is_answered_by(
 ) -> Result<bool, AllocError> {
     let mut source = Source::new(request, step);
     let mut sink = Sink::new(alloc, step);
-    let mut service = Counting { total: 0 };
+    let mut service = Counting::new(0);
     let served = serve_one(alloc, &mut source, &mut sink, &mut service, &open(alloc)?);
     Ok(
         served == Served::Answered(status)

@@ -1,6 +1,6 @@
 use Rattle.std.proofs.Common.{◌≡◌, ◌+◌}
 use Rattle.desk_http.specs.Services.{Performs}
-use Rattle.desk_http.specs.Serving.{AreSteps, IsOneStep}
+use Rattle.desk_http.specs.Serving.{AreSteps, IsOneStep, IsTaken}
 use Rattle.desk_http.proofs.loopback.serve_connections.Given as goal
 
 abbrev pub invariant-loop-done : goal.invariant-loop-done
@@ -8,7 +8,8 @@ invariant-loop-done g l = record {
   kept : g.S.Service.is_kept l.service;
   steps :
       AreSteps
-      (IsOneStep (Performs g.S.Service.state g.S.Service.machine g.S.Service.left g.S.Service.relates) l.site) l.done
+      (IsTaken g.S.Service.over
+      (IsOneStep (Performs g.S.Service.state g.S.Service.machine g.S.Service.left g.S.Service.relates) l.site)) l.done
       l.initial.service l.service;
   accepted : l.clients.accepted ≡ l.initial.clients.accepted + l.done;
 }

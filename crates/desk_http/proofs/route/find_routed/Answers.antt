@@ -1,4 +1,4 @@
-use Rattle.std.proofs.Common.{◌∙◌, ap, sym, subst, Some}
+use Rattle.std.proofs.Common.{◌∙◌, ap, sym, subst, Some, false}
 use Rattle.desk_http.specs.Targets.{resource_of, import_resource, report_resource}
 use Rattle.desk_http.proofs.Routing.{by_route, ByRoute}
 use Rattle.desk_http.proofs.route.find_routed.Goals as goal
@@ -32,7 +32,7 @@ returns-in-Some-RunRoute-clause-value c =
 
 pub returns-in-Some-ImportRoute-clause-value : goal.returns-in-Some-ImportRoute-clause-value
 returns-in-Some-ImportRoute-clause-value c =
-    c.read_import.ensures.value ∙ ap import_resource c.behind_first.ensures
+    c.read_import.ensures.value ∙ ap (import_resource false) c.behind_first.ensures
     ∙ sym (subst (λ o. ByRoute c.args.target.now o (resource_of c.args.target.now))
     (c.in-Some-ImportRoute.is ∙ ap Some c.in-Some-ImportRoute.field-0-is)
     (by_route c.args.target.now c.in-Ok.path.now c.find_route.result c.type_inv.target c.in-Ok.ensures.cases.0

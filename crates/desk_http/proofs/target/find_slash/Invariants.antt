@@ -1,7 +1,7 @@
 use Rattle.std.proofs.Common.{◌≡◌, ◌+◌, drop}
 use Rattle.std.specs.Prelude.{option_map}
-use Rattle.desk_http.specs.Targets.{slash_in}
+use Rattle.desk_http.specs.Targets.{place_in}
 use Rattle.desk_http.proofs.target.find_slash.Given as goal
 
 abbrev pub invariant-loop-i : goal.invariant-loop-i
-invariant-loop-i l = slash_in l.bytes ≡ option_map (λ n. n + l.i) (slash_in (drop l.i l.bytes))
+invariant-loop-i l = place_in 47 l.bytes ≡ option_map (λ n. n + l.i) (place_in 47 (drop l.i l.bytes))

@@ -5,7 +5,7 @@ use Rattle.desk_http.specs.Services.{Performs, heard, operation, reply_view}
 use Rattle.desk_http.specs.Serving.{Sends}
 use Rattle.desk_http.specs.Targets.{resource, some_text}
 use Rattle.desk_http.proofs.Serving.{told, failed}
-use Rattle.desk_http.proofs.respond.respond.Goals as goal
+use Rattle.desk_http.proofs.respond.respond_with_reply.Goals as goal
 
 pub returns-in-Ok-clause-sends : goal.returns-in-Ok-clause-sends
 returns-in-Ok-clause-sends g c =
