@@ -41,14 +41,21 @@ def free_of_part(m, part):
     return sum(free(m, n) for n in items_of(m, part))
 
 
+def lies(m, part):
+    """The ways of the locations at which items of the part lie, by themselves or in others, each once."""
+    places = [m.items[m.root(n)].place for n, it in sorted(m.items.items()) if it.part == part]
+    return "; ".join(way(m.locations, it) for it in dict.fromkeys(it[1] for it in places if it[0] == "at"))
+
+
 def stock(m, low=None):
-    yield "number name category present free allocated items".split()
+    yield "number name category present free allocated items where".split()
     for n, it in sorted(m.parts.items()):
         items = items_of(m, n)
         present = sum(m.items[i].quantity for i in items if m.place_of_root(i) == "at")
         if low is None or free_of_part(m, n) < low:
             meant = sum(allocated(m, i) for i in items)
-            yield n, it.name, way(m.categories, it.category), present, free_of_part(m, n), meant, len(items)
+            row = n, it.name, way(m.categories, it.category), present, free_of_part(m, n), meant, len(items)
+            yield *row, lies(m, n)
 
 
 def loose(m, top=None):
@@ -152,6 +159,41 @@ def count_sheet(m, top=None):
     yield "number item part way batch serial expected quantity".split()
     for row, (n, it) in enumerate(loose(m, top), 1):
         yield row, n, m.parts[it.part].name, way(m.locations, it.place[1]), it.batch, it.serial, it.quantity, ""
+
+
+def receipt_sheet(m, order=None):
+    yield "number line order partner part outstanding location quantity batch serials".split()
+    awaited = [(n, it) for n, it in sorted(m.order_lines.items()) if order in (None, it.order) and it.done < it.quantity]
+    awaited = [(n, it, m.orders[it.order]) for n, it in awaited]
+    awaited = [row for row in awaited if (row[2].side, row[2].state) == ("purchase", "In progress")]
+    for row, (n, it, of) in enumerate(awaited, 1):
+        yield row, n, it.order, of.partner, m.parts[it.part].name, it.quantity - it.done, *[""] * 4
+
+
+def in_words(m, place):
+    """A place with the names of what it names."""
+    if place[0] == "in":
+        it = m.items[place[1]]
+        return f"in {place[1]} {m.parts[it.part].name}" + (f" {it.serial}" if it.serial else "")
+    if place[0] in ("output", "used"):
+        return f"{place[0]} {place[1]} of {m.parts[m.builds[place[1]].part].name}"
+    return f"sent {place[1]} to {m.orders[place[1]].partner}" if place[0] == "sent" else where(m, place)
+
+
+def history(m, of=None, first="", last="9"):
+    """The entries of these days, all or those of a part, an item or an order."""
+    yield [*"entry day what quantity part item batch serial where order partner".split(), "order key", "key"]
+    recall = Recall(m)
+    for it in m.history:
+        origin = recall.origin(it.item)
+        order = it.place[1] if it.kind == "shipped" and it.place[0] == "sent" else None
+        if it.kind == "received" and origin.kind == "received":
+            order = recall.order_of(origin.number)
+        if first <= it.day <= last and of in (None, it.part, it.item, order):
+            x = m.items[it.item]
+            row = it.n, it.day, it.kind, it.quantity, m.parts[it.part].name, it.item, x.batch, x.serial
+            by = ("", "", "") if order is None else (order, m.orders[order].partner, recall.origin(order).key)
+            yield *row, in_words(m, it.place), *by, origin.key
 
 
 def where(m, place):

@@ -18,4 +18,5 @@ pub mod TableWords
 pub mod Tags
 pub mod SheetRuns
 pub mod SheetReplies
+pub mod ListReplies
 pub mod SheetsAgain

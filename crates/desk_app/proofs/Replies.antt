@@ -10,7 +10,8 @@ use Rattle.desk_store.specs.StateTables.{TablesAre}
 use Rattle.desk_wire.specs.Imports.{import}
 use Rattle.desk_wire.specs.Reading as reading
 use Rattle.desk_wire.specs.declared.fault.What.{What}
-use Rattle.desk_http.specs.Services.{RunLine, ImportFile, ImportSheet, ReplyView, Stops, reply_view, why_none}
+use Rattle.desk_http.specs.Services.{RunLine, ImportFile, ImportSheet, RunLines, ReplyView, Stops, reply_view, why_none}
+use Rattle.desk_http.specs.declared.query.LineWords.{LineWords}
 use Rattle.desk_http.specs.declared.target.ImportKind.{ImportKind}
 use Rattle.desk_http.specs.declared.service.Outcome.TheVariants.{Answered}
 use Rattle.desk_http.specs.declared.service.Tag.{Tag}
@@ -24,7 +25,9 @@ use Rattle.desk_app.specs.Runs.{naming}
 use Rattle.desk_app.specs.declared.options.LineOptions.{LineOptions}
 use Rattle.desk_app.specs.Services.{by_outcome, by_request, counted, desk_machine, import_kind, raised, tag_after}
 use Rattle.desk_app.specs.Services.{IfStoreFailed, IsFailedFile, IsFailedLine, IsFailedRequest, StaysOpenBy}
-use Rattle.desk_app.specs.Services.{leaves, run_line, sheet_lines, IsFailedSheet}
+use Rattle.desk_app.specs.Services.{leaves, lines_to_run, run_line, sheet_lines, IsFailed, IsFailedSheet}
+use Rattle.desk_app.specs.SheetReplies.{RanFirst}
+use Rattle.desk_app.specs.SheetRuns.{sheet_options}
 use Rattle.desk_app.proofs.SheetReplies.{none_ran}
 
 outcome_state : (p : State × Outcome) → (by_outcome p).0 ≡ p.0
@@ -123,13 +126,13 @@ ran_none (Ok rows) s s' is = record { done = []; rest = rows; split = refl; stat
 ran_none (Err fault) s s' is = is
 
 -- the same of a file
-pub counted_file : (why : NoReply) (options : LineOptions) (tag : Option Tag) (s s' : State) (kind : ImportKind)
+pub counted_file : (why : NoReply) (options : LineOptions) (tag : Option Tag) (s s' : State) (loose : Bool) (kind : ImportKind)
     (document : List ℕ) (day : CivilDay) (rows : List ℕ)
-    → IsFailedFile why (import false (naming options.names s) (import_kind kind) document day rows) s s'
-    → Stops desk_machine leaves why (s, options, tag) (ImportFile kind document day rows) (s', options, raised tag)
-counted_file (Failed e) options tag s s' kind document day rows h = (h, refl, refl)
-counted_file Untold options tag s s' kind document day rows h =
-    inr (inr (ran_none (import false (naming options.names s) (import_kind kind) document day rows) s s' h, refl, refl))
+    → IsFailedFile why (import loose (naming options.names s) (import_kind kind) document day rows) s s'
+    → Stops desk_machine leaves why (s, options, tag) (ImportFile loose kind document day rows) (s', options, raised tag)
+counted_file (Failed e) options tag s s' loose kind document day rows h = (h, refl, refl)
+counted_file Untold options tag s s' loose kind document day rows h =
+    inr (inr (ran_none (import loose (naming options.names s) (import_kind kind) document day rows) s s' h, refl, refl))
 
 -- ---- what is replied, with the tag
 
@@ -150,15 +153,15 @@ unreplied_line (Err why) options tag tag' s s' line h t =
     (counted_line why options tag s s' line h)
 
 pub unreplied_file : (r : Result Reply NoReply) (options : LineOptions) (tag tag' : Option Tag) (s s' : State)
-    (kind : ImportKind) (document : List ℕ) (day : CivilDay) (rows : List ℕ)
-    → IfErr r (λ why. IsFailedFile why (import false (naming options.names s) (import_kind kind) document day rows) s s')
+    (loose : Bool) (kind : ImportKind) (document : List ℕ) (day : CivilDay) (rows : List ℕ)
+    → IfErr r (λ why. IsFailedFile why (import loose (naming options.names s) (import_kind kind) document day rows) s s')
     → OnErr r (tag' ≡ raised tag)
-    → IfErr r (λ why. Stops desk_machine leaves why (s, options, tag) (ImportFile kind document day rows)
+    → IfErr r (λ why. Stops desk_machine leaves why (s, options, tag) (ImportFile loose kind document day rows)
     (s', options, tag'))
-unreplied_file (Ok reply) options tag tag' s s' kind document day rows h t = tt
-unreplied_file (Err why) options tag tag' s s' kind document day rows h t =
-    subst (λ x. Stops desk_machine leaves why (s, options, tag) (ImportFile kind document day rows) (s', options, x))
-    (sym t) (counted_file why options tag s s' kind document day rows h)
+unreplied_file (Ok reply) options tag tag' s s' loose kind document day rows h t = tt
+unreplied_file (Err why) options tag tag' s s' loose kind document day rows h t =
+    subst (λ x. Stops desk_machine leaves why (s, options, tag) (ImportFile loose kind document day rows) (s', options, x))
+    (sym t) (counted_file why options tag s s' loose kind document day rows h)
 
 -- ---- a file of a command
 
@@ -167,7 +170,7 @@ counted_sheet : (why : NoReply) (options : LineOptions) (tag : Option Tag) (s s'
     → Stops desk_machine leaves why (s, options, tag) (ImportSheet command document day file) (s', options, raised tag)
 counted_sheet (Failed e) options tag s s' command document day file h = (h, refl, refl)
 counted_sheet Untold options tag s s' command document day file h =
-    inr (inr (none_ran (sheet_lines command document day file) s s' h, refl, refl))
+    inr (inr (none_ran sheet_options false (sheet_lines command document day file) s s' h, refl, refl))
 
 pub unreplied_sheet : (r : Result Reply NoReply) (options : LineOptions) (tag tag' : Option Tag) (s s' : State)
     (command document : List ℕ) (day : CivilDay) (file : List ℕ)
@@ -179,3 +182,21 @@ unreplied_sheet (Ok reply) options tag tag' s s' command document day file h t =
 unreplied_sheet (Err why) options tag tag' s s' command document day file h t =
     subst (λ x. Stops desk_machine leaves why (s, options, tag) (ImportSheet command document day file) (s', options, x))
     (sym t) (counted_sheet why options tag s s' command document day file h)
+
+-- ---- lines
+
+counted_lines : (why : NoReply) (options : LineOptions) (tag : Option Tag) (s s' : State) (said : LineWords) (text : List ℕ)
+    → IsFailed why × RanFirst options said.stop (lines_to_run options said text) s s'
+    → Stops desk_machine leaves why (s, options, tag) (RunLines said text) (s', options, raised tag)
+counted_lines (Failed e) options tag s s' said text h = (h.1, refl, refl)
+counted_lines Untold options tag s s' said text h = absurd h.0
+
+pub unreplied_lines : (r : Result Reply NoReply) (options : LineOptions) (tag tag' : Option Tag) (s s' : State)
+    (said : LineWords) (text : List ℕ)
+    → IfErr r (λ why. IsFailed why × RanFirst options said.stop (lines_to_run options said text) s s')
+    → OnErr r (tag' ≡ raised tag)
+    → IfErr r (λ why. Stops desk_machine leaves why (s, options, tag) (RunLines said text) (s', options, tag'))
+unreplied_lines (Ok reply) options tag tag' s s' said text h t = tt
+unreplied_lines (Err why) options tag tag' s s' said text h t =
+    subst (λ x. Stops desk_machine leaves why (s, options, tag) (RunLines said text) (s', options, x)) (sym t)
+    (counted_lines why options tag s s' said text h)

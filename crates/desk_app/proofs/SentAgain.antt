@@ -16,7 +16,7 @@ use Rattle.desk_wire.specs.ImportReports.{import_text}
 use Rattle.desk_wire.specs.Imports.{Columns, Reads, arranged, command_of, field, import, key_of, layout_by, loosely}
 use Rattle.desk_wire.specs.Imports.{names_of, quantity_at, row_list, row_of, rows_by, rows_in, rows_of_text}
 use Rattle.desk_wire.specs.Imports.{has_other_separator, records_under, rows_under, separators, strictly, unless_other}
-use Rattle.desk_wire.specs.Imports.{with_rows}
+use Rattle.desk_wire.specs.Imports.{columns_of, first_columns, places_of, unless_changed, with_rows}
 use Rattle.desk_wire.specs.Numbers.{row_number_in}
 use Rattle.desk_wire.specs.Quotes.{but_last, ends_in_quotes}
 use Rattle.desk_wire.specs.Records.{Fields, are_texts, config_by}
@@ -108,26 +108,37 @@ strictly_parts names kind document day fields =
     ap (λ (v : Result ImportRow What). v >>= (λ row. Ok (Some row))) (row_parts names kind document day fields)
     ∙ map_bind on (option_map on) (part_of names kind fields) (λ part. Ok (Some part)) (λ row. Ok (Some row)) (λ part. refl)
 
+-- columns that ask no books leave a row as it was read
+abbrev AskNone : Columns → Type 0
+AskNone columns = columns.books ≡ None
+
+unless_unasked : (columns : Columns) (fields : Fields) (reading : Result (Option ImportRow) What) → AskNone columns
+    → unless_changed columns fields reading ≡ reading
+unless_unasked columns fields (Err what) none = refl
+unless_unasked columns fields (Ok None) none = refl
+unless_unasked columns fields (Ok (Some row)) none = rw none refl
+
 loosely_by : (names : Option Naming) (kind : ImportKind) (document : List ℕ) (day : CivilDay) (columns : Columns)
-    (fields : Fields) (q : List ℕ) → field (quantity_at kind) (arranged columns fields) ≡ q
+    (fields : Fields) (q : List ℕ) → AskNone columns → field (quantity_at kind) (arranged columns fields) ≡ q
     → loosely names kind document day columns fields
     ≡ map_ok (option_map (row_on kind document day)) (part_loosely names kind columns fields)
 unfolding loosely part_loosely
-loosely_by names kind document day columns fields [] e = rw e
+loosely_by names kind document day columns fields [] none e = rw e
     (bind_map (option_map (row_on kind document day)) (must Csv (are_texts fields)) _ _
     (λ _. bind_map (option_map (row_on kind document day)) (must Csv (nat_le (length fields) columns.width))
     (λ _. Ok None) (λ _. Ok None) (λ _. refl)))
-loosely_by names kind document day columns fields (b ∷ bs) e = rw e
+loosely_by names kind document day columns fields (b ∷ bs) none e = rw e
     (bind_map (option_map (row_on kind document day)) (must Csv (are_texts fields)) _ _
     (λ _. bind_map (option_map (row_on kind document day)) (must Csv (nat_le (length fields) columns.width)) _ _
-    (λ _. strictly_parts names kind document day (arranged columns fields))))
+    (λ _. unless_unasked columns fields (strictly names kind document day (arranged columns fields)) none
+    ∙ strictly_parts names kind document day (arranged columns fields))))
 
 loosely_parts : (names : Option Naming) (kind : ImportKind) (document : List ℕ) (day : CivilDay) (columns : Columns)
-    (fields : Fields)
+    (fields : Fields) → AskNone columns
     → loosely names kind document day columns fields
     ≡ map_ok (option_map (row_on kind document day)) (part_loosely names kind columns fields)
-loosely_parts names kind document day columns fields =
-    loosely_by names kind document day columns fields (field (quantity_at kind) (arranged columns fields)) refl
+loosely_parts names kind document day columns fields none =
+    loosely_by names kind document day columns fields (field (quantity_at kind) (arranged columns fields)) none refl
 
 abbrev with_parts : Says → ℕ → List Part → List Fields → Result (List Part) WireFault
 with_parts says number parts [] = Ok parts
@@ -206,19 +217,50 @@ unless_parts on text layout [] =
     bind_map (map on) (at 2 (must Csv (not (has_other_separator text layout.0 layout.1.width)))) _ _ (λ _. refl)
 unless_parts on text layout (part ∷ parts) = refl
 
+-- the columns that a header names ask no books
+abbrev AskNoneIn : Option (ℕ × Columns) → Type 0
+AskNoneIn None = Unit {0}
+AskNoneIn (Some layout) = AskNone layout.1
+
+abbrev AskNoneAt : Option Columns → Type 0
+AskNoneAt None = Unit {0}
+AskNoneAt (Some columns) = AskNone columns
+
+columns_ask : (kind : ImportKind) (header : Fields) (texts : Bool) (places : Option (List (Option ℕ)))
+    → are_texts header ≡ texts → places_of (names_of kind) header ≡ places → AskNoneAt (columns_of kind header)
+columns_ask kind header false places t p = rw t tt
+columns_ask kind header true None t p = rw (t, p) tt
+columns_ask kind header true (Some places) t p = rw (t, p) refl
+
+first_asks : (kind : ImportKind) (rs : List Fields) → AskNoneAt (first_columns kind rs)
+first_asks kind [] = tt
+first_asks kind (r ∷ rs) = columns_ask kind r (are_texts r) (places_of (names_of kind) r) refl refl
+
+layout_step : (kind : ImportKind) (text : List ℕ) (s : ℕ) (ss : List ℕ) (found : Option Columns)
+    → first_columns kind (records (config_by s) text) ≡ found → AskNoneAt found → AskNoneIn (layout_by kind text ss)
+    → AskNoneIn (layout_by kind text (s ∷ ss))
+layout_step kind text s ss None e none others = rw e others
+layout_step kind text s ss (Some columns) e none others = rw e none
+
+layout_asks : (kind : ImportKind) (text ss : List ℕ) → AskNoneIn (layout_by kind text ss)
+layout_asks kind text [] = tt
+layout_asks kind text (s ∷ ss) =
+    let first = first_columns kind (records (config_by s) text) in
+    layout_step kind text s ss first refl (first_asks kind (records (config_by s) text)) (layout_asks kind text ss)
+
 layout_parts : (names : Option Naming) (kind : ImportKind) (document : List ℕ) (day : CivilDay) (text : List ℕ)
-    (layout : Option (ℕ × Columns))
+    (layout : Option (ℕ × Columns)) → AskNoneIn layout
     → rows_by names kind document day text layout
     ≡ map_ok (map (row_on kind document day)) (parts_by names kind text layout)
-layout_parts names kind document day text None = refl
-layout_parts names kind document day text (Some layout) =
+layout_parts names kind document day text None none = refl
+layout_parts names kind document day text (Some layout) none =
     let on = row_on kind document day in
     let unclosed = ends_in_quotes (config_by layout.0) text in
     let rs = records_under layout.0 text in
     let says = part_loosely names kind layout.1 in
     ap (λ v. v >>= unless_other text layout)
-    (under_parts on (loosely names kind document day layout.1) says (loosely_parts names kind document day layout.1)
-    unclosed rs)
+    (under_parts on (loosely names kind document day layout.1) says
+    (λ fields. loosely_parts names kind document day layout.1 fields none) unclosed rs)
     ∙ map_bind (map on) (map on) (parts_under unclosed says rs) (parts_unless text layout) (unless_other text layout)
     (unless_parts on text layout)
 
@@ -232,7 +274,7 @@ text_parts : (loose : Bool) (names : Option Naming) (kind : ImportKind) (documen
     ≡ map_ok (map (row_on kind document day)) (parts_of_text loose names kind text)
 text_parts false names kind document day text = header_parts names kind document day (records default_config text)
 text_parts true names kind document day text =
-    layout_parts names kind document day text (layout_by kind text separators)
+    layout_parts names kind document day text (layout_by kind text separators) (layout_asks kind text separators)
 
 abbrev parts_of : Bool → Option Naming → ImportKind → List ℕ → Result (List Part) WireFault
 parts_of loose names kind bytes = do

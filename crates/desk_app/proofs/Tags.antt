@@ -6,21 +6,21 @@ use Rattle.part_core.specs.Day.{CivilDay}
 use Rattle.desk_core.specs.Machine.{State}
 use Rattle.desk_wire.specs.Imports.{import}
 use Rattle.desk_http.specs.Services.{Operation, RunLine, ImportFile, ShowReport, ShowTable, ShowBooks, ShowHistory}
-use Rattle.desk_http.specs.Services.{ImportSheet, ReplyView, Stops, step}
+use Rattle.desk_http.specs.Services.{ImportSheet, ShowList, RunLines, ShowDump, StopService, ReplyView, Stops, step}
 use Rattle.desk_http.specs.declared.service.NoReply.{NoReply}
 use Rattle.desk_http.specs.declared.service.NoReply.TheVariants.{Failed, Untold}
 use Rattle.desk_http.specs.declared.service.Outcome.{Outcome}
 use Rattle.desk_http.specs.declared.service.Outcome.TheVariants as outcomes
-use Rattle.desk_http.specs.declared.service.Outcome.TheVariants.{Answered, Reported}
+use Rattle.desk_http.specs.declared.service.Outcome.TheVariants.{Answered, AnsweredLines, Reported}
 use Rattle.desk_http.specs.declared.target.ImportKind.{ImportKind}
 use Rattle.desk_http.specs.declared.service.Tag.{Tag}
 use Rattle.desk_app.specs.Runs.{naming}
 use Rattle.desk_app.specs.declared.options.LineOptions.{LineOptions}
 use Rattle.desk_app.specs.ImportRuns.{Reading}
 use Rattle.desk_app.specs.Services.{ServiceState, by_reading, counted, desk_machine, import_file, import_kind, leaves}
-use Rattle.desk_app.specs.Services.{import_sheet, raised, run_line, tag_after, Follows, IsLater, TagsTellBooks, WasDone}
+use Rattle.desk_app.specs.Services.{import_sheet, raised, run_line, run_lines, tag_after, Follows, IsLater, TagsTellBooks, WasDone}
 use Rattle.desk_app.proofs.Replies.{line_told}
-use Rattle.desk_app.proofs.SheetReplies.{sheet_told}
+use Rattle.desk_app.proofs.SheetReplies.{lines_told, sheet_told}
 
 later : (tag : Option Tag) → IsLater tag (raised tag)
 later None = tt
@@ -55,14 +55,11 @@ same_books d d' tag (inr h) is is' =
 -- what was done, by what was replied: it was taken, or it changed nothing and the tag stayed
 by_reply : (options : LineOptions) (tag : Option Tag) (s : State) (done : State × ReplyView) (d' : ServiceState)
     → d' ≡ (counted options tag done).0
-    → (((done.1.0 ≡ Answered) ⊎ (done.1.0 ≡ Reported)) ⊎ (done.0 ≡ s))
+    → ((tag_after tag done.1.0 ≡ raised tag) ⊎ (done.0 ≡ s))
     → ((o : Outcome) → ((tag_after tag o ≡ tag) ⊎ (tag_after tag o ≡ raised tag)))
     → Follows (s, options, tag) d'
-by_reply options tag s done d' is (inl (inl taken)) either =
-    let t : d'.2 ≡ raised tag = ap (λ (d : ServiceState). d.2) is ∙ ap (tag_after tag) taken in
-    inr (subst (IsLater tag) (sym t) (later tag))
-by_reply options tag s done d' is (inl (inr taken)) either =
-    let t : d'.2 ≡ raised tag = ap (λ (d : ServiceState). d.2) is ∙ ap (tag_after tag) taken in
+by_reply options tag s done d' is (inl taken) either =
+    let t : d'.2 ≡ raised tag = ap (λ (d : ServiceState). d.2) is ∙ taken in
     inr (subst (IsLater tag) (sym t) (later tag))
 by_reply options tag s done d' is (inr same) either = by (either done.1.0)
   where
@@ -83,18 +80,20 @@ stays_or_rises tag (outcomes.Shown t) = inl refl
 stays_or_rises tag (outcomes.Unchanged t) = inl refl
 stays_or_rises tag outcomes.Unknown = inl refl
 stays_or_rises tag outcomes.FaultyLines = inl refl
+stays_or_rises tag outcomes.AnsweredLines = inr refl
+stays_or_rises tag outcomes.Dumped = inl refl
 
 -- a file is told, or it changes nothing
 file_told : (s : State) (file : Reading) → ((by_reading s file).1.0 ≡ Reported) ⊎ ((by_reading s file).0 ≡ s)
 file_told s (Ok rows) = inl refl
 file_told s (Err fault) = inr refl
 
-import_told : (names : Bool) (d : State) (kind : ImportKind) (document : List ℕ) (day : CivilDay) (rows : List ℕ)
-    → ((import_file names d kind document day rows).1.0 ≡ Reported)
-    ⊎ ((import_file names d kind document day rows).0 ≡ d)
+import_told : (names : Bool) (d : State) (loose : Bool) (kind : ImportKind) (document : List ℕ) (day : CivilDay) (rows : List ℕ)
+    → ((import_file names d loose kind document day rows).1.0 ≡ Reported)
+    ⊎ ((import_file names d loose kind document day rows).0 ≡ d)
 unfolding import_file
-import_told names d kind document day rows =
-    file_told d (import false (naming names d) (import_kind kind) document day rows)
+import_told names d loose kind document day rows =
+    file_told d (import loose (naming names d) (import_kind kind) document day rows)
 
 -- what only reads leaves all as it was
 unread : (d d' : ServiceState) → d' ≡ d → Follows d d'
@@ -105,15 +104,15 @@ stepped : (d d' : ServiceState) (o : Operation) → d' ≡ (step desk_machine d 
 stepped (s, options, tag) d' (RunLine line) is = by (line_told options s line)
   where
     by : ((run_line options s line).1.0 ≡ Answered) ⊎ ((run_line options s line).0 ≡ s) → Follows (s, options, tag) d'
-    by (inl h) = by_reply options tag s (run_line options s line) d' is (inl (inl h)) (stays_or_rises tag)
+    by (inl h) = by_reply options tag s (run_line options s line) d' is (inl (ap (tag_after tag) h)) (stays_or_rises tag)
     by (inr h) = by_reply options tag s (run_line options s line) d' is (inr h) (stays_or_rises tag)
-stepped (s, options, tag) d' (ImportFile kind document day rows) is = by (import_told options.names s kind document day rows)
+stepped (s, options, tag) d' (ImportFile loose kind document day rows) is = by (import_told options.names s loose kind document day rows)
   where
     done : State × ReplyView
-    done = import_file options.names s kind document day rows
+    done = import_file options.names s loose kind document day rows
 
     by : (done.1.0 ≡ Reported) ⊎ (done.0 ≡ s) → Follows (s, options, tag) d'
-    by (inl h) = by_reply options tag s done d' is (inl (inr h)) (stays_or_rises tag)
+    by (inl h) = by_reply options tag s done d' is (inl (ap (tag_after tag) h)) (stays_or_rises tag)
     by (inr h) = by_reply options tag s done d' is (inr h) (stays_or_rises tag)
 stepped d d' (ShowReport name number) is = unread d d' is
 stepped d d' (ShowTable name) is = unread d d' is
@@ -125,8 +124,19 @@ stepped (s, options, tag) d' (ImportSheet command document day file) is = by (sh
     done = import_sheet s command document day file
 
     by : (done.1.0 ≡ Reported) ⊎ (done.0 ≡ s) → Follows (s, options, tag) d'
-    by (inl h) = by_reply options tag s done d' is (inl (inr h)) (stays_or_rises tag)
+    by (inl h) = by_reply options tag s done d' is (inl (ap (tag_after tag) h)) (stays_or_rises tag)
     by (inr h) = by_reply options tag s done d' is (inr h) (stays_or_rises tag)
+stepped d d' (ShowList list word said) is = unread d d' is
+stepped d d' ShowDump is = unread d d' is
+stepped (s, options, tag) d' (RunLines said text) is = by (lines_told options s said text)
+  where
+    done : State × ReplyView
+    done = run_lines options s said text
+
+    by : (done.1.0 ≡ AnsweredLines) ⊎ (done.0 ≡ s) → Follows (s, options, tag) d'
+    by (inl h) = by_reply options tag s done d' is (inl (ap (tag_after tag) h)) (stays_or_rises tag)
+    by (inr h) = by_reply options tag s done d' is (inr h) (stays_or_rises tag)
+stepped d d' StopService is = unread d d' is
 
 left_later : (d d' : ServiceState) → d'.2 ≡ raised d.2 → Follows d d'
 left_later d d' is = inr (subst (IsLater d.2) (sym is) (later d.2))
@@ -134,21 +144,29 @@ left_later d d' is = inr (subst (IsLater d.2) (sym is) (later d.2))
 -- what an operation that failed leaves
 left_by : (d d' : ServiceState) (o : Operation) (why : NoReply) → Stops desk_machine leaves why d o d' → Follows d d'
 left_by d d' (RunLine line) (Failed e) h = left_later d d' h.2
-left_by d d' (ImportFile kind document day rows) (Failed e) h = left_later d d' h.2
+left_by d d' (ImportFile loose kind document day rows) (Failed e) h = left_later d d' h.2
 left_by d d' (ShowReport name number) (Failed e) h = unread d d' h
 left_by d d' (ShowTable name) (Failed e) h = unread d d' h
 left_by d d' (ShowBooks known) (Failed e) h = unread d d' h
 left_by d d' (ShowHistory from) (Failed e) h = unread d d' h
 left_by d d' (ImportSheet command document day file) (Failed e) h = left_later d d' h.2
+left_by d d' (ShowList list word said) (Failed e) h = unread d d' h
+left_by d d' ShowDump (Failed e) h = unread d d' h
+left_by d d' (RunLines said text) (Failed e) h = left_later d d' h.2
+left_by d d' StopService (Failed e) h = unread d d' h
 left_by d d' o Untold (inl h) = unread d d' h
 left_by d d' o Untold (inr (inl h)) = stepped d d' o h
 left_by d d' (RunLine line) Untold (inr (inr h)) = left_later d d' h.2
-left_by d d' (ImportFile kind document day rows) Untold (inr (inr h)) = left_later d d' h.2
+left_by d d' (ImportFile loose kind document day rows) Untold (inr (inr h)) = left_later d d' h.2
 left_by d d' (ShowReport name number) Untold (inr (inr h)) = unread d d' h
 left_by d d' (ShowTable name) Untold (inr (inr h)) = unread d d' h
 left_by d d' (ShowBooks known) Untold (inr (inr h)) = unread d d' h
 left_by d d' (ShowHistory from) Untold (inr (inr h)) = unread d d' h
 left_by d d' (ImportSheet command document day file) Untold (inr (inr h)) = left_later d d' h.2
+left_by d d' (ShowList list word said) Untold (inr (inr h)) = unread d d' h
+left_by d d' ShowDump Untold (inr (inr h)) = unread d d' h
+left_by d d' (RunLines said text) Untold (inr (inr h)) = left_later d d' h.2
+left_by d d' StopService Untold (inr (inr h)) = unread d d' h
 
 done_follows : (d d' : ServiceState) (o : Operation) (result : Result ReplyView NoReply) → WasDone d o result d'
     → Follows d d'

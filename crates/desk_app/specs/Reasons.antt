@@ -2,6 +2,7 @@
 use Rattle.std.specs.Prelude.{◌≡◌, ℕ, List, [], ◌∷◌, ◌++◌, decimal, codes, Option, Some, None, option_map, string_bytes}
 use Rattle.std.specs.Prelude.{◌⊎◌, Bool, Result, Ok, Err}
 use Rattle.part_core.specs.Refusal.{refusal_name}
+use Rattle.part_core.specs.declared.refusal.Refusal.{Refusal}
 use Rattle.desk_core.specs.Machine.{Outcome, State, step}
 use Rattle.desk_core.specs.declared.command.Request.{Request as Req}
 use Rattle.list_core.specs.Facts.{row_fact}
@@ -70,16 +71,23 @@ abbrev pub IsNewName : State → Place → Req → List ℕ → Type 0
 IsNewName s place request text =
     (text ≡ []) ⊎ ((note : List ℕ) × IsNote s request.command (Some note) × (text ≡ note_line place note))
 
--- What is told begins with the place, the answer's word and the facts in these books: of a request what its key was used
--- for, each row that it names, what it asks for, and which of its serials are taken, of a report the row that it would be
--- of, of a fault the field and what stands in it, of which a terminal acts on nothing. Behind them stands what the word
--- means.
+-- of a request: what its key was used for, each row that it names, what it asks for, and which of its serials are taken
+abbrev pub refused_words : State → Place → Req → Refusal → List ℕ
+refused_words s place request refusal =
+    colons (place_text place ∷ refusal_name refusal ∷ request_facts s request.key request.command ∷ [])
+
+-- of a report: the row that it would be of
+abbrev pub no_report_words : State → ℕ → ReportName → ℕ → List ℕ
+no_report_words s line name of =
+    colons (place_text (Line line) ∷ codes "NoSuch" ∷ row_fact s (codes "of") (table_of name) of ∷ [])
+
+-- What is told begins with the place, the answer's word and the facts in these books: of a request and a report those
+-- above, of a fault the field and what stands in it. Of none of them a terminal acts on anything, or turns. Behind them
+-- stands what the word means.
 abbrev pub IsReason : State → Why → List ℕ → Type 0
 IsReason s (Refused place request refusal) text =
-    Begins (colons (place_text place ∷ refusal_name refusal
-    ∷ request_facts s request.now.key request.now.command ∷ [])) text
-IsReason s (NoReport line name of) text =
-    Begins (colons (place_text (Line line) ∷ codes "NoSuch" ∷ row_fact s (codes "of") (table_of name) of ∷ [])) text
+    Begins (escaped (refused_words s place request.now refusal)) text
+IsReason s (NoReport line name of) text = Begins (escaped (no_report_words s line name of)) text
 IsReason s (FaultyLine names line fault) text =
     (field : Option WrongField) × TellsField field (wrong_in_line (naming names s) line.now)
     × Begins (escaped (fault_words (place_text (Line fault.now.line)) fault.now.what field)) text
@@ -104,15 +112,13 @@ Notes s why old new = Waits (IsReason s why) old new
 abbrev pub NotesOutcome : Place → Req → State × Outcome → List ℕ → List ℕ → Type 0
 NotesOutcome place request (s, Ok answer) old new = Waits (IsNewName s place request) old new
 NotesOutcome place request (s, Err refusal) old new =
-    Waits (Begins (colons (place_text place ∷ refusal_name refusal ∷ request_facts s request.key request.command ∷ [])))
-    old new
+    Waits (Begins (escaped (refused_words s place request refusal))) old new
 
 -- of a line that asks for a report: of a row that isn't there, which row
 abbrev pub NotesReport : State → ℕ → ReportName → ℕ → Option Lines → List ℕ → List ℕ → Type 0
 NotesReport s line name of (Some lines) old new = new ≡ old
 NotesReport s line name of None old new =
-    Waits (Begins (colons (place_text (Line line) ∷ codes "NoSuch" ∷ row_fact s (codes "of") (table_of name) of ∷ [])))
-    old new
+    Waits (Begins (escaped (no_report_words s line name of))) old new
 
 -- of a faulty line: its fault, and the member that can't be read
 abbrev pub NotesFault : Bool → State → ℕ → List ℕ → What → List ℕ → List ℕ → Type 0

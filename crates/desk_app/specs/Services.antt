@@ -1,14 +1,16 @@
 -- The books as a service of HTTP: what each operation does to a state, and what is replied.
-use Rattle.std.specs.Prelude.{◌≡◌, ◌⊎◌, ◌+◌, ◌^◌, ◌<◌, nat_lt, ℕ, List, [], Bool, true, false, Option, Some, None, IsSome}
-use Rattle.std.specs.Prelude.{Result, Ok, Err, option_map, if◌then◌else◌}
+use Rattle.std.specs.Prelude.{◌≡◌, ◌⊎◌, ◌+◌, ◌^◌, ◌<◌, ◌&&◌, ◌||◌, nat_lt, ℕ, List, [], Bool, true, false, Option, Some, None}
+use Rattle.std.specs.Prelude.{IsSome, is_some, Result, Ok, Err, option_map, if◌then◌else◌}
 use Rattle.sqlite.specs.Tree.{Trees}
 use Rattle.part_core.specs.Day.{CivilDay}
 use Rattle.desk_core.specs.Machine.{State, Outcome, step}
 use Rattle.desk_core.specs.declared.command.Request.{Request}
+use Rattle.report_core.specs.Lines.{Lines}
 use Rattle.report_core.specs.Reports.{report_lines}
 use Rattle.report_core.specs.declared.name.ReportName as report
 use Rattle.report_core.specs.declared.name.ReportName.TheVariants as reports
 use Rattle.table_store.specs.declared.name.TableName.{TableName}
+use Rattle.desk_store.specs.Dumps.{dump_text}
 use Rattle.desk_store.specs.Exports.{table_text}
 use Rattle.desk_store.specs.Shown.{books_text, history_text}
 use Rattle.desk_store.specs.StateTables.{TablesAre}
@@ -24,13 +26,16 @@ use Rattle.desk_wire.specs.Reading as reading
 use Rattle.desk_wire.specs.SheetForms.{sheet_form}
 use Rattle.desk_wire.specs.Writing.{answer_text, refused_text, fault_text}
 use Rattle.desk_http.specs.Services.{Machine, Operation, RunLine, ImportFile, ShowReport, ShowTable, ShowBooks, ShowHistory}
-use Rattle.desk_http.specs.Services.{ImportSheet, ReplyView, Stops}
+use Rattle.desk_http.specs.Services.{ImportSheet, ShowList, RunLines, ShowDump, StopService, ReplyView, Stops}
 use Rattle.desk_http.specs.Services as service
+use Rattle.desk_http.specs.declared.query.LineWords.{LineWords}
+use Rattle.desk_http.specs.declared.query.ListWords.{ListWords}
 use Rattle.desk_http.specs.declared.target.ImportKind.{ImportKind}
 use Rattle.desk_http.specs.declared.target.ImportKind.TheVariants.{Receipts, Counts}
 use Rattle.desk_http.specs.declared.target.ReportName.{ReportName}
 use Rattle.desk_http.specs.declared.target.ReportName.TheVariants.{Ledger, Stock, Content, WhereUsed, Shortage, History}
 use Rattle.desk_http.specs.declared.service.Outcome.TheVariants.{Answered, Refused, Faulty, Reported, Exported, Unknown}
+use Rattle.desk_http.specs.declared.service.Outcome.TheVariants.{AnsweredLines}
 use Rattle.desk_http.specs.declared.service.Outcome as kind
 use Rattle.desk_http.specs.declared.service.Tag.{Tag}
 use Rattle.desk_http.specs.declared.service.Failure.{Failure}
@@ -38,12 +43,14 @@ use Rattle.desk_http.specs.declared.service.Failure.TheVariants.{Store, Memory}
 use Rattle.desk_http.specs.declared.service.NoReply.{NoReply}
 use Rattle.desk_http.specs.declared.service.NoReply.TheVariants.{Failed, Untold}
 use Rattle.desk_app.specs.ImportRuns.{Reading, rows_after, rows_out, RanSome, IsLeftByImport}
+use Rattle.desk_ends.specs.Lists.{Listed, lines_by, list_by, shown_list}
 use Rattle.desk_ends.specs.Printed.{printed}
 use Rattle.desk_app.specs.Journal.{journalled}
-use Rattle.desk_app.specs.Runs.{naming}
+use Rattle.desk_app.specs.Runs.{lines_of, naming}
 use Rattle.desk_app.specs.declared.options.LineOptions.{LineOptions}
 use Rattle.desk_ends.specs.Named.{table_named}
-use Rattle.desk_app.specs.SheetReplies.{AreLeftByLines, RanFirst, by_form, form_lines}
+use Rattle.desk_app.specs.SheetReplies.{AreLeftByLines, RanFirst, by_form, by_said, form_lines, lines_by_said}
+use Rattle.desk_app.specs.SheetRuns.{sheet_options}
 
 -- a kind and a name, as the lines and the reports have them
 abbrev pub import_kind : ImportKind → wire_kind.ImportKind
@@ -77,9 +84,9 @@ abbrev pub by_reading : State → Reading → State × ReplyView
 by_reading s (Ok rows) = (rows_after s rows, (Reported, rows_out s rows))
 by_reading s (Err fault) = (s, (Faulty, fault_text fault))
 
-unfoldable pub import_file : Bool → State → ImportKind → List ℕ → CivilDay → List ℕ → State × ReplyView
-import_file names s kind document day rows =
-    by_reading s (import false (naming names s) (import_kind kind) document day rows)
+unfoldable pub import_file : Bool → State → Bool → ImportKind → List ℕ → CivilDay → List ℕ → State × ReplyView
+import_file names s loose kind document day rows =
+    by_reading s (import loose (naming names s) (import_kind kind) document day rows)
 
 abbrev pub by_printed : List ℕ × Bool → ReplyView
 by_printed (text, true) = (Reported, text)
@@ -104,6 +111,36 @@ sheet_lines command document day file = form_lines (sheet_form command) document
 unfoldable pub show_table : State → List ℕ → ReplyView
 show_table s name = exported s (table_named name)
 
+-- lines as they are sent
+unfoldable pub run_lines : LineOptions → State → LineWords → List ℕ → State × ReplyView
+run_lines options s said text = by_said options said s (lines_of text)
+
+-- those of them that may be run
+unfoldable pub lines_to_run : LineOptions → LineWords → List ℕ → List (List ℕ)
+lines_to_run options said text = lines_by_said options said (lines_of text)
+
+-- a list as comma-separated values, or in columns; or that there is no such row
+abbrev pub list_outcome : Bool → kind.Outcome
+list_outcome true = Exported
+list_outcome false = Reported
+
+abbrev pub by_shown : Bool → List ℕ × Bool → ReplyView
+by_shown csv (text, true) = (list_outcome csv, text)
+by_shown csv (text, false) = (Refused, text)
+
+-- or why its word says none
+abbrev pub by_listed : Bool → Result (Option Lines) What → ReplyView
+by_listed csv (Ok lines) = by_shown csv (shown_list csv lines)
+by_listed csv (Err what) = (Refused, fault_text (record { line = 0; what = what }))
+
+-- a list, where there is one of the name with which the words go
+abbrev pub by_list : State → Bool → Option Listed → ReplyView
+by_list s csv None = (Unknown, [])
+by_list s csv (Some list) = by_listed csv (lines_by list s)
+
+unfoldable pub show_list : State → List ℕ → Option (List ℕ) → ListWords → ReplyView
+show_list s name word said = by_list s said.csv (list_by name word said.low said.only_open)
+
 -- ---- the tag of the books: what tells this run of the service from every other, and how many lines were answered and files
 -- taken since it began
 
@@ -117,6 +154,7 @@ raised (Some tag) =
 abbrev pub tag_after : Option Tag → kind.Outcome → Option Tag
 tag_after tag Answered = raised tag
 tag_after tag Reported = raised tag
+tag_after tag AnsweredLines = raised tag
 tag_after tag _ = tag
 
 -- what a service is a state of: the books' state; how what is sent is taken, which no operation changes; and the tag of the
@@ -130,13 +168,17 @@ counted options tag done = ((done.0, options, tag_after tag done.1.0), done.1)
 abbrev pub desk_machine : Machine ServiceState
 desk_machine = record {
   run_line = λ d line. counted d.1 d.2 (run_line d.1 d.0 line);
-  import_file = λ d kind document day rows. counted d.1 d.2 (import_file d.1.names d.0 kind document day rows);
+  import_file = λ d loose kind document day rows.
+      counted d.1 d.2 (import_file d.1.names d.0 loose kind document day rows);
   show_report = λ d name number. show_report d.0 name number;
   tag = λ d. d.2;
   show_table = λ d name. show_table d.0 name;
   show_books = λ d. books_text (option_map (λ tag. tag.accepted) d.2) d.0;
   show_history = λ d from. history_text from d.0;
   import_sheet = λ d command document day file. counted d.1 d.2 (import_sheet d.0 command document day file);
+  show_list = λ d list word said. show_list d.0 list word said;
+  run_lines = λ d said text. counted d.1 d.2 (run_lines d.1 d.0 said text);
+  show_dump = λ d. dump_text d.0;
 }
 
 -- ---- what is left where there was no reply
@@ -144,13 +186,19 @@ desk_machine = record {
 -- of a line nothing was run, of a file the first of its rows, or of its lines
 abbrev pub leaves_of : LineOptions → State → Operation → State → Type 0
 leaves_of options s (RunLine line) s' = s' ≡ s
-leaves_of options s (ImportFile kind document day rows) s' =
-    RanSome (import false (naming options.names s) (import_kind kind) document day rows) s s'
+leaves_of options s (ImportFile loose kind document day rows) s' =
+    RanSome (import loose (naming options.names s) (import_kind kind) document day rows) s s'
 leaves_of options s (ShowReport name number) s' = s' ≡ s
 leaves_of options s (ShowTable name) s' = s' ≡ s
 leaves_of options s (ShowBooks known) s' = s' ≡ s
 leaves_of options s (ShowHistory from) s' = s' ≡ s
-leaves_of options s (ImportSheet command document day file) s' = RanFirst (sheet_lines command document day file) s s'
+leaves_of options s (ImportSheet command document day file) s' =
+    RanFirst sheet_options false (sheet_lines command document day file) s s'
+leaves_of options s (ShowList list word said) s' = s' ≡ s
+leaves_of options s (RunLines said text) s' =
+    RanFirst options said.stop (lines_to_run options said text) s s'
+leaves_of options s StopService s' = s' ≡ s
+leaves_of options s ShowDump s' = s' ≡ s
 
 -- the tag is another then, since something may have been done
 abbrev pub leaves : Failure → ServiceState → Operation → ServiceState → Type 0
@@ -168,7 +216,7 @@ IsFailedFile Untold file s s' = s' ≡ s
 
 -- of a file of a command without a reply the first lines were run; where its reply was not told, none
 abbrev pub IsFailedSheet : NoReply → List (List ℕ) → State → State → Type 0
-IsFailedSheet (Failed e) lines s s' = RanFirst lines s s'
+IsFailedSheet (Failed e) lines s s' = RanFirst sheet_options false lines s s'
 IsFailedSheet Untold lines s s' = s' ≡ s
 
 -- a request that failed was not run; where its reply was not told, it was
@@ -198,12 +246,16 @@ IsToldOfOpen old (Some Untold) = old ≡ None
 
 abbrev pub IsShownOfOpen : {F : Type 0} → Option F → Operation → Option NoReply → Type 0
 IsShownOfOpen old (RunLine line) why = Unit {0}
-IsShownOfOpen old (ImportFile kind document day rows) why = Unit {0}
+IsShownOfOpen old (ImportFile loose kind document day rows) why = Unit {0}
 IsShownOfOpen old (ShowReport name number) why = IsToldOfOpen old why
 IsShownOfOpen old (ShowTable name) why = IsToldOfOpen old why
 IsShownOfOpen old (ShowBooks known) why = IsToldOfOpen old why
 IsShownOfOpen old (ShowHistory from) why = IsToldOfOpen old why
 IsShownOfOpen old (ImportSheet command document day file) why = Unit {0}
+IsShownOfOpen old (ShowList list word said) why = IsToldOfOpen old why
+IsShownOfOpen old (RunLines said text) why = Unit {0}
+IsShownOfOpen old StopService why = Unit {0}
+IsShownOfOpen old ShowDump why = IsToldOfOpen old why
 
 -- the one where the database failed, else the other
 abbrev pub IfStoreFailed : Option NoReply → Type 0 → Type 0 → Type 0
@@ -215,16 +267,22 @@ IfStoreFailed _ failed other = other
 abbrev pub IsLeftByOperation : LineOptions → Operation → Option NoReply → State → State → Trees → Type 0
 IsLeftByOperation options (RunLine line) why s s' trees =
     IfStoreFailed why (TablesAre s' trees ⊎ TablesAre (run_line options s line).0 trees) (TablesAre s' trees)
-IsLeftByOperation options (ImportFile kind document day rows) why s s' trees =
+IsLeftByOperation options (ImportFile loose kind document day rows) why s s' trees =
     IfStoreFailed why
-    (IsLeftByImport (import false (naming options.names s) (import_kind kind) document day rows) s s' trees)
+    (IsLeftByImport (import loose (naming options.names s) (import_kind kind) document day rows) s s' trees)
     (TablesAre s' trees)
 IsLeftByOperation options (ShowReport name number) why s s' trees = TablesAre s' trees
 IsLeftByOperation options (ShowTable name) why s s' trees = TablesAre s' trees
 IsLeftByOperation options (ShowBooks known) why s s' trees = TablesAre s' trees
 IsLeftByOperation options (ShowHistory from) why s s' trees = TablesAre s' trees
 IsLeftByOperation options (ImportSheet command document day file) why s s' trees =
-    IfStoreFailed why (AreLeftByLines (sheet_lines command document day file) s s' trees) (TablesAre s' trees)
+    IfStoreFailed why (AreLeftByLines sheet_options (sheet_lines command document day file) s s' trees)
+    (TablesAre s' trees)
+IsLeftByOperation options (ShowList list word said) why s s' trees = TablesAre s' trees
+IsLeftByOperation options (RunLines said text) why s s' trees =
+    IfStoreFailed why (AreLeftByLines options (lines_to_run options said text) s s' trees) (TablesAre s' trees)
+IsLeftByOperation options StopService why s s' trees = TablesAre s' trees
+IsLeftByOperation options ShowDump why s s' trees = TablesAre s' trees
 
 -- of books with these faults of the database before and after, of which a crash may leave these tables
 abbrev pub Relates : {F : Type 0} → LineOptions → Option F → Option F → (Trees → Type 0) → State → State → Operation
@@ -232,6 +290,17 @@ abbrev pub Relates : {F : Type 0} → LineOptions → Option F → Option F → 
 Relates options old new may_leave s s' o why =
     StaysOpenBy old new why × IsShownOfOpen old o why × (old ≡ None → (trees : Trees) → may_leave trees
     → IsLeftByOperation options o why s s' trees)
+
+-- ---- how a service ends
+
+-- it is stopped by a request to stop that was replied to, and by nothing else
+abbrev pub IsStoppedBy : Operation → Option NoReply → Bool → Bool → Type 0
+IsStoppedBy StopService None old new = new ≡ true
+IsStoppedBy _ _ old new = new ≡ old
+
+-- it was stopped; or it ends once a fault has closed its books, and one has
+abbrev pub is_over : {F : Type 0} → Bool → Bool → Option F → Bool
+is_over stopped ends_at_fault failure = stopped || (ends_at_fault && is_some failure)
 
 -- ---- what a tag tells
 

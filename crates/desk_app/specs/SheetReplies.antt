@@ -1,5 +1,5 @@
--- What is replied to a file of a command, and what is left of it where there is no reply.
-use Rattle.std.specs.Prelude.{◌≡◌, ◌⊎◌, ◌+◌, ◌++◌, ◌==◌, nat_le, ℕ, List, [], length, count_by, true, Option, Some, None}
+-- What is replied to lines and to a file of a command, and what is left of them where there is no reply.
+use Rattle.std.specs.Prelude.{◌≡◌, ◌⊎◌, ◌+◌, ◌++◌, ◌==◌, nat_le, ℕ, Bool, List, [], length, count_by, false, Option, Some, None}
 use Rattle.std.specs.Prelude.{Result, Ok, Err, if◌then◌else◌}
 use Rattle.sqlite.specs.Tree.{Trees}
 use Rattle.part_core.specs.Day.{CivilDay}
@@ -10,38 +10,54 @@ use Rattle.desk_wire.specs.declared.fault.WireFault.{WireFault}
 use Rattle.desk_wire.specs.Sheets.{sheet_text}
 use Rattle.desk_wire.specs.Writing.{fault_text}
 use Rattle.desk_http.specs.Services.{ReplyView}
-use Rattle.desk_http.specs.declared.service.Outcome.TheVariants.{Faulty, FaultyLines, Reported, Unknown}
+use Rattle.desk_http.specs.declared.query.LineWords.{LineWords}
+use Rattle.desk_http.specs.declared.service.Outcome as kind
+use Rattle.desk_http.specs.declared.service.Outcome.TheVariants.{AnsweredLines, Faulty, FaultyLines, Reported, Unknown}
 use Rattle.desk_app.specs.Checked.{are_readable, faults_out}
-use Rattle.desk_app.specs.Runs.{lines_of, run_after, run_out, IsGroup}
+use Rattle.desk_app.specs.Runs.{lines_of, run_after, run_out, taken, AreTaken, IsGroup}
 use Rattle.desk_app.specs.SheetRuns.{sheet_options}
+use Rattle.desk_app.specs.declared.options.LineOptions.{LineOptions}
 
--- ---- the lines of a text, by what rows are called
+-- ---- the lines of a text, as they are taken, of which the first that is refused or faulty may be the last
 
 -- one fault as such, and several as lines
 abbrev pub faults_reply : List ℕ → ReplyView
 faults_reply faults = (if nat_le (count_by (λ b. b == 10) faults) 1 then Faulty else FaultyLines, faults)
 
--- the answers of all, though some are refused
-abbrev pub by_run : State → List (List ℕ) → State × ReplyView
-by_run s lines = (run_after sheet_options s 1 lines, (Reported, run_out sheet_options s 1 lines))
+-- the answers of all that are run, though some are refused, as a reply of that kind
+abbrev pub by_run : LineOptions → Bool → kind.Outcome → State → List (List ℕ) → State × ReplyView
+by_run options stop told s lines =
+    (run_after options s 1 (taken options stop s lines), (told, run_out options s 1 (taken options stop s lines)))
 
 -- where one has a fault that shows before any is run, none is
-abbrev pub by_lines : State → List (List ℕ) → State × ReplyView
-by_lines s lines =
-    if are_readable true lines then by_run s lines else (s, faults_reply (faults_out true 1 lines))
+abbrev pub by_lines : LineOptions → Bool → kind.Outcome → State → List (List ℕ) → State × ReplyView
+by_lines options stop told s lines =
+    if are_readable options.names lines then by_run options stop told s lines
+    else (s, faults_reply (faults_out options.names 1 lines))
 
--- those that are run: all, or none
-abbrev pub lines_to_run : List (List ℕ) → List (List ℕ)
-lines_to_run lines = if are_readable true lines then lines else []
+-- those that may be run: all, or none
+abbrev pub lines_to_run : LineOptions → List (List ℕ) → List (List ℕ)
+lines_to_run options lines = if are_readable options.names lines then lines else []
 
--- ---- the text that a file is, or its fault
+-- ---- lines that are sent
+
+-- they are looked at before, or aren't
+abbrev pub by_said : LineOptions → LineWords → State → List (List ℕ) → State × ReplyView
+by_said options said s lines =
+    if said.check then by_lines options said.stop AnsweredLines s lines
+    else by_run options said.stop AnsweredLines s lines
+
+abbrev pub lines_by_said : LineOptions → LineWords → List (List ℕ) → List (List ℕ)
+lines_by_said options said lines = if said.check then lines_to_run options lines else lines
+
+-- ---- the text that a file is, or its fault: rows are said by what they are called
 
 abbrev pub by_text : State → Result (List ℕ) WireFault → State × ReplyView
-by_text s (Ok text) = by_lines s (lines_of text)
+by_text s (Ok text) = by_lines sheet_options false Reported s (lines_of text)
 by_text s (Err fault) = (s, (Faulty, fault_text fault))
 
 abbrev pub text_lines : Result (List ℕ) WireFault → List (List ℕ)
-text_lines (Ok text) = lines_to_run (lines_of text)
+text_lines (Ok text) = lines_to_run sheet_options (lines_of text)
 text_lines (Err fault) = []
 
 -- ---- a file of a command, where there is one of the name
@@ -60,20 +76,21 @@ form_lines (Some form) document day file = text_lines (text_of form document day
 
 -- ---- where there is no reply
 
--- the first of the lines were run, and no other
-pub record RanFirst (lines : List (List ℕ)) (s s' : State) : Type 0 where
+-- the first of the lines were run, of those that are taken, and no other
+pub record RanFirst (options : LineOptions) (stop : Bool) (lines : List (List ℕ)) (s s' : State) : Type 0 where
   pub done : List (List ℕ)
   pub rest : List (List ℕ)
   pub split : lines ≡ done ++ rest
-  pub state : s' ≡ run_after sheet_options s 1 done
+  pub all_taken : AreTaken options stop s done
+  pub state : s' ≡ run_after options s 1 done
 
 -- The database failed in a group of the lines, or as it was committed. A crash leaves the tables before the group, or,
 -- where the commit failed, those after it.
-pub record AreLeftByLines (lines : List (List ℕ)) (s s' : State) (trees : Trees) : Type 0 where
+pub record AreLeftByLines (options : LineOptions) (lines : List (List ℕ)) (s s' : State) (trees : Trees) : Type 0 where
   pub told : List (List ℕ)
   pub group : List (List ℕ)
   pub rest : List (List ℕ)
   pub split : lines ≡ (told ++ group) ++ rest
-  pub size : IsGroup sheet_options (run_after sheet_options s 1 told) (1 + length told) group
-  pub state : s' ≡ run_after sheet_options s 1 (told ++ group)
-  pub tables : TablesAre (run_after sheet_options s 1 told) trees ⊎ TablesAre (run_after sheet_options s 1 (told ++ group)) trees
+  pub size : IsGroup options (run_after options s 1 told) (1 + length told) group
+  pub state : s' ≡ run_after options s 1 (told ++ group)
+  pub tables : TablesAre (run_after options s 1 told) trees ⊎ TablesAre (run_after options s 1 (told ++ group)) trees

@@ -3,12 +3,13 @@
 //! been run and kept: where a row wasn't answered there is none, and the rows before it stay, but for those of a group in
 //! which the database failed.
 ghost use Rattle.std.specs.Prelude.{◌≡◌, ◌≢◌, ◌≤◌, ◌+◌, ◌⊎◌, [], Bool, None, IfOk, IfErr, IsSome, MatchResult, Ok};
-ghost use Rattle.std.specs.Prelude.{OnOk};
+ghost use Rattle.std.specs.Prelude.{OnErr, OnOk};
 ghost use Rattle.std.specs.String.{string_bytes};
 ghost use Rattle.sqlite.specs.Tree.{Trees};
 ghost use Rattle.desk_core.specs.Books.{AreInOrder};
 ghost use Rattle.desk_store.specs.StateTables.{TablesAre};
-ghost use Rattle.desk_wire.specs.Imports.{import, wrong_in_file};
+ghost use Rattle.desk_wire.specs.Imports.{import, import_by, import_unchanged, wrong_in_file, wrong_in_file_by};
+ghost use Rattle.desk_wire.specs.Imports.{wrong_in_unchanged, Tells};
 ghost use Rattle.desk_ends.specs.declared.end.Stop.{Stop};
 ghost use Rattle.desk_ends.specs.Ends.{end_of};
 ghost use Rattle.desk_app.specs.Reasons.{NotesFile};
@@ -22,7 +23,8 @@ use crate::undone::{Place, Why};
 use desk_ends::{RunEnd, Stop, Told};
 use desk_store::send;
 use desk_wire::{
-    Document, FileError, ImportKind, ImportRow, fault_text, import_rows, push_report_line,
+    Document, FileError, FileReading, ImportKind, ImportRow, fault_text, import_rows,
+    import_unchanged, push_report_line,
 };
 use part_core::Day;
 use std::alloc::Global;
@@ -118,6 +120,87 @@ pub(crate) fn tell_rows<B: Books>(
     Ok(Told { text, fine })
 }
 
+/// The rows of a file, or why it isn't read.
+type Rows = Result<Vec<ImportRow>, FileError>;
+
+/// The rows of a file that is read strictly or loosely, or why it isn't.
+fn plain_rows<B: Books>(
+    alloc: Global,
+    bytes: &[u8],
+    kind: ImportKind,
+    document: &Document,
+    day: Day,
+    loose: bool,
+    names: bool,
+    books: &B,
+) -> Result<Rows, Stop>
+    requires { B.are_grouping books.now }
+    ensures rows { let names = naming names (B.state_in books.now) in
+        let asked = import loose names kind document.now day bytes.now in
+        let wrong = wrong_in_file loose names kind document.now day bytes.now in
+        IfOk result (λ read. MatchResult read (λ rows. asked ≡ Ok rows.items) (Tells asked wrong)) }
+    ensures store { IfErr result (λ stop. stop ≡ Stop.Store) }
+    ensures closed { OnErr result (IsSome (B.failure_of books.now)) }
+{
+    let named = named_shop(books, names)?;
+    Ok(import_rows(alloc, loose, named, bytes, kind, document, day))
+}
+
+/// The rows of a file that is read unless the books have changed, or why it isn't.
+fn unchanged_rows<B: Books>(
+    alloc: Global,
+    bytes: &[u8],
+    kind: ImportKind,
+    document: &Document,
+    day: Day,
+    names: bool,
+    books: &B,
+) -> Result<Rows, Stop>
+    requires { B.are_grouping books.now }
+    ensures rows { let s = B.state_in books.now in
+        let asked = import_unchanged s (naming names s) kind document.now day bytes.now in
+        let wrong = wrong_in_unchanged s (naming names s) kind document.now day bytes.now in
+        IfOk result (λ read. MatchResult read (λ rows. asked ≡ Ok rows.items) (Tells asked wrong)) }
+    ensures store { IfErr result (λ stop. stop ≡ Stop.Store) }
+    ensures closed { OnErr result (IsSome (B.failure_of books.now)) }
+{
+    let named = named_shop(books, names)?;
+    let Ok(shop) = books.shop() else {
+        return Err(Stop::Store);
+    };
+    Ok(import_unchanged(alloc, shop, named, bytes, kind, document, day))
+}
+
+/// The rows of a file, or why it isn't read.
+fn rows_in<B: Books>(
+    alloc: Global,
+    bytes: &[u8],
+    kind: ImportKind,
+    document: &Document,
+    day: Day,
+    reading: FileReading,
+    names: bool,
+    books: &B,
+) -> Result<Rows, Stop>
+    requires { B.are_grouping books.now }
+    ensures rows { let s = B.state_in books.now in
+        let asked = import_by reading s (naming names s) kind document.now day bytes.now in
+        let wrong = wrong_in_file_by reading s (naming names s) kind document.now day bytes.now in
+        IfOk result (λ read. MatchResult read (λ rows. asked ≡ Ok rows.items) (Tells asked wrong)) }
+    ensures store { IfErr result (λ stop. stop ≡ Stop.Store) }
+    ensures closed { OnErr result (IsSome (B.failure_of books.now)) }
+{
+    match reading {
+        FileReading::Strict => {
+            plain_rows(alloc, bytes, kind, document, day, false, names, books)
+        }
+        FileReading::Loose => plain_rows(alloc, bytes, kind, document, day, true, names, books),
+        FileReading::Unchanged => {
+            unchanged_rows(alloc, bytes, kind, document, day, names, books)
+        }
+    }
+}
+
 /// Runs the rows of a file in their order, and tells their report. Of a faulty file it runs none, and
 /// tells the fault.
 fn tell_import<B: Books>(
@@ -126,30 +209,34 @@ fn tell_import<B: Books>(
     kind: ImportKind,
     document: &Document,
     day: Day,
-    loose: bool,
+    reading: FileReading,
     names: bool,
     books: &mut B,
 ) -> Result<Told, Stop>
     requires { B.are_kept books.old }
     ensures ok { IfOk result (λ told.
-        import_told (B.state_in books.old) (import loose (naming names (B.state_in books.old)) kind document.now day bytes.now)
+        import_told (B.state_in books.old) (import_by reading (B.state_in books.old) (naming names (B.state_in books.old)) kind
+        document.now day bytes.now)
         ≡ (B.state_in books.new, string_bytes told.text, told.fine)) }
     ensures cut { IfErr result (λ stop. IsOfBooks stop
-        × RanSome (import loose (naming names (B.state_in books.old)) kind document.now day bytes.now)
+        × RanSome (import_by reading (B.state_in books.old) (naming names (B.state_in books.old)) kind
+        document.now day bytes.now)
         (B.state_in books.old) (B.state_in books.new)) }
     ensures kept { B.are_kept books.new }
     ensures stays_open { StaysOpen (B.failure_of books.old) (B.failure_of books.new) result }
     ensures left { B.failure_of books.old ≡ None → (trees : Trees)
         → B.may_leave books.new trees
-        → IsLeftByImport (import loose (naming names (B.state_in books.old)) kind document.now day bytes.now)
+        → IsLeftByImport (import_by reading (B.state_in books.old) (naming names (B.state_in books.old)) kind
+        document.now day bytes.now)
         (B.state_in books.old) (B.state_in books.new) trees }
     ensures reasons { OnOk result (NotesFile
-        (import loose (naming names (B.state_in books.old)) kind document.now day bytes.now)
-        (wrong_in_file loose (naming names (B.state_in books.old)) kind document.now day bytes.now)
+        (import_by reading (B.state_in books.old) (naming names (B.state_in books.old)) kind
+        document.now day bytes.now)
+        (wrong_in_file_by reading (B.state_in books.old) (naming names (B.state_in books.old)) kind
+        document.now day bytes.now)
         (B.reasons_in books.old) (B.reasons_in books.new)) }
 {
-    let named = named_shop(books, names)?;
-    match import_rows(alloc, loose, named, bytes, kind, document, day) {
+    match rows_in(alloc, bytes, kind, document, day, reading, names, books)? {
         Ok(rows) => tell_rows(alloc, &rows, books),
         Err(FileError::Wrong(fault, field)) => {
             let _ = books.explain(&Why::FaultyFile {
@@ -173,27 +260,30 @@ fn import_all<B: Books, W: Write>(
     kind: ImportKind,
     document: &Document,
     day: Day,
-    loose: bool,
+    reading: FileReading,
     names: bool,
     writer: &mut W,
     books: &mut B,
 ) -> Result<bool, Stop>
     requires { B.are_kept books.old }
-    ensures done { IfOk result (λ all. ImportedWhole (import loose (naming names (B.state_in books.old)) kind document.now day bytes.now)
+    ensures done { IfOk result (λ all. ImportedWhole (import_by reading (B.state_in books.old) (naming names (B.state_in books.old)) kind
+        document.now day bytes.now)
         (W.contents writer.old) (W.contents writer.new)
         (B.state_in books.old) (B.state_in books.new) all) }
     ensures stopped { IfErr result (λ stop.
-        ImportStopped stop (import loose (naming names (B.state_in books.old)) kind document.now day bytes.now)
+        ImportStopped stop (import_by reading (B.state_in books.old) (naming names (B.state_in books.old)) kind
+        document.now day bytes.now)
         (W.contents writer.old) (W.contents writer.new)
         (B.state_in books.old) (B.state_in books.new)) }
     ensures kept { B.are_kept books.new }
     ensures stays_open { StaysOpen (B.failure_of books.old) (B.failure_of books.new) result }
     ensures left { B.failure_of books.old ≡ None → (trees : Trees)
         → B.may_leave books.new trees
-        → IsLeftByImport (import loose (naming names (B.state_in books.old)) kind document.now day bytes.now)
+        → IsLeftByImport (import_by reading (B.state_in books.old) (naming names (B.state_in books.old)) kind
+        document.now day bytes.now)
         (B.state_in books.old) (B.state_in books.new) trees }
 {
-    let told = tell_import(alloc, bytes, kind, document, day, loose, names, books)?;
+    let told = tell_import(alloc, bytes, kind, document, day, reading, names, books)?;
     send(writer, told.text.as_bytes())?;
     Ok(told.fine)
 }
@@ -201,26 +291,29 @@ fn import_all<B: Books, W: Write>(
 /// Runs the rows of a file of comma-separated values, and then writes their report; of a faulty file
 /// it runs none, and writes the fault's line. The end is `Done(true)` where nothing was refused or faulty. With `names` a
 /// field may say what a row is called in the place of its number: names are looked up before the first row is run, so
-/// none calls a row that the file makes. With `loose` columns are taken by their names, a comma, a semicolon or a tab
-/// stands between fields, and a record without a quantity is left out.
+/// none calls a row that the file makes. Where the file is read loosely columns are taken by their names, a comma, a
+/// semicolon or a tab stands between fields, and a record without a quantity is left out; where it is read unless the books
+/// have changed, so too, and the file is `Changed` where they have another number than a record says they had.
 pub fn import_file<B: Books, W: Write>(
     alloc: Global,
     bytes: &[u8],
     kind: ImportKind,
     document: &Document,
     day: Day,
-    loose: bool,
+    reading: FileReading,
     names: bool,
     writer: &mut W,
     books: &mut B,
 ) -> RunEnd
     requires { B.are_kept books.old }
     ensures done { (all : Bool) → result ≡ RunEnd.Done all
-        → ImportedWhole (import loose (naming names (B.state_in books.old)) kind document.now day bytes.now)
+        → ImportedWhole (import_by reading (B.state_in books.old) (naming names (B.state_in books.old)) kind
+        document.now day bytes.now)
         (W.contents writer.old) (W.contents writer.new)
         (B.state_in books.old) (B.state_in books.new) all }
     ensures stopped { (stop : Stop) → result ≡ end_of stop
-        → ImportStopped stop (import loose (naming names (B.state_in books.old)) kind document.now day bytes.now)
+        → ImportStopped stop (import_by reading (B.state_in books.old) (naming names (B.state_in books.old)) kind
+        document.now day bytes.now)
         (W.contents writer.old) (W.contents writer.new)
         (B.state_in books.old) (B.state_in books.new) }
     ensures never { result ≢ RunEnd.ReadFailed }
@@ -233,11 +326,12 @@ pub fn import_file<B: Books, W: Write>(
         → B.may_leave books.new trees → TablesAre (B.state_in books.new) trees }
     ensures left_by_groups { B.failure_of books.old ≡ None → (trees : Trees)
         → B.may_leave books.new trees
-        → IsLeftByImport (import loose (naming names (B.state_in books.old)) kind document.now day bytes.now)
+        → IsLeftByImport (import_by reading (B.state_in books.old) (naming names (B.state_in books.old)) kind
+        document.now day bytes.now)
         (B.state_in books.old) (B.state_in books.new) trees }
 {
     match import_all(
-        alloc, bytes, kind, document, day, loose, names, writer, books,
+        alloc, bytes, kind, document, day, reading, names, writer, books,
     ) {
         Ok(all) => RunEnd::Done(all),
         Err(stop) => stop.end(),

@@ -1,20 +1,18 @@
 //! What a person is told of a line or a row that wasn't done: where it stands, the word that was answered, the facts of the
 //! request, and what the word means. And of one that was done the note on the name that it gave.
-ghost use Rattle.std.specs.Prelude.{◌≡◌, ◌∷◌, ◌++◌, [], ℕ, List, codes, decimal, Option, option_map, IfOk};
+ghost use Rattle.std.specs.Prelude.{◌≡◌, ◌++◌, ℕ, List, codes, decimal, Option, option_map, IfOk};
 ghost use Rattle.std.specs.String.{string_bytes};
-ghost use Rattle.part_core.specs.Refusal.{refusal_name};
 ghost use Rattle.desk_core.specs.Naming.{naming_in};
 ghost use Rattle.desk_core.specs.ShopView.{state_of};
-ghost use Rattle.list_core.specs.Facts.{row_fact};
-ghost use Rattle.list_core.specs.RequestFacts.{request_facts};
 ghost use Rattle.desk_ends.specs.Escaped.{escaped};
 ghost use Rattle.desk_wire.specs.declared.fault.WrongField.{WrongField};
-ghost use Rattle.desk_wire.specs.Reading.{table_of};
 ghost use Rattle.desk_wire.specs.WrongFields.{wrong_in_line, TellsField};
-ghost use Rattle.desk_app.specs.Reasons.{colons, fault_words, place_text, Begins, IsNewName, IsReason};
+ghost use Rattle.desk_app.specs.Reasons.{fault_words, no_report_words, place_text, refused_words};
+ghost use Rattle.desk_app.specs.Reasons.{Begins, IsNewName, IsReason};
 ghost use Rattle.desk_app.specs.Runs.{naming};
 
 use crate::guesses::guess;
+use crate::json_place::json_place;
 use crate::undone::{Place, Why};
 use desk_core::{Names, Request, Shop};
 use desk_ends::{escaped, guide_to};
@@ -73,6 +71,31 @@ fn place_text(alloc: Global, place: Place) -> Result<String, AllocError>
     }
 }
 
+/// What stands in the books, as a person is told it, and behind it what the answer's word means.
+fn told_with_meaning(alloc: Global, words: &str, word: &str) -> Result<String, AllocError>
+    ensures { IfOk result (λ text. Begins (escaped words.now) (string_bytes text)) }
+{
+    let text = escaped(alloc, words)?;
+    let meaning = meaning(alloc, word)?;
+    followed(text, meaning.as_str())
+}
+
+/// Where a request was refused, the word, and the facts of the request.
+fn refused_words(
+    alloc: Global,
+    shop: &Shop,
+    place: Place,
+    request: &Request,
+    refusal: Refusal,
+) -> Result<String, AllocError>
+    ensures { IfOk result (λ words.
+        string_bytes words ≡ refused_words (state_of shop.now) place request.now refusal) }
+{
+    let (place, name) = (place_text(alloc, place)?, refusal.name());
+    let facts = request_facts(alloc, shop, request)?;
+    format!(in alloc; "{place}: {name}: {facts}")
+}
+
 /// Why a request was refused.
 fn why_refused(
     alloc: Global,
@@ -81,15 +104,28 @@ fn why_refused(
     request: &Request,
     refusal: Refusal,
 ) -> Result<String, AllocError>
-    ensures { IfOk result (λ text. Begins (colons (place_text place ∷ refusal_name refusal
-        ∷ request_facts (state_of shop.now) request.now.key request.now.command ∷ []))
+    ensures { IfOk result (λ text. Begins
+        (escaped (refused_words (state_of shop.now) place request.now refusal))
         (string_bytes text)) }
 {
-    let (place, name) = (place_text(alloc, place)?, refusal.name());
-    let facts = request_facts(alloc, shop, request)?;
-    let text = format!(in alloc; "{place}: {name}: {facts}")?;
-    let meaning = meaning(alloc, name)?;
-    followed(text, meaning.as_str())
+    let words = refused_words(alloc, shop, place, request, refusal)?;
+    told_with_meaning(alloc, words.as_str(), refusal.name())
+}
+
+/// Where a report was asked for, and the row that it would be of.
+fn no_report_words(
+    alloc: Global,
+    shop: &Shop,
+    line: u64,
+    name: ReportName,
+    of: Id,
+) -> Result<String, AllocError>
+    ensures { IfOk result (λ words.
+        string_bytes words ≡ no_report_words (state_of shop.now) line name of) }
+{
+    let place = place_text(alloc, Place::Line(line))?;
+    let fact = row_fact(alloc, shop, "of", table_of(name), of)?;
+    format!(in alloc; "{place}: NoSuch: {fact}")
 }
 
 /// Why there is no report.
@@ -100,14 +136,11 @@ fn why_no_report(
     name: ReportName,
     of: Id,
 ) -> Result<String, AllocError>
-    ensures { IfOk result (λ text. Begins (colons (place_text (Place.Line line) ∷ codes "NoSuch"
-        ∷ row_fact (state_of shop.now) (codes "of") (table_of name) of ∷ [])) (string_bytes text)) }
+    ensures { IfOk result (λ text. Begins
+        (escaped (no_report_words (state_of shop.now) line name of)) (string_bytes text)) }
 {
-    let place = place_text(alloc, Place::Line(line))?;
-    let fact = row_fact(alloc, shop, "of", table_of(name), of)?;
-    let text = format!(in alloc; "{place}: NoSuch: {fact}")?;
-    let meaning = meaning(alloc, "NoSuch")?;
-    followed(text, meaning.as_str())
+    let words = no_report_words(alloc, shop, line, name, of)?;
+    told_with_meaning(alloc, words.as_str(), "NoSuch")
 }
 
 /// A fault with the field that it is in, and what stands there.
@@ -173,15 +206,19 @@ fn guess_text(
     }
 }
 
-/// What stands behind a fault of a line in which rows may be named or may not: a word that may have been meant, and what the
-/// fault means.
+/// What stands behind a fault of a line in which rows may be named or may not: where it is no JSON any more, or a word that
+/// may have been meant, and what the fault means.
 fn behind_fault(
     alloc: Global,
+    line: &[u8],
     what: &What,
     field: Option<&WrongField>,
     named: bool,
 ) -> Result<String, AllocError> {
-    let mut text = guess_text(alloc, what, field)?;
+    let mut text = match what {
+        What::NotJson => json_place(alloc, line)?,
+        _ => guess_text(alloc, what, field)?,
+    };
     text.push_str(meaning_to(alloc, what.name(), named)?.as_str())?;
     Ok(text)
 }
@@ -202,7 +239,7 @@ pub(crate) fn why_faulty_line<N: Names>(
     let field = wrong_field(alloc, names, line)?;
     let place = place_text(alloc, Place::Line(fault.line))?;
     let text = told_fault(alloc, place.as_str(), &fault.what, &field)?;
-    let more = behind_fault(alloc, &fault.what, field.as_ref(), names.is_some())?;
+    let more = behind_fault(alloc, line, &fault.what, field.as_ref(), names.is_some())?;
     followed(text, more.as_str())
 }
 

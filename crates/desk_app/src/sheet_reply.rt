@@ -1,7 +1,7 @@
-//! What is replied to a file of a command that is sent: the answers of its lines, or its faults. It is made a text of
-//! lines with nothing said of its members, and these are looked at and run as those of an import are. Rows are said by
-//! what they are called.
-ghost use Rattle.std.specs.Prelude.{◌≡◌, ◌==◌, [], None, IfErr, IfOk, count_by, true};
+//! What is replied to lines that are sent, and to a file of a command: the answers of its lines, or its faults. Such a file
+//! is made a text of lines with nothing said of its members, and these are looked at and run as those of an import are: rows
+//! are said by what they are called. Other lines are taken as the service takes them.
+ghost use Rattle.std.specs.Prelude.{◌≡◌, ◌==◌, [], None, true, IfErr, IfOk, count_by};
 ghost use Rattle.std.specs.String.{string_bytes};
 ghost use Rattle.sqlite.specs.Tree.{Trees};
 ghost use Rattle.part_core.specs.Forms.{shown};
@@ -11,10 +11,12 @@ ghost use Rattle.desk_http.specs.Targets.{is_document};
 ghost use Rattle.desk_wire.specs.Sheets.{sheet_text};
 ghost use Rattle.desk_wire.specs.SheetViews.{shown_sheet};
 ghost use Rattle.desk_app.specs.Runs.{lines_of};
-ghost use Rattle.desk_app.specs.Services.{import_sheet, sheet_lines, IfStoreFailed, IsFailed, IsFailedSheet};
-ghost use Rattle.desk_app.specs.Services.{StaysOpenBy};
-ghost use Rattle.desk_app.specs.SheetReplies.{by_lines, by_run, by_text, faults_reply, lines_to_run};
+ghost use Rattle.desk_app.specs.Services.{import_sheet, lines_to_run, run_lines, sheet_lines};
+ghost use Rattle.desk_app.specs.Services.{IfStoreFailed, IsFailed, IsFailedSheet, StaysOpenBy};
+ghost use Rattle.desk_app.specs.SheetReplies.{by_lines, by_run, by_text, faults_reply};
+ghost use Rattle.desk_app.specs.SheetReplies.{lines_to_run as those_to_run};
 ghost use Rattle.desk_app.specs.SheetReplies.{text_lines, text_of, AreLeftByLines, RanFirst};
+ghost use Rattle.desk_app.specs.SheetRuns.{sheet_options};
 
 use crate::books::Books;
 use crate::checked::faults_of_lines;
@@ -22,7 +24,7 @@ use crate::options::LineOptions;
 use crate::run::run_lines;
 use crate::service::{document_named, faulty, open_shop};
 use desk_ends::RunEnd;
-use desk_http::{Failure, NoReply, Outcome, Reply};
+use desk_http::{Failure, LineWords, NoReply, Outcome, Reply};
 use desk_wire::{Document, ReadError, Sheet, sheet_form, sheet_text};
 use part_core::{Day, Form};
 use std::alloc::Global;
@@ -49,28 +51,37 @@ fn faulty_lines(faults: String) -> Reply
     }
 }
 
-/// Runs the lines of a text, and replies their answers.
-fn reply_to_lines<B: Books>(alloc: Global, books: &mut B, text: &[u8]) -> Result<Reply, NoReply>
+/// Runs the lines of a text, and replies their answers as a reply of this kind. With `stop` the first that is refused or
+/// faulty is the last.
+fn reply_to_lines<B: Books>(
+    alloc: Global,
+    books: &mut B,
+    text: &[u8],
+    options: LineOptions,
+    stop: bool,
+    kind: Outcome,
+) -> Result<Reply, NoReply>
     requires { B.are_kept books.old }
     ensures kept { B.are_kept books.new }
     ensures ok { IfOk result (λ reply. (B.state_in books.new, reply_view reply)
-        ≡ by_run (B.state_in books.old) (lines_of text.now)) }
+        ≡ by_run options stop kind (B.state_in books.old) (lines_of text.now)) }
     ensures failed { IfErr result (λ why. IsFailed why
-        × RanFirst (lines_of text.now) (B.state_in books.old) (B.state_in books.new)) }
+        × RanFirst options stop (lines_of text.now) (B.state_in books.old)
+        (B.state_in books.new)) }
     ensures stays_open { StaysOpenBy (B.failure_of books.old) (B.failure_of books.new)
         (why_none result) }
     ensures left { B.failure_of books.old ≡ None → (trees : Trees)
         → B.may_leave books.new trees
         → IfStoreFailed (why_none result)
-        (AreLeftByLines (lines_of text.now) (B.state_in books.old) (B.state_in books.new) trees)
+        (AreLeftByLines options (lines_of text.now) (B.state_in books.old)
+        (B.state_in books.new) trees)
         (TablesAre (B.state_in books.new) trees) }
 {
     let mut answers = Vec::new(alloc);
     let mut reader = text;
-    let options = LineOptions::NAMED;
-    match run_lines(alloc, &mut reader, &mut answers, books, options, false) {
+    match run_lines(alloc, &mut reader, &mut answers, books, options, stop) {
         RunEnd::Done(_) => Ok(Reply {
-            outcome: Outcome::Reported,
+            outcome: kind,
             body: answers,
         }),
         RunEnd::ReadFailed => Err(NoReply::Failed(Failure::Memory)),
@@ -81,32 +92,73 @@ fn reply_to_lines<B: Books>(alloc: Global, books: &mut B, text: &[u8]) -> Result
 }
 
 /// Runs the lines of a text, where none has a fault that shows before, and replies their answers, or their faults.
-fn reply_to_text<B: Books>(alloc: Global, books: &mut B, text: &[u8]) -> Result<Reply, NoReply>
+fn reply_to_text<B: Books>(
+    alloc: Global,
+    books: &mut B,
+    text: &[u8],
+    options: LineOptions,
+    stop: bool,
+    kind: Outcome,
+) -> Result<Reply, NoReply>
     requires { B.are_kept books.old }
     ensures kept { B.are_kept books.new }
     ensures ok { IfOk result (λ reply. (B.state_in books.new, reply_view reply)
-        ≡ by_lines (B.state_in books.old) (lines_of text.now)) }
-    ensures failed { IfErr result (λ why. IsFailed why × RanFirst (lines_to_run (lines_of text.now))
+        ≡ by_lines options stop kind (B.state_in books.old) (lines_of text.now)) }
+    ensures failed { IfErr result (λ why. IsFailed why
+        × RanFirst options stop (those_to_run options (lines_of text.now))
         (B.state_in books.old) (B.state_in books.new)) }
     ensures stays_open { StaysOpenBy (B.failure_of books.old) (B.failure_of books.new)
         (why_none result) }
     ensures left { B.failure_of books.old ≡ None → (trees : Trees)
         → B.may_leave books.new trees
         → IfStoreFailed (why_none result)
-        (AreLeftByLines (lines_to_run (lines_of text.now)) (B.state_in books.old)
+        (AreLeftByLines options (those_to_run options (lines_of text.now)) (B.state_in books.old)
         (B.state_in books.new) trees)
         (TablesAre (B.state_in books.new) trees) }
 {
     if let Err(why) = open_shop(books) {
         return Err(why);
     }
-    let Ok(told) = faults_of_lines(alloc, text, true) else {
+    let Ok(told) = faults_of_lines(alloc, text, options.names) else {
         return Err(NoReply::Failed(Failure::Memory));
     };
     if told.fine {
-        reply_to_lines(alloc, books, text)
+        reply_to_lines(alloc, books, text, options, stop, kind)
     } else {
         Ok(faulty_lines(told.text))
+    }
+}
+
+/// Runs a body as lines, and replies their answers; or, where they are looked at before, their faults.
+#[tactic(auto, unfolding(crate::specs::Services::run_lines, crate::specs::Services::lines_to_run))]
+pub(crate) fn reply_to_said<B: Books>(
+    alloc: Global,
+    books: &mut B,
+    text: &[u8],
+    options: LineOptions,
+    said: LineWords,
+) -> Result<Reply, NoReply>
+    requires { B.are_kept books.old }
+    ensures kept { B.are_kept books.new }
+    ensures ok { IfOk result (λ reply. (B.state_in books.new, reply_view reply)
+        ≡ run_lines options (B.state_in books.old) said text.now) }
+    ensures failed { IfErr result (λ why. IsFailed why
+        × RanFirst options said.stop (lines_to_run options said text.now)
+        (B.state_in books.old) (B.state_in books.new)) }
+    ensures stays_open { StaysOpenBy (B.failure_of books.old) (B.failure_of books.new)
+        (why_none result) }
+    ensures left { B.failure_of books.old ≡ None → (trees : Trees)
+        → B.may_leave books.new trees
+        → IfStoreFailed (why_none result)
+        (AreLeftByLines options (lines_to_run options said text.now) (B.state_in books.old)
+        (B.state_in books.new) trees)
+        (TablesAre (B.state_in books.new) trees) }
+{
+    let kind = Outcome::AnsweredLines;
+    if said.check {
+        reply_to_text(alloc, books, text, options, said.stop, kind)
+    } else {
+        reply_to_lines(alloc, books, text, options, said.stop, kind)
     }
 }
 
@@ -129,12 +181,15 @@ fn reply_to_sheet<B: Books>(
     ensures left { B.failure_of books.old ≡ None → (trees : Trees)
         → B.may_leave books.new trees
         → IfStoreFailed (why_none result)
-        (AreLeftByLines (text_lines (sheet_text (shown_sheet sheet.now) file.now))
+        (AreLeftByLines sheet_options (text_lines (sheet_text (shown_sheet sheet.now) file.now))
         (B.state_in books.old) (B.state_in books.new) trees)
         (TablesAre (B.state_in books.new) trees) }
 {
     match sheet_text(alloc, sheet, file) {
-        Ok(text) => reply_to_text(alloc, books, text.as_bytes()),
+        Ok(text) => {
+            let (options, kind) = (LineOptions::NAMED, Outcome::Reported);
+            reply_to_text(alloc, books, text.as_bytes(), options, false, kind)
+        }
         Err(ReadError::Wrong(fault)) => faulty(alloc, fault),
         Err(ReadError::Memory) => Err(NoReply::Untold),
     }
@@ -161,7 +216,7 @@ fn reply_to_form<B: Books>(
     ensures left { B.failure_of books.old ≡ None → (trees : Trees)
         → B.may_leave books.new trees
         → IfStoreFailed (why_none result)
-        (AreLeftByLines (text_lines (text_of (shown form.now) document day file.now))
+        (AreLeftByLines sheet_options (text_lines (text_of (shown form.now) document day file.now))
         (B.state_in books.old) (B.state_in books.new) trees)
         (TablesAre (B.state_in books.new) trees) }
 {
@@ -208,7 +263,7 @@ pub(crate) fn reply_to_command<B: Books>(
     ensures left { B.failure_of books.old ≡ None → (trees : Trees)
         → B.may_leave books.new trees
         → IfStoreFailed (why_none result)
-        (AreLeftByLines (sheet_lines command.now document.now day file.now)
+        (AreLeftByLines sheet_options (sheet_lines command.now document.now day file.now)
         (B.state_in books.old) (B.state_in books.new) trees)
         (TablesAre (B.state_in books.new) trees) }
 {

@@ -1,8 +1,10 @@
 //! A file, read as far as it is wanted.
-ghost use Rattle.std.specs.Prelude.{◌≡◌, ℕ, Bool, List, Option, IfOk, IfErr, IfSome};
+ghost use Rattle.std.specs.Prelude.{◌≡◌, ℕ, List, Option, IfOk, IfErr, IfSome};
 ghost use Rattle.part_core.specs.Day.{CivilDay};
+ghost use Rattle.desk_core.specs.Machine.{State};
 ghost use Rattle.desk_core.specs.Naming.{Naming};
-ghost use Rattle.desk_wire.specs.Imports.{import};
+ghost use Rattle.desk_wire.specs.Imports.{import_by};
+ghost use Rattle.desk_wire.specs.declared.kind.FileReading.{FileReading};
 ghost use Rattle.desk_wire.specs.declared.kind.ImportKind.{ImportKind};
 ghost use Rattle.desk_app.specs.Cuts.{ReadsFile};
 ghost use Rattle.desk_app.specs.Runs.{IsOfReading};
@@ -17,9 +19,9 @@ use std::io::Read;
 pub fn read_file<R: Read>(alloc: Global, reader: &mut R) -> Result<Vec<u8>, Stop>
     ensures bytes { IfOk result (λ bytes. ReadsFile (R.remaining reader.old) bytes.items) }
     ensures imported { IfOk result (λ bytes. IfSome (R.remaining reader.old)
-        (λ file. (loose : Bool) (names : Option Naming) (kind : ImportKind) (document : List ℕ) (day : CivilDay)
-        → import loose names kind document day bytes.items
-        ≡ import loose names kind document day file)) }
+        (λ file. (reading : FileReading) (s : State) (names : Option Naming) (kind : ImportKind)
+        (document : List ℕ) (day : CivilDay) → import_by reading s names kind document day bytes.items
+        ≡ import_by reading s names kind document day file)) }
     ensures failed { IfErr result IsOfReading }
 {
     let mut read = Lines::new(alloc)?;

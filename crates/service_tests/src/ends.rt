@@ -10,7 +10,7 @@ use desk_ends::RunEnd;
 use desk_http::Served;
 use desk_play::ask::ask;
 use desk_play::play::{lines_in, plays_on};
-use desk_wire::ImportKind;
+use desk_wire::{FileReading, ImportKind};
 use sqlite::{Alter, Connection};
 use std::alloc::Global;
 use std::io::Read;
@@ -128,7 +128,15 @@ fn delivers<R: Read, B: Books>(
     let (document, day) = (document(alloc)?, day("2030-03-01")?);
     let kind = ImportKind::Receipts;
     Ok(import_file(
-        alloc, &file, kind, &document, day, false, false, sink, books,
+        alloc,
+        &file,
+        kind,
+        &document,
+        day,
+        FileReading::Strict,
+        false,
+        sink,
+        books,
     ))
 }
 

@@ -9,7 +9,7 @@ use desk_core::Shop;
 use desk_ends::{RunEnd, Stop};
 use desk_play::imports::imports;
 use desk_play::play::plays_on_shop;
-use desk_wire::ImportKind;
+use desk_wire::{FileReading, ImportKind};
 use part_core::Limits;
 use std::alloc::Global;
 use std::io::ErrorKind;
@@ -153,7 +153,7 @@ fn imports_none(alloc: Global, rows: &str, length: usize) -> Result<(RunEnd, Sin
         ImportKind::Receipts,
         &document(alloc)?,
         day("2030-03-01")?,
-        false,
+        FileReading::Strict,
         false,
         &mut sink,
         &mut shop,
@@ -234,7 +234,7 @@ fn tells_how_many(alloc: Global, times: u64, told: &str) -> Result<(), Fail> {
         ImportKind::Counts,
         &document(alloc)?,
         day("2030-03-02")?,
-        false,
+        FileReading::Strict,
         false,
         &mut Sink::new(alloc, 4096),
         &mut books,

@@ -1,6 +1,7 @@
 //! Clients on the loopback, over sockets: each has asked before the first is answered.
+use crate::readings::serving;
 use crate::requests::{FIRST, LINES, NOTHING};
-use desk_app::{BooksService, LineOptions};
+use desk_app::LineOptions;
 use desk_core::Shop;
 use desk_http::{Access, Clients, Site, serve_connections};
 use part_core::Limits;
@@ -29,11 +30,7 @@ fn got(alloc: Global, mut client: TcpStream, answer: &str) -> Result<(), Fail> {
 fn serve_loopback(rt: HostRuntime) -> Result<(), Fail> {
     let alloc = rt.alloc();
     let books = Shop::new(alloc, Limits::LARGEST);
-    let mut service = BooksService {
-        books,
-        options: LineOptions::PLAIN,
-        tag: None,
-    };
+    let mut service = serving(books, LineOptions::PLAIN, None);
     let listener = TcpListener::bind(&rt, (Ipv4Addr::LOCALHOST, 0))?;
     let first = asked(&rt, &listener, FIRST[0])?;
     let second = asked(&rt, &listener, NOTHING[0][0])?;

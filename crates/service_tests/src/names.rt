@@ -4,7 +4,7 @@ use desk_app::{BooksService, LineOptions, import_file, run_lines};
 use desk_core::Shop;
 use desk_ends::RunEnd;
 use desk_play::play::plays_on;
-use desk_wire::ImportKind;
+use desk_wire::{FileReading, ImportKind};
 use part_core::Limits;
 use sqlite::Connection;
 use std::alloc::Global;
@@ -95,7 +95,7 @@ fn is_imported(
         kind,
         &document,
         day,
-        false,
+        FileReading::Strict,
         names,
         &mut sink,
         &mut shop,

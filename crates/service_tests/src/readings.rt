@@ -31,6 +31,14 @@ const FIRST: &str = r#"["1","2030-01-02","1","3","2","100","0","1"]"#;
 
 const SECOND: &str = r#"["2","2030-01-03","6","3","2","30","5","0"]"#;
 
+/// A service of these books, which are in order.
+pub fn serving<B: Books>(books: B, options: LineOptions, began: Option<u64>) -> BooksService<B>
+    requires { B.are_kept books }
+    ensures { B.are_kept result.books }
+{
+    BooksService::new(books, options, began)
+}
+
 /// A service of a shop with nothing in it, that has accepted so many requests.
 pub fn service(alloc: Global, accepted: u64) -> BooksService<Shop>
     ensures { IsSoundState (state_of result.books) }
@@ -42,6 +50,8 @@ pub fn service(alloc: Global, accepted: u64) -> BooksService<Shop>
             began: BEGAN,
             accepted,
         }),
+        stopped: false,
+        ends_at_fault: false,
     }
 }
 
@@ -172,6 +182,36 @@ fn a_page_reads_the_books(rt: HostRuntime) -> Result<(), Fail> {
     shows_history(alloc, &service, 2, SECOND)?;
     shows_history(alloc, &service, 3, "")?;
     has_tag(&service, Some(4))
+}
+
+/// The tables of a shop that has nothing but a location, but for the rest, as SQL.
+const DUMPED: [&str; 5] = [
+    "BEGIN;\nCREATE TABLE meta (one INTEGER PRIMARY KEY, version INTEGER NOT NULL, next INTEGER NOT NULL,",
+    "\nCREATE TABLE locations (id INTEGER PRIMARY KEY, name TEXT NOT NULL, parent INTEGER) STRICT;\n",
+    "INSERT INTO locations VALUES(1,'Shelf \"A\", left',NULL);\n",
+    "\nCREATE TABLE spent (id INTEGER PRIMARY KEY,",
+    ";\nCOMMIT;\n",
+];
+
+/// What is dumped has the rows, and tells no other tag.
+#[test]
+fn the_books_are_dumped(rt: HostRuntime) -> Result<(), Fail> {
+    let alloc = rt.alloc();
+    let mut service = service(alloc, 0);
+    answers(alloc, &mut service, ADD_LOCATION)?;
+    holds(service.may_dump().is_ok(), "there is no dump")?;
+    let mut text = Vec::new(alloc);
+    holds(service.dump(alloc, &mut text).is_ok(), "a dump is cut")?;
+    let text = String::from_utf8_lossy(alloc, &text)?;
+    let mut rest = text.as_str();
+    for part in DUMPED {
+        let Some((_, behind)) = rest.split_once(part) else {
+            return Err(Fail::from("another dump"));
+        };
+        rest = behind;
+    }
+    holds(rest.is_empty(), "more is dumped")?;
+    has_tag(&service, Some(1))
 }
 
 #[test]

@@ -3,6 +3,7 @@ ghost use Rattle.std.specs.Prelude.{◌≡◌, false};
 ghost use Rattle.sqlite.specs.Held.{state};
 ghost use Rattle.sqlite.specs.State.{HasCleanDisk};
 
+use crate::readings::serving;
 use desk_app::{Books, BooksService, LineOptions};
 use desk_core::Shop;
 use desk_http::Served;
@@ -228,11 +229,7 @@ fn is_served_by_desk<S: Alter + Drop>(alloc: Global, conn: Connection<S>) -> Res
     requires { HasCleanDisk (state S.Store conn) → (state S.Store conn).in_transaction ≡ false }
 {
     let books = created(alloc, conn)?;
-    let mut service = BooksService {
-        books,
-        options: LineOptions::PLAIN,
-        tag: None,
-    };
+    let mut service = serving(books, LineOptions::PLAIN, None);
     is_served(alloc, &mut service, 1)
 }
 

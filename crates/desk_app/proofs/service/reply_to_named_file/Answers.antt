@@ -1,4 +1,3 @@
-use Rattle.std.proofs.Common.{false}
 use Rattle.desk_wire.specs.Imports.{import}
 use Rattle.desk_app.specs.Runs.{naming}
 use Rattle.desk_app.specs.Services.{import_kind}
@@ -7,7 +6,7 @@ use Rattle.desk_app.proofs.service.reply_to_named_file.Goals as goal
 
 pub returns-in-Err-clause-left : goal.returns-in-Err-clause-left
 returns-in-Err-clause-left g c before trees there =
-    left_alone (import false (naming c.args.names (g.B.Books.state_in c.args.books.now))
+    left_alone (import c.args.loose (naming c.args.names (g.B.Books.state_in c.args.books.now))
     (import_kind c.args.kind) c.args.document.now c.args.day c.args.rows.now)
     (g.B.Books.state_in c.args.books.now) trees
     (g.met.B.Books.leave_their_tables c.args.books.now c.requires.kept before trees there)

@@ -1,3 +1,4 @@
+use Rattle.std.proofs.Common.{refl}
 use Rattle.desk_app.specs.Services.{import_sheet}
 use Rattle.desk_app.proofs.Replies.{replied, unreplied_sheet}
 use Rattle.desk_app.proofs.service.BooksServiceService.import_sheet.Goals as goal
@@ -19,7 +20,10 @@ returns-clause-err g c =
 
 pub returns-clause-relates : goal.returns-clause-relates
 returns-clause-relates g c = (
-  c.reply_to_command-replied.ensures.stays_open,
-  tt,
-  λ before trees there. c.reply_to_command-replied.ensures.left before trees there,
+  (
+    c.reply_to_command-replied.ensures.stays_open,
+    tt,
+    λ before trees there. c.reply_to_command-replied.ensures.left before trees there,
+  ),
+  refl,
 )

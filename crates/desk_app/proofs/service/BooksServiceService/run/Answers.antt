@@ -1,3 +1,4 @@
+use Rattle.std.proofs.Common.{refl}
 use Rattle.desk_http.specs.Services.{why_none}
 use Rattle.desk_app.specs.Services.{run_line}
 use Rattle.desk_app.proofs.Replies.{left_if_failed, replied, unreplied_line}
@@ -18,13 +19,16 @@ returns-clause-err g c =
 
 pub returns-clause-relates : goal.returns-clause-relates
 returns-clause-relates g c = (
-  c.reply_to_line-replied.ensures.stays_open,
-  tt,
-  λ before trees there.
-      left_if_failed (why_none c.reply_to_line-replied.result)
-      (g.B.Books.failure_of c.args.self.now.books) (g.B.Books.failure_of c.reply_to_line-replied.new.books)
-      c.reply_to_line-replied.ensures.stays_open before
-      (λ none. g.met.B.Books.leave_their_tables c.reply_to_line-replied.new.books c.reply_to_line-replied.ensures.kept
-      none trees there)
-      (c.reply_to_line-replied.ensures.left before trees there),
+  (
+    c.reply_to_line-replied.ensures.stays_open,
+    tt,
+    λ before trees there.
+        left_if_failed (why_none c.reply_to_line-replied.result)
+        (g.B.Books.failure_of c.args.self.now.books) (g.B.Books.failure_of c.reply_to_line-replied.new.books)
+        c.reply_to_line-replied.ensures.stays_open before
+        (λ none. g.met.B.Books.leave_their_tables c.reply_to_line-replied.new.books c.reply_to_line-replied.ensures.kept
+        none trees there)
+        (c.reply_to_line-replied.ensures.left before trees there),
+  ),
+  refl,
 )
