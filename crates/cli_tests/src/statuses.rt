@@ -40,5 +40,6 @@ fn names_its_file(rt: HostRuntime) {
     assert_eq!(rt; run(None).file(), None);
     assert_eq!(rt; run(Some("w.db")).file(), Some("w.db"));
     assert_eq!(rt; Task::Export("w.db", TableName::Parts).file(), Some("w.db"));
+    assert_eq!(rt; Task::Dump("w.db").file(), Some("w.db"));
     assert_eq!(rt; Task::Memory.file(), None);
 }

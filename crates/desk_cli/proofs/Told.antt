@@ -4,10 +4,12 @@ use Rattle.std.specs.Prelude.{Option, Some, None, option_map}
 use Rattle.clap.specs.Words.{Text}
 use Rattle.desk_wire.specs.SheetViews.{shown_sheet}
 use Rattle.desk_cli.specs.declared.words.Task.{Task}
-use Rattle.desk_cli.specs.declared.words.Task.TheVariants.{Run, Report, Export, Show, Migrate, Import, Sheet, Lines, Serve}
-use Rattle.desk_cli.specs.declared.words.Task.TheVariants.{Guide, Help, Wrong, Unreadable, Memory}
-use Rattle.desk_cli.specs.Words.{Places, DeskTask, guide, run, report, export, show, migrate, import, sheet, lines, serve}
-use Rattle.desk_cli.specs.Words.{desk_task, faults, listed_of, subject_of, Tells, AnswersAt, Runs, RunsOn}
+use Rattle.desk_cli.specs.declared.words.Task.TheVariants.{Run, Report, Export, Dump, Show, Migrate, Import, Sheet, Lines}
+use Rattle.desk_cli.specs.declared.words.Task.TheVariants.{Serve, Guide, Help, Wrong, Unreadable, Memory}
+use Rattle.desk_cli.specs.Words.{Places, DeskTask, guide, run, report, export, dump, show, migrate, import, sheet, lines}
+use Rattle.desk_cli.specs.Words.{serve}
+use Rattle.desk_ends.specs.Lists.{listed_of}
+use Rattle.desk_cli.specs.Words.{desk_task, faults, subject_of, Tells, AnswersAt, Runs, RunsOn}
 
 pub told_answers : (places : Places) (words : List Text) (w : Option DeskTask) (task : Task) → faults places words ≡ []
     → w ≡ desk_task places words
@@ -15,9 +17,10 @@ pub told_answers : (places : Places) (words : List Text) (w : Option DeskTask) (
 told_answers places words w (Run file names stop check explain journal) free same t = (free, sym same ∙ t)
 told_answers places words w (Report file name of) free same t = (free, sym same ∙ t)
 told_answers places words w (Export file table) free same t = (free, sym same ∙ t)
+told_answers places words w (Dump file) free same t = (free, sym same ∙ t)
 told_answers places words w (Show file list csv) free same t = (free, sym same ∙ t)
 told_answers places words w (Migrate file) free same t = (free, sym same ∙ t)
-told_answers places words w (Import file kind document day path names loose explain) free same t = (free, sym same ∙ t)
+told_answers places words w (Import file kind document day path names reading explain) free same t = (free, sym same ∙ t)
 told_answers places words w (Sheet file told path stop explain) free same t = (free, sym same ∙ t)
 told_answers places words w (Lines told path) free same t = (free, sym same ∙ t)
 told_answers places words w (Serve file port count token names page journal) free same t = (free, sym same ∙ t)
@@ -45,11 +48,13 @@ told_runs w (Report file name of) e t =
     absurd (cc)
 told_runs w (Export file table) e t = let f : Some (plain_run None) ≡ Some (export file.now table) = sym e
     ∙ t in absurd (cc)
+told_runs w (Dump file) e t = let f : Some (plain_run None) ≡ Some (dump file.now) = sym e
+    ∙ t in absurd (cc)
 told_runs w (Show file list csv) e t =
     let f : Some (plain_run None) ≡ Some (show file.now (listed_of list) csv) = sym e ∙ t in absurd (cc)
 told_runs w (Migrate file) e t = let f : Some (plain_run None) ≡ Some (migrate file.now) = sym e ∙ t in absurd (cc)
-told_runs w (Import file kind document day path names loose explain) e t =
-    let f : Some (plain_run None) ≡ Some (import file.now kind document day path.now names loose explain) = sym e
+told_runs w (Import file kind document day path names reading explain) e t =
+    let f : Some (plain_run None) ≡ Some (import file.now kind document day path.now names reading explain) = sym e
     ∙ t in absurd (cc)
 told_runs w (Sheet file told path stop explain) e t =
     let f : Some (plain_run None) ≡ Some (sheet file.now (shown_sheet told) path.now stop explain) = sym e ∙ t in
@@ -79,12 +84,14 @@ told_runs_on path w (Report file name of) e t =
     let f : Some (plain_run (Some path)) ≡ Some (report file.now name (subject_of of)) = sym e ∙ t in absurd (cc)
 told_runs_on path w (Export file table) e t =
     let f : Some (plain_run (Some path)) ≡ Some (export file.now table) = sym e ∙ t in absurd (cc)
+told_runs_on path w (Dump file) e t =
+    let f : Some (plain_run (Some path)) ≡ Some (dump file.now) = sym e ∙ t in absurd (cc)
 told_runs_on path w (Show file list csv) e t =
     let f : Some (plain_run (Some path)) ≡ Some (show file.now (listed_of list) csv) = sym e ∙ t in absurd (cc)
 told_runs_on path w (Migrate file) e t =
     let f : Some (plain_run (Some path)) ≡ Some (migrate file.now) = sym e ∙ t in absurd (cc)
-told_runs_on path w (Import file kind document day from names loose explain) e t =
-    let f : Some (plain_run (Some path)) ≡ Some (import file.now kind document day from.now names loose explain) = sym e
+told_runs_on path w (Import file kind document day from names reading explain) e t =
+    let f : Some (plain_run (Some path)) ≡ Some (import file.now kind document day from.now names reading explain) = sym e
     ∙ t in absurd (cc)
 told_runs_on path w (Sheet file told from stop explain) e t =
     let f : Some (plain_run (Some path)) ≡ Some (sheet file.now (shown_sheet told) from.now stop explain) = sym e ∙ t in

@@ -1,4 +1,3 @@
-pub mod Shows
 pub mod Words
 pub mod Statuses
 pub mod FileFaults

@@ -26,9 +26,10 @@ abbrev pub early_status : Task → Option ℕ
 early_status (task.Run file names stop check explain journal) = None
 early_status (task.Report file name of) = None
 early_status (task.Export file table) = None
+early_status (task.Dump file) = None
 early_status (task.Show file list csv) = None
 early_status (task.Migrate file) = None
-early_status (task.Import file kind document day path names loose explain) = None
+early_status (task.Import file kind document day path names reading explain) = None
 early_status (task.Sheet file told path stop explain) = None
 early_status (task.Lines told path) = None
 early_status (task.Serve file port count token names page journal) = None

@@ -2,12 +2,11 @@
 use Rattle.std.specs.Prelude.{◌≡◌, codes, ℕ, List, Option, Some, None, IsSome, Result, Ok, Err}
 use Rattle.std.specs.Borrow.{Bor}
 use Rattle.desk_core.specs.Machine.{State}
-use Rattle.desk_core.specs.Naming.{naming_in}
 use Rattle.report_core.specs.declared.name.ReportName.{ReportName}
 use Rattle.desk_wire.specs.Reading.{table_of}
-use Rattle.desk_wire.specs.RowWords.{row_at_word}
 use Rattle.desk_wire.specs.declared.fault.What.{What}
 use Rattle.desk_wire.specs.declared.fault.What.TheVariants.{NoName, Ambiguous}
+use Rattle.desk_ends.specs.WordRows.{row_at}
 use Rattle.desk_cli.specs.declared.subject.NoRow.{NoRow}
 use Rattle.desk_cli.specs.declared.subject.NoRow.TheVariants.{Wrong, Memory, Closed}
 use Rattle.desk_cli.specs.declared.words.ReportOf.{ReportOf}
@@ -21,7 +20,7 @@ said_word (Word word) = Some word
 -- a number is the row's own; a word is looked up as the names of this state are, in the table of the report
 abbrev pub row_of_report : ReportName → ReportOf → State → Result ℕ What
 row_of_report name (Number number) s = Ok number
-row_of_report name (Word word) s = row_at_word (Some (naming_in s)) (table_of name) (codes "of") word.now
+row_of_report name (Word word) s = row_at (table_of name) word.now s
 
 -- why there is none, of a desk that this fault has closed, if one has
 abbrev pub TellsNoRow : {F A : Type 0} → Option F → Result A What → NoRow → Type 0

@@ -19,22 +19,24 @@ use Rattle.part_core.specs.Day.{CivilDay, day_of}
 use Rattle.part_core.specs.Forms.{Form}
 use Rattle.report_core.specs.Names.{report_named}
 use Rattle.report_core.specs.declared.name.ReportName.{ReportName}
+use Rattle.list_core.specs.HistoryList.{Span}
 use Rattle.table_store.specs.declared.name.TableName.{TableName}
 use Rattle.table_store.specs.declared.name.TableName.TheVariants as table
 use Rattle.desk_wire.specs.Kinds.{import_kind_named}
 use Rattle.desk_wire.specs.Numbers.{number_in}
 use Rattle.desk_wire.specs.Sheets as sheets
 use Rattle.desk_wire.specs.SheetViews.{shown_sheet}
+use Rattle.desk_wire.specs.declared.kind.FileReading.{FileReading}
+use Rattle.desk_wire.specs.declared.kind.FileReading.TheVariants.{Strict, Loose, Unchanged}
 use Rattle.desk_wire.specs.declared.kind.ImportKind.{ImportKind}
+use Rattle.desk_ends.specs.Lists.{Listed, history, list_by, listed_of, named}
 use Rattle.desk_ends.specs.Named.{document_named, table_named}
 use Rattle.desk_cli.specs.SheetWords.{form_in, sheet_in}
-use Rattle.desk_cli.specs.declared.words.ListOf.{ListOf}
-use Rattle.desk_cli.specs.declared.words.ListOf.TheVariants as list
 use Rattle.desk_cli.specs.declared.words.ReportOf.{ReportOf}
 use Rattle.desk_cli.specs.declared.words.ReportOf.TheVariants.{Number, Word}
 use Rattle.desk_cli.specs.declared.words.Task.{Task}
-use Rattle.desk_cli.specs.declared.words.Task.TheVariants.{Run, Report, Export, Show, Migrate, Import, Sheet, Lines, Serve}
-use Rattle.desk_cli.specs.declared.words.Task.TheVariants.{Guide, Help, Wrong, Unreadable, Memory}
+use Rattle.desk_cli.specs.declared.words.Task.TheVariants.{Run, Report, Export, Dump, Show, Migrate, Import, Sheet, Lines}
+use Rattle.desk_cli.specs.declared.words.Task.TheVariants.{Serve, Guide, Help, Wrong, Unreadable, Memory}
 
 -- no more words, or `run`
 abbrev pub asks_run : List (List ℕ) → Bool
@@ -84,7 +86,8 @@ table_names =
 abbrev pub list_names : List Text
 list_names =
     codes "stock" ∷ codes "at" ∷ codes "part" ∷ codes "item" ∷ codes "orders" ∷ codes "builds" ∷ codes "find"
-    ∷ codes "shortages" ∷ codes "trace-forward" ∷ codes "trace-back" ∷ codes "count-sheet" ∷ []
+    ∷ codes "shortages" ∷ codes "trace-forward" ∷ codes "trace-back" ∷ codes "count-sheet" ∷ codes "receipt-sheet"
+    ∷ codes "history" ∷ []
 
 -- receipts, counts, and each command but those two's
 abbrev pub kind_names : List Text
@@ -99,7 +102,25 @@ kind_names =
     ∷ codes "consume" ∷ []
 
 abbrev pub topic_names : List Text
-topic_names = codes "commands" ∷ codes "refusals" ∷ codes "faults" ∷ []
+topic_names =
+    codes "help" ∷ codes "commands" ∷ codes "add_category" ∷ codes "add_location" ∷ codes "add_part"
+    ∷ codes "retire_part" ∷ codes "add_line" ∷ codes "drop_line" ∷ codes "add_substitute" ∷ codes "drop_substitute"
+    ∷ codes "found" ∷ codes "add" ∷ codes "remove" ∷ codes "count" ∷ codes "transfer" ∷ codes "split"
+    ∷ codes "merge" ∷ codes "serialise" ∷ codes "set_status" ∷ codes "install" ∷ codes "uninstall"
+    ∷ codes "disassemble" ∷ codes "reinstate" ∷ codes "order" ∷ codes "order_line" ∷ codes "issue_order"
+    ∷ codes "receive" ∷ codes "allocate_sale" ∷ codes "ship" ∷ codes "return_item" ∷ codes "close_order"
+    ∷ codes "cancel_order" ∷ codes "build" ∷ codes "issue_build" ∷ codes "hold_build" ∷ codes "cancel_build"
+    ∷ codes "outputs" ∷ codes "complete_output" ∷ codes "cancel_output" ∷ codes "scrap_output"
+    ∷ codes "allocate_build" ∷ codes "auto_allocate" ∷ codes "complete_build" ∷ codes "consume" ∷ codes "release"
+    ∷ codes "flags" ∷ codes "refusals" ∷ codes "KeyTaken" ∷ codes "NoSuch" ∷ codes "BadNumber" ∷ codes "NameTaken"
+    ∷ codes "WrongFlag" ∷ codes "Retired" ∷ codes "WrongState" ∷ codes "Mismatch" ∷ codes "OpenOutputs"
+    ∷ codes "InUse" ∷ codes "Cycle" ∷ codes "SelfInside" ∷ codes "Unfit" ∷ codes "NotLoose" ∷ codes "Serialised"
+    ∷ codes "NotSerialised" ∷ codes "HasContent" ∷ codes "Unavailable" ∷ codes "Short" ∷ codes "Allocated"
+    ∷ codes "OverNeed" ∷ codes "SerialCount" ∷ codes "SerialTaken" ∷ codes "TooDeep" ∷ codes "TooLarge"
+    ∷ codes "Full" ∷ codes "faults" ∷ codes "TooLong" ∷ codes "NotJson" ∷ codes "NotObject" ∷ codes "NoField"
+    ∷ codes "WrongType" ∷ codes "UnknownCommand" ∷ codes "UnknownField" ∷ codes "BadKey" ∷ codes "BadDay"
+    ∷ codes "BadText" ∷ codes "BadSerials" ∷ codes "BadWord" ∷ codes "NoName" ∷ codes "Ambiguous" ∷ codes "Csv"
+    ∷ codes "Header" ∷ codes "Changed" ∷ codes "mistakes" ∷ []
 
 -- a reference to these texts, wherever they lie
 pub record Listing (names : List Text) : Type 0 where
@@ -160,15 +181,22 @@ run_line =
     (with_rule (with_rule (with_rule (with_rule (with_rule (new_app (codes "run")) file_rule) names_rule) journal_rule)
     (flag_rule (codes "stop"))) (flag_rule (codes "check"))) (flag_rule (codes "explain"))
 
+-- NAME, of the names that are listed there
+abbrev pub report_rule : Listing report_names → Rule
+report_rule names = among names.at (word_rule (codes "name"))
+
 abbrev pub report_line : Listing report_names → App
 report_line names =
     with_rule
-    (with_rule (with_rule (with_rule (new_app (codes "report")) (needed file_rule)) names_rule)
-    (among names.at (word_rule (codes "name")))) (word_rule (codes "number"))
+    (with_rule (with_rule (with_rule (with_rule (new_app (codes "report")) (needed file_rule)) names_rule)
+    (flag_rule (codes "csv"))) (report_rule names)) (word_rule (codes "number"))
 
 abbrev pub export_line : Listing table_names → App
 export_line names =
     with_rule (with_rule (new_app (codes "export")) (needed file_rule)) (among names.at (word_rule (codes "table")))
+
+abbrev pub dump_line : App
+dump_line = with_rule (new_app (codes "dump")) (needed file_rule)
 
 -- LIST, of the names that are listed there
 abbrev pub list_rule : Listing list_names → Rule
@@ -177,9 +205,9 @@ list_rule names = among names.at (word_rule (codes "list"))
 abbrev pub show_line : Listing list_names → App
 show_line names =
     with_rule
-    (with_rule (with_rule (with_rule (with_rule (with_rule (new_app (codes "show")) (needed file_rule))
-    (flag_rule (codes "csv"))) (flag_rule (codes "open"))) (optional_rule (codes "low"))) (list_rule names))
-    (optional_word_rule (codes "of"))
+    (with_rule (with_rule (with_rule (with_rule (with_rule (with_rule (with_rule (new_app (codes "show"))
+    (needed file_rule)) (flag_rule (codes "csv"))) (flag_rule (codes "open"))) (optional_rule (codes "low")))
+    (optional_rule (codes "from"))) (optional_rule (codes "to"))) (list_rule names)) (optional_word_rule (codes "of"))
 
 abbrev pub migrate_line : App
 migrate_line = with_rule (new_app (codes "migrate")) (needed file_rule)
@@ -191,8 +219,9 @@ kind_rule names = among names.at (option_rule (codes "kind"))
 abbrev pub import_line : Listing kind_names → App
 import_line names =
     with_rule
-    (with_rule (with_rule (with_rule (with_rule (with_rule (with_rule (with_rule (with_rule (with_rule (with_rule
-    (new_app (codes "import")) (needed file_rule)) names_rule) (flag_rule (codes "loose"))) (flag_rule (codes "explain")))
+    (with_rule (with_rule (with_rule (with_rule (with_rule (with_rule (with_rule (with_rule (with_rule (with_rule (with_rule
+    (new_app (codes "import")) (needed file_rule)) names_rule) (flag_rule (codes "loose"))) (flag_rule (codes "unchanged")))
+    (flag_rule (codes "explain")))
     (kind_rule names)) (option_rule (codes "document"))) (option_rule (codes "day"))) (repeated_rule (codes "set")))
     (repeated_rule (codes "column"))) (flag_rule (codes "stop"))) (word_rule (codes "path"))
 
@@ -210,9 +239,9 @@ serve_line =
     journal_rule) (flag_rule (codes "page"))) (option_rule (codes "port"))) (optional_rule (codes "count")))
     (optional_rule (codes "token"))
 
--- TOPIC, of the names that are listed there
+-- TOPIC, which may be left out, of the names that are listed there
 abbrev pub topic_rule : Listing topic_names → Rule
-topic_rule names = among names.at (word_rule (codes "topic"))
+topic_rule names = among names.at (optional_word_rule (codes "topic"))
 
 abbrev pub help_line : Listing topic_names → App
 help_line names = with_rule (new_app (codes "help")) (topic_rule names)
@@ -221,13 +250,16 @@ abbrev pub top_line : App
 top_line =
     on_top (λ shape. record shape { disable_help_subcommand = true; has_version = true }) (new_app (codes "invdesk"))
 
--- the program's command line, as `clap` sees it: it has a version, and eight subcommands
+-- the program's command line, as `clap` sees it: it has a version, and ten subcommands
 abbrev pub command_line : Places → App
 command_line places =
     with_subcommand (with_subcommand (with_subcommand (with_subcommand (with_subcommand (with_subcommand (with_subcommand
-    (with_subcommand (with_subcommand top_line run_line.top) (report_line places.reports).top)
-    (export_line places.tables).top) (show_line places.lists).top) migrate_line.top) (import_line places.kinds).top)
-    (lines_line places.line_kinds).top) serve_line.top) (help_line places.topics).top
+    (with_subcommand (with_subcommand (with_subcommand top_line run_line.top) (report_line places.reports).top)
+    (export_line places.tables).top) dump_line.top) (show_line places.lists).top) migrate_line.top)
+    (import_line places.kinds).top) (lines_line places.line_kinds).top) serve_line.top) (help_line places.topics).top
+
+abbrev pub IsReportRule : Rule → Type 0
+IsReportRule rule = (names : Listing report_names) × (rule ≡ report_rule names)
 
 abbrev pub IsReportLine : App → Type 0
 IsReportLine app = (names : Listing report_names) × (app ≡ report_line names)
@@ -279,59 +311,27 @@ abbrev pub subject_of : ReportOf → Subject
 subject_of (Number number) = numbered number
 subject_of (Word word) = worded word.now
 
--- what a list is of, and what is said of it: the texts are what was said
-pub data Listed : Type 0 where
-  stock : Option ℕ → Listed
-  at : Text → Listed
-  part : Text → Listed
-  item : Text → Listed
-  orders : Bool → Listed
-  builds : Bool → Listed
-  find : Text → Listed
-  shortages : Listed
-  trace_forward : Text → Listed
-  trace_back : Text → Listed
-  count_sheet : Option Text → Listed
-
-abbrev pub listed_of : ListOf → Listed
-listed_of (list.Stock low) = stock low
-listed_of (list.At location) = at location.now
-listed_of (list.Part word) = part word.now
-listed_of (list.Item word) = item word.now
-listed_of (list.Orders only_open) = orders only_open
-listed_of (list.Builds only_open) = builds only_open
-listed_of (list.Find word) = find word.now
-listed_of list.Shortages = shortages
-listed_of (list.TraceForward word) = trace_forward word.now
-listed_of (list.TraceBack word) = trace_back word.now
-listed_of (list.CountSheet location) = count_sheet (option_map (λ word. word.now) location)
-
--- a task of a desk: a run, with the file if one is named; a report of a row; a table; that a file is brought along;
--- the rows at a path; the lines that a file of a command at a path is, or that these be printed, which needs no desk; so
--- many connections to a port, or any number, with the file of a token if one is named; help on a topic, which needs none
--- either. The last words of an import are whether rows may be named, whether the file is read loosely,
--- and whether a person is told why a row isn't done; those of a file of a command whether it ends at the first line that is
--- refused or faulty, and whether a person is told why a line isn't done; those of a serving whether rows may be named, whether the page
--- is served, and whether requests get keys. The words of a run are whether rows may be named, whether it ends at the first
--- line that is refused or faulty, whether all lines are read before any is run, whether a person is told why a line isn't
--- done, and whether requests get keys
+-- a task of a desk: a run, with the file if one is named; a report of a row; a table; all tables; that a file is
+-- brought along; the rows at a path; the lines that a file of a command at a path is, or that these be printed, which
+-- needs no desk; so many connections to a port, or any number, with the file of a token if one is named; help on a
+-- topic, which needs none either. The last words of an import are whether rows may be named, how the file is read,
+-- and whether a person is told why a row isn't done; those of a file of a command whether it ends at the first
+-- line that is refused or faulty, and whether a person is told why a line isn't done; those of a serving whether rows
+-- may be named, whether the page is served, and whether requests get keys. The words of a run are whether rows may be
+-- named, whether it ends at the first line that is refused or faulty, whether all lines are read before any is run,
+-- whether a person is told why a line isn't done, and whether requests get keys
 pub data DeskTask : Type 0 where
   run : Option Text → Bool → Bool → Bool → Bool → Bool → DeskTask
   report : Text → ReportName → Subject → DeskTask
   export : Text → TableName → DeskTask
+  dump : Text → DeskTask
   show : Text → Listed → Bool → DeskTask
   migrate : Text → DeskTask
-  import : Text → ImportKind → Text → CivilDay → Text → Bool → Bool → Bool → DeskTask
+  import : Text → ImportKind → Text → CivilDay → Text → Bool → FileReading → Bool → DeskTask
   sheet : Text → sheets.Sheet → Text → Bool → Bool → DeskTask
   lines : sheets.Sheet → Text → DeskTask
   serve : Option Text → ℕ → Option ℕ → Option Text → Bool → Bool → Bool → DeskTask
   guide : Text → DeskTask
-
-abbrev pub report_with : Option Text → Option ReportName → Option Subject → Option DeskTask
-report_with None name of = None
-report_with (Some file) None of = None
-report_with (Some file) (Some name) None = None
-report_with (Some file) (Some name) (Some of) = Some (report file name of)
 
 abbrev pub export_with : Option Text → Option TableName → Option DeskTask
 export_with None table = None
@@ -343,43 +343,24 @@ abbrev pub low_in : Option Text → Option (Option ℕ)
 low_in None = Some None
 low_in (Some text) = option_map (λ amount. Some amount) (number_in text)
 
--- with what is in stock goes an amount below which a part is low, and nothing else
-abbrev pub stock_by : Option Text → Option Text → Bool → Option Listed
-stock_by of low only_open = if is_none of && not only_open then option_map stock (low_in low) else None
+-- the text of a day, or none; none at all where what is said is no day
+abbrev pub day_in : Option Text → Option (Option Text)
+day_in None = Some None
+day_in (Some text) = if is_some (day_of text) then Some (Some text) else None
 
--- what goes with a list of another name: a word, or none; and with orders and builds whether the open ones alone are meant
-abbrev pub other_by : Text → Option Text → Bool → Option Listed
-other_by name of only_open =
-    if bytes_eq name (codes "at") then (if only_open then None else option_map at of)
-    else if bytes_eq name (codes "part") then (if only_open then None else option_map part of)
-    else if bytes_eq name (codes "item") then (if only_open then None else option_map item of)
-    else if bytes_eq name (codes "orders") then (if is_none of then Some (orders only_open) else None)
-    else if bytes_eq name (codes "builds") then (if is_none of then Some (builds only_open) else None)
-    else if bytes_eq name (codes "find") then (if only_open then None else option_map find of)
-    else if bytes_eq name (codes "shortages") then (if is_none of && not only_open then Some shortages else None)
-    else if bytes_eq name (codes "count-sheet") then (if only_open then None else Some (count_sheet of))
-    else None
+-- the days from the one to the other, where they are said
+abbrev pub days_in : Option Text → Option Text → Option Span
+days_in first last = option_and_then (λ f. option_map (λ l. record { first = f; last = l }) (day_in last)) (day_in first)
 
--- with where something went goes its word, and nothing else
-abbrev pub way_forward : Option Text → Bool → Option Listed
-way_forward of only_open = if only_open then None else option_map trace_forward of
+-- with the history go a word, or none, and days, and nothing else
+abbrev pub history_by : Option Text → Option ℕ → Bool → Option Span → Option Listed
+history_by of low only_open days = if is_none low && not only_open then option_map (history of) days else None
 
--- and so it is with where an item came from
-abbrev pub way_back : Option Text → Bool → Option Listed
-way_back of only_open = if only_open then None else option_map trace_back of
-
--- a list of where something went, or where it came from, or another one
-abbrev pub trace_by : Text → Option Text → Bool → Option Listed
-trace_by name of only_open =
-    if bytes_eq name (codes "trace-forward") then way_forward of only_open
-    else if bytes_eq name (codes "trace-back") then way_back of only_open
-    else other_by name of only_open
-
--- the list of that name, by the word, the amount and the flag that were given with it
-abbrev pub list_by : Text → Option Text → Option Text → Bool → Option Listed
-list_by name of low only_open =
-    if bytes_eq name (codes "stock") then stock_by of low only_open
-    else if is_none low then trace_by name of only_open
+-- the list of that name, by all that was given with it: days go with the history alone
+abbrev pub listed_by : Text → Option Text → Option ℕ → Bool → Option Text → Option Text → Option Listed
+listed_by name of low only_open first last =
+    if bytes_eq name (codes "history") then history_by of low only_open (days_in first last)
+    else if is_none first && is_none last then list_by name of low only_open
     else None
 
 -- a flag that was given has the value `true`
@@ -415,6 +396,17 @@ explain_in rows = is_given (first_of (codes "explain") rows)
 abbrev pub loose_in : List Row → Bool
 loose_in rows = is_given (first_of (codes "loose") rows)
 
+-- the same: whether the books are to have what it says that they had
+abbrev pub unchanged_in : List Row → Bool
+unchanged_in rows = is_given (first_of (codes "unchanged") rows)
+
+-- how a file is read; the books are asked of one that is read loosely alone
+abbrev pub reading_by : Bool → Bool → Option FileReading
+reading_by false false = Some Strict
+reading_by true false = Some Loose
+reading_by true true = Some Unchanged
+reading_by false true = None
+
 -- where rows may be named any word may say one, else a number alone
 abbrev pub subject_by : Bool → Option Text → Option Subject
 subject_by names None = None
@@ -425,10 +417,6 @@ subject_by true (Some text) = Some (worded text)
 abbrev pub run_in : List Row → DeskTask
 run_in rows =
     run (first_of (codes "db") rows) (names_in rows) (stop_in rows) (check_in rows) (explain_in rows) (journal_in rows)
-
-unfoldable pub report_in : List Row → Option DeskTask
-report_in rows = report_with (first_of (codes "db") rows) (option_and_then report_named (first_of (codes "name") rows))
-    (subject_by (names_in rows) (first_of (codes "number") rows))
 
 unfoldable pub export_in : List Row → Option DeskTask
 export_in rows = export_with (first_of (codes "db") rows) (option_and_then table_named (first_of (codes "table") rows))
@@ -444,12 +432,30 @@ abbrev ◌>>=◌ : {A B : Type 0} → Option A → (A → Option B) → Option B
 None >>= f = None
 (Some x) >>= f = f x
 
+-- a report of the row, or its second form, which is a list, of whatever the word says
+abbrev pub report_by : Bool → Text → ReportName → Subject → Text → DeskTask
+report_by false file name of word = report file name of
+report_by true file name of word = show file (named name word) true
+
+unfoldable pub report_in : List Row → Option DeskTask
+report_in rows = do
+  file ← first_of (codes "db") rows
+  name ← option_and_then report_named (first_of (codes "name") rows)
+  of ← subject_by (names_in rows) (first_of (codes "number") rows)
+  word ← first_of (codes "number") rows
+  Some (report_by (csv_in rows) file name of word)
+
 unfoldable pub show_in : List Row → Option DeskTask
 show_in rows = do
   file ← first_of (codes "db") rows
   name ← first_of (codes "list") rows
-  listed ← list_by name (first_of (codes "of") rows) (first_of (codes "low") rows) (open_in rows)
+  low ← low_in (first_of (codes "low") rows)
+  listed ← listed_by name (first_of (codes "of") rows) low (open_in rows) (first_of (codes "from") rows)
+      (first_of (codes "to") rows)
   Some (show file listed (csv_in rows))
+
+unfoldable pub dump_in : List Row → Option DeskTask
+dump_in rows = option_map dump (first_of (codes "db") rows)
 
 unfoldable pub migrate_in : List Row → Option DeskTask
 migrate_in rows = option_map migrate (first_of (codes "db") rows)
@@ -467,8 +473,9 @@ rows_import_in rows = do
   document ← option_and_then document_named (first_of (codes "document") rows)
   day ← option_and_then day_of (first_of (codes "day") rows)
   path ← first_of (codes "path") rows
+  reading ← reading_by (loose_in rows) (unchanged_in rows)
   if has_sheet_words rows then None
-      else Some (import file kind document day path (names_in rows) (loose_in rows) (explain_in rows))
+      else Some (import file kind document day path (names_in rows) reading (explain_in rows))
 
 -- a file of records of that form's command
 unfoldable pub sheet_import_in : Form → List Row → Option DeskTask
@@ -476,7 +483,7 @@ sheet_import_in form rows = do
   told ← sheet_in form rows
   file ← first_of (codes "db") rows
   path ← first_of (codes "path") rows
-  Some (sheet file told path (stop_in rows) (explain_in rows))
+  if unchanged_in rows then None else Some (sheet file told path (stop_in rows) (explain_in rows))
 
 abbrev pub import_by : Option Form → List Row → Option DeskTask
 import_by None rows = rows_import_in rows
@@ -505,8 +512,13 @@ serve_in rows = do
       (serve (first_of (codes "db") rows) port count (first_of (codes "token") rows) (names_in rows) (page_in rows)
       (journal_in rows))
 
-unfoldable pub guide_in : List Row → Option DeskTask
-guide_in rows = option_map guide (first_of (codes "topic") rows)
+-- the topic of help, or, where none is named, what a line can ask for
+abbrev pub topic_by : Option Text → Text
+topic_by None = codes "help"
+topic_by (Some topic) = topic
+
+abbrev pub guide_in : List Row → DeskTask
+guide_in rows = guide (topic_by (first_of (codes "topic") rows))
 
 abbrev pub rows_in : ArgMatches → List Row
 rows_in m = rows_of (found_of m)
@@ -521,12 +533,13 @@ desk_task_met None = Some (run None false false false false false)
 desk_task_met (Some met) =
     if bytes_eq met.0 (codes "report") then report_in met.1
     else if bytes_eq met.0 (codes "export") then export_in met.1
+    else if bytes_eq met.0 (codes "dump") then dump_in met.1
     else if bytes_eq met.0 (codes "show") then show_in met.1
     else if bytes_eq met.0 (codes "migrate") then migrate_in met.1
     else if bytes_eq met.0 (codes "import") then import_in met.1
     else if bytes_eq met.0 (codes "lines") then lines_in met.1
     else if bytes_eq met.0 (codes "serve") then serve_in met.1
-    else if bytes_eq met.0 (codes "help") then guide_in met.1
+    else if bytes_eq met.0 (codes "help") then Some (guide_in met.1)
     else Some (run_in met.1)
 
 -- what the words ask of a desk, where nothing is found wrong
@@ -539,10 +552,11 @@ desk_task_of (Run file names stop check explain journal) =
     Some (run (option_map (λ path. path.now) file) names stop check explain journal)
 desk_task_of (Report file name of) = Some (report file.now name (subject_of of))
 desk_task_of (Export file table) = Some (export file.now table)
+desk_task_of (Dump file) = Some (dump file.now)
 desk_task_of (Show file list csv) = Some (show file.now (listed_of list) csv)
 desk_task_of (Migrate file) = Some (migrate file.now)
-desk_task_of (Import file kind document day path names loose explain) =
-    Some (import file.now kind document day path.now names loose explain)
+desk_task_of (Import file kind document day path names reading explain) =
+    Some (import file.now kind document day path.now names reading explain)
 desk_task_of (Sheet file told path stop explain) = Some (sheet file.now (shown_sheet told) path.now stop explain)
 desk_task_of (Lines told path) = Some (lines (shown_sheet told) path.now)
 desk_task_of (Serve file port count token names page journal) =
@@ -561,9 +575,10 @@ abbrev pub file_of : Task → Option (Bor Text)
 file_of (Run file names stop check explain journal) = file
 file_of (Report file name of) = Some file
 file_of (Export file table) = Some file
+file_of (Dump file) = Some file
 file_of (Show file list csv) = Some file
 file_of (Migrate file) = Some file
-file_of (Import file kind document day path names loose explain) = Some file
+file_of (Import file kind document day path names reading explain) = Some file
 file_of (Sheet file told path stop explain) = Some file
 file_of (Lines told path) = None
 file_of (Serve file port count token names page journal) = file
@@ -578,10 +593,11 @@ abbrev pub Tells : Option DeskTask → Task → Type 0
 Tells desk_task (Run file names stop check explain journal) = desk_task ≡ desk_task_of (Run file names stop check explain journal)
 Tells desk_task (Report file name of) = desk_task ≡ desk_task_of (Report file name of)
 Tells desk_task (Export file table) = desk_task ≡ desk_task_of (Export file table)
+Tells desk_task (Dump file) = desk_task ≡ desk_task_of (Dump file)
 Tells desk_task (Show file list csv) = desk_task ≡ desk_task_of (Show file list csv)
 Tells desk_task (Migrate file) = desk_task ≡ desk_task_of (Migrate file)
-Tells desk_task (Import file kind document day path names loose explain) = desk_task ≡ desk_task_of
-    (Import file kind document day path names loose explain)
+Tells desk_task (Import file kind document day path names reading explain) = desk_task ≡ desk_task_of
+    (Import file kind document day path names reading explain)
 Tells desk_task (Sheet file told path stop explain) = desk_task ≡ desk_task_of (Sheet file told path stop explain)
 Tells desk_task (Lines told path) = desk_task ≡ desk_task_of (Lines told path)
 Tells desk_task (Serve file port count token names page journal) =
@@ -609,12 +625,14 @@ AnswersAt places words (Report file name of) =
     (faults places words ≡ []) × (desk_task places words ≡ desk_task_of (Report file name of))
 AnswersAt places words (Export file table) =
     (faults places words ≡ []) × (desk_task places words ≡ desk_task_of (Export file table))
+AnswersAt places words (Dump file) =
+    (faults places words ≡ []) × (desk_task places words ≡ desk_task_of (Dump file))
 AnswersAt places words (Show file list csv) =
     (faults places words ≡ []) × (desk_task places words ≡ desk_task_of (Show file list csv))
 AnswersAt places words (Migrate file) =
     (faults places words ≡ []) × (desk_task places words ≡ desk_task_of (Migrate file))
-AnswersAt places words (Import file kind document day path names loose explain) =
-    (faults places words ≡ []) × (desk_task places words ≡ desk_task_of (Import file kind document day path names loose explain))
+AnswersAt places words (Import file kind document day path names reading explain) =
+    (faults places words ≡ []) × (desk_task places words ≡ desk_task_of (Import file kind document day path names reading explain))
 AnswersAt places words (Sheet file told path stop explain) =
     (faults places words ≡ []) × (desk_task places words ≡ desk_task_of (Sheet file told path stop explain))
 AnswersAt places words (Lines told path) =
@@ -640,9 +658,10 @@ Runs (Run file names stop check explain journal) =
     (file ≡ None) × (names ≡ false) × (stop ≡ false) × (check ≡ false) × (explain ≡ false) × (journal ≡ false)
 Runs (Report file name of) = ⊥
 Runs (Export file table) = ⊥
+Runs (Dump file) = ⊥
 Runs (Show file list csv) = ⊥
 Runs (Migrate file) = ⊥
-Runs (Import file kind document day path names loose explain) = ⊥
+Runs (Import file kind document day path names reading explain) = ⊥
 Runs (Sheet file told path stop explain) = ⊥
 Runs (Lines told path) = ⊥
 Runs (Serve file port count token names page journal) = ⊥
@@ -660,9 +679,10 @@ RunsOn path (Run file names stop check explain journal) =
     × (explain ≡ false) × (journal ≡ false)
 RunsOn path (Report file name of) = ⊥
 RunsOn path (Export file table) = ⊥
+RunsOn path (Dump file) = ⊥
 RunsOn path (Show file list csv) = ⊥
 RunsOn path (Migrate file) = ⊥
-RunsOn path (Import file kind document day from names loose explain) = ⊥
+RunsOn path (Import file kind document day from names reading explain) = ⊥
 RunsOn path (Sheet file told from stop explain) = ⊥
 RunsOn path (Lines told from) = ⊥
 RunsOn path (Serve file port count token names page journal) = ⊥
@@ -677,9 +697,10 @@ abbrev pub HelpsBy : ErrorKind → Task → Type 0
 HelpsBy kind (Run file names stop check explain journal) = ⊥
 HelpsBy kind (Report file name of) = ⊥
 HelpsBy kind (Export file table) = ⊥
+HelpsBy kind (Dump file) = ⊥
 HelpsBy kind (Show file list csv) = ⊥
 HelpsBy kind (Migrate file) = ⊥
-HelpsBy kind (Import file of document day path names loose explain) = ⊥
+HelpsBy kind (Import file of document day path names reading explain) = ⊥
 HelpsBy kind (Sheet file told path stop explain) = ⊥
 HelpsBy kind (Lines told path) = ⊥
 HelpsBy kind (Serve file port count token names page journal) = ⊥

@@ -10,6 +10,7 @@ ghost use Rattle.desk_core.specs.ShopView.{state_of};
 ghost use Rattle.desk_store.specs.StateTables.{TablesAre};
 ghost use Rattle.desk_store.specs.Desks.{IsDesk};
 ghost use Rattle.desk_store.specs.Migrating.{EitherAre};
+ghost use Rattle.desk_store.specs.Dumps.{dump_text};
 ghost use Rattle.desk_store.specs.Exports.{AppendsFront, table_text};
 ghost use Rattle.report_core.specs.History.{history_lines};
 ghost use Rattle.report_core.specs.Reports.{report_lines};
@@ -285,6 +286,28 @@ pub fn print_export<S: Alter, W: Write>(desk: &Desk<S>, table: TableName, writer
     ensures never { result ≢ RunEnd.ReadFailed }
 {
     match desk.export(table, writer) {
+        Ok(()) => RunEnd::Done(true),
+        Err(ExportFault::Memory) => RunEnd::Memory,
+        Err(ExportFault::Closed) => RunEnd::Store,
+        Err(ExportFault::WriteFailed) => RunEnd::WriteFailed,
+        Err(ExportFault::NoSuch) => unreachable!(),
+    }
+}
+
+/// Prints all tables as SQL, line by line, so that a front of it may be printed before memory runs out.
+pub fn print_dump<S: Alter, W: Write>(desk: &Desk<S>, writer: &mut W) -> RunEnd
+    ensures whole { (all : Bool) → result ≡ RunEnd.Done all
+        → (all ≡ true) × Appends (W.contents writer.old) (W.contents writer.new)
+        (dump_text (state_of desk.now.shop)) }
+    ensures front { (result ≡ RunEnd.WriteFailed) ⊎ (result ≡ RunEnd.Memory)
+        → AppendsFront (W.contents writer.old) (W.contents writer.new)
+        (dump_text (state_of desk.now.shop)) }
+    ensures nothing { result ≡ RunEnd.Store
+        → Keeps (W.contents writer.old) (W.contents writer.new) }
+    ensures closed { (result ≡ RunEnd.Store) ↔ IsSome desk.now.failed }
+    ensures never { result ≢ RunEnd.ReadFailed }
+{
+    match desk.dump(writer) {
         Ok(()) => RunEnd::Done(true),
         Err(ExportFault::Memory) => RunEnd::Memory,
         Err(ExportFault::Closed) => RunEnd::Store,

@@ -13,10 +13,10 @@ mod typed;
 mod words;
 
 pub use database::{FaultyFile, FileFault, connect};
-pub use file::{migrate_desk, print_export, print_migrated, print_report, take_desk};
+pub use file::{migrate_desk, print_dump, print_export, print_migrated, print_report, take_desk};
 pub use look::{Content, has_log, look_into, remove_log};
 pub use show::{listing_of, print_list, says_item_too};
 pub use status::{DEVICE, MEMORY, NOT_ALL, WRONG_WORDS, early_status, status_of, status_of_fault};
-pub use subject::{NoRow, no_row_text, row_of_report};
+pub use subject::{NoRow, no_row_text, row_of_report, several_called};
 pub use typed::TypedLines;
-pub use words::{ListOf, ReportOf, Task, read_words};
+pub use words::{ReportOf, Task, read_words};

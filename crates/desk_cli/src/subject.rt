@@ -1,11 +1,15 @@
 //! The row that a report is of, where a word says it.
-ghost use Rattle.std.specs.Prelude.{◌≡◌, Ok, MatchResult};
+ghost use Rattle.std.specs.Prelude.{◌≡◌, IfSome, Ok, MatchResult};
+ghost use Rattle.std.specs.String.{string_bytes};
 ghost use Rattle.desk_core.specs.ShopView.{state_of};
+ghost use Rattle.list_core.specs.SerialWords.{called_text};
 ghost use Rattle.desk_cli.specs.Subjects.{TellsNoRow, no_row_text, row_of_report};
 
 use crate::words::ReportOf;
+use desk_ends::row_at;
 use desk_store::Desk;
-use desk_wire::{Unread, What, row_at_word, table_of};
+use desk_wire::{Unread, What, table_of};
+use list_core::called_text;
 use report_core::ReportName;
 use sqlite::Alter;
 use std::alloc::Global;
@@ -39,11 +43,37 @@ pub fn row_of_report<S: Alter>(
     let Ok(shop) = desk.shop() else {
         return Err(NoRow::Closed);
     };
-    match row_at_word(alloc, Some(shop), table_of(name), "of", word) {
+    match row_at(alloc, shop, table_of(name), word) {
         Ok(number) => Ok(number),
         Err(Unread::Wrong(what)) => Err(NoRow::Wrong(what)),
         Err(Unread::Memory) => Err(NoRow::Memory),
     }
+}
+
+/// The items that have the word as their serial, where it is told that several rows are called so: each by its part and its
+/// number. None where no item is called so, where the desk is closed, and where there is no memory.
+pub fn several_called<S: Alter>(
+    alloc: Global,
+    desk: &Desk<S>,
+    word: &str,
+    what: &What,
+) -> Option<String>
+    ensures { IfSome result (λ text.
+        string_bytes text ≡ called_text word.now (state_of desk.now.shop)) }
+{
+    if !matches!(what, What::Ambiguous(_)) {
+        return None;
+    }
+    let Ok(shop) = desk.shop() else {
+        return None;
+    };
+    let Ok(text) = called_text(alloc, shop, word) else {
+        return None;
+    };
+    if text.is_empty() {
+        return None;
+    }
+    Some(text)
 }
 
 /// What is told of a word that says no row.

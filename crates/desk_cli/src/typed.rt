@@ -1,4 +1,4 @@
-//! Lines that are typed at a terminal: a prompt before each, and help.
+//! Lines that are typed at a terminal: a prompt before each, help, and an end.
 
 use desk_ends::guide_to;
 use std::io::{self, Read, Write};
@@ -8,7 +8,8 @@ use std::str;
 const PROMPT: &str = "> ";
 
 /// Lines as they come and, where they are typed, the screen on which they are prompted for. A line `help`, or `help` and a
-/// name, is then answered on the screen, and is no line of the run. Where the screen fails, nothing is told.
+/// name, is then answered on the screen, and is no line of the run; a line `quit` or `exit` is the end of them. Where the
+/// screen fails, nothing is told.
 #[derive(Drop)]
 pub struct TypedLines<R, E> {
     reader: R,
@@ -28,6 +29,11 @@ fn name_in(line: &[u8]) -> Option<&str> {
         return Some(text);
     }
     text.strip_prefix("help ")
+}
+
+/// Whether the whole line asks for the end.
+fn is_end(line: &[u8]) -> bool {
+    line == b"quit\n".as_slice() || line == b"exit\n".as_slice()
 }
 
 impl<R: Read, E: Write> TypedLines<R, E> {
@@ -65,6 +71,9 @@ impl<R: Read, E: Write> Read for TypedLines<R, E> {
             let read = &buf[..n];
             let began = self.begins;
             self.begins = read.ends_with(b"\n");
+            if self.are_typed && began && is_end(read) {
+                return Ok(0);
+            }
             match name_in(read) {
                 Some(name) if self.are_typed && began => self.tell(name),
                 _ => return Ok(n),

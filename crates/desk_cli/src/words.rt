@@ -3,23 +3,24 @@ ghost use Rattle.std.specs.Prelude.{◌≡◌, ◌≤◌, ℕ, List, map, option
 ghost use Rattle.std.specs.Prelude.{option_and_then, codes, true, false, IfOk, IfSome, Some};
 ghost use Rattle.clap.specs.Words.{app_of, kind_of, rule_of, subcommand_rows_of};
 ghost use Rattle.part_core.specs.Day.{day_of};
+ghost use Rattle.list_core.specs.HistoryList.{span_of};
 ghost use Rattle.report_core.specs.Names.{report_named};
 ghost use Rattle.desk_wire.specs.Numbers.{number_in};
 ghost use Rattle.desk_wire.specs.Kinds.{import_kind_named};
 ghost use Rattle.desk_cli.specs.Subjects.{said_word};
 ghost use Rattle.desk_cli.specs.Words.{file_rule, flag_rule, journal_rule, names_rule, option_rule};
 ghost use Rattle.desk_cli.specs.Words.{is_given, optional_rule, word_rule};
-ghost use Rattle.desk_cli.specs.Words.{migrate_line, run_line, serve_line, IsKindRule};
+ghost use Rattle.desk_cli.specs.Words.{dump_line, migrate_line, run_line, serve_line, IsKindRule};
 ghost use Rattle.desk_cli.specs.Words.{IsReportLine, IsExportLine, IsImportLine, IsCommandLine, IsLinesLine};
 ghost use Rattle.desk_cli.specs.Words.{has_sheet_words, lines_in, repeated_rule, rows_import_in, sheet_import_in};
 ghost use Rattle.part_core.specs.Forms.{shown};
-ghost use Rattle.desk_cli.specs.Words.{IsListRule, IsShowLine, optional_word_rule, show_in};
+ghost use Rattle.desk_cli.specs.Words.{IsListRule, IsReportRule, IsShowLine, optional_word_rule, show_in};
 ghost use Rattle.desk_cli.specs.Words.{guide_in, IsHelpLine, IsTopicRule};
-ghost use Rattle.desk_cli.specs.Words.{list_by, listed_of, low_in, other_by, stock_by};
-ghost use Rattle.desk_cli.specs.Words.{trace_by, way_back, way_forward};
+ghost use Rattle.desk_cli.specs.Words.{day_in, days_in, history_by, listed_by, low_in};
+ghost use Rattle.desk_ends.specs.Lists.{listed_of};
 ghost use Rattle.desk_ends.specs.Named.{document_named, table_named};
-ghost use Rattle.desk_cli.specs.Words.{number_up_to, report_in};
-ghost use Rattle.desk_cli.specs.Words.{export_in, migrate_in, import_in, count_in, serve_in, desk_task_met};
+ghost use Rattle.desk_cli.specs.Words.{number_up_to, reading_by, report_in};
+ghost use Rattle.desk_cli.specs.Words.{dump_in, export_in, migrate_in, import_in, count_in, serve_in, desk_task_met};
 ghost use Rattle.desk_cli.specs.Words.{desk_task_of, names_in, run_in, subject_by, subject_of};
 ghost use Rattle.desk_cli.specs.Words.{given_in, rows_in, AsksFor, Tells, Parses, file_of};
 ghost use Rattle.desk_cli.specs.Words.{asks_run, asks_help, asks_version, run_on};
@@ -28,8 +29,9 @@ ghost use Rattle.desk_cli.specs.Words.{run_with, is_path, Answers, Runs, RunsOn,
 use crate::sheet_words::{kind_form, sheet_of};
 use clap::error::ErrorKind;
 use clap::{Arg, ArgAction, ArgMatches, Command, Error};
-use desk_ends::table_named;
-use desk_wire::{Document, ImportKind, Sheet, import_kind_named, number_in};
+use desk_ends::{ListOf, list_called, table_named};
+use desk_wire::{Document, FileReading, ImportKind, Sheet, import_kind_named, number_in};
+use list_core::Days;
 use part_core::{Day, Form};
 use report_core::{ReportName, report_named};
 use std::alloc::{AllocError, Global};
@@ -57,33 +59,6 @@ impl<'a> ReportOf<'a> {
     }
 }
 
-/// The list that is asked for. What it is of is said by a word, which is looked up once the file is open.
-#[derive(Clone, Copy, Debug)]
-pub enum ListOf<'a> {
-    /// What is in stock; with an amount those parts alone of which less is free.
-    Stock(Option<u64>),
-    /// What lies at a location and below it.
-    At(&'a str),
-    /// All that there is of a part.
-    Part(&'a str),
-    /// All that there is of an item.
-    Item(&'a str),
-    /// The orders; where it is true, the open ones alone.
-    Orders(bool),
-    /// The builds; where it is true, the open ones alone.
-    Builds(bool),
-    /// What is found by this word.
-    Find(&'a str),
-    /// What open builds lack.
-    Shortages,
-    /// Where the items of a batch went, or where an item went.
-    TraceForward(&'a str),
-    /// Where an item came from.
-    TraceBack(&'a str),
-    /// What is to be counted at a location and below it, or everywhere.
-    CountSheet(Option<&'a str>),
-}
-
 /// The task that the words ask for. A file is named by its path.
 #[derive(Drop)]
 pub enum Task<'a> {
@@ -108,6 +83,8 @@ pub enum Task<'a> {
     },
     /// A table of the desk in the file is printed.
     Export(&'a str, TableName),
+    /// All tables of the desk in the file are printed as SQL.
+    Dump(&'a str),
     /// A list of the desk in the file is printed, in columns or as comma-separated values.
     Show {
         file: &'a str,
@@ -116,8 +93,8 @@ pub enum Task<'a> {
     },
     /// The file, if an earlier program wrote it, is brought along.
     Migrate(&'a str),
-    /// The rows of the file at the path are run by the desk in the file. Where `loose` is set, its columns are taken by
-    /// their names; where `explain` is set, it is told why a row isn't done.
+    /// The rows of the file at the path, which is read in this way, are run by the desk in the file. Where `explain` is set,
+    /// it is told why a row isn't done.
     Import {
         file: &'a str,
         kind: ImportKind,
@@ -125,7 +102,7 @@ pub enum Task<'a> {
         day: Day,
         path: &'a str,
         names: bool,
-        loose: bool,
+        reading: FileReading,
         explain: bool,
     },
     /// The lines that the file at the path is, whose records are of a command, are run by the desk in the file once all have
@@ -174,7 +151,7 @@ impl<'a> Task<'a> {
     {
         match self {
             Task::Run { file, .. } | Task::Serve { file, .. } => *file,
-            Task::Migrate(file) | Task::Export(file, _) => Some(*file),
+            Task::Migrate(file) | Task::Export(file, _) | Task::Dump(file) => Some(*file),
             Task::Report { file, .. } | Task::Import { file, .. } => Some(*file),
             Task::Show { file, .. } | Task::Sheet { file, .. } => Some(*file),
             _ => None,
@@ -182,20 +159,25 @@ impl<'a> Task<'a> {
     }
 }
 
-/// The version of the program.
-const VERSION: &str = "0.4";
+/// The version of the program, and the kit's line with which it is proved, as `rt version` prints it.
+const VERSION: &str = "0.4 (rattle-kit-13f logic dac8208d650f15bf)";
 
 const RUN_EXAMPLE: &str = "Example: invdesk run --db workshop.db < requests";
 
-const REPORT_EXAMPLE: &str = "Example: invdesk report --db workshop.db ledger 2";
+const REPORT_EXAMPLE: &str = "Examples:
+  invdesk report --db workshop.db ledger 2
+  invdesk report --db workshop.db --names --csv stock Screw > screws.csv";
 
 const EXPORT_EXAMPLE: &str = "Example: invdesk export --db workshop.db items";
+
+const DUMP_EXAMPLE: &str = "Example: invdesk dump --db workshop.db > workshop.sql";
 
 const SHOW_EXAMPLE: &str = "Examples:
   invdesk show --db workshop.db stock --low 20
   invdesk show --db workshop.db at Store
   invdesk show --db workshop.db trace-forward L22
-  invdesk show --db workshop.db --csv count-sheet > sheet.csv";
+  invdesk show --db workshop.db --csv count-sheet > sheet.csv
+  invdesk show --db workshop.db history Screw --from 2026-05-01";
 
 const MIGRATE_EXAMPLE: &str = "Example: invdesk migrate --db workshop.db";
 
@@ -239,7 +221,7 @@ const TABLES: [&str; 14] = [
 ];
 
 /// The names of the lists.
-const LISTS: [&str; 11] = [
+const LISTS: [&str; 13] = [
     "stock",
     "at",
     "part",
@@ -251,6 +233,8 @@ const LISTS: [&str; 11] = [
     "trace-forward",
     "trace-back",
     "count-sheet",
+    "receipt-sheet",
+    "history",
 ];
 
 /// The names of the kinds of files: receipts, counts, and each command but those two's.
@@ -300,8 +284,101 @@ const KINDS: [&str; 43] = [
     "consume",
 ];
 
-/// The topics of help.
-const TOPICS: [&str; 3] = ["commands", "refusals", "faults"];
+/// The topics of help: the names of the guide's entries, which `tools/make_guide.py` looks at.
+const TOPICS: [&str; 92] = [
+    "help",
+    "commands",
+    "add_category",
+    "add_location",
+    "add_part",
+    "retire_part",
+    "add_line",
+    "drop_line",
+    "add_substitute",
+    "drop_substitute",
+    "found",
+    "add",
+    "remove",
+    "count",
+    "transfer",
+    "split",
+    "merge",
+    "serialise",
+    "set_status",
+    "install",
+    "uninstall",
+    "disassemble",
+    "reinstate",
+    "order",
+    "order_line",
+    "issue_order",
+    "receive",
+    "allocate_sale",
+    "ship",
+    "return_item",
+    "close_order",
+    "cancel_order",
+    "build",
+    "issue_build",
+    "hold_build",
+    "cancel_build",
+    "outputs",
+    "complete_output",
+    "cancel_output",
+    "scrap_output",
+    "allocate_build",
+    "auto_allocate",
+    "complete_build",
+    "consume",
+    "release",
+    "flags",
+    "refusals",
+    "KeyTaken",
+    "NoSuch",
+    "BadNumber",
+    "NameTaken",
+    "WrongFlag",
+    "Retired",
+    "WrongState",
+    "Mismatch",
+    "OpenOutputs",
+    "InUse",
+    "Cycle",
+    "SelfInside",
+    "Unfit",
+    "NotLoose",
+    "Serialised",
+    "NotSerialised",
+    "HasContent",
+    "Unavailable",
+    "Short",
+    "Allocated",
+    "OverNeed",
+    "SerialCount",
+    "SerialTaken",
+    "TooDeep",
+    "TooLarge",
+    "Full",
+    "faults",
+    "TooLong",
+    "NotJson",
+    "NotObject",
+    "NoField",
+    "WrongType",
+    "UnknownCommand",
+    "UnknownField",
+    "BadKey",
+    "BadDay",
+    "BadText",
+    "BadSerials",
+    "BadWord",
+    "NoName",
+    "Ambiguous",
+    "Csv",
+    "Header",
+    "Changed",
+    "mistakes",
+];
 
 /// What help says of requests that get keys.
 const JOURNAL: &str = "Each request without a key gets one, so that its answer is kept";
@@ -431,12 +508,19 @@ fn run_command<'a>(alloc: Global) -> Result<Command<'a>, AllocError>
         .arg(explain_flag(alloc))
 }
 
+/// The word that says which report it is.
+fn report_word<'a>(alloc: Global) -> Arg<'a>
+    ensures rule { IsReportRule (rule_of result) }
+    ensures local { result.global ≡ false }
+{
+    word(alloc, "name", "NAME")
+        .value_parser(REPORTS.as_slice())
+        .help("Of a part; history and content are of an item, shortage is of a build")
+}
+
 fn report_command<'a>(alloc: Global) -> Result<Command<'a>, AllocError>
     ensures { IfOk result (λ command. IsReportLine (app_of command)) }
 {
-    let name = word(alloc, "name", "NAME")
-        .value_parser(REPORTS.as_slice())
-        .help("Of a part; history and content are of an item, shortage is of a build");
     let number = word(alloc, "number", "NUMBER").help(
         "The number of the part, the item or the build, or with --names what it is called",
     );
@@ -445,7 +529,12 @@ fn report_command<'a>(alloc: Global) -> Result<Command<'a>, AllocError>
         .after_help(REPORT_EXAMPLE)
         .arg(file(alloc, KEPT_FILE).required(true))?
         .arg(names_flag(alloc))?
-        .arg(name)?
+        .arg(flag(
+            alloc,
+            "csv",
+            "For a spreadsheet: comma-separated values with a header, with names and ways",
+        ))?
+        .arg(report_word(alloc))?
         .arg(number)
 }
 
@@ -462,6 +551,15 @@ fn export_command<'a>(alloc: Global) -> Result<Command<'a>, AllocError>
         .arg(table)
 }
 
+fn dump_command<'a>(alloc: Global) -> Result<Command<'a>, AllocError>
+    ensures { IfOk result (λ command. app_of command ≡ dump_line) }
+{
+    Command::new(alloc, "dump")
+        .about("Prints all tables as SQL, which sqlite3 makes a file of again")
+        .after_help(DUMP_EXAMPLE)
+        .arg(file(alloc, KEPT_FILE).required(true))
+}
+
 /// The word that says which list it is.
 fn list_word<'a>(alloc: Global) -> Arg<'a>
     ensures rule { IsListRule (rule_of result) }
@@ -470,7 +568,8 @@ fn list_word<'a>(alloc: Global) -> Arg<'a>
     word(alloc, "list", "LIST")
         .value_parser(LISTS.as_slice())
         .help(
-            "Which list; at, part, item, find, trace-forward and trace-back take a word, and count-sheet may take one",
+            "Which list; at, part, item, find, trace-forward and trace-back take a word, and count-sheet, \
+            receipt-sheet and history may take one",
         )
 }
 
@@ -478,9 +577,11 @@ fn show_command<'a>(alloc: Global) -> Result<Command<'a>, AllocError>
     ensures { IfOk result (λ command. IsShowLine (app_of command)) }
 {
     let low = optional(alloc, "low", "N").help("Of stock: those parts of which less is free");
+    let from = optional(alloc, "from", "DAY").help("Of history: from this day on, YYYY-MM-DD");
+    let to = optional(alloc, "to", "DAY").help("Of history: up to this day, and with it");
     let of = optional_word(alloc, "of", "WORD").help(
-        "The number of a location, a part or an item, or what it is called; of trace-forward a batch, too; of find, \
-        what to look for",
+        "The number of a location, a part, an item or an order, or what it is called; of trace-forward a batch, too; \
+        of find, what to look for",
     );
     Command::new(alloc, "show")
         .about("Shows a list")
@@ -489,6 +590,8 @@ fn show_command<'a>(alloc: Global) -> Result<Command<'a>, AllocError>
         .arg(flag(alloc, "csv", "As comma-separated values, for a spreadsheet"))?
         .arg(flag(alloc, "open", "Of orders and builds: the open ones alone"))?
         .arg(low)?
+        .arg(from)?
+        .arg(to)?
         .arg(list_word(alloc))?
         .arg(of)
 }
@@ -570,6 +673,11 @@ fn import_command<'a>(alloc: Global) -> Result<Command<'a>, AllocError>
             "loose",
             "Columns are taken by their names, and rows without a quantity are left out",
         ))?
+        .arg(flag(
+            alloc,
+            "unchanged",
+            "With --loose: runs no row where the books have another number than a sheet says they had",
+        ))?
         .arg(explain_flag(alloc))?
         .arg(kind_option(alloc))?
         .arg(document)?
@@ -630,9 +738,9 @@ fn topic_word<'a>(alloc: Global) -> Arg<'a>
     ensures rule { IsTopicRule (rule_of result) }
     ensures local { result.global ≡ false }
 {
-    word(alloc, "topic", "TOPIC")
+    optional_word(alloc, "topic", "TOPIC")
         .value_parser(TOPICS.as_slice())
-        .help("On what")
+        .help("On what; without it, on what a line can ask for")
 }
 
 fn help_command<'a>(alloc: Global) -> Result<Command<'a>, AllocError>
@@ -653,6 +761,7 @@ fn command<'a>(alloc: Global) -> Result<Command<'a>, AllocError>
         .subcommand(run_command(alloc)?)?
         .subcommand(report_command(alloc)?)?
         .subcommand(export_command(alloc)?)?
+        .subcommand(dump_command(alloc)?)?
         .subcommand(show_command(alloc)?)?
         .subcommand(migrate_command(alloc)?)?
         .subcommand(import_command(alloc)?)?
@@ -781,7 +890,7 @@ fn run_task<'a>(matches: &ArgMatches<'a>) -> Task<'a>
     }
 }
 
-/// The report that is asked for, if the words name one.
+/// The report that is asked for, if the words name one: its second form is a list.
 #[tactic(auto, unfolding(crate::specs::Words::report_in))]
 fn report_task<'a>(matches: &ArgMatches<'a>) -> Option<Task<'a>>
     ensures { AsksFor (report_in (rows_in matches.now)) result }
@@ -789,6 +898,14 @@ fn report_task<'a>(matches: &ArgMatches<'a>) -> Option<Task<'a>>
     let file = given(matches, "db")?;
     let name = report_name(matches)?;
     let of = report_of(matches)?;
+    let word = given(matches, "number")?;
+    if has_flag(matches, "csv") {
+        return Some(Task::Show {
+            file,
+            list: ListOf::Report(name, word),
+            csv: true,
+        });
+    }
     Some(Task::Report { file, name, of })
 }
 
@@ -800,6 +917,15 @@ fn export_task<'a>(matches: &ArgMatches<'a>) -> Option<Task<'a>>
     let file = given(matches, "db")?;
     let table = export_table(matches)?;
     Some(Task::Export(file, table))
+}
+
+/// The dump that is asked for, if the words name a file.
+#[tactic(auto, unfolding(crate::specs::Words::dump_in))]
+fn dump_task<'a>(matches: &ArgMatches<'a>) -> Option<Task<'a>>
+    ensures { AsksFor (dump_in (rows_in matches.now)) result }
+{
+    let file = given(matches, "db")?;
+    Some(Task::Dump(file))
 }
 
 /// The amount below which a part is low, if it is said; none where what is said is no number.
@@ -815,86 +941,65 @@ fn low_amount(low: Option<&str>) -> Option<Option<u64>>
     }
 }
 
-/// The list of what is in stock, if no other word goes with it than an amount.
-fn stock_list<'a>(of: Option<&str>, low: Option<&str>, only_open: bool) -> Option<ListOf<'a>>
-    ensures { option_map listed_of result
-        ≡ stock_by (option_map (λ t. t.now) of.entry) (option_map (λ t. t.now) low.entry) only_open }
+/// The text of a day, if it is said; none where what is said is no day.
+fn said_day(text: Option<&str>) -> Option<Option<&str>>
+    ensures { option_map (option_map (λ t. t.now)) result
+        ≡ day_in (option_map (λ t. t.now) text.entry) }
 {
-    if of.is_some() || only_open {
+    match text {
+        None => Some(None),
+        Some(text) => match Day::parse(text) {
+            None => None,
+            Some(_) => Some(Some(text)),
+        },
+    }
+}
+
+/// The days from the one to the other, where they are said; none where what is said is no day.
+fn said_days<'a>(first: Option<&'a str>, last: Option<&'a str>) -> Option<Days<'a>>
+    ensures { option_map span_of result ≡ days_in (option_map (λ t. t.now) first.entry)
+        (option_map (λ t. t.now) last.entry) }
+{
+    let first = said_day(first)?;
+    let last = said_day(last)?;
+    Some(Days { first, last })
+}
+
+/// The history of these days, if no other word goes with it than one that says of what it is.
+fn history_list<'a>(
+    of: Option<&'a str>,
+    low: Option<u64>,
+    only_open: bool,
+    days: Option<Days<'a>>,
+) -> Option<ListOf<'a>>
+    ensures { option_map listed_of result ≡ history_by (option_map (λ t. t.now) of.entry)
+        low only_open (option_map span_of days.entry) }
+{
+    if low.is_some() || only_open {
         return None;
     }
-    Some(ListOf::Stock(low_amount(low)?))
+    Some(ListOf::History(of, days?))
 }
 
-/// The list of that name, if these words go with it. Those of what is in stock and of ways are other functions'.
-fn other_list<'a>(name: &str, of: Option<&'a str>, only_open: bool) -> Option<ListOf<'a>>
-    ensures { option_map listed_of result
-        ≡ other_by name.now (option_map (λ t. t.now) of.entry) only_open }
-{
-    match (name, of, only_open) {
-        ("at", Some(location), false) => Some(ListOf::At(location)),
-        ("part", Some(part), false) => Some(ListOf::Part(part)),
-        ("item", Some(item), false) => Some(ListOf::Item(item)),
-        ("orders", None, _) => Some(ListOf::Orders(only_open)),
-        ("builds", None, _) => Some(ListOf::Builds(only_open)),
-        ("find", Some(word), false) => Some(ListOf::Find(word)),
-        ("shortages", None, false) => Some(ListOf::Shortages),
-        ("count-sheet", _, false) => Some(ListOf::CountSheet(of)),
-        _ => None,
-    }
-}
-
-/// The list of where something went that a word says.
-fn forward_list(of: Option<&str>, only_open: bool) -> Option<ListOf<'_>>
-    ensures { option_map listed_of result
-        ≡ way_forward (option_map (λ t. t.now) of.entry) only_open }
-{
-    if only_open {
-        return None;
-    }
-    Some(ListOf::TraceForward(of?))
-}
-
-/// The list of where an item came from that a word says.
-fn back_list(of: Option<&str>, only_open: bool) -> Option<ListOf<'_>>
-    ensures { option_map listed_of result
-        ≡ way_back (option_map (λ t. t.now) of.entry) only_open }
-{
-    if only_open {
-        return None;
-    }
-    Some(ListOf::TraceBack(of?))
-}
-
-/// The list of that name, if these words go with it. That of what is in stock is another function's.
-fn trace_list<'a>(name: &str, of: Option<&'a str>, only_open: bool) -> Option<ListOf<'a>>
-    ensures { option_map listed_of result
-        ≡ trace_by name.now (option_map (λ t. t.now) of.entry) only_open }
-{
-    match name {
-        "trace-forward" => forward_list(of, only_open),
-        "trace-back" => back_list(of, only_open),
-        _ => other_list(name, of, only_open),
-    }
-}
-
-/// The list of that name, if these words go with it.
-fn list_of<'a>(
+/// The list of that name, if these words and days go with it.
+fn list_by_days<'a>(
     name: &str,
     of: Option<&'a str>,
-    low: Option<&str>,
+    low: Option<u64>,
     only_open: bool,
+    first: Option<&'a str>,
+    last: Option<&'a str>,
 ) -> Option<ListOf<'a>>
-    ensures { option_map listed_of result ≡ list_by name.now (option_map (λ t. t.now) of.entry)
-        (option_map (λ t. t.now) low.entry) only_open }
+    ensures { option_map listed_of result ≡ listed_by name.now (option_map (λ t. t.now) of.entry)
+        low only_open (option_map (λ t. t.now) first.entry) (option_map (λ t. t.now) last.entry) }
 {
-    if name == "stock" {
-        return stock_list(of, low, only_open);
+    if name == "history" {
+        return history_list(of, low, only_open, said_days(first, last));
     }
-    if low.is_some() {
+    if first.is_some() || last.is_some() {
         return None;
     }
-    trace_list(name, of, only_open)
+    list_called(name, of, low, only_open)
 }
 
 /// The list that is asked for, if the words name one.
@@ -904,11 +1009,14 @@ fn show_task<'a>(matches: &ArgMatches<'a>) -> Option<Task<'a>>
 {
     let file = given(matches, "db")?;
     let name = given(matches, "list")?;
-    let list = list_of(
+    let low = low_amount(given(matches, "low"))?;
+    let list = list_by_days(
         name,
         given(matches, "of"),
-        given(matches, "low"),
+        low,
         has_flag(matches, "open"),
+        given(matches, "from"),
+        given(matches, "to"),
     )?;
     Some(Task::Show {
         file,
@@ -935,6 +1043,18 @@ fn has_sheet_words(matches: &ArgMatches<'_>) -> bool
         || has_flag(matches, "stop")
 }
 
+/// How a file is read, if the words can be said together.
+fn reading_by(loose: bool, unchanged: bool) -> Option<FileReading>
+    ensures { result ≡ reading_by loose unchanged }
+{
+    match (loose, unchanged) {
+        (false, false) => Some(FileReading::Strict),
+        (true, false) => Some(FileReading::Loose),
+        (true, true) => Some(FileReading::Unchanged),
+        (false, true) => None,
+    }
+}
+
 /// The import of receipts or counts of that document that is asked for, if the words name one.
 #[tactic(auto, unfolding(crate::specs::Words::rows_import_in))]
 fn import_of<'a>(matches: &ArgMatches<'a>, document: Option<Document>) -> Option<Task<'a>>
@@ -946,6 +1066,7 @@ fn import_of<'a>(matches: &ArgMatches<'a>, document: Option<Document>) -> Option
     let document = document?;
     let day = import_day(matches)?;
     let path = given(matches, "path")?;
+    let reading = reading_by(has_flag(matches, "loose"), has_flag(matches, "unchanged"))?;
     if has_sheet_words(matches) {
         return None;
     }
@@ -956,7 +1077,7 @@ fn import_of<'a>(matches: &ArgMatches<'a>, document: Option<Document>) -> Option
         day,
         path,
         names: names(matches),
-        loose: has_flag(matches, "loose"),
+        reading,
         explain: has_flag(matches, "explain"),
     })
 }
@@ -979,6 +1100,9 @@ fn sheet_task<'a>(
     let Some(path) = given(matches, "path") else {
         return Ok(None);
     };
+    if has_flag(matches, "unchanged") {
+        return Ok(None);
+    }
     Ok(Some(Task::Sheet {
         file,
         sheet,
@@ -1035,13 +1159,14 @@ fn serve_task<'a>(matches: &ArgMatches<'a>) -> Option<Task<'a>>
     })
 }
 
-/// The help that is asked for, if the words name a topic.
-#[tactic(auto, unfolding(crate::specs::Words::guide_in))]
-fn guide_task<'a>(matches: &ArgMatches<'a>) -> Option<Task<'a>>
-    ensures { AsksFor (guide_in (rows_in matches.now)) result }
+/// The help that is asked for: where the words name no topic, on what a line can ask for.
+fn guide_task<'a>(matches: &ArgMatches<'a>) -> Task<'a>
+    ensures { desk_task_of result ≡ Some (guide_in (rows_in matches.now)) }
 {
-    let topic = given(matches, "topic")?;
-    Some(Task::Guide(topic))
+    match given(matches, "topic") {
+        Some(topic) => Task::Guide(topic),
+        None => Task::Guide("help"),
+    }
 }
 
 /// The task that words ask for in which nothing is wrong but, it may be, the form of a value.
@@ -1051,12 +1176,13 @@ fn task_by<'a>(alloc: Global, matches: &ArgMatches<'a>) -> Result<Option<Task<'a
     match matches.subcommand() {
         Some(("report", matches)) => Ok(report_task(matches)),
         Some(("export", matches)) => Ok(export_task(matches)),
+        Some(("dump", matches)) => Ok(dump_task(matches)),
         Some(("show", matches)) => Ok(show_task(matches)),
         Some(("migrate", matches)) => Ok(migrate_task(matches)),
         Some(("import", matches)) => import_task(alloc, matches),
         Some(("lines", matches)) => lines_task(alloc, matches),
         Some(("serve", matches)) => Ok(serve_task(matches)),
-        Some(("help", matches)) => Ok(guide_task(matches)),
+        Some(("help", matches)) => Ok(Some(guide_task(matches))),
         Some((_, matches)) => Ok(Some(run_task(matches))),
         None => Ok(Some(Task::Run {
             file: None,
@@ -1102,6 +1228,9 @@ fn file_wants(
 
 /// What the values of an import are to be.
 fn import_wants(alloc: Global, matches: &ArgMatches<'_>) -> Result<&'static str, AllocError> {
+    if has_flag(matches, "unchanged") {
+        return Ok("--unchanged goes with --loose, and with receipts or counts");
+    }
     file_wants(
         alloc,
         matches,
@@ -1128,8 +1257,9 @@ fn serve_wants(matches: &ArgMatches<'_>) -> &'static str {
 
 /// What goes with which list.
 const SHOW_WANTS: &str =
-    "stock takes --low N, where N has 1 to 19 digits; orders and builds take --open; at, part, \
-    item, find, trace-forward and trace-back take a word, count-sheet may take one, and no other list does";
+    "stock takes --low N, where N has 1 to 19 digits; orders and builds take --open; history takes --from DAY and \
+    --to DAY, where DAY is YYYY-MM-DD of the years 2000 to 2099; at, part, item, find, trace-forward and trace-back take a \
+    word, count-sheet, receipt-sheet and history may take one, and no other list does";
 
 /// What the values are to be where one isn't so.
 fn wants(alloc: Global, matches: &ArgMatches<'_>) -> Result<&'static str, AllocError> {
@@ -1176,7 +1306,7 @@ fn told_by<'a>(alloc: Global, matches: &ArgMatches<'a>) -> Task<'a>
     }
 }
 
-/// Reads the words, of which the first is the program's name: no more, or `run`, `report`, `export`, `show`,
+/// Reads the words, of which the first is the program's name: no more, or `run`, `report`, `export`, `dump`, `show`,
 /// `migrate`, `import`, `lines`, `serve` or `help` with theirs.
 pub fn read_words<'a, S: AsStr>(alloc: Global, words: &'a [S]) -> Task<'a>
     ensures answers { Answers (map S.text words.now) result }

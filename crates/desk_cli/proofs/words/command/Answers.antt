@@ -2,7 +2,7 @@ use Rattle.std.proofs.Common.{ap, codes, refl, true, ◌≡◌, ◌∙◌}
 use Rattle.std.proofs.lemmas.Result.{IfOk-weaker}
 use Rattle.clap.specs.Words.{App, app_of, new_app, with_subcommand}
 use Rattle.clap.specs.Simple.{app_of_fields, on_top}
-use Rattle.desk_cli.specs.Words.{Places, top_line, run_line, report_line, export_line, migrate_line}
+use Rattle.desk_cli.specs.Words.{Places, top_line, run_line, report_line, export_line, dump_line, migrate_line}
 use Rattle.desk_cli.specs.Words.{help_line, import_line, lines_line, serve_line, show_line}
 use Rattle.desk_cli.proofs.CommandLines.{line_added}
 use Rattle.desk_cli.proofs.words.command.Goals as goal
@@ -34,7 +34,8 @@ returns c =
     let run : App = with_subcommand top_line run_line.top in
     let with_report : App = with_subcommand run (report_line report.0).top in
     let with_export : App = with_subcommand with_report (export_line export.0).top in
-    let with_show : App = with_subcommand with_export (show_line show.0).top in
+    let with_dump : App = with_subcommand with_export dump_line.top in
+    let with_show : App = with_subcommand with_dump (show_line show.0).top in
     let with_migrate : App = with_subcommand with_show migrate_line.top in
     let with_import : App = with_subcommand with_migrate (import_line import.0).top in
     let with_lines : App = with_subcommand with_import (lines_line lines.0).top in
@@ -49,22 +50,25 @@ returns c =
     line_added c.in_ok-subcommand-2.field-0 c.in_ok-export_command.field-0 c.in_ok-subcommand-3.field-0 with_report
     (export_line export.0) c.in_ok-subcommand-3.ensures refl two export.1 in
     let four =
-    line_added c.in_ok-subcommand-3.field-0 c.in_ok-show_command.field-0 c.in_ok-subcommand-4.field-0 with_export
-    (show_line show.0) c.in_ok-subcommand-4.ensures refl three show.1 in
+    line_added c.in_ok-subcommand-3.field-0 c.in_ok-dump_command.field-0 c.in_ok-subcommand-4.field-0 with_export
+    dump_line c.in_ok-subcommand-4.ensures refl three c.in_ok-dump_command.ensures in
     let five =
-    line_added c.in_ok-subcommand-4.field-0 c.in_ok-migrate_command.field-0 c.in_ok-subcommand-5.field-0 with_show
-    migrate_line c.in_ok-subcommand-5.ensures refl four c.in_ok-migrate_command.ensures in
+    line_added c.in_ok-subcommand-4.field-0 c.in_ok-show_command.field-0 c.in_ok-subcommand-5.field-0 with_dump
+    (show_line show.0) c.in_ok-subcommand-5.ensures refl four show.1 in
     let six =
-    line_added c.in_ok-subcommand-5.field-0 c.in_ok-import_command.field-0 c.in_ok-subcommand-6.field-0 with_migrate
-    (import_line import.0) c.in_ok-subcommand-6.ensures refl five import.1 in
+    line_added c.in_ok-subcommand-5.field-0 c.in_ok-migrate_command.field-0 c.in_ok-subcommand-6.field-0 with_show
+    migrate_line c.in_ok-subcommand-6.ensures refl five c.in_ok-migrate_command.ensures in
     let seven =
-    line_added c.in_ok-subcommand-6.field-0 c.in_ok-lines_command.field-0 c.in_ok-subcommand-7.field-0 with_import
-    (lines_line lines.0) c.in_ok-subcommand-7.ensures refl six lines.1 in
+    line_added c.in_ok-subcommand-6.field-0 c.in_ok-import_command.field-0 c.in_ok-subcommand-7.field-0 with_migrate
+    (import_line import.0) c.in_ok-subcommand-7.ensures refl six import.1 in
     let eight =
-    line_added c.in_ok-subcommand-7.field-0 c.in_ok-serve_command.field-0 c.in_ok-subcommand-8.field-0 with_lines
-    serve_line c.in_ok-subcommand-8.ensures refl seven c.in_ok-serve_command.ensures in
-    IfOk-weaker c.subcommand-9.result _ _ (λ r added. (
+    line_added c.in_ok-subcommand-7.field-0 c.in_ok-lines_command.field-0 c.in_ok-subcommand-8.field-0 with_import
+    (lines_line lines.0) c.in_ok-subcommand-8.ensures refl seven lines.1 in
+    let nine =
+    line_added c.in_ok-subcommand-8.field-0 c.in_ok-serve_command.field-0 c.in_ok-subcommand-9.field-0 with_lines
+    serve_line c.in_ok-subcommand-9.ensures refl eight c.in_ok-serve_command.ensures in
+    IfOk-weaker c.subcommand-10.result _ _ (λ r added. (
       places,
-      line_added c.in_ok-subcommand-8.field-0 c.in_ok-help_command.field-0 r with_serve (help_line help.0) added refl
-          eight help.1,
-    )) c.subcommand-9.ensures
+      line_added c.in_ok-subcommand-9.field-0 c.in_ok-help_command.field-0 r with_serve (help_line help.0) added refl
+          nine help.1,
+    )) c.subcommand-10.ensures

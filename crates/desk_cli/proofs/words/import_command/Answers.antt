@@ -31,7 +31,8 @@ returns c =
     let one : App = with_rule (new_app (codes "import")) (needed file_rule) in
     let named : App = with_rule one names_rule in
     let loose : App = with_rule named (flag_rule (codes "loose")) in
-    let explained : App = with_rule loose (flag_rule (codes "explain")) in
+    let unchanged : App = with_rule loose (flag_rule (codes "unchanged")) in
+    let explained : App = with_rule unchanged (flag_rule (codes "explain")) in
     let two : App = with_rule explained (kind_rule kind.0) in
     let three : App = with_rule two (option_rule (codes "document")) in
     let four : App = with_rule three (option_rule (codes "day")) in
@@ -47,29 +48,32 @@ returns c =
     let loose_is =
     rule_added c.in_ok-arg-2.field-0 c.flag.result c.in_ok-arg-3.field-0 named (flag_rule (codes "loose"))
     c.in_ok-arg-3.ensures c.flag.ensures.local named_is c.flag.ensures.rule in
+    let unchanged_is =
+    rule_added c.in_ok-arg-3.field-0 c.flag-2.result c.in_ok-arg-4.field-0 loose (flag_rule (codes "unchanged"))
+    c.in_ok-arg-4.ensures c.flag-2.ensures.local loose_is c.flag-2.ensures.rule in
     let explained_is =
-    rule_added c.in_ok-arg-3.field-0 c.explain_flag.result c.in_ok-arg-4.field-0 loose (flag_rule (codes "explain"))
-    c.in_ok-arg-4.ensures c.explain_flag.ensures.local loose_is c.explain_flag.ensures.rule in
+    rule_added c.in_ok-arg-4.field-0 c.explain_flag.result c.in_ok-arg-5.field-0 unchanged (flag_rule (codes "explain"))
+    c.in_ok-arg-5.ensures c.explain_flag.ensures.local unchanged_is c.explain_flag.ensures.rule in
     let two_is =
-    rule_added c.in_ok-arg-4.field-0 c.kind_option.result c.in_ok-arg-5.field-0 explained (kind_rule kind.0)
-    c.in_ok-arg-5.ensures c.kind_option.ensures.local explained_is kind.1 in
+    rule_added c.in_ok-arg-5.field-0 c.kind_option.result c.in_ok-arg-6.field-0 explained (kind_rule kind.0)
+    c.in_ok-arg-6.ensures c.kind_option.ensures.local explained_is kind.1 in
     let three_is =
-    rule_added c.in_ok-arg-5.field-0 c.help-document.result c.in_ok-arg-6.field-0 two (option_rule (codes "document"))
-    c.in_ok-arg-6.ensures document_local two_is document_is in
+    rule_added c.in_ok-arg-6.field-0 c.help-document.result c.in_ok-arg-7.field-0 two (option_rule (codes "document"))
+    c.in_ok-arg-7.ensures document_local two_is document_is in
     let four_is =
-    rule_added c.in_ok-arg-6.field-0 c.help-day.result c.in_ok-arg-7.field-0 three (option_rule (codes "day"))
-    c.in_ok-arg-7.ensures day_local three_is day_is in
+    rule_added c.in_ok-arg-7.field-0 c.help-day.result c.in_ok-arg-8.field-0 three (option_rule (codes "day"))
+    c.in_ok-arg-8.ensures day_local three_is day_is in
     let five_is =
-    rule_added c.in_ok-arg-7.field-0 c.set_option.result c.in_ok-arg-8.field-0 four (repeated_rule (codes "set"))
-    c.in_ok-arg-8.ensures c.set_option.ensures.local four_is c.set_option.ensures.rule in
+    rule_added c.in_ok-arg-8.field-0 c.set_option.result c.in_ok-arg-9.field-0 four (repeated_rule (codes "set"))
+    c.in_ok-arg-9.ensures c.set_option.ensures.local four_is c.set_option.ensures.rule in
     let six_is =
-    rule_added c.in_ok-arg-8.field-0 c.column_option.result c.in_ok-arg-9.field-0 five (repeated_rule (codes "column"))
-    c.in_ok-arg-9.ensures c.column_option.ensures.local five_is c.column_option.ensures.rule in
+    rule_added c.in_ok-arg-9.field-0 c.column_option.result c.in_ok-arg-10.field-0 five (repeated_rule (codes "column"))
+    c.in_ok-arg-10.ensures c.column_option.ensures.local five_is c.column_option.ensures.rule in
     let seven_is =
-    rule_added c.in_ok-arg-9.field-0 c.flag-2.result c.in_ok-arg-10.field-0 six (flag_rule (codes "stop"))
-    c.in_ok-arg-10.ensures c.flag-2.ensures.local six_is c.flag-2.ensures.rule in
-    IfOk-weaker c.arg-11.result _ _ (λ r added. (
+    rule_added c.in_ok-arg-10.field-0 c.flag-3.result c.in_ok-arg-11.field-0 six (flag_rule (codes "stop"))
+    c.in_ok-arg-11.ensures c.flag-3.ensures.local six_is c.flag-3.ensures.rule in
+    IfOk-weaker c.arg-12.result _ _ (λ r added. (
       kind.0,
-      rule_added c.in_ok-arg-10.field-0 c.help-path.result r seven (word_rule (codes "path")) added path_local
+      rule_added c.in_ok-arg-11.field-0 c.help-path.result r seven (word_rule (codes "path")) added path_local
           seven_is path_is,
-    )) c.arg-11.ensures
+    )) c.arg-12.ensures

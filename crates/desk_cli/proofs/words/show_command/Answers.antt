@@ -20,6 +20,14 @@ returns c =
     ap rule_of c.help-low.ensures ∙ c.optional.ensures.rule in
     let low_local : c.help-low.result.global ≡ false =
     ap (λ (a : Arg). a.global) c.help-low.ensures ∙ c.optional.ensures.local in
+    let from_is : rule_of c.help-from.result ≡ optional_rule (codes "from") =
+    ap rule_of c.help-from.ensures ∙ c.optional-2.ensures.rule in
+    let from_local : c.help-from.result.global ≡ false =
+    ap (λ (a : Arg). a.global) c.help-from.ensures ∙ c.optional-2.ensures.local in
+    let to_is : rule_of c.help-to.result ≡ optional_rule (codes "to") =
+    ap rule_of c.help-to.ensures ∙ c.optional-3.ensures.rule in
+    let to_local : c.help-to.result.global ≡ false =
+    ap (λ (a : Arg). a.global) c.help-to.ensures ∙ c.optional-3.ensures.local in
     let of_is : rule_of c.help-of.result ≡ optional_word_rule (codes "of") =
     ap rule_of c.help-of.ensures ∙ c.optional_word.ensures.rule in
     let of_local : c.help-of.result.global ≡ false =
@@ -28,7 +36,9 @@ returns c =
     let two : App = with_rule one (flag_rule (codes "csv")) in
     let three : App = with_rule two (flag_rule (codes "open")) in
     let four : App = with_rule three (optional_rule (codes "low")) in
-    let five : App = with_rule four (list_rule list.0) in
+    let five : App = with_rule four (optional_rule (codes "from")) in
+    let six : App = with_rule five (optional_rule (codes "to")) in
+    let seven : App = with_rule six (list_rule list.0) in
     let one_is =
     rule_added c.after_help.result c.required.result c.in_ok-arg.field-0 (new_app (codes "show")) (needed file_rule)
     c.in_ok-arg.ensures file_local line_is file_is in
@@ -42,10 +52,16 @@ returns c =
     rule_added c.in_ok-arg-3.field-0 c.help-low.result c.in_ok-arg-4.field-0 three (optional_rule (codes "low"))
     c.in_ok-arg-4.ensures low_local three_is low_is in
     let five_is =
-    rule_added c.in_ok-arg-4.field-0 c.list_word.result c.in_ok-arg-5.field-0 four (list_rule list.0)
-    c.in_ok-arg-5.ensures c.list_word.ensures.local four_is list.1 in
-    IfOk-weaker c.arg-6.result _ _ (λ r added. (
+    rule_added c.in_ok-arg-4.field-0 c.help-from.result c.in_ok-arg-5.field-0 four (optional_rule (codes "from"))
+    c.in_ok-arg-5.ensures from_local four_is from_is in
+    let six_is =
+    rule_added c.in_ok-arg-5.field-0 c.help-to.result c.in_ok-arg-6.field-0 five (optional_rule (codes "to"))
+    c.in_ok-arg-6.ensures to_local five_is to_is in
+    let seven_is =
+    rule_added c.in_ok-arg-6.field-0 c.list_word.result c.in_ok-arg-7.field-0 six (list_rule list.0)
+    c.in_ok-arg-7.ensures c.list_word.ensures.local six_is list.1 in
+    IfOk-weaker c.arg-8.result _ _ (λ r added. (
       list.0,
-      rule_added c.in_ok-arg-5.field-0 c.help-of.result r five (optional_word_rule (codes "of")) added of_local
-          five_is of_is,
-    )) c.arg-6.ensures
+      rule_added c.in_ok-arg-7.field-0 c.help-of.result r seven (optional_word_rule (codes "of")) added of_local
+          seven_is of_is,
+    )) c.arg-8.ensures
