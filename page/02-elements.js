@@ -95,7 +95,7 @@ const states = words => column('State', 'state', row => chip(words[row.state]));
 // A table of rows, to be sorted by its heads, or by a list where a phone shows none, saved as a file and printed alone.
 // While the page is open it keeps how it is sorted.
 const sortings = new Map();
-function table(caption, columns, rows) {
+function table(caption, columns, rows, save) {
   const word = `${here().split('?')[0]} ${caption}`;
   let [by, isDown] = sortings.get(word) ?? [], shown = rows;
   by = columns.find(it => it.by && it.title === by);
@@ -114,7 +114,7 @@ function table(caption, columns, rows) {
     'Sort by'), columns.map((it, at) => it.by && ['up', 'down'].map(way =>
     node('option', { value: way[0] + at }, `${it.title}, ${way}`))));
   const grid = node('table', node('caption.unseen', caption), node('thead', node('tr', heads)), body);
-  const tools = node('div.row tools', sorter, button('CSV', () => saveTable(caption, columns, shown)),
+  const tools = node('div.row tools', sorter, button('CSV', save ?? (() => saveTable(caption, columns, shown))),
     button('Print this', () => printOnly(whole)));
   const whole = node('div.table', tools, node('div.wrap', grid, none, drawn.more));
   const renew = fresh => {
@@ -150,9 +150,12 @@ function saveTable(caption, columns, rows) {
   const good = columns.filter(it => !it.isAct);
   const told = rows.map(row => good.map(it => it.told ? it.told(row) : textOf(it.show(row)).trim()));
   const text = csvOf([good.map(it => it.title), ...told]);
-  const href = URL.createObjectURL(new Blob([text], { type: 'text/csv;charset=utf-8' }));
   const word = `${document.title.replace(/ - invdesk$/, '')} ${caption}`.replace(/[^\w.-]+/g, '-').slice(0, 60);
-  node('a', { href, download: `${word}-${today()}.csv` }).click();
+  saveFile(`${word}-${today()}.csv`, text);
+}
+function saveFile(download, text, type = 'text/csv;charset=utf-8') {
+  const href = URL.createObjectURL(new Blob([text], { type }));
+  node('a', { href, download }).click();
   setTimeout(() => URL.revokeObjectURL(href), 10000);
 }
 // Prints one thing of the page alone, with the titles above it.

@@ -41,25 +41,35 @@ const store = {
 };
 // Sends a line, or a file, and again where no answer came: by its key, or by the keys of its rows, it is done once.
 // Tells whether it is done, or why not; where that isn't known it is open, and kept with the marks of its books.
-const OPEN = 'open:', RUN = '/run';
+const OPEN = 'open:', RUN = '/run', LINES = '/lines';
 const UNKNOWN = "It isn't known whether this was done. Send it again: it is done once. ";
 async function send(line, path = RUN, key = path === RUN ? JSON.parse(line).key : path) {
   store.set(OPEN + key, openAt(key) ?? { line, path, books: marksOf(), was: factsIn(line, path) });
   for (let tries = 1; ; tries++) {
     try {
       const { status, text } = await ask(path, { method: 'POST', body: line });
-      const said = path !== RUN && status === 200 ? { report: text } : JSON.parse(text);
+      const faults = text.split('\n').filter(Boolean), said = path !== RUN && status === 200 ? { report: text } :
+        JSON.parse(faults[0]);
       const word = said.refused || said.fault;
       if (status >= 500) return { isOpen: true, why: statusWords(status) };
       store.drop(OPEN + key);
       if (status === 200) return { isDone: true, tries, ...said };
-      return word ? { word, said, why: [MEANINGS.get(word) ?? word, soft(` (${word}. Nothing has changed.)`)] } :
-        { why: statusWords(status) };
+      return word ? { word, said, faults, why: [MEANINGS.get(word) ?? word, soft(` (${word}. Nothing has changed.)`)]
+      } : { why: statusWords(status) };
     } catch (fault) {
       if (tries === 3) return { isOpen: true, why: fault.message };
       await new Promise(go => setTimeout(go, 400 * tries));
     }
   }
+}
+// What is told where the same wasn't answered, which has to be settled before.
+const SETTLE = { isHeld: true, why: 'The same was sent before and not answered. Settle that first, above.' };
+// Sends a file, or lines, unless another text of that name wasn't answered.
+function sendText(text, path, key = path) {
+  const open = openAt(key);
+  if (!open || open.line === text || !areThese(open.books)) return send(text, path, key);
+  offerOpen(true);
+  return SETTLE;
 }
 const openAt = key => {
   const kept = store.get(OPEN + key);

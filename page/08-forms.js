@@ -211,7 +211,7 @@ function request(command, fields, key) {
     }
     if (!line && openLike(command, fields, key)) {
       offerOpen(true);
-      return { isHeld: true, why: 'The same was sent before and not answered. Settle that first, above.' };
+      return SETTLE;
     }
     const answer = await send(line ||= lineOf(command, fields, key));
     if (!answer.isDone && !answer.isOpen) line = null;

@@ -1,5 +1,5 @@
-// Where items came from, and where they went: by the books, and by the kept answers, whose requests name what they
-// made. A request without a key isn't kept, and what it made isn't known.
+// Where items came from, and where they went: as the program traces it, by the books and by the kept answers, whose
+// requests name what they made. A request without a key isn't kept, and what it made isn't known.
 
 // The records of comma-separated values; empty lines are none. A quote that nothing closes is a fault.
 function recordsIn(text, comma = ',') {
@@ -13,78 +13,35 @@ function recordsIn(text, comma = ',') {
   }
   return rows.filter(it => it.length > 1 || it[0]);
 }
-// Keys that tell one nothing: those of the page.
-const BARE_KEY = /(^|\/)page-[0-9a-f]{24}$/, CUTS = ['transfer', 'split', 'serialise', 'install'];
-// Of the books of a tag: what made each row; the items that were cut off each, that were poured into each, or into
-// which it was poured; and the items that were begun for each build.
+const origins = make => opening('origins', 'Where it came from, and where it went', () => node('div', make(),
+  node('p.soft', "What a request without a key made isn't known here.")));
+const traced = (title, list, word) => [node('h3', title), asked(readList(list, word), text =>
+  listTable(title, list, text))];
+const itemOrigins = item => origins(() => [traced('Came from', 'trace-back', itemWord(item.id)),
+  traced('Went to', 'trace-forward', itemWord(item.id))]);
+// Of the books of a tag: what was begun for each build, and what was cut off each item. The lists of the program don't
+// tell it of a build.
 let makers = null;
+const CUTS = ['transfer', 'split', 'serialise', 'install'];
 async function readMakers() {
   if (makers?.tag === tag) return makers;
-  const read = { tag, by: new Map(), cut: new Map(), poured: new Map(), into: new Map(), begun: new Map() };
-  const put = (map, key, ids) => map.set(key, [...map.get(key) ?? [], ...ids]);
-  const [, ...rows] = recordsIn((await get('/export/kept')).text);
-  for (const [key, command, answer] of rows) {
-    const { ids } = JSON.parse(answer), made = { ...JSON.parse(command), key };
-    if (!ids) continue;
-    if (['order', 'build'].includes(made.do)) nameRow(ids[0], key);
-    ids.forEach(id => read.by.set(id, made));
-    if (CUTS.includes(made.do)) put(read.cut, made.item, ids);
-    if (made.do === 'outputs') put(read.begun, made.build, ids);
-    if (made.do === 'merge') put(read.poured, made.into, made.items);
-    if (made.do === 'merge') made.items.forEach(it => read.into.set(it, made.into));
+  const read = { tag, of: new Map() }, [, ...rows] = recordsIn((await get('/export/kept')).text);
+  for (const [, command, answer] of rows) {
+    const { ids = [] } = JSON.parse(answer), { do: made, build, item } = JSON.parse(command);
+    const key = made === 'outputs' ? 'build ' + build : CUTS.includes(made) && 'item ' + item;
+    if (key) read.of.set(key, [...read.of.get(key) ?? [], ...ids]);
   }
   return makers = read;
 }
-const itemWords = id => rowOf('item', id) ? link('item/' + id, name(wordsOf('item', id))) : `item ${id}`;
-// Where an item came from, in one step, and the item that it was cut off.
-function cameFrom({ by }, id) {
-  const made = by.get(id);
-  if (!made) return [[soft("isn't known: no request that is kept made it")]];
-  const { do: command, line, build, item, order, key } = made, under = soft(BARE_KEY.test(key) ? '' : ` (${key})`);
-  if (command === 'receive' && rowOf('order_line', line))
-    return [['received for ', rowLink('order', rowOf('order_line', line).owner), under]];
-  if (command === 'outputs') return [['begun for ', rowLink('build', build), under]];
-  if (CUTS.includes(command) && item) return [['cut off ', itemWords(item), under], item];
-  const owner = order ? ['order', order] : build && ['build', build];
-  return [[`by '${FORMS.get(command)?.title ?? command}'`, owner && [' of ', rowLink(...owner)], under,
-    command === 'found' ? '' : soft("; of which item it was cut off isn't known")]];
-}
-// All that an item came from, each item once, and 500 at most.
-const isNext = (id, seen) => !seen.has(id) && seen.size < 500 && seen.add(id);
-function allFrom(read, id, seen = new Set()) {
-  if (!isNext(id, seen)) return [];
-  const [words, parent] = cameFrom(read, id), poured = read.poured.get(id) ?? [];
-  return [node('li', itemWords(id), ': ', words), poured.length > 0 && node('li', 'Into ', itemWords(id),
-    ' were poured ', each(poured, itemWords)),
-  ...[parent ?? [], poured].flat(2).flatMap(it => allFrom(read, it, seen))];
-}
-// Where what an item was is now: itself, what it lies in or was poured into, and what was cut off it.
-function goneTo(read, id, seen = new Set()) {
-  if (!isNext(id, seen)) return [];
-  const item = rowOf('item', id), into = read.into.get(id);
-  const made = item?.place === USED ? outputsBy(read, item.ref) : [];
-  const next = [item?.place === IN ? item.ref : [], into ?? [], read.cut.get(id) ?? []].flat(2);
-  return node('li', itemWords(id), item && [': ', placeLink(item.place, item.ref)], into &&
-    [', poured into ', itemWords(into)], made.length > 0 &&
-    [', of which was made ', each(made.slice(0, 20), itemWords)],
-  next.length > 0 && node('ul', next.map(it => goneTo(read, it, seen))));
-}
-const outputsBy = ({ begun }, build) => (begun.get(build) ?? []).filter(it => rowOf('item', it));
-const origins = make => opening('origins', 'Where it came from, and where it went', () => asked(readMakers(), make));
-const itemOrigins = item => origins(read => [node('h3', 'Came from'), node('ul', allFrom(read, item.id)),
-  node('h3', 'Went to'), node('ul', goneTo(read, item.id))]);
-const fromColumn = read => column('Came from', null, it => cameFrom(read, it.id)[0]);
+const madeOf = (read, key) => (read.of.get(key) ?? []).flatMap(it => [it, ...madeOf(read, 'item ' + it)]);
 function buildOrigins(build) {
-  const used = find.usedBy(build.id);
-  return origins(read => {
-    const made = outputsBy(read, build.id).map(it => rowOf('item', it)), known = sum(made, 'quantity');
-    const inner = made.flatMap(it => find.itemsIn(it.id));
-    return [node('h3', 'Went into it'), table('Went into it', [...itemColumns(partColumn, where), fromColumn(read)],
-      [...used, ...inner]), node('h3', 'Came of it'),
-    made.length > 0 && node('ul', made.map(it => goneTo(read, it.id))),
-    known < build.done && node('p.soft', `Of ${digits(build.done)} that are done ${digits(known)} can be told here: `,
-      "what was cut off them since stands under them, and what no request that is kept began isn't known.")];
-  });
+  return origins(() => asked(readMakers(), read => {
+    const made = madeOf(read, 'build ' + build.id).map(it => rowOf('item', it)).filter(it => it && it.place !== GONE);
+    const known = sum(made, 'quantity'), inner = made.flatMap(it => find.itemsIn(it.id));
+    return [node('h3', 'Went into it'), table('Went into it', itemColumns(partColumn, where),
+      [...find.usedBy(build.id), ...inner]), node('h3', 'Came of it'), table('Came of it', itemColumns(where), made),
+    known < build.done && node('p.soft', `Of ${digits(build.done)} that are done ${digits(known)} can be told here.`)];
+  }));
 }
 // A batch: its items, where each is, and what it went into.
 function batchView(_, query, word) {
@@ -97,6 +54,6 @@ function batchView(_, query, word) {
   return [`Batch ${batch} of ${partName(part)}`, facts({ Part: partLink(part), Batch: name(batch),
     ...Object.fromEntries(places.map((it, at) => [capital(it), sums.get(at) && digits(sums.get(at))])) }),
   listed('Items', [...itemColumns(where), column('Went into', null, went)], items),
-  origins(read => items.map(it => [node('h3', itemWords(it.id)), node('ul', allFrom(read, it.id)), 'Went to',
-    node('ul', goneTo(read, it.id))]))];
+  origins(() => [each(items.slice(0, 20), it => traced(`Came from: ${wordsOf('item', it.id)}`, 'trace-back',
+    itemWord(it.id))), traced('Went to', 'trace-forward', batch)])];
 }

@@ -2,11 +2,14 @@
 // and counts are imported as one file; each row of another command is a line under a key of its own, as docs/IMPORTS.md
 // has it. So a file may be sent again, and each row is done once.
 
-const FILES = { receipts: 'receive', counts: 'count' }, filed = { text: '', document: '' };
+const FILES = { receipts: 'receive', counts: 'count' }, filed = { text: '', document: '', ...store.get('filed') };
+// The column in which a sheet has what the books said as it was saved.
+const WAS = { receipts: 'outstanding', counts: 'expected' };
 const HEADS = { receipts: 'number,line,location,quantity,batch,serials', counts: 'number,item,quantity' };
 // What else a column may be called that has a field.
 const ALIASES = { quantity: ['counted', 'qty'], line: ['order line', 'part'], component: ['part'], name: ['part'] };
-const MOST_BYTES = 1048576, COMMAS = [',', ';', '\t'];
+const MOST_BYTES = 1048576, sizeOf = text => new TextEncoder().encode(text).length,
+  TOO_LONG = `The file has more than ${digits(MOST_BYTES)} bytes: cut it up.`, COMMAS = [',', ';', '\t'];
 const fieldsOfKind = kind => FORMS.get(FILES[kind] ?? kind).fields;
 const isRequired = it => !it.isOptional && !['yes', 'words'].includes(it.kind);
 // A file, by that separator by which its header names the most of what it has to, with the number of each record.
@@ -77,7 +80,7 @@ function fieldsIn(row, kind, sources, given) {
   if (day && !/^\d{4}-\d\d-\d\d$/.test(day)) faults.push(`day: ${day} is no day`);
   if (FILES[kind] && number && !/^\d{1,15}$/.test(number)) faults.push(`number: ${number} is none`);
   return { number: FILES[kind] ? Number(number || row.record) : number || '@' + row.record, fields: day ?
-    { ...fields, day } : fields, key, expected: kind === 'counts' ? numberIn(of('expected')) : NaN,
+    { ...fields, day } : fields, key, expected: WAS[kind] ? numberIn(of(WAS[kind])) : NaN,
   fault: faults.join('; ') };
 }
 // A file's text: of UTF-8 if it can be that, and else as a spreadsheet of Windows has it.
@@ -88,7 +91,7 @@ function textIn(bytes) {
 }
 // Which column has each field, or what text it has in each row: chosen by the names of the columns, and by hand.
 function columnChoices(kind, heads, sources, changed) {
-  const extra = { receipts: ['number'], counts: ['number', 'expected'] }[kind] ?? ['number', 'key', 'day'];
+  const extra = WAS[kind] ? ['number', WAS[kind]] : ['number', 'key', 'day'];
   Object.keys(sources).forEach(it => delete sources[it]);
   const choice = (field, isNeeded) => {
     const source = sources[field] = { column: columnOf(field, heads), fixed: '' };
@@ -136,6 +139,7 @@ function filesView(_, query) {
   let drawn = '';
   const changed = () => {
     Object.assign(filed, { text: box.value, document: called.value, kind: kind.value });
+    if (filed.text.length < 200000) store.set('filed', filed);   // lines without an answer need the room more
     ofOrder.hidden = kind.value !== 'receipts';
     below.replaceChildren();
     let heads = [];
@@ -148,13 +152,15 @@ function filesView(_, query) {
     drawn = now;   // of the same columns what was chosen stays
   };
   changed();
-  const look = async () => {
+  const look = isWhole => async () => {
     const say = (...it) => below.replaceChildren(says('bad', 'Nothing was sent. ', it));
     if (!/^[A-Za-z0-9._-]{1,32}$/.test(called.value))
       return say('The document needs a name of letters, digits, dots, _ and - alone, 32 at most.');
     try {
       await refresh();
       if (isOther) return show(true);
+      const text = box.value.replace(/^\ufeff/, '');
+      if (isWhole) return below.replaceChildren(...wholeFile(kind.value, called.value, text));
       const { rows } = fileIn(box.value, kind.value), given = { order: order.get(), known: new Map() };
       const all = rows.map(it => ({ ...it, ...fieldsIn(it, kind.value, sources, given) })).filter(it => it.fields);
       below.replaceChildren(...fileSummary(kind.value, called.value, all, rows.length));
@@ -164,7 +170,8 @@ function filesView(_, query) {
   return ['Rows from a file', node('div.card', labelled(kind, 'What the rows are'), labelled(file, 'A file'),
     labelled(box, 'Or rows that are pasted, a line of heads above them'), ofOrder,
     labelled(called, 'Name of the document', soft('A row is done once under this name and its number: that in the ',
-      'column number, or else its place in the file.')), columns, acts(button('Look at the rows', look, 'main'))),
+      'column number, or else its place in the file.')), columns, acts(button('Look at the rows', look(false), 'main'),
+    button('Let the program read it', look(true)))),
   below];
 }
 // What the rows would do, and beside each what it was told when it was sent.
@@ -174,12 +181,15 @@ function fileSummary(kind, document, all, count) {
   const numbers = new Set(), twice = good.find(it => numbers.size === numbers.add(it.number).size);
   const item = row => rowOf('item', row.fields.item), more = row => row.fields.quantity - item(row).quantity;
   const rowsToCount = row => !row.fault && item(row), chosen = () => good.filter(it => !it.tick || it.tick.checked);
-  const isChanged = row => rowsToCount(row) && row.expected >= 0 &&
-    ![row.expected, row.fields.quantity].includes(item(row).quantity);
-  for (const row of good.filter(isChanged))
-    row.tick = node('input', { type: 'checkbox', change: () => drawn() });
+  const now = row => kind === 'counts' ? item(row).quantity : leftOf(rowOf('order_line', row.fields.line));
+  const isChanged = row => !row.fault && row.expected >= 0 && now(row) !== row.expected &&
+    (kind === 'receipts' || now(row) !== row.fields.quantity);
+  for (const row of WAS[kind] ? good : []) {
+    row.now = now(row);
+    if (isChanged(row)) row.tick = node('input', { type: 'checkbox', change: () => drawn() });
+  }
   const settled = row => row.tick && node('label.warn', row.tick, `The books changed from ${digits(row.expected)} to ${
-    digits(item(row).quantity)} since the sheet was saved: count it all the same`);
+    digits(now(row))} since the sheet was saved: send it all the same`);
   const go = button('', async () => {
     if (isEarly(go) || busy) return;
     go.disabled = true;
@@ -191,7 +201,11 @@ function fileSummary(kind, document, all, count) {
       busy--;
       return show(true);
     }
-    try { answer = await (FILES[kind] ? sendFile : sendRows)(kind, document, rows); } finally { busy--; }
+    try {
+      answer = WAS[kind] && rows.some(it => it.now !== now(it)) ? { isHeld: true,
+        why: 'The books changed since the rows were looked at. Look at them again.' } :
+        await (FILES[kind] ? sendFile : sendRows)(kind, document, rows);
+    } finally { busy--; }
     await reread();
     go.disabled = false;
     if (kind === 'counts') rows.filter(it => it.isDone && item(it)?.quantity !== it.fields.quantity).forEach(it =>
@@ -213,16 +227,48 @@ function fileSummary(kind, document, all, count) {
   drawn();
   hush();
   return [node('h2', 'What the rows will do'), twice ? says('bad', `Two rows have the number ${twice.number}. `,
-    'Nothing can be sent.') : head,
+    'Nothing can be sent.') : head, !twice && good.length > 0 && acts(go), said,
   table('What the rows will do', [cell('Row', it => digits(it.record), 'n'), cell('What', it => name(it.fault ?
     it.cells.join(', ') : sentenceOf(command, it.fields, FORMS.get(command).title + ':')), 'head'),
   ...kind === 'counts' ? [
     cell('Expected', it => rowsToCount(it) && digits(item(it).quantity), 'n'),
     cell('Difference', it => rowsToCount(it) && [signed(more(it)), Math.abs(more(it)) >= Math.max(3,
-      item(it).quantity / 5) && chip('big', 'bad')], 'n'), cell('To settle', settled)] : [],
+      item(it).quantity / 5) && chip('big', 'bad')], 'n')] : [], ...WAS[kind] ? [cell('To settle', settled)] : [],
   cell('Answer', it => it.told)],
-  [...all].sort((a, b) => !!(b.fault || b.tick) - !!(a.fault || a.tick))), !twice && good.length > 0 && acts(go),
-  said].filter(Boolean);
+  [...all].sort((a, b) => !!(b.fault || b.tick) - !!(a.fault || a.tick)))].filter(Boolean);
+}
+// A file that the program reads itself, with what it tells of each record beside that.
+function wholeFile(kind, document, text) {
+  if (sizeOf(text) > MOST_BYTES) throw new Error(TOO_LONG);
+  const { heads, rows } = fileIn(text, kind), at = columnOf('number', heads), said = node('div');
+  for (const row of rows) row.told = node('span', { role: 'status' });
+  const full = rows.filter(row => row.cells.some((it, n) => n !== at && it.trim()));
+  const go = button(`Send these ${digits(rows.length)} records as they are`, async () => {
+    if (isEarly(go) || busy) return;
+    go.disabled = true;
+    busy++;
+    keepDay();
+    const before = snapshot([]), path = `/import/${kind}/${document}/${day.value}${FILES[kind] ? '?loose' : ''}`;
+    let answer = null;
+    try { answer = await sendText(text, path); } finally { busy--; }
+    const told = answer.isDone ? [...toldIn(answer.report)] : [];
+    const of = ([number, it]) => [FILES[kind] ? rows.find(row => row.cells[at]?.trim() === number) :
+      full[number - 1], it];
+    for (const [row, it] of [...told.map(of), ...(answer.faults ?? []).map(it => JSON.parse(it)).map(it =>
+      [rows.find(row => row.record === it.line), it])]) if (row) tellRow(row, it);
+    await reread();
+    go.disabled = false;
+    const done = told.filter(it => it[1].ids).length;
+    said.replaceChildren(answer.isDone ? says(done < told.length ? 'bad' : 'good', node('b', `Done: ${digits(done)
+    }. Refused: ${digits(told.length - done)}. `), list(effects(before))) : notDone(answer));
+    said.firstChild.focus();
+    offerOpen();
+  }, 'main');
+  hush();
+  return [node('h2', 'As the program reads it'), node('p', { role: 'status' }, 'The program takes columns and rows by ',
+    `name itself, as 'import${FILES[kind] ? ' --loose' : ''}' does. Nothing is sent yet.`), acts(go), said,
+  table('As the program reads it', [cell('Row', it => digits(it.record), 'n'),
+    cell('What', it => name(it.cells.join(', ')), 'head'), cell('Answer', it => it.told)], rows)];
 }
 // What was told of a row. It was done before where what it made is in the books that were read before it was sent.
 function tellRow(row, answer) {
@@ -238,27 +284,43 @@ async function sendFile(kind, document, rows) {
   const quoted = it => /[",\r\n]/.test(it) ? `"${it.replaceAll('"', '""')}"` : it;
   const lineIn = row => [row.number, ...names.map(it => quoted(String(row.fields[it] ?? '')))].join(',') + '\n';
   const body = HEADS[kind] + '\n' + rows.map(lineIn).join('');
-  if (new TextEncoder().encode(body).length > MOST_BYTES)
-    return { why: `The file has more than ${digits(MOST_BYTES)} bytes: cut it up.` };
+  if (sizeOf(body) > MOST_BYTES)
+    return { why: TOO_LONG };
   keepDay();
-  const answer = await send(body, `/import/${kind}/${document}/${day.value}`);
+  const answer = await sendText(body, `/import/${kind}/${document}/${day.value}`);
   const faulty = rows[answer.said?.line - 2];
   if (!answer.isDone) return faulty ? { ...answer, why: [`Row ${digits(faulty.record)}: `, answer.why] } : answer;
   const told = toldIn(answer.report);
   for (const row of rows) if (told.has(String(row.number))) tellRow(row, told.get(String(row.number)));
   return null;
 }
-// What a report tells of each row, by its number.
-const toldIn = report => new Map(report.split('\n').filter(Boolean).map(it => it.split('\t')).map(([number, it]) =>
-  [number, JSON.parse(it)]));
+// What a report tells of each row, by its number, or of each line, by its place.
+const toldIn = report => new Map(report.split('\n').filter(Boolean).map((line, at) => {
+  const [, number = String(at + 1), it] = line.match(/^(?:(\d+)\t)?(.*)$/);
+  return [number, JSON.parse(it)];
+}));
+// Rows of another command go as lines, as many at once as a body may have.
 async function sendRows(kind, document, rows) {
+  const keyOf = row => row.key || `${kind}/${document}/${row.number}`, parts = [];
+  if (rows.some(row => openLike(kind, row.fields, keyOf(row)))) {
+    offerOpen(true);
+    return SETTLE;
+  }
+  let size = 0;
   for (const row of rows) {
-    const answer = await request(kind, row.fields, row.key || `${kind}/${document}/${row.number}`)();
-    if (answer.isOpen || answer.isHeld) {
-      row.told.replaceChildren(node('span.bad', answer.why));
-      return answer;
+    const line = lineOf(kind, row.fields, keyOf(row)) + '\n';
+    size += sizeOf(line);
+    if (!parts.length || size > MOST_BYTES) {
+      parts.push({ body: '', rows: [] });
+      size = sizeOf(line);
     }
-    tellRow(row, answer);
+    parts.at(-1).body += line;
+    parts.at(-1).rows.push(row);
+  }
+  for (const { body, rows } of parts) {
+    const answer = await sendText(body, LINES, `${LINES}/${kind}/${document}/${rows[0].number}`);
+    if (!answer.isDone) return answer;
+    [...toldIn(answer.report).values()].forEach((it, at) => rows[at] && tellRow(rows[at], it));
   }
   return null;
 }

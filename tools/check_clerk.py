@@ -6,7 +6,7 @@ some five minutes.
 Chromium has to be here: `apt-get install -y chromium`. `tools/check_page.py` looks at the rest of the page, and
 `tools/check_hazards.py` at what can harm the books.
 
-usage: tools/check_clerk.py PROGRAM [--only GROUP,..] [--pictures FOLDER]"""
+usage: tools/check_clerk.py PROGRAM [--draft] [--only GROUP,..] [--pictures FOLDER]"""
 import contextlib
 import csv
 import io
@@ -20,8 +20,8 @@ import time
 import make_page
 from browser import CODES, Broken
 from made_small import XSS, workshop
-from page_user import CHROMIUM, CONTRAST, FILL, H1, Desk, Page
-from shared import expect, reader_of_words, run
+from page_user import CHROMIUM, CONTRAST, FILL, H1, Desk, Page, given_by, lines_in, words_of
+from shared import expect, run
 
 CODES.update({"Backspace": 8})
 LIMIT = 4
@@ -91,14 +91,27 @@ class Clerk(Page):
     def sent(self):
         """The lines that were sent since the mark."""
         self.js("1")
-        return [json.loads(params["request"]["postData"]) for event, params in self.events
-                if event == "Network.requestWillBeSent" and params["request"]["url"].endswith("/run")
-                and params["request"].get("postData")]
+        return [json.loads(line) for event, params in self.events if event == "Network.requestWillBeSent"
+                for line in lines_in(params["request"]) if line]
 
     def asked(self, path):
         self.js("1")
         return [params["request"] for event, params in self.events
                 if event == "Network.requestWillBeSent" and params["request"]["url"].endswith(path)]
+
+    def saved(self, folder, press, ends="csv"):
+        """Clicks where a file is saved: its name and its bytes."""
+        for it in folder.glob(f"*.{ends}"):
+            it.unlink()
+        self.call("Browser.setDownloadBehavior", behavior="allow", downloadPath=str(folder))
+        self.click(press)
+        end = time.monotonic() + LIMIT
+        while time.monotonic() < end:
+            found = [it for it in folder.glob(f"*.{ends}")]
+            if found and found[0].stat().st_size:
+                return found[0].name, found[0].read_bytes()
+            time.sleep(0.1)
+        raise Broken("no file was saved")
 
     def focus_window(self):
         self.js("dispatchEvent(new Event('focus'))")
@@ -456,6 +469,9 @@ def check_builds(t):
         b.js(f"location.hash = '#/do/remove?item={r['i_conn']}'")
         b.see("!!document.querySelector('form.card')")
         b.fill_in("Quantity", "5")
+        for _ in range(200):   # until the answer is there
+            if not waiting:
+                b.js("new Promise(go => setTimeout(go, 20))")
         b.post("Fetch.continueRequest", requestId=waiting[0])
         b.see("document.getElementById('notices').innerText.includes('Issued')")
         value = b.js("[...document.querySelectorAll('main input')].find(it => it.inputMode === 'numeric').value")
@@ -964,23 +980,11 @@ def check_lists(t, folder):
         "Low stock" in b.text() and sorted(it[0].strip().removesuffix(" low") for it in b.rows(1)) == b.js(
             "[...stock.values()].filter(it => isLow(it.part)).map(it => it.part.name).sort()"), b.rows(1)))[1])
 
-    def saved(press):
-        for it in folder.glob("*.csv"):
-            it.unlink()
-        b.call("Browser.setDownloadBehavior", behavior="allow", downloadPath=str(folder))
-        b.click(press)
-        end = time.monotonic() + LIMIT
-        while time.monotonic() < end:
-            found = [it for it in folder.glob("*.csv")]
-            if found and found[0].stat().st_size:
-                return found[0].name, found[0].read_bytes()
-            time.sleep(0.1)
-        raise Broken("no file was saved")
     csv_button = "[...document.querySelectorAll('main button')].find(it => it.textContent === 'CSV' && it.offsetParent)"
 
     def csv_file():
         b.go("stock")
-        name, body = saved(csv_button)
+        name, body = b.saved(folder, csv_button)
         rows = list(csv.reader(io.StringIO(body.decode("utf-8-sig"))))
         parts = [it[1] for it in desk.table("parts")]
         return rows[0][:3] == ["Part", "Category",
@@ -988,7 +992,7 @@ def check_lists(t, folder):
     t.check("a table is saved as a file for a spreadsheet, all its rows", csv_file)
 
     def csv_safe():
-        name, body = saved(csv_button)
+        name, body = b.saved(folder, csv_button)
         text = body.decode("utf-8-sig")
         rows = list(csv.reader(io.StringIO(text)))
         return "'=HYPERLINK(1)" in [it[0] for it in rows] and XSS["part"] in [it[0].strip() for it in rows], [it[0]
@@ -1003,7 +1007,7 @@ def check_lists(t, folder):
         b.focus_window()
         b.go(f"order/{order}")
         b.put(b.labelled("Quantity of Screw"), "33")
-        _, body = saved(csv_button)
+        _, body = b.saved(folder, csv_button)
         b.mark()
         b.press("Receive what is ticked")
         b.see("document.querySelector('main .said.good')?.innerText.includes('Received')")
@@ -1210,7 +1214,7 @@ def check_names(t):
         b.go("stock")
         b.js("document.querySelector('#views a').focus()")
         seen = ["Stock"]
-        for _ in range(13):
+        for _ in range(14):
             b.key("Tab")
             seen.append(b.js("(it => it.textContent || it.id || it.name)(document.activeElement)")[:14].strip())
         return "Stock Low" in " ".join(seen) and "text day" in " ".join(seen) and not b.nameless(), ", ".join(seen)
@@ -1256,6 +1260,13 @@ def check_token(c, program, folder):
             b.key("Enter")
             c.say("the token is taken from the address, kept nowhere, and asked for anew", taken and
                   b.wait(f"{H1} === 'Stock'"))
+            b.go("list/stock")
+            listed = b.count("main .table")
+            b.go("lists")
+            called, body = b.saved(folder, "[...document.querySelectorAll('main button')].find(it => it.textContent "
+                                   "=== 'Save a dump')", "sql")
+            c.say("with a token a list is shown and a dump is saved", listed == 1 and body.endswith(b"COMMIT;\n"),
+                  called)
 
 
 def check_speed(c, program, folder):
@@ -1279,7 +1290,7 @@ def check_speed(c, program, folder):
             f"order/{rows['purchase']}",
                  f"build/{rows['build']}", f"part/{rows['hinge']}", f"item/{rows['motor']}",
                      f"sheet/{rows['room']}?deep=1", "recent", "find/motor",
-                 "do/transfer", "shopping"]
+                 "do/transfer", "shopping", "lists", "list/stock", f"list/at?location={rows['room']}"]
         took = {}
         for to in views:
             times = []
@@ -1372,10 +1383,10 @@ def take_pictures(t, folder):
 
 
 def main():
-    words = reader_of_words(__doc__)
+    words = words_of(__doc__)
     words.add_argument("--pictures", type=pathlib.Path)
     words.add_argument("--only", default="")
-    given = words.parse_args()
+    given = given_by(words)
     expect(CHROMIUM, "Chromium isn't here: apt-get install -y chromium")
     c = Checks()
     groups = {"sheet": check_sheet, "builds": check_builds, "time": check_time, "clicks": check_clicks,

@@ -11,7 +11,7 @@ tells each check and what was measured. It takes about three minutes.
 Chromium has to be here: `apt-get install -y chromium`. Where Firefox is, as by `apt-get install -y firefox-esr`, the
 page is looked at there too.
 
-usage: tools/check_page.py PROGRAM [--pictures]     --pictures writes the pictures of the page that stand in docs/"""
+usage: tools/check_page.py PROGRAM [--draft] [--pictures]     --pictures writes the pictures of the page that stand in docs/"""
 import base64
 import contextlib
 import csv
@@ -30,8 +30,8 @@ import urllib.parse
 import make_page
 from browser import Broken, Firefox
 from made_workshop import DAY, HOSTILE, many_items, workshop
-from page_user import CHROMIUM, CONTRAST, FILL, H1, SENDER, Desk, Page, button, field
-from shared import COLUMNS, TOP, expect, reader_of_words, run
+from page_user import CHROMIUM, CONTRAST, FILL, H1, SENDER, Desk, Page, button, field, given_by, words_of
+from shared import COLUMNS, TOP, expect, run
 
 DOCS = TOP / "docs"
 TOKEN = "0123456789abcdefghijklmnopqrstuvwxyz"
@@ -141,7 +141,8 @@ def check_views(c, b, rows):
              (f"item/{rows['built']}", "Arm 0 A1"), (f"line/{rows['line']}", "Board 0: 3"), ("orders?all=1", "Orders"),
              (f"order/{rows['purchase']}", "Purchase"), (f"order/{rows['last_sale']}", "Sale"),
              ("recent", "Recent activity"), ("do", "What can be done"), ("find/motor", "Found: motor"),
-             ("files", "Rows from a file"), ("shopping?optional=1", "Shopping list"),
+             ("files", "Rows from a file"), ("shopping?optional=1", "Shopping list"), ("lists", "Lists"),
+             ("list/stock", "List: stock"), (f"list/at?location={rows['room']}", "List: at"), ("list/builds", "List: bu"),
              ("part/999999999", "No part 999999999"), ("item/x", "No item x"), ("%E0%A4%A", "Stock")]
     for to, title in views:
         b.js("longest = 0; location.hash = '#/find/nothing%20at%20all'")
@@ -226,7 +227,7 @@ def check_new_views(c, desk, b, rows):
     told = b.js(f"{back}.textContent").replace("\u202f", "")
     c.say("one can look further back", told == f"Look further back than entry {entries - 1999}", told)
     b.go(f"part/{rows['hinge']}")
-    kinds = b.cells(2, "main section:last-child")
+    kinds = b.cells(2, "main section:last-of-type")
     latest = kinds[0].startswith("written off") and kinds[1].startswith("marked")
     c.say("a part's own entries are shown, the latest first", latest and
           any(it.startswith("shipped") for it in kinds), kinds[:4])
@@ -542,7 +543,7 @@ def check_looks(c, b, rows):
     for _ in range(20):
         b.key("Tab")
         order.append(b.js("(it => it.textContent || it.id || it.name)(document.activeElement)")[:14].strip())
-    top = "Stock Low Shopping Locations Builds Orders Recent Do Files text day".split()
+    top = "Stock Low Shopping Locations Builds Orders Recent Do Files Lists text day".split()
     c.say("Tab goes through all controls from the top", " ".join(top) in " ".join(order), ", ".join(order))
 
 
@@ -695,7 +696,8 @@ def check_firefox(c, desk, rows):
         views = [("low", "What is low"), ("builds", "Builds"), ("recent", "Recent activity"),
                  (f"part/{rows['cell']}", "Robot cell"), (f"item/{rows['motor']}", "Motor type"),
                  (f"sheet/{rows['shelf']}", "Count sheet"), ("shopping", "Shopping list"),
-                 ("files?kind=counts", "Rows from a file")]
+                 ("files?kind=counts", "Rows from a file"), ("lists", "Lists"), ("list/orders?open=1", "List: orders"),
+                 (f"list/trace-back?item={rows['built']}", "List: trace-back")]
         for to, title in views:
             b.js(f"location.hash = '#/{to}'")
             shown = b.wait(f"({H1} || '').startsWith('{title}') && !document.querySelector('[aria-busy=true]')")
@@ -732,9 +734,9 @@ def look(c, desk, rows, with_pictures):
 
 
 def main():
-    words = reader_of_words(__doc__)
+    words = words_of(__doc__)
     words.add_argument("--pictures", action="store_true")
-    given = words.parse_args()
+    given = given_by(words)
     expect(CHROMIUM, "Chromium isn't here: apt-get install -y chromium")
     c = Checks()
     with tempfile.TemporaryDirectory() as top:

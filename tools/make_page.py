@@ -5,9 +5,9 @@
 refusals and effects, as `docs/MACHINE.md` has them, what each refusal means, as `docs/REFUSALS.md` says it, and the
 columns and words of the tables, as `tools/machine` has them; then the files of the script, in the order of their
 numbers: what runs as the page is loaded names only what stands before it, and a function may name what stands behind
-it, too. The page and the policy that names the hashes of its script and its style are written as two constants into
-`crates/invdesk/src/page.rt`, the page in parts, since the prover follows a text byte by byte and one of 157 KB is too
-deep for it. It may have 163,840 bytes, all of them ASCII.
+it, too. Lines that are comments alone stay in the files. The page and the policy that names the hashes of its script
+and its style are written as two constants into `crates/invdesk/src/page.rt`, the page in parts, since the prover
+follows a text byte by byte and one of 157 KB is too deep for it. It may have 163,840 bytes, all of them ASCII.
 
 usage: tools/make_page.py [--check]     --check writes nothing, and tells what isn't as it would be written"""
 import argparse
@@ -142,12 +142,17 @@ pub const POLICY: &str =
 """
 
 
+def without_comments(script):
+    """A script without the lines that are comments alone."""
+    return re.sub(r"^ *//.*\n", "", script, flags=re.M)
+
+
 def page():
     """The page, of the files that it stands in."""
     frame = (PAGE / "frame.html").read_text()
     expect(frame.count(STYLE) == frame.count(SCRIPT) == 1, "the frame lacks the line of the style or of the script")
-    parts = [it.read_text() for it in sorted(PAGE.glob("*.js"))]
-    script = "\n".join(["'use strict';\n", written_part(), *parts])
+    parts = [written_part(), *(it.read_text() for it in sorted(PAGE.glob("*.js")))]
+    script = "\n".join(["'use strict';\n", *map(without_comments, parts)])
     return frame.replace(STYLE, (PAGE / "style.css").read_text()).replace(SCRIPT, script)
 
 

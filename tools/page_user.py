@@ -1,10 +1,12 @@
 """The page as its user has it: served by the program, opened in Chromium, looked at and used."""
 import json
 import shutil
+import urllib.parse
 
+import page_proxy
 from browser import Chromium
 from made_workshop import DAY
-from shared import ask, serve
+from shared import ask, reader_of_words, serve
 
 H1, SENDER = "document.querySelector('h1')?.textContent", "document.querySelector('form.card button.main')"
 IS_AT_REST = "typeof reading !== 'undefined' && find && !reading && !document.querySelector('[aria-busy=true]')"
@@ -67,18 +69,36 @@ LEDGER = r"""(() => {
 })()"""
 
 
+def words_of(text):
+    """The words of a script that looks at the page, which may look at a draft of it."""
+    words = reader_of_words(text)
+    words.add_argument("--draft", action="store_true", help="show the page of the files of page/ before the program")
+    return words
+
+
+def given_by(words):
+    given = words.parse_args()
+    Desk.is_draft = given.draft
+    return given
+
+
 class Desk:
     """The program, serving the page of a file."""
 
+    is_draft = False   # whether the page is that of the files, and not the program's
+
     def __init__(self, program, path, *words):
-        self.program, self.path, self.words, self.port = program, path, words, None
+        self.program, self.path, self.words, self.own_port, self.proxy = program, path, words, None, None
         self.start()
 
     def start(self, path=None, **more):
         """Starts the program, at its port where it had one before; with another file if one is named."""
         self.path = path or self.path
         words = [self.program, "--db", self.path, "--page", *self.words]
-        self.process, self.port = serve(*words, stderr=None, port=self.port, **more)
+        self.process, self.own_port = serve(*words, stderr=None, port=self.own_port, **more)
+        if self.is_draft and not self.proxy:
+            self.proxy = page_proxy.start(self.own_port)
+        self.port = self.proxy.server_port if self.proxy else self.own_port
         self.url = f"http://127.0.0.1:{self.port}/"
 
     def ask(self, method, path, body=None, **fields):
@@ -107,6 +127,12 @@ class Desk:
         self.process.wait()
 
 
+def lines_in(request):
+    """The lines that a request of the page sends."""
+    path, body = urllib.parse.urlsplit(request["url"]).path, request.get("postData", "")
+    return [body] if path == "/run" else body.splitlines() if path == "/lines" else []
+
+
 class Page(Chromium):
     """The page in Chromium. All lines that it sends are kept."""
 
@@ -115,8 +141,8 @@ class Page(Chromium):
         self.lines = []
 
     def take(self, event, params):
-        if event == "Network.requestWillBeSent" and params["request"]["url"].endswith("/run"):
-            self.lines.append(params["request"].get("postData", ""))
+        if event == "Network.requestWillBeSent":
+            self.lines += lines_in(params["request"])
         super().take(event, params)
 
     def keyless(self):

@@ -1,7 +1,8 @@
 // Which view is shown.
 
 const VIEWS = { stock: stockView, low: lowView, shopping: shoppingView, locations: locationsView, builds: buildsView,
-  orders: ordersView, recent: recentView, do: doView, files: filesView, location: locationsView, sheet: sheetView,
+  orders: ordersView, recent: recentView, do: doView, files: filesView, lists: listsView, list: listView,
+  location: locationsView, sheet: sheetView,
   part: partView, line: lineView, item: itemView, build: buildView, order: orderView, batch: batchView,
   find: findView };
 const here = () => location.hash.replace(/^#\/?/, '');
@@ -25,6 +26,9 @@ const isWriting = () => busy > 0 || isDirty || ['do', 'sheet', 'files'].includes
 const rewatch = () => watched.forEach(it => { it[2] = factOf(it[0], it[1]); });
 
 function show(isMoved) {
+  if (isStopped) return main.replaceChildren(node('h1', 'The program was stopped'), node('p', { role: 'status' },
+    'Its file alone has all of the books. Nothing is read or sent until it is started again on its machine.'),
+  button('Try again', start));
   const [view, word, query] = place(), height = scrollY, kind = view === 'sheet' ? 'location' : view;
   const row = ROWS[kind] && rowOf(kind, Number(word)), focused = !isMoved && document.activeElement?.id;
   const caret = focused && document.activeElement.selectionStart;
@@ -40,9 +44,9 @@ function show(isMoved) {
   const [title, ...inner] =
     ROWS[kind] && !row ? [`No ${kind} ${word}`, 'There is no such row.'] : VIEWS[view](row, query, word);
   const head = node('h1', { tabindex: -1 }, name(title));
-  main.replaceChildren(head, ...flash ? [flash.made] : [], node('div', inner));
+  main.replaceChildren(listLinks(view, row, query, word), head, ...flash ? [flash.made] : [], node('div', inner));
   document.title = `${title} - invdesk`;
-  byId('views').replaceChildren(...Object.keys(VIEWS).slice(0, 9).map(it =>
+  byId('views').replaceChildren(...Object.keys(VIEWS).slice(0, 10).map(it =>
     node('a', { href: '#/' + it, 'aria-current': (it === view || it === kind + 's') && 'page' }, capital(it))));
   if (opened.length) for (const it of main.querySelectorAll('details > summary'))
     if (opened.includes(it.textContent)) it.parentElement.open = true;
@@ -83,6 +87,7 @@ function failed(fault) {
 }
 async function start() {
   const begun = performance.now();
+  isStopped = false;
   try {
     await refresh();
     show(true);
@@ -100,7 +105,7 @@ async function named() {
 function offerOpen(isAsked) {
   byId('notices').querySelectorAll('.open').forEach(it => it.remove());
   for (const key of busy && !isAsked ? [] : store.keys(OPEN).map(it => it.slice(OPEN.length))) {
-    const { line, path, books, was } = openAt(key), told = name(path === RUN ? line : path);
+    const { line, path, books, was } = openAt(key), told = name(path === RUN ? line : key);
     const forget = button('Forget it', () => { store.drop(OPEN + key); made.remove(); });
     const again = button('Send it again', async () => {
       if (busy) return;
@@ -134,6 +139,7 @@ function warmUp() {
 // Reads anew. What is being written stays, and what changed of it is told.
 async function renew(isAsked) {
   keepDay();
+  if (isStopped) return;
   try {
     const isNew = await refresh();
     away();
