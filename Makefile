@@ -59,12 +59,13 @@ deb: build
 bench: build
 	python3 tools/bench.py $(PROGRAM) $(WHAT)
 
-# Files as Python's sqlite3 finds them, and files that are refused; the program killed amid a pipe of lines (all of it
-# by '--kills 100 --lines 100000'); deliveries and stocktakes that Python's csv and, where it is there, LibreOffice
-# wrote; files of every command, beside the same definition in Python; and the tables as docs/TABLES.md tells and asks
-# them, by PostgreSQL too where a server of it is here.
+# Files as Python's sqlite3 finds them, and files that are refused; files that it makes of a dump; the program killed
+# amid a pipe of lines (all of it by '--kills 100 --lines 100000'); deliveries and stocktakes that Python's csv and,
+# where it is there, LibreOffice wrote; files of every command, beside the same definition in Python; and the tables as
+# docs/TABLES.md tells and asks them, by PostgreSQL too where a server of it is here.
 file: build
 	python3 tools/check_file.py $(PROGRAM)
+	python3 tools/check_dump.py $(PROGRAM)
 	python3 tools/check_kills.py $(PROGRAM)
 	python3 tools/check_import.py $(PROGRAM)
 	python3 tools/check_sheets.py $(PROGRAM)

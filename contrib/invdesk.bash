@@ -83,7 +83,7 @@ _invdesk()
         given+="${word%%=*} "
         case $word in
             --kind=*) kind=${word#*=} ;;
-            --db|--low|--kind|--document|--day|--set|--column|--port|--count|--token)
+            --db|--low|--from|--to|--kind|--document|--day|--set|--column|--port|--count|--token)
                 ((++at < last)) || before=$word
                 [[ $word == --kind ]] && kind=${said[at]} ;;
             -*) ;;
@@ -97,6 +97,8 @@ _invdesk()
     case $before in
         --db) _invdesk_files; return ;;
         --low) :; return ;;
+        --from) :; return ;;
+        --to) :; return ;;
         --kind) _invdesk_words 'receipts counts add_category add_location add_part retire_part add_line drop_line add_substitute drop_substitute found add remove transfer split merge serialise set_status install uninstall disassemble reinstate order order_line issue_order allocate_sale ship return_item close_order cancel_order build issue_build hold_build cancel_build outputs complete_output cancel_output scrap_output allocate_build auto_allocate release complete_build consume'; return ;;
         --document) :; return ;;
         --day) :; return ;;
@@ -107,13 +109,14 @@ _invdesk()
         --token) _invdesk_files; return ;;
     esac
     case $command in
-        '') options='run report export show migrate import lines serve help --help --version' ;;
+        '') options='run report export dump show migrate import lines serve help --help --version' ;;
         run) options='--db --names --journal --stop --check --explain --help' ;;
-        report) options='--db --names --help' ;;
+        report) options='--db --names --csv --help' ;;
         export) options='--db --help' ;;
-        show) options='--db --csv --open --low --help' ;;
+        dump) options='--db --help' ;;
+        show) options='--db --csv --open --low --from --to --help' ;;
         migrate) options='--db --help' ;;
-        import) options='--db --names --loose --explain --kind --document --day --set --column --stop --help' ;;
+        import) options='--db --names --loose --unchanged --explain --kind --document --day --set --column --stop --help' ;;
         lines) options='--kind --document --day --set --column --help' ;;
         serve) options='--db --names --journal --page --port --count --token --help' ;;
         help) options='--help' ;;
@@ -122,10 +125,10 @@ _invdesk()
         case $command:$place in
             report:0) _invdesk_words 'ledger stock where_used history content shortage'; return ;;
             export:0) _invdesk_words 'meta categories locations parts lines substitutes items history orders order_lines builds allocations kept spent'; return ;;
-            show:0) _invdesk_words 'stock at part item orders builds find shortages trace-forward trace-back count-sheet'; return ;;
+            show:0) _invdesk_words 'stock at part item orders builds find shortages trace-forward trace-back count-sheet receipt-sheet history'; return ;;
             import:0) _invdesk_files; return ;;
             lines:0) _invdesk_files; return ;;
-            help:0) _invdesk_words 'commands refusals faults'; return ;;
+            help:0) _invdesk_words 'help commands add_category add_location add_part retire_part add_line drop_line add_substitute drop_substitute found add remove count transfer split merge serialise set_status install uninstall disassemble reinstate order order_line issue_order receive allocate_sale ship return_item close_order cancel_order build issue_build hold_build cancel_build outputs complete_output cancel_output scrap_output allocate_build auto_allocate complete_build consume release flags refusals KeyTaken NoSuch BadNumber NameTaken WrongFlag Retired WrongState Mismatch OpenOutputs InUse Cycle SelfInside Unfit NotLoose Serialised NotSerialised HasContent Unavailable Short Allocated OverNeed SerialCount SerialTaken TooDeep TooLarge Full faults TooLong NotJson NotObject NoField WrongType UnknownCommand UnknownField BadKey BadDay BadText BadSerials BadWord NoName Ambiguous Csv Header Changed mistakes'; return ;;
         esac
     fi
     # what was given isn't proposed again, but for what may be

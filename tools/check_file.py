@@ -544,12 +544,12 @@ def strange(path):
 
 
 # Words that only look, or bring along; and those with one that makes a workshop where there is nothing.
-LOOKS = [("show", "stock"), ("report", "ledger", "1"), ("export", "items"), ("migrate",)]
+LOOKS = [("show", "stock"), ("report", "ledger", "1"), ("export", "items"), ("dump",), ("migrate",)]
 WORDS = [*LOOKS, ("run",)]
 # What lies at a file's name, the words that leave it so, and why a word is refused there; where none stands here, what
 # it prints is that of a workshop that has nothing.
 LEFT = [
-    (absent, LOOKS, {"show": "there is no such file", "migrate": "there is no such file"}),
+    (absent, LOOKS, dict.fromkeys(("show", "dump", "migrate"), "there is no such file")),
     (emptied, LOOKS, {"migrate": "no workshop's"}),
     (text, WORDS, {word: "no database" for word, *_ in WORDS}),
     (headed, WORDS, {word: "no database" for word, *_ in WORDS}),
@@ -566,7 +566,7 @@ def left_alone(program, folder):
     room.mkdir()
     shutil.copy(bare, room / "w.db")
     before = listing(room)
-    for word, *more in LOOKS[:3]:
+    for word, *more in LOOKS[:-1]:
         run(program, word, "--db", str(room / "w.db"), *more)
         expect(listing(room) == before, f"{word} of a copy leaves {sorted(listing(room))}")
     for number, (make, tried, reasons) in enumerate(LEFT):

@@ -5,7 +5,8 @@ request that is sent in pieces, cut off at a byte, or sent again under its key a
 that wait to be told that their body may come; made-up bytes; many connections one after another, of which no descriptor
 and no memory may stay; and a server that is killed, whose file has to be the books before or after each request. What a
 web page sends is refused, and who doesn't show the token; clients that are silent or slow are left; descriptors are
-waited for; and a server that goes on is stopped by a signal, and its books are copied. It takes about a minute.
+waited for; and a server that goes on is stopped by a signal, and its books are copied. With a page many lines come in
+one body, lists are those that are printed, the books are dumped, and it is asked to stop. It takes about a minute.
 
 usage: tools/check_http.py PROGRAM"""
 import concurrent.futures
@@ -554,6 +555,97 @@ def goes_on(program, folder):
     expect(count == 300, f"a copy has {count} locations of 300")
 
 
+LISTS = (
+    ("/show/stock", ["stock"]),
+    ("/show/stock?csv", ["--csv", "stock"]),
+    ("/show/stock?low=20&csv", ["--csv", "stock", "--low", "20"]),
+    ("/show/part/Screw%20M3", ["part", "Screw M3"]),
+    ("/show/at/A?csv", ["--csv", "at", "A"]),
+    ("/show/orders?open", ["orders", "--open"]),
+    ("/show/count-sheet?csv", ["--csv", "count-sheet"]),
+    ("/show/receipt-sheet", ["receipt-sheet"]),
+    ("/show/find/screw", ["find", "screw"]),
+    ("/show/item/4", ["item", "4"]),
+)
+NO_LISTS = (
+    ("/show/nothing", 404), ("/show/stock?all", 404), ("/show/stock?csv&csv", 404), ("/show/orders?low=1", 404),
+    ("/show/part", 404), ("/show/part/Nut", 409), ("/show/part/9", 409), ("/dump?", 404), ("/dump/", 404),
+    ("/show/history", 404), ("/show/receipt-sheet?open", 404), ("/show/receipt-sheet/9", 409),
+)
+
+
+def paged(program, folder):
+    """With a page: many lines in one body, lists as `show` prints them, and the stop, after which the file alone has
+    the books. Nothing of that is done for a page of another origin, or where there is no page."""
+    path = os.path.join(folder, "paged.db")
+    found = {"day": DAY, "do": "found", "location": 1, "part": 2, "quantity": 7}
+    lines = [LOCATION, dict(PART, name="Screw M3"), LOCATION, {"of": 2, "report": "ledger"}, [], found, found]
+    body = "".join(json.dumps(it) + "\n" for it in lines)
+    routes = [("GET", "/show/stock"), ("GET", "/dump"), ("POST", "/lines"), ("POST", "/stop"),
+              ("POST", f"/import/counts/C1/{DAY}?loose")]
+    server = Server(program, len(routes))
+    for method, target in routes:
+        got, _, answer = server.asked(method, target, body if method == "POST" else None)
+        expect((got, answer) == (404, b'{"http":404}\n'), f"without a page {target} is answered {got}, {answer!r}")
+    expect(server.ended() == 0, "without a page it doesn't end well")
+    server = Server(program, None, "--db", path, "--page")
+    for method, target in routes:
+        got, _, _ = server.asked(method, target, body if method == "POST" else None, Origin="http://evil.example")
+        expect(got == 403, f"a page of another origin is answered {got} at {target}")
+    for words, status in (("?check", 400), ("?check&stop", 400), ("?again", 404), ("", 200)):
+        got, fields, answer = server.asked("POST", f"/lines{words}", body)
+        expect(got == status, f"/lines{words} is answered {got}, {answer!r}")
+    kind = fields["Content-Type"]
+    expect(kind == "application/x-ndjson", f"lines are answered as {kind}")
+    alone = os.path.join(folder, "lines.db")
+    printed = run(program, "run", "--db", alone, lines=body.encode()).stdout
+    expect(answer == printed, f"lines are answered {answer!r}, and not {printed!r}")
+    answer = server.sent(b"POST /lines HTTP/1.1\r\nContent-Length: 1048577\r\n\r\n")
+    expect(answer.startswith(b"HTTP/1.1 413 "), f"a body that is too long is answered {answer[:60]!r}")
+    shown = {}
+    for target, _ in LISTS:
+        got, _, shown[target] = server.asked("GET", target)
+        expect(got == 200, f"{target} is answered {got}")
+    for target, status in NO_LISTS:
+        got, _, answer = server.asked("GET", target)
+        expect(got == status, f"{target} is answered {got}, {answer!r}")
+    dump = dumped(server)
+    got, _, answer = server.asked("POST", "/stop", "")
+    expect((got, answer) == (200, b'{"stopped":true}\n'), f"the stop is answered {got}, {answer!r}")
+    expect(server.ended() == 0, "a service that was asked to stop doesn't end well")
+    os.remove(f"{path}-wal")
+    for target, given in LISTS:
+        printed = run(program, "show", "--db", path, *given, lines=b"").stdout
+        expect(shown[target] == printed, f"{target} is answered {shown[target]!r}, and {given} print {printed!r}")
+    printed = run(program, "dump", "--db", path, lines=b"").stdout
+    expect(dump == printed, "what is dumped isn't what `dump` prints")
+    once_more(program, folder, dump)
+
+
+def dumped(server):
+    """The dump of the books, by http.client, and by the words that are told where the command is there. Whoever goes away
+    amid one costs nothing."""
+    with socket.create_connection(("127.0.0.1", server.port), timeout=20) as stream:
+        stream.sendall(b"GET /dump HTTP/1.1\r\n\r\n")
+    got, fields, answer = server.asked("GET", "/dump")
+    expect((got, fields["Content-Type"]) == (200, "application/sql"), f"a dump is answered {got}, {fields}")
+    expect(fields["Content-Length"] is None and answer.endswith(b"\nCOMMIT;\n"), "a dump isn't whole")
+    if shutil.which("curl"):
+        text = subprocess.run(["curl", "-sf", f"http://127.0.0.1:{server.port}/dump"], capture_output=True, check=True)
+        expect(text.stdout == answer, "curl gets another dump")
+    return answer
+
+
+def once_more(program, folder, dump):
+    """A file that is made of a dump is served as the same books."""
+    path = os.path.join(folder, "again.db")
+    with contextlib.closing(sqlite3.connect(path)) as database:
+        database.executescript(dump.decode())
+    server = Server(program, None, "--db", path, "--page")
+    expect(dumped(server) == dump, "books that were made of a dump have another dump")
+    expect(server.asked("POST", "/stop", "")[0] == 200 and server.ended() == 0, "they can't be served")
+
+
 def words(program):
     """Words that are wrong, and a port that is taken."""
     for given in (["--port", "0", "--count", "1"], ["--port", "65536", "--count", "1"], ["--count", "8"],
@@ -586,6 +678,7 @@ def main():
         crowded(program)
         made_up(program)
         goes_on(program, folder)
+        paged(program, folder)
         killed(program, folder)
         many(program)
         for wait in waits:

@@ -5,7 +5,8 @@ ends in them. Then on files that LibreOffice saved of a spreadsheet, where its `
 program answers, and with sqlite3 at what is kept: that a file sent again, on another day too, is answered alike and
 changes nothing; that a row with another quantity is KeyTaken in its line alone; that of a faulty file nothing is run;
 that rows are found by what they are called, or told not to be; which status a missing path, a folder and wrong words
-end with; that a file which is read loosely loses no row in silence, and is read as the rules written once more read it;
+end with; that a file which is read loosely loses no row in silence, and is read as the rules written once more read it, also
+where it is run only if the books have what it says that they had;
 what a terminal shows of the rows that are done; and that a file of a MiB takes little memory, whatever serials its rows
 list. It prints the seconds that this takes. Where something differs it goes on, and counts what does.
 
@@ -30,7 +31,8 @@ from xml.sax.saxutils import escape
 import shared
 from machine import imports
 from machine.imports import HEADERS
-from machine.reports import answer_line
+from machine.machine import Machine
+from machine.reports import answer, answer_line
 
 DAY = '"day":"2030-01-02"'
 ORDERED = f"""{{{DAY},"do":"add_location","name":"A"}}
@@ -365,6 +367,40 @@ def loosely(program):
     print(f"check_import: 400 files as people keep them: {dict(counts)}")
 
 
+def sheet_of(r, m):
+    """A sheet that says what the books have, now and then another number, filled in by a clerk."""
+    kind = r.choice(["receipts", "counts"])
+    columns = r.sample([*HEADERS[kind], imports.EXPECTED[kind]], len(HEADERS[kind]) + 1)
+    rows = []
+    for number in range(1, r.choice([2, 3, 6])):
+        said = {"number": number, "location": 1, "batch": r.choice(["", "L1"]), "serials": ""}
+        said["item"], said["line"] = r.choice([*m.items, 99]), r.choice([5, 6, 99])
+        has = imports.booked(m, kind, said) or 0
+        said[imports.EXPECTED[kind]] = r.choice([has] * 8 + [f"0{has}", "", has + 1, f"{has}.0"])
+        said["quantity"] = r.choice(["", r.randint(1, 9)] if kind == "receipts" else ["", has, r.randint(0, 200)])
+        rows.append([said[it] for it in columns])
+    return kind, written(columns, rows)
+
+
+def unchanged(program):
+    """Sheets that are run only where the books have what they say, beside the rules written once more. Some come twice,
+    and some have the document of others."""
+    r, counts, sent = random.Random(71), collections.Counter(), []
+    with workshop(program) as shop:
+        m = Machine()
+        for at, line in enumerate(ORDERED.encode().splitlines(), 1):
+            answer(m, line, at)
+        for number in range(200):
+            again = sent and r.random() < 0.2
+            kind, file, document = r.choice(sent) if again else (*sheet_of(r, m), f"U{r.randint(1, number + 1)}")
+            sent.append((kind, file, document))
+            told, status = imports.imported(m, kind, document, "2030-03-01", file, unchanged=True)
+            done = shop.imported(kind, file, document, words=["--loose", "--unchanged"])
+            compare(f"{document}, {file!r}, unless changed", done, (status, told.encode()))
+            counts["Changed" if "Changed" in told else "run" if "entries" in told else "others"] += 1
+    print(f"check_import: 200 sheets that say what the books had: {dict(counts)}")
+
+
 def terminals(program):
     with workshop(program) as shop:
         shop.imported("receipts", written(RECEIPTS, DELIVERY))
@@ -394,7 +430,7 @@ def small(program):
 
 def main():
     program = shared.reader_of_words(__doc__).parse_args().program
-    for check in (forms, by_office, corrections, faults, names, statuses, lost, loosely, terminals, small):
+    for check in (forms, by_office, corrections, faults, names, statuses, lost, loosely, unchanged, terminals, small):
         check(program)
     print(f"check_import: {len(differences)} differ" if differences else "check_import: all as it should be")
     sys.exit(1 if differences else 0)

@@ -26,6 +26,7 @@ from machine.lines import COMMANDS, FIELDS, REPORTS
 from machine.machine import Machine
 from machine.made_names import STRANGE_NAMES, Caller, word_of
 from machine.made_up import Maker
+from machine.names import Names, said
 from machine.reports import HEADERS, answer, answer_line, printed, table
 from shared import reader_of_words, run
 
@@ -235,6 +236,32 @@ def words_to_find(made):
     yield "no such thing"
 
 
+def lists_by_words(made):
+    """Lists whose row is said by a plain word: a location by its way, an item by its serial, a part by its name."""
+    m, r, names = made.m, made.r, Names(made.m)
+    ways = {lists.way(m.locations, it): it for it in m.locations}
+    serials = {}
+    for number, it in m.items.items():
+        if it.serial and it.place[0] != "gone":
+            serials.setdefault(it.serial, []).append(number)
+    alone = {serial: found[0] for serial, found in serials.items() if len(found) == 1}
+    for word in r.sample(sorted(ways), min(4, len(ways))):
+        if is_plain(word) and names.found("locations", word) == [ways[word]]:
+            yield ["at", word], lists.at(m, ways[word])
+    for word in r.sample(sorted(alone), min(4, len(alone))):
+        if is_plain(word):
+            yield ["item", word], lists.item(m, alone[word])
+            yield ["history", word], lists.history(m, (names.parts(word) or [alone[word]])[0])
+    for number in r.sample(sorted(m.parts), min(3, len(m.parts))):
+        if is_plain(m.parts[number].name):
+            yield ["history", m.parts[number].name], lists.history(m, number)
+
+
+def is_plain(word):
+    """Whether a word is neither a number nor JSON, nor one that begins as an option does."""
+    return isinstance(said(word), str) and not word.startswith("-")
+
+
 def asked_lists(made):
     """The words of lists, and the rows that they have to show."""
     m, r = made.m, made.r
@@ -246,6 +273,15 @@ def asked_lists(made):
         yield ["builds", *words], lists.builds(m, only_open)
     yield ["shortages"], lists.shortages(m)
     yield ["count-sheet"], lists.count_sheet(m)
+    yield ["receipt-sheet"], lists.receipt_sheet(m)
+    days = sorted({it.day for it in m.history}) or ["2030-01-01"]
+    first, last = sorted(r.choices(days, k=2))
+    yield ["history"], lists.history(m)
+    yield ["history", "--from", first, "--to", last], lists.history(m, None, first, last)
+    for of in r.sample(sorted([*m.parts, *m.items, *m.orders]), min(6, len(m.parts))):
+        yield ["history", str(of), "--from", first], lists.history(m, of, first)
+    for order in r.sample(sorted(m.orders), min(3, len(m.orders))):
+        yield ["receipt-sheet", str(order)], lists.receipt_sheet(m, order)
     for place in r.sample(sorted(m.locations), min(4, len(m.locations))):
         yield ["at", str(place)], lists.at(m, place)
         yield ["count-sheet", str(place)], lists.count_sheet(m, place)
@@ -258,6 +294,7 @@ def asked_lists(made):
         yield ["trace-forward", batch], traces.forward(m, traces.roots_forward(m, batch, None))
     for word in words_to_find(made):
         yield ["find", word], lists.find(m, word)
+    yield from lists_by_words(made)
 
 
 def list_fault(program, made, path):

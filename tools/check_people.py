@@ -8,7 +8,8 @@ another or blank, and changes nothing of the answers; so it is told at a termina
 which changes nothing of the answers either and keeps each that is accepted, under the key that a request has or gets,
 and which a run has without the word where its lines are typed at a terminal. And `import --loose`, on the sheet of a
 stocktake and on deliveries that have their columns in another order, more of them,
-or something else between two fields; where LibreOffice's `soffice` is found, on the sheet as it saves it.
+or something else between two fields; where LibreOffice's `soffice` is found, on the sheet as it saves it. And with
+`--unchanged`, on sheets of a stocktake and of a delivery, before and after the books have changed.
 
 usage: tools/check_people.py PROGRAM"""
 import csv
@@ -430,6 +431,38 @@ def try_sheet(program, top):
     return len(sheets)
 
 
+def filled_in(sheet, **fields):
+    """The sheet with these fields in its first row."""
+    header, first, *rows = csv.reader(io.StringIO(sheet))
+    first = [fields.get(name, it) for name, it in zip(header, first)]
+    text = io.StringIO()
+    csv.writer(text).writerows([header, first, *rows])
+    return text.getvalue()
+
+
+def try_changed(program, top):
+    """With --unchanged nothing is run of a sheet of which the books have another number now than it says they had."""
+    path, name = os.path.join(top, "changed.db"), os.path.join(top, "changed.csv")
+    run(program, "run", "--db", path, lines="".join(json.dumps(line) + "\n" for line in ORDERED))
+    pathlib.Path(name).write_text(counted(run(program, "show", "--db", path, "--csv", "count-sheet").stdout))
+    how = ("--loose", "--unchanged", "--explain")
+    run(program, "run", "--db", path, lines=json.dumps({"do": "remove", "day": DAY, "item": 6, "quantity": 1}) + "\n")
+    done = imported(program, path, "counts", name, *how)
+    expect_same("a sheet of other books", done, '{"fault":"Changed","line":3}\n', 1)
+    expect(done.stderr.startswith("record 3: Changed. "), f"of a sheet of other books {done.stderr!r} is told")
+    run(program, "run", "--db", path, lines=json.dumps({"do": "count", "day": DAY, "item": 6, "quantity": 50}) + "\n")
+    for _ in "again", "once more":
+        done = imported(program, path, "counts", name, *how)
+        expect_same("a sheet of these books", done, '2\t{"entries":1,"ids":[]}\n', 0)
+    sheet = run(program, "show", "--db", path, "--csv", "receipt-sheet", "3").stdout
+    pathlib.Path(name).write_text(filled_in(sheet, location="A", quantity="4", batch="L7"))
+    done = imported(program, path, "receipts", name, "--names", *how)
+    expect_same("a sheet for a delivery", done, '1\t{"entries":1,"ids":[7]}\n', 0)
+    asked = ["--db", path, "--kind", "receipts", "--document", "E", "--day", DAY, "--names", *how[:2]]
+    done = run(program, "import", *asked, name)
+    expect_same("a sheet of a delivery before", done, '{"fault":"Changed","line":2}\n', 1)
+
+
 def main():
     program = reader_of_words(__doc__).parse_args().program
     texts = ["", "lpfs", "lpfr", "lprfs", "rlpf", "lpfws", "wlpf", "lpfwrxs", "lp_-fm", "lpfLs", "jlpf", "lpfr-"]
@@ -445,6 +478,7 @@ def main():
         try_journal(program, top)
         try_loose(program, top)
         sheets = try_sheet(program, top)
+        try_changed(program, top)
     count, reasons = len(texts) + len(texts + named), len(REASONS) + len(REFUSED)
     print(f"check_people: {count} texts, each with --stop, with --check and with both, {reasons} reasons, "
           f"{len(LOOSE)} deliveries that are read loosely, {sheets} sheets: all as it should be")

@@ -7,9 +7,9 @@ whether the page, the help, the page of man and the completions have what they t
 program's words, and the program the page. Then 'rt ci' proves every crate from nothing, tries the must-fail edits, and
 runs the tests and the program. On four processors the crate that all others stand on comes first, by itself, so that
 it gets two of them. The program that this built is then tried as its owner would: with the examples with names, the
-tutorial, the move from spreadsheets, a recall and mistakes, with the words of a clerk, with lists, files, imports,
-questions to the tables, clients of HTTP, what its page reads, and kills, beside the rules written once more, and
-installed and packed.
+tutorial, the move from spreadsheets, a recall and mistakes, with the words of a clerk, with lists, files, dumps,
+imports, questions to the tables, clients of HTTP, what its page reads, and kills, beside the rules written once more,
+and installed and packed.
 Where a step fails, those behind it are not run. The last line is 'N passed, M failed': what 'rt ci' counts, and one
 for each script. Before it stands a table of what each crate's proof, tests and wrong bodies took, and waited for, and
 then what failed, once more. It takes two to three hours, of which the scripts take six minutes.
@@ -45,6 +45,7 @@ AFTER = [
     f"check_people.py {PROGRAM}",
     f"check_lists.py {PROGRAM}",
     f"check_file.py {PROGRAM}",
+    f"check_dump.py {PROGRAM}",
     f"check_import.py {PROGRAM}",
     f"check_sheets.py {PROGRAM}",
     f"check_tables.py {PROGRAM}",

@@ -85,7 +85,7 @@ def hostile_work(do, one, r):
         r[key] = one("build", part=r["xassembly"], quantity=quantity)
         do("issue_build", build=r[key])
         do("allocate_build", build=r[key], line=r["l_x"], item=r["i_x2"], quantity=given)
-        r["xpiece"] = one("outputs", build=r[key], quantity=1, batch=XSS["batch"])
+        r["xpiece"] = one("outputs", build=r[key], quantity=1, batch=XSS["batch"], key=f"{key}/outputs")
     do("complete_output", output=r["xpiece"], location=r["xlocation"])
     do("complete_build", build=r["bx3"])
     for key in ("xso", "xso2"):

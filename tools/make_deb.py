@@ -21,7 +21,7 @@ import struct
 import subprocess
 import tempfile
 
-from make_man import PAGE, day_of
+from make_man import PAGE, day_of, number_of
 from program_words import program
 from shared import TOP, expect, reader_of_words
 
@@ -106,7 +106,7 @@ def main():
     given = words.parse_args()
     expect(shutil.which("dpkg-deb"), "there is no dpkg-deb here")
     binary, moment = pathlib.Path(given.program).read_bytes(), made_at()
-    values = {"VERSION": program().said["version"], "ARCHITECTURE": architecture(binary),
+    values = {"VERSION": number_of(program()), "ARCHITECTURE": architecture(binary),
               "LIBRARY": needed_library(given.program, binary), "MAINTAINER": MAINTAINER}
     given.to.mkdir(parents=True, exist_ok=True)
     os.umask(0o022)

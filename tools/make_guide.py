@@ -1,8 +1,10 @@
 #!/usr/bin/env python3
-"""Writes what `help` tells at a terminal into the program: each command of `docs/MACHINE.md` with its fields, its
-refusals, what it does and a line of it, and each refusal and each fault of `docs/REFUSALS.md`. It is one text in
-`crates/desk_ends/src/guide_text.rt`, in which an empty line stands between two entries, and each entry begins with a
-line of its name. Beside it stand the words that a line may have, for whoever misspells one.
+"""Writes what `help` tells into the program: each command of `docs/MACHINE.md` with its fields, its refusals, what it
+does and a line of it, the flags of a part, each refusal and each fault of `docs/REFUSALS.md`, and what mends what by
+`docs/MISTAKES.md`. It is one text in `crates/desk_ends/src/guide_text.rt`, in which an empty line stands between two
+entries, and each entry begins with a line of its name. Beside it stand the words that a line may have, for whoever
+misspells one. The word `help` of the program takes these names and no others: it is looked that its source and the
+definitions of its clauses list them so.
 
 usage: tools/make_guide.py [--check]     --check writes nothing, and tells whether the source is as it would write it"""
 import argparse
@@ -15,9 +17,10 @@ from make_page import section
 from shared import TOP, expect
 
 SOURCE = TOP / "crates" / "desk_ends" / "src" / "guide_text.rt"
+WORDS, DEFINITIONS = (TOP / "crates" / "desk_cli" / it for it in ("src/words.rt", "specs/Words.antt"))
 HEAD = """\
-//! What `help` tells at a terminal. This file is written by `tools/make_guide.py` from `docs/MACHINE.md` and
-//! `docs/REFUSALS.md`.
+//! What `help` tells. This file is written by `tools/make_guide.py` from `docs/MACHINE.md`, `docs/REFUSALS.md` and
+//! `docs/MISTAKES.md`.
 
 """
 EXAMPLES = {
@@ -48,8 +51,9 @@ def entries():
     names = " ".join(row[0] for row in rows)
     yield "\n".join([
         "help", "  A line of JSON is a request. These are the commands; help and a name says more of each:",
-        wrapped(names, 4), "  help refusals lists the words by which a request is refused, help faults those of a line",
-        "  that can't be read. Ctrl-D ends the run."])
+        wrapped(names, 4), "  help commands says of each what it does, help flags what the flags of a part are for.",
+        "  help refusals lists the words by which a request is refused, help faults those of a line",
+        "  that can't be read, and help mistakes what mends what. quit or Ctrl-D ends the run."])
     yield "\n".join(["commands", *(wrapped(f"{do}: {plain(effect)}") for do, _, _, effect in rows)])
     for do, fields, refusals, effect in rows:
         lines = [do, "  Fields:"]
@@ -57,11 +61,18 @@ def entries():
             lines.append(f"    {name}{optional}: {plain(kind) or 'a ' + name}")
         lines += [wrapped("Refused as " + plain(refusals) + "."), wrapped("Does: " + plain(effect) + ".")]
         yield "\n".join([*lines, "  Example: " + example(do)])
+    flags = re.findall(r"^\| `(\w+)` \| (.*) \|$", section("MACHINE.md", "Flags"), re.M)
+    expect([flag for flag, _ in flags] == [*FLAGS], "docs/MACHINE.md has other flags than tools/machine")
+    yield "\n".join(["flags", *(wrapped(f"{flag}: {plain(what)}") for flag, what in flags)])
     for name, title in ("refusals", "Refusals"), ("faults", "Faults of lines and of files that are imported"):
         words = re.findall(r"^\| `(\w+)` \| (.*) \| (.*) \|$", section("REFUSALS.md", title), re.M)
         yield "\n".join([name, *(wrapped(f"{word}: {plain(wrong)} {plain(mend)}") for word, wrong, mend in words)])
         for word, wrong, mend in words:
             yield "\n".join([word, wrapped(plain(wrong)), wrapped(plain(mend))])
+    mends = re.findall(r"^\| `(\w+)` \| (.*) \| (.*) \| .* \|$", (TOP / "docs" / "MISTAKES.md").read_text(), re.M)
+    yield "\n".join([
+        "mistakes", "  What is put right by which request. docs/MISTAKES.md says what stays then, with examples.",
+        *(wrapped(f"{do}: {plain(wrong)} {plain(mend)}") for do, wrong, mend in mends)])
 
 
 def words_of(name, what, words):
@@ -82,10 +93,20 @@ def source():
                  [*FLAGS, *STATUSES, *SIDES, *REPORTS])])
 
 
+def expect_topics():
+    """Looks that the word `help` takes the names of the entries, by its source and by the definitions."""
+    names = [entry.split("\n")[0] for entry in entries()]
+    listed = re.search(r"const TOPICS: [^=]*= \[(.*?)\];", WORDS.read_text(), re.S)[1]
+    expect(re.findall(r'"(\w+)"', listed) == names, f"{WORDS.name} lists other topics of help than there are")
+    defined = re.search(r"^topic_names =(.*?)\[\]$", DEFINITIONS.read_text(), re.M | re.S)[1]
+    expect(re.findall(r'codes "(\w+)"', defined) == names, f"{DEFINITIONS.name} has other topics of help than there are")
+
+
 def main():
     words = argparse.ArgumentParser(description=__doc__, formatter_class=argparse.RawDescriptionHelpFormatter)
     words.add_argument("--check", action="store_true")
     if words.parse_args().check:
+        expect_topics()
         expect(SOURCE.read_text() == source(), f"{SOURCE.relative_to(TOP)} isn't as tools/make_guide.py would write it")
     else:
         SOURCE.write_text(source())

@@ -2,12 +2,15 @@
 """Writes the page of `man invdesk`, `contrib/invdesk.1`, and the completions of bash, `contrib/invdesk.bash`. Both have
 the commands with their words as the program reads them (`tools/program_words.py`). The page has besides what the README
 says first and of answers, the tables of `docs/REFUSALS.md`, and the files and the environment of `docs/OPERATING.md`.
-It bears the day on which the rest of it was last written otherwise.
+It bears the day on which the rest of it was last written otherwise. The kit that the program says it is proved with has to
+be the one of `rt version`, and of the documents.
 
 usage: tools/make_man.py [--check]     --check writes nothing, and tells which isn't as it would be written"""
 import argparse
 import datetime
 import re
+import shutil
+import subprocess
 import textwrap
 
 from machine.lines import FIELDS
@@ -163,10 +166,21 @@ def page_of(top):
                       f"{named('docs/TUTORIAL.md')} is the one to begin with.")
 
 
+def number_of(top):
+    """The program's version. Behind it the program says with which kit it is proved, as the documents do."""
+    number, kit = re.fullmatch(r"(\S+) \((.*)\)", top.said["version"]).groups()
+    for name in "README.md", "docs/PROOF.md":
+        expect(f"`{kit}`" in (TOP / name).read_text(), f"{name} names another kit than the program: {kit}")
+    if shutil.which("rt"):
+        here = subprocess.run(["rt", "version"], capture_output=True, text=True, check=True).stdout.strip()
+        expect(here == kit, f"the kit is {here}, and the program says {kit}")
+    return number
+
+
 def page(top, day):
     """The page, last written otherwise on that day."""
     head = [".\\\" This file is written by tools/make_man.py from the program's words and the documents.",
-            f'.TH INVDESK 1 {day} "invdesk {top.said["version"]}" "User Commands"']
+            f'.TH INVDESK 1 {day} "invdesk {number_of(top)}" "User Commands"']
     return "\n".join([*head, *page_of(top)]) + "\n"
 
 

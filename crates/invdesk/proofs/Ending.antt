@@ -1,5 +1,5 @@
 -- How work ends, and the status of it.
-use Rattle.std.proofs.Common.{◌≡◌, ◌∙◌, ◌⊎◌, inl, inr, ℕ, Bool, true, false, [], ap, arith, refl, sym, subst}
+use Rattle.std.proofs.Common.{◌≡◌, ◌∙◌, ◌⊎◌, ◌&&◌, inl, inr, ℕ, Bool, true, false, [], ap, arith, refl, sym, subst}
 use Rattle.std.specs.Prelude.{◌≢◌, ◌≤◌, ◌^◌, ◌-◌, List, Option, Some, None, IfSome, IsSome, is_some, replicate, unwrap_or}
 use Rattle.table_store.specs.declared.fault.Failed.{Failed}
 use Rattle.sqlite.specs.Tree.{Trees}
@@ -21,13 +21,29 @@ use Rattle.invdesk.specs.Memory.{RunsInMemory}
 
 -- ---- a serving
 
-pub of_serving : (end : RunEnd) → (end ≡ ReadFailed) ⊎ (end ≡ Memory) → IsOfServing end
-of_serving end (inl e) = subst IsOfServing (sym e) tt
-of_serving end (inr e) = subst IsOfServing (sym e) tt
+pub of_serving : {F : Type 0} (ends : Bool) (failure : Option F) (end : RunEnd) → (end ≡ ReadFailed) ⊎ (end ≡ Memory)
+    → IsOfServing ends failure end
+of_serving ends failure end (inl e) = subst (IsOfServing ends failure) (sym e) tt
+of_serving ends failure end (inr e) = subst (IsOfServing ends failure) (sym e) tt
 
-pub of_telling : (end : RunEnd) → (end ≡ WriteFailed) ⊎ (end ≡ Memory) → IsOfServing end
-of_telling end (inl e) = subst IsOfServing (sym e) tt
-of_telling end (inr e) = subst IsOfServing (sym e) tt
+pub of_telling : {F : Type 0} (ends : Bool) (failure : Option F) (end : RunEnd) → (end ≡ WriteFailed) ⊎ (end ≡ Memory)
+    → IsOfServing ends failure end
+of_telling ends failure end (inl e) = subst (IsOfServing ends failure) (sym e) tt
+of_telling ends failure end (inr e) = subst (IsOfServing ends failure) (sym e) tt
+
+-- it is fine where it doesn't end by a fault
+pub no_fault : {F : Type 0} (ends : Bool) (failure : Option F) → (ends && is_some failure) ≡ false
+    → IsOfServing ends failure (Done true)
+no_fault true None e = (refl, λ _. refl)
+no_fault true (Some f) e = absurd (cc)
+no_fault false failure e = (refl, λ is. absurd (cc))
+
+-- and failed where it does
+pub by_fault : {F : Type 0} (ends : Bool) (failure : Option F) → (ends && is_some failure) ≡ true
+    → IsOfServing ends failure Store
+by_fault true (Some f) e = (refl, refl)
+by_fault true None e = absurd (cc)
+by_fault false failure e = absurd (cc)
 
 -- a text that may be a token
 abbrev plain_token : List ℕ
@@ -59,7 +75,7 @@ any_site port has_token has_page =
 -- no connection was served
 pub unserved : {B F : Type 0} (state_in : B → State) (failure_of : B → Option F) (may_leave : B → Trees → Type 0)
     (options : LineOptions) (port : ℕ) (has_token has_page : Bool) (count : Option ℕ) (service : BooksService B) (end : RunEnd)
-    → service.options ≡ options → IsOfServing end
+    → service.options ≡ options → IsOfServing service.ends_at_fault (failure_of service.books) end
     → ServesClients state_in failure_of may_leave options port has_token has_page count service service end
 unserved state_in failure_of may_leave options port has_token has_page count service end taken ends =
     let any = any_site port has_token has_page in
@@ -110,12 +126,12 @@ runs_done options stop all s s' ran = record {
   left = λ _ trees never. absurd never;
 }
 
-abbrev no_fault : Option Failed
-no_fault = None
+abbrev no_failure : Option Failed
+no_failure = None
 
 -- no tables are left of books in memory
 abbrev Nothing : Trees → Type 0
-Nothing trees = (no_fault ≡ None) × ⊥
+Nothing trees = (no_failure ≡ None) × ⊥
 
 no_tables : (trees : Trees) → Nothing trees → ⊥
 no_tables trees may = may.1

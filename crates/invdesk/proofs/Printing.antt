@@ -14,10 +14,10 @@ use Rattle.report_core.specs.declared.name.ReportName.{ReportName}
 use Rattle.report_core.specs.declared.name.ReportName.TheVariants.{Ledger, Stock, WhereUsed, History, Content, Shortage}
 use Rattle.desk_wire.specs.declared.fault.What.{What}
 use Rattle.desk_ends.specs.Printed.{IsPrinted, migrated_text, printed}
-use Rattle.desk_cli.specs.Shows.{shown_list}
+use Rattle.desk_ends.specs.Lists.{told_list}
 use Rattle.desk_ends.specs.declared.end.RunEnd.{RunEnd}
 use Rattle.desk_ends.specs.declared.end.RunEnd.TheVariants.{Done, ReadFailed, WriteFailed, Memory, Store}
-use Rattle.desk_cli.specs.declared.words.ListOf.{ListOf}
+use Rattle.desk_ends.specs.declared.list_of.ListOf.{ListOf}
 use Rattle.desk_cli.specs.declared.words.ReportOf.{ReportOf}
 use Rattle.desk_cli.specs.declared.words.Task.{Task}
 use Rattle.desk_cli.specs.declared.words.Task.TheVariants as task
@@ -138,47 +138,49 @@ prints_closed name (Err what) s w = Keeps-refl w
 -- ---- a list, whose row may be said by a word
 
 -- the list was found
-pub list_found : (csv : Bool) (asked : Result Listing What) (listing : Listing) (s : State) (w w' : Option (List ℕ))
-    (end : RunEnd) → asked ≡ Ok listing → PrintsText (shown_list csv (listing_lines listing s)) w w' end
-    → PrintsList csv asked s w w' end
-list_found csv asked listing s w w' end found h = subst (λ r. PrintsList csv r s w w' end) (sym found) h
+pub list_found : (csv person : Bool) (most : Option ℕ) (asked : Result Listing What) (listing : Listing) (s : State) (w w' : Option (List ℕ))
+    (end : RunEnd) → asked ≡ Ok listing → PrintsText (told_list csv person most (listing_lines listing s)) w w' end
+    → PrintsList csv person most asked s w w' end
+list_found csv person most asked listing s w w' end found h = subst (λ r. PrintsList csv person most r s w w' end) (sym found) h
 
 -- ... or the word says none
-pub list_unfound : (csv : Bool) (asked : Result Listing What) (what : What) (s : State) (w : Option (List ℕ))
-    → asked ≡ Err what → PrintsList csv asked s w w (Done false)
-list_unfound csv asked what s w none =
-    subst (λ r. PrintsList csv r s w w (Done false)) (sym none) (refl, Keeps-refl w)
+pub list_unfound : (csv person : Bool) (most : Option ℕ) (asked : Result Listing What) (what : What) (s : State) (w : Option (List ℕ))
+    → asked ≡ Err what → PrintsList csv person most asked s w w (Done false)
+list_unfound csv person most asked what s w none =
+    subst (λ r. PrintsList csv person most r s w w (Done false)) (sym none) (refl, Keeps-refl w)
 
 -- there was no memory to look it up
-pub list_no_memory : (csv : Bool) (asked : Result Listing What) (s : State) (w : Option (List ℕ))
-    → PrintsList csv asked s w w Memory
-list_no_memory csv (Ok listing) s w = Keeps-refl w
-list_no_memory csv (Err what) s w = Keeps-refl w
+pub list_no_memory : (csv person : Bool) (most : Option ℕ) (asked : Result Listing What) (s : State) (w : Option (List ℕ))
+    → PrintsList csv person most asked s w w Memory
+list_no_memory csv person most (Ok listing) s w = Keeps-refl w
+list_no_memory csv person most (Err what) s w = Keeps-refl w
 
 -- the desk was closed
-pub list_closed : (csv : Bool) (asked : Result Listing What) (s : State) (w : Option (List ℕ))
-    → PrintsList csv asked s w w Store
-list_closed csv (Ok listing) s w = Keeps-refl w
-list_closed csv (Err what) s w = Keeps-refl w
+pub list_closed : (csv person : Bool) (most : Option ℕ) (asked : Result Listing What) (s : State) (w : Option (List ℕ))
+    → PrintsList csv person most asked s w w Store
+list_closed csv person most (Ok listing) s w = Keeps-refl w
+list_closed csv person most (Err what) s w = Keeps-refl w
 
--- of a task that isn't one of the four nothing is printed
+-- of a task that isn't one of the five nothing is printed
 pub prints_nothing : (it : Task) (s : State) (w : Option (List ℕ))
     → ((file : Bor (List ℕ)) (name : ReportName) (of : ReportOf) → it ≡ task.Report file name of → ⊥)
     → ((file : Bor (List ℕ)) (table : TableName) → it ≡ task.Export file table → ⊥)
+    → ((file : Bor (List ℕ)) → it ≡ task.Dump file → ⊥)
     → ((file : Bor (List ℕ)) (list : ListOf) (csv : Bool) → it ≡ task.Show file list csv → ⊥)
     → ((file : Bor (List ℕ)) → it ≡ task.Migrate file → ⊥)
     → Prints it s w w (Done true)
-prints_nothing (task.Report file name of) s w report export show migrate = absurd (report file name of refl)
-prints_nothing (task.Export file table) s w report export show migrate = absurd (export file table refl)
-prints_nothing (task.Show file list csv) s w report export show migrate = absurd (show file list csv refl)
-prints_nothing (task.Migrate file) s w report export show migrate = absurd (migrate file refl)
-prints_nothing (task.Run file names stop check explain journal) s w report export show migrate = (refl, Keeps-refl w)
-prints_nothing (task.Import file kind document day path names loose explain) s w report export show migrate = (refl, Keeps-refl w)
-prints_nothing (task.Sheet file told path stop explain) s w report export show migrate = (refl, Keeps-refl w)
-prints_nothing (task.Lines told path) s w report export show migrate = (refl, Keeps-refl w)
-prints_nothing (task.Serve file port count token names page journal) s w report export show migrate = (refl, Keeps-refl w)
-prints_nothing (task.Guide topic) s w report export show migrate = (refl, Keeps-refl w)
-prints_nothing (task.Help e) s w report export show migrate = (refl, Keeps-refl w)
-prints_nothing (task.Wrong e) s w report export show migrate = (refl, Keeps-refl w)
-prints_nothing task.Unreadable s w report export show migrate = (refl, Keeps-refl w)
-prints_nothing task.Memory s w report export show migrate = (refl, Keeps-refl w)
+prints_nothing (task.Report file name of) s w report export dump show migrate = absurd (report file name of refl)
+prints_nothing (task.Export file table) s w report export dump show migrate = absurd (export file table refl)
+prints_nothing (task.Dump file) s w report export dump show migrate = absurd (dump file refl)
+prints_nothing (task.Show file list csv) s w report export dump show migrate = absurd (show file list csv refl)
+prints_nothing (task.Migrate file) s w report export dump show migrate = absurd (migrate file refl)
+prints_nothing (task.Run file names stop check explain journal) s w report export dump show migrate = (refl, Keeps-refl w)
+prints_nothing (task.Import file kind document day path names reading explain) s w report export dump show migrate = (refl, Keeps-refl w)
+prints_nothing (task.Sheet file told path stop explain) s w report export dump show migrate = (refl, Keeps-refl w)
+prints_nothing (task.Lines told path) s w report export dump show migrate = (refl, Keeps-refl w)
+prints_nothing (task.Serve file port count token names page journal) s w report export dump show migrate = (refl, Keeps-refl w)
+prints_nothing (task.Guide topic) s w report export dump show migrate = (refl, Keeps-refl w)
+prints_nothing (task.Help e) s w report export dump show migrate = (refl, Keeps-refl w)
+prints_nothing (task.Wrong e) s w report export dump show migrate = (refl, Keeps-refl w)
+prints_nothing task.Unreadable s w report export dump show migrate = (refl, Keeps-refl w)
+prints_nothing task.Memory s w report export dump show migrate = (refl, Keeps-refl w)

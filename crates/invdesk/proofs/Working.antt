@@ -6,12 +6,13 @@ use Rattle.part_core.specs.Day.{CivilDay}
 use Rattle.sqlite_trees.specs.declared.store.Store.{Ghosts}
 use Rattle.desk_core.specs.ShopView.{state_of}
 use Rattle.desk_store.specs.declared.desk.Desk.{Desk}
+use Rattle.desk_wire.specs.declared.kind.FileReading.{FileReading}
 use Rattle.desk_wire.specs.declared.kind.ImportKind.{ImportKind}
 use Rattle.desk_wire.specs.declared.sheet.Sheet.{Sheet}
 use Rattle.desk_ends.specs.declared.end.RunEnd.{RunEnd}
 use Rattle.desk_cli.specs.declared.words.Task.{Task}
 use Rattle.desk_cli.specs.declared.words.Task.TheVariants as task
-use Rattle.invdesk.specs.Prints.{Prints}
+use Rattle.invdesk.specs.Prints.{PrintsOut}
 use Rattle.invdesk.specs.Works.{Does}
 
 -- what holds of the desk inside, before and after, holds of the desk that was wrapped and of the one that was unwrapped
@@ -27,21 +28,22 @@ pub does_printing : {S : Type 0} (g : Ghosts S) (it : Task) (desk : Desk S) (end
     (names page journal : Bool)
     → it ≡ task.Serve file port count token names page journal → ⊥)
     → ((file : Bor (List ℕ)) (kind : ImportKind) (document : List ℕ) (day : CivilDay) (path : Bor (List ℕ))
-    (names loose explain : Bool)
-    → it ≡ task.Import file kind document day path names loose explain → ⊥)
+    (names : Bool) (reading : FileReading) (explain : Bool)
+    → it ≡ task.Import file kind document day path names reading explain → ⊥)
     → ((file : Bor (List ℕ)) (told : Sheet) (path : Bor (List ℕ)) (stop explain : Bool)
     → it ≡ task.Sheet file told path stop explain → ⊥)
-    → Prints it (state_of desk.shop) None None end → Does g it desk desk end
+    → PrintsOut it (state_of desk.shop) end → Does g it desk desk end
 does_printing g (task.Run file names stop check explain journal) desk end run serve import sheet prints =
     absurd (run file names stop check explain journal refl)
 does_printing g (task.Serve file port count token names page journal) desk end run serve import sheet prints =
     absurd (serve file port count token names page journal refl)
-does_printing g (task.Import file kind document day path names loose explain) desk end run serve import sheet prints =
-    absurd (import file kind document day path names loose explain refl)
+does_printing g (task.Import file kind document day path names reading explain) desk end run serve import sheet prints =
+    absurd (import file kind document day path names reading explain refl)
 does_printing g (task.Sheet file told path stop explain) desk end run serve import sheet prints =
     absurd (sheet file told path stop explain refl)
 does_printing g (task.Report file name of) desk end run serve import sheet prints = (refl, prints)
 does_printing g (task.Export file table) desk end run serve import sheet prints = (refl, prints)
+does_printing g (task.Dump file) desk end run serve import sheet prints = (refl, prints)
 does_printing g (task.Show file list csv) desk end run serve import sheet prints = (refl, prints)
 does_printing g (task.Migrate file) desk end run serve import sheet prints = (refl, prints)
 does_printing g (task.Lines told path) desk end run serve import sheet prints = (refl, prints)

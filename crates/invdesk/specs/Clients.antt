@@ -1,15 +1,15 @@
 -- Clients of the loopback that are served.
-use Rattle.std.specs.Prelude.{◌≡◌, ◌≤◌, ◌^◌, ◌-◌, ◌==◌, ℕ, Bool, true, List, Option, Some, None, Result, IfSome, is_some}
-use Rattle.std.specs.Prelude.{if◌then◌else◌}
+use Rattle.std.specs.Prelude.{◌≡◌, ◌≤◌, ◌^◌, ◌-◌, ◌==◌, ◌&&◌, ℕ, Bool, true, List, Option, Some, None, Result, IfSome, IsSome}
+use Rattle.std.specs.Prelude.{is_none, is_some, if◌then◌else◌}
 use Rattle.std.specs.List.{before_first}
 use Rattle.sqlite.specs.Tree.{Trees}
 use Rattle.desk_core.specs.Machine.{State}
 use Rattle.desk_http.specs.AccessRules.{is_token}
 use Rattle.desk_http.specs.Services.{Operation, Performs, ReplyView}
-use Rattle.desk_http.specs.Serving.{AreSteps, IsOneOperation, IsOneStep}
+use Rattle.desk_http.specs.Serving.{AreSteps, IsOneOperation, IsOneStep, IsTaken}
 use Rattle.desk_http.specs.Sites.{SiteRules}
 use Rattle.desk_http.specs.declared.service.NoReply.{NoReply}
-use Rattle.desk_app.specs.Services.{desk_machine, leaves, Relates}
+use Rattle.desk_app.specs.Services.{desk_machine, is_over, leaves, IsStoppedBy, Relates}
 use Rattle.desk_app.specs.declared.options.LineOptions.{LineOptions}
 use Rattle.desk_app.specs.declared.service.BooksService.{BooksService}
 use Rattle.desk_ends.specs.declared.end.RunEnd.{RunEnd}
@@ -45,13 +45,18 @@ abbrev pub most_of : Option ℕ → ℕ
 most_of (Some count) = count
 most_of None = 2 ^ 64 - 1
 
--- how a serving may end
-abbrev pub IsOfServing : RunEnd → Type 0
-IsOfServing (Done all) = all ≡ true
-IsOfServing ReadFailed = Unit {0}
-IsOfServing WriteFailed = Unit {0}
-IsOfServing Memory = Unit {0}
-IsOfServing Store = ⊥
+-- with a page, and with no count of connections, it ends once a fault has closed its books
+abbrev pub ends_at_fault : Bool → Option ℕ → Bool
+ends_at_fault has_page count = has_page && is_none count
+
+-- how a serving may end, that ends at a fault or doesn't, with books that this fault has closed, if one has: as work does
+-- that failed where it ends by one, and fine where it doesn't
+abbrev pub IsOfServing : {F : Type 0} → Bool → Option F → RunEnd → Type 0
+IsOfServing ends failure (Done all) = (all ≡ true) × (ends ≡ true → failure ≡ None)
+IsOfServing ends failure ReadFailed = Unit {0}
+IsOfServing ends failure WriteFailed = Unit {0}
+IsOfServing ends failure Memory = Unit {0}
+IsOfServing ends failure Store = (ends ≡ true) × IsSome failure
 
 -- Of books it is known what state they hold, what fault has closed them, if one has, and what a crash may leave of them.
 module _ {B F : Type 0} (state_in : B → State) (failure_of : B → Option F) (may_leave : B → Trees → Type 0) where
@@ -60,17 +65,21 @@ module _ {B F : Type 0} (state_in : B → State) (failure_of : B → Option F) (
   DoesOperation =
       Performs (λ service. (state_in service.books, service.options, service.tag)) desk_machine leaves
       (λ old operation why new. Relates old.options (failure_of old.books) (failure_of new.books) (may_leave new.books)
-      (state_in old.books) (state_in new.books) operation why)
+      (state_in old.books) (state_in new.books) operation why × IsStoppedBy operation why old.stopped new.stopped)
+
+  -- the service takes no further request
+  abbrev pub takes_none : BooksService B → Bool
+  takes_none service = is_over service.stopped service.ends_at_fault (failure_of service.books)
 
   -- So many connections at most were served by the books, one after another, of a site that asks for this port and, it may
   -- be, the token in a file, and shows a page or none; and the serving ended so. What came by them, and what was answered, is known to
-  -- no clause: so each did what some bytes ask for, and that is an operation at most. What was sent was taken
-  -- in this way.
+  -- no clause: so each did what some bytes ask for, and that is an operation at most. None came once the service took no
+  -- further request. What was sent was taken in this way.
   pub record ServesClients (options : LineOptions) (port : ℕ) (has_token has_page : Bool) (count : Option ℕ)
       (old new : BooksService B) (end : RunEnd) : Type 0 where
     pub taken : old.options ≡ options
     pub site : SiteRules
     pub offers : OffersTo port has_token has_page site
-    pub steps : (n : ℕ) × (n ≤ most_of count) × AreSteps (IsOneStep DoesOperation site) n old new
-    pub operations : (n : ℕ) × (n ≤ most_of count) × AreSteps (IsOneOperation DoesOperation) n old new
-    pub ends : IsOfServing end
+    pub steps : (n : ℕ) × (n ≤ most_of count) × AreSteps (IsTaken takes_none (IsOneStep DoesOperation site)) n old new
+    pub operations : (n : ℕ) × (n ≤ most_of count) × AreSteps (IsTaken takes_none (IsOneOperation DoesOperation)) n old new
+    pub ends : IsOfServing old.ends_at_fault (failure_of new.books) end

@@ -28,7 +28,7 @@ use Rattle.desk_ends.specs.declared.end.RunEnd.{RunEnd}
 use Rattle.desk_ends.specs.declared.end.RunEnd.TheVariants.{Store}
 use Rattle.desk_cli.specs.declared.words.Task.{Task}
 use Rattle.desk_cli.specs.declared.words.Task.TheVariants as task
-use Rattle.invdesk.specs.Prints.{Prints}
+use Rattle.invdesk.specs.Prints.{PrintsOut}
 use Rattle.invdesk.specs.Works.{Does}
 
 module _ {S : Type 0} (g : Ghosts S) where
@@ -82,6 +82,7 @@ module _ {S : Type 0} (g : Ghosts S) where
 abbrev pub IsLook : Task → Type 0
 IsLook (task.Report file name of) = Unit {0}
 IsLook (task.Export file table) = Unit {0}
+IsLook (task.Dump file) = Unit {0}
 IsLook (task.Show file list csv) = Unit {0}
 IsLook _ = ⊥
 
@@ -105,6 +106,7 @@ can_be_migrated content.Empty = Err file_fault.OtherTables
 abbrev pub is_to_be_opened : Task → Content → Result Bool FileFault
 is_to_be_opened (task.Report file name of) found = finds_database found false
 is_to_be_opened (task.Export file table) found = finds_database found false
+is_to_be_opened (task.Dump file) found = finds_database found true
 is_to_be_opened (task.Show file list csv) found = finds_database found true
 is_to_be_opened (task.Migrate file) found = can_be_migrated found
 is_to_be_opened it found = Ok true
@@ -114,7 +116,7 @@ pub record LooksAtNone (it : Task) (end : RunEnd) : Type 0 where
   pub look : IsLook it
   pub books : State
   pub empty : IsEmpty books
-  pub prints : Prints it books None None end
+  pub prints : PrintsOut it books end
 
 -- a file has some database that has no desk, for this reason
 abbrev pub HasNone : {D : Type 0} → disk.Ghosts D → FileFault → Type 0

@@ -1,7 +1,8 @@
 -- What is printed of a desk.
-use Rattle.std.specs.Prelude.{◌≡◌, ℕ, List, Bool, true, false, Option, Result, Ok, Err}
+use Rattle.std.specs.Prelude.{◌≡◌, ℕ, List, Bool, true, false, Option, None, Result, Ok, Err}
 use Rattle.std.specs.Io.KnownBytes.{Appends, Keeps}
 use Rattle.desk_core.specs.Machine.{State}
+use Rattle.desk_store.specs.Dumps.{dump_text}
 use Rattle.desk_store.specs.Exports.{AppendsFront, table_text}
 use Rattle.list_core.specs.Listings.{listing_lines}
 use Rattle.report_core.specs.Reports.{report_lines}
@@ -10,7 +11,7 @@ use Rattle.report_core.specs.declared.name.ReportName.{ReportName}
 use Rattle.report_core.specs.declared.name.ReportName.TheVariants.{History}
 use Rattle.desk_wire.specs.declared.fault.What.{What}
 use Rattle.desk_ends.specs.Printed.{migrated_text, printed}
-use Rattle.desk_cli.specs.Shows.{listing_by, shown_list}
+use Rattle.desk_ends.specs.Lists.{listing_by, told_list}
 use Rattle.desk_cli.specs.Subjects.{row_of_report}
 use Rattle.desk_ends.specs.declared.end.RunEnd.{RunEnd}
 use Rattle.desk_ends.specs.declared.end.RunEnd.TheVariants.{Done, ReadFailed, WriteFailed, Memory, Store}
@@ -48,15 +49,31 @@ abbrev pub PrintsOfRow : ReportName → Result ℕ What → State → Option (Li
 PrintsOfRow name (Ok number) s w w' end = PrintsReport name number s w w' end
 PrintsOfRow name (Err what) s w w' end = PrintsNone w w' end
 
--- the list that was asked for was printed; where a word says no row, nothing was
-abbrev pub PrintsList : Bool → Result Listing What → State → Option (List ℕ) → Option (List ℕ) → RunEnd → Type 0
-PrintsList csv (Ok listing) s w w' end = PrintsText (shown_list csv (listing_lines listing s)) w w' end
-PrintsList csv (Err what) s w w' end = PrintsNone w w' end
+-- the list that was asked for was printed, for a person's terminal or not; where a word says no row, nothing was
+abbrev pub PrintsList : Bool → Bool → Option ℕ → Result Listing What → State → Option (List ℕ) → Option (List ℕ) → RunEnd
+    → Type 0
+PrintsList csv person most (Ok listing) s w w' end = PrintsText (told_list csv person most (listing_lines listing s)) w w' end
+PrintsList csv person most (Err what) s w w' end = PrintsNone w w' end
+
+-- it was printed on the standard output: whether that is a person's terminal, and how wide, is known to no clause
+abbrev pub PrintsListOut : Bool → Result Listing What → State → Option (List ℕ) → Option (List ℕ) → RunEnd → Type 0
+PrintsListOut csv listing s w w' end = (person : Bool) × (most : Option ℕ) × PrintsList csv person most listing s w w' end
 
 -- what the words ask for was printed of a desk in this state; of other tasks nothing is printed
 abbrev pub Prints : Task → State → Option (List ℕ) → Option (List ℕ) → RunEnd → Type 0
 Prints (task.Report file name of) s w w' end = PrintsOfRow name (row_of_report name of s) s w w' end
 Prints (task.Export file table) s w w' end = PrintsLines (table_text table s, true) w w' end
-Prints (task.Show file list csv) s w w' end = PrintsList csv (listing_by list s) s w w' end
+Prints (task.Dump file) s w w' end = PrintsLines (dump_text s, true) w w' end
+Prints (task.Show file list csv) s w w' end = PrintsListOut csv (listing_by list s) s w w' end
 Prints (task.Migrate file) s w w' end = PrintsText (migrated_text, true) w w' end
 Prints _ s w w' end = (end ≡ Done true) × Keeps w w'
+
+-- where it failed since whoever reads it has gone, printing ends well
+abbrev pub ends_quietly : Bool → RunEnd → RunEnd
+ends_quietly true WriteFailed = Done true
+ends_quietly is_left end = end
+
+-- The same on the standard output, whose bytes are known to no clause, nor whether whoever reads it has gone.
+abbrev pub PrintsOut : Task → State → RunEnd → Type 0
+PrintsOut it s end =
+    (is_left : Bool) × (printed : RunEnd) × Prints it s None None printed × (end ≡ ends_quietly is_left printed)

@@ -4,8 +4,9 @@ use Rattle.sqlite.specs.Tree.{Trees}
 use Rattle.part_core.specs.Day.{CivilDay}
 use Rattle.desk_core.specs.Machine.{State}
 use Rattle.desk_store.specs.StateTables.{TablesAre}
-use Rattle.desk_wire.specs.Imports.{import}
+use Rattle.desk_wire.specs.Imports.{import_by}
 use Rattle.desk_wire.specs.Sheets.{Sheet, sheet_text}
+use Rattle.desk_wire.specs.declared.kind.FileReading.{FileReading}
 use Rattle.desk_wire.specs.declared.kind.ImportKind.{ImportKind}
 use Rattle.desk_ends.specs.declared.end.RunEnd.{RunEnd}
 use Rattle.desk_ends.specs.declared.end.RunEnd.TheVariants.{Done, ReadFailed, Memory, Store}
@@ -41,11 +42,11 @@ pub record RunsRows {F : Type 0} (reading : Reading) (old new : Option F) (leave
   pub left_by_groups : old ≡ None → (trees : Trees) → leaves trees → IsLeftByImport reading s s' trees
 
 -- A file was imported: which bytes it has is known to no clause, so some bytes. Rows might be named in it, or not.
-abbrev pub ImportsFile : {F : Type 0} → Bool → Bool → ImportKind → List ℕ → CivilDay → Option F → Option F → (Trees → Type 0)
+abbrev pub ImportsFile : {F : Type 0} → FileReading → Bool → ImportKind → List ℕ → CivilDay → Option F → Option F → (Trees → Type 0)
     → State → State → RunEnd → Type 0
-ImportsFile loose names kind document day old new leaves s s' end =
+ImportsFile reading names kind document day old new leaves s s' end =
     Unread old new leaves s s' end
-    ⊎ ((bytes : List ℕ) × RunsRows (import loose (naming names s) kind document day bytes) old new leaves s s' end)
+    ⊎ ((bytes : List ℕ) × RunsRows (import_by reading s (naming names s) kind document day bytes) old new leaves s s' end)
 
 -- A file of records of a command was imported: which bytes it has is known to no clause, so some bytes.
 abbrev pub ImportsSheet : {F : Type 0} → Sheet → Bool → Option F → Option F → (Trees → Type 0) → State → State → RunEnd

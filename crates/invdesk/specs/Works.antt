@@ -15,9 +15,9 @@ use Rattle.desk_ends.specs.declared.end.RunEnd.{RunEnd}
 use Rattle.desk_cli.specs.declared.words.Task.{Task}
 use Rattle.desk_cli.specs.declared.words.Task.TheVariants as task
 use Rattle.invdesk.specs.Checks.{ChecksInput}
-use Rattle.invdesk.specs.Clients.{ServesClients}
+use Rattle.invdesk.specs.Clients.{ServesClients, ends_at_fault}
 use Rattle.invdesk.specs.Lines.{AreTakenBy, RunsLines}
-use Rattle.invdesk.specs.Prints.{Prints}
+use Rattle.invdesk.specs.Prints.{PrintsOut}
 use Rattle.invdesk.specs.Rows.{ImportsFile, ImportsSheet}
 
 module _ {S : Type 0} (g : Ghosts S) where
@@ -46,6 +46,7 @@ module _ {S : Type 0} (g : Ghosts S) where
     pub before : BooksService (WatchedDesk S Stderr)
     pub after : BooksService (WatchedDesk S Stderr)
     pub was : before.books.desk ≡ old
+    pub until : before.ends_at_fault ≡ ends_at_fault has_page count
     pub is : after.books.desk ≡ new
     pub serves : ServesClients (λ watched. state_of watched.desk.shop) (λ watched. watched.desk.failed)
         (λ watched. may_leave watched.desk) options port has_token has_page count before after end
@@ -54,11 +55,11 @@ module _ {S : Type 0} (g : Ghosts S) where
   abbrev pub Does : Task → Desk S → Desk S → RunEnd → Type 0
   Does (task.Run file names stop check explain journal) old new end =
       (options : LineOptions) × AreTakenBy names journal options × AnswersOnDesk options stop check old new end
-  Does (task.Import file kind document day path names loose explain) old new end =
-      ImportsFile loose names kind document day old.failed new.failed (may_leave new) (state_of old.shop)
+  Does (task.Import file kind document day path names reading explain) old new end =
+      ImportsFile reading names kind document day old.failed new.failed (may_leave new) (state_of old.shop)
       (state_of new.shop) end
   Does (task.Sheet file told path stop explain) old new end =
       ImportsSheet (shown_sheet told) stop old.failed new.failed (may_leave new) (state_of old.shop) (state_of new.shop) end
   Does (task.Serve file port count token names page journal) old new end =
       ServesDesk (record { names = names; journal = journal }) port (is_some token) page count old new end
-  Does it old new end = (new ≡ old) × Prints it (state_of old.shop) None None end
+  Does it old new end = (new ≡ old) × PrintsOut it (state_of old.shop) end

@@ -4,6 +4,7 @@
 #![tactic(auto)]
 
 mod page;
+mod pipe;
 mod serve;
 mod token;
 
@@ -13,7 +14,7 @@ ghost use Rattle.desk_core.specs.ShopView.{state_of};
 ghost use Rattle.desk_store.specs.Desks.{IsDesk};
 ghost use Rattle.desk_app.specs.Cuts.{ReadsFile};
 ghost use Rattle.desk_cli.specs.Statuses.{early_status};
-ghost use Rattle.desk_cli.specs.Shows.{listing_by};
+ghost use Rattle.desk_ends.specs.Lists.{listing_by};
 ghost use Rattle.desk_cli.specs.Subjects.{row_of_report};
 ghost use Rattle.desk_cli.specs.Words.{file_of};
 ghost use Rattle.invdesk.specs.Checks.{ChecksInput};
@@ -23,7 +24,7 @@ ghost use Rattle.invdesk.specs.Lines.{AreTakenBy};
 ghost use Rattle.invdesk.specs.Files.{IsClosedAfter, IsLook, IsMoved, IsTaken, LooksAtNone, NoneComes};
 ghost use Rattle.invdesk.specs.Files.{can_be_migrated, finds_database, is_to_be_opened};
 ghost use Rattle.invdesk.specs.Memory.{AnswersInMemory, ChecksInMemory, DoesInMemory};
-ghost use Rattle.invdesk.specs.Prints.{Prints, PrintsList, PrintsOfRow};
+ghost use Rattle.invdesk.specs.Prints.{Prints, PrintsList, PrintsListOut, PrintsOfRow, PrintsOut};
 ghost use Rattle.invdesk.specs.Rows.{ImportsFile, ImportsSheet, IsOfFile, PrintsLines};
 ghost use Rattle.desk_wire.specs.SheetViews.{shown_sheet};
 ghost use Rattle.invdesk.specs.Statuses.{EndsWith, IsStatusAfter, IsStatusOf, IsStatusOnFile};
@@ -31,22 +32,23 @@ ghost use Rattle.invdesk.specs.Statuses.{IsToldAtOnce, status_on_file};
 ghost use Rattle.invdesk.specs.Works.{AnswersOnDesk, ChecksOnDesk, Does, RunsOnDesk, ServesDesk};
 ghost use Rattle.invdesk.specs.Works.{may_leave};
 
-use crate::serve::{began, serve};
+use crate::pipe::{Output, end_of_print, is_of_a_reader};
+use crate::serve::{began, ends_at_fault, serve};
 use desk_app::{
     Books, BooksService, CountedBooks, ExplainedBooks, LineOptions, WatchedDesk, end_of_work,
     explain_faults, import_file, import_sheet, let_go, print_sheet, read_file, run_checked,
     run_in_memory, run_lines,
 };
 use desk_cli::{
-    Content, DEVICE, FaultyFile, FileFault, ListOf, MEMORY, NoRow, ReportOf, Task, TypedLines,
-    connect, early_status, has_log, listing_of, look_into, migrate_desk, no_row_text, print_export,
-    print_list, print_migrated, print_report, read_words, remove_log, row_of_report, says_item_too,
-    status_of, status_of_fault, take_desk,
+    Content, DEVICE, FaultyFile, FileFault, MEMORY, NoRow, ReportOf, Task, TypedLines, connect,
+    early_status, has_log, listing_of, look_into, migrate_desk, no_row_text, print_dump,
+    print_export, print_list, print_migrated, print_report, read_words, remove_log, row_of_report,
+    says_item_too, several_called, status_of, status_of_fault, take_desk,
 };
 use desk_core::Shop;
-use desk_ends::{RunEnd, Stop, escaped, guide_to, told_line};
+use desk_ends::{ListOf, RunEnd, Stop, escaped, guide_to, told_line};
 use desk_store::{Desk, OpenFault};
-use desk_wire::{Document, ImportKind, Sheet, What};
+use desk_wire::{Document, FileReading, ImportKind, Sheet, What, number_in};
 use part_core::{Day, Limits};
 use report_core::ReportName;
 use sqlite::{Alter, Connection, Error, File, FileStore, Files};
@@ -121,7 +123,13 @@ fn at_once<R: Print + Eprint + AllocGlobal>(rt: &R, task: &Task<'_>) -> Option<u
     };
     match printed {
         Ok(()) => Some(status),
-        Err(_) => Some(DEVICE),
+        Err(error) => {
+            if is_of_a_reader(&error) {
+                Some(status)
+            } else {
+                Some(DEVICE)
+            }
+        }
     }
 }
 
@@ -170,13 +178,13 @@ fn import<B: Books>(
     kind: ImportKind,
     document: &Document,
     day: Day,
-    loose: bool,
+    reading: FileReading,
     names: bool,
     books: &mut B,
 ) -> RunEnd
     requires { B.are_kept books.old }
     ensures kept { B.are_kept books.new }
-    ensures imports { ImportsFile loose names kind document.now day (B.failure_of books.old)
+    ensures imports { ImportsFile reading names kind document.now day (B.failure_of books.old)
         (B.failure_of books.new) (B.may_leave books.new) (B.state_in books.old)
         (B.state_in books.new) result }
 {
@@ -188,7 +196,7 @@ fn import<B: Books>(
                 kind,
                 document,
                 day,
-                loose,
+                reading,
                 names,
                 &mut io::writer(rt),
                 books,
@@ -260,13 +268,29 @@ fn reasons(rt: &HostRuntime, explain: bool) -> Option<Stderr> {
 /// What a line ends with that tells of a fault of the database, while clients are served.
 const SERVED: &str = "; all requests fail until the service is started again";
 
+/// The same where the service ends by it.
+const ENDS: &str = "; the service ends, and what was answered is kept";
+
+/// Tells why a word says no row, and of a serial that several items have which they are.
+fn tell_of_word<S: Alter>(rt: &HostRuntime, desk: &Desk<S>, word: &str, what: &What) {
+    let why = no_row_text(what);
+    match several_called(rt.alloc(), desk, word, what) {
+        Some(each) => tell_line(rt, format_args!("{word}: {why}: {each}")),
+        None => tell_line(rt, format_args!("{word}: {why}")),
+    }
+}
+
 /// Tells why a word says no row, if there is a word. So printing ends.
-fn tell_no_row(rt: &HostRuntime, word: Option<&str>, what: &What) -> RunEnd
+fn tell_no_row<S: Alter>(
+    rt: &HostRuntime,
+    desk: &Desk<S>,
+    word: Option<&str>,
+    what: &What,
+) -> RunEnd
     ensures { result ≡ RunEnd.Done false }
 {
     if let Some(word) = word {
-        let why = no_row_text(what);
-        tell_line(rt, format_args!("{word}: {why}"));
+        tell_of_word(rt, desk, word, what);
     }
     RunEnd::Done(false)
 }
@@ -283,16 +307,19 @@ fn tell_item_too(rt: &HostRuntime, word: Option<&str>) {
     }
 }
 
-/// Prints the list that the words ask for. Where a word says no row, it is told why.
+/// Prints the list that the words ask for, for a person's terminal, which has so many columns, if that is known, or not for
+/// one. Where a word says no row, it is told why.
 fn print_of_list<S: Alter, W: Write>(
     rt: &HostRuntime,
     list: ListOf<'_>,
     csv: bool,
+    person: bool,
+    most: Option<usize>,
     desk: &Desk<S>,
     writer: &mut W,
 ) -> RunEnd
     requires { IsDesk S.Store desk.now }
-    ensures { PrintsList csv (listing_by list.entry (state_of desk.now.shop))
+    ensures { PrintsList csv person most (listing_by list.entry (state_of desk.now.shop))
         (state_of desk.now.shop) (W.contents writer.old) (W.contents writer.new) result }
 {
     match listing_of(rt.alloc(), desk, list) {
@@ -300,12 +327,39 @@ fn print_of_list<S: Alter, W: Write>(
             if says_item_too(rt.alloc(), desk, &listing) {
                 tell_item_too(rt, list.word());
             }
-            print_list(rt.alloc(), desk, listing, csv, writer)
+            print_list(rt.alloc(), desk, listing, csv, person, most, writer)
         }
-        Err(NoRow::Wrong(what)) => tell_no_row(rt, list.word(), &what),
+        Err(NoRow::Wrong(what)) => tell_no_row(rt, desk, list.word(), &what),
         Err(NoRow::Memory) => RunEnd::Memory,
         Err(NoRow::Closed) => RunEnd::Store,
     }
+}
+
+/// How many columns a terminal has by the environment: the kit has no call that asks the terminal.
+fn told_columns(rt: &HostRuntime) -> Option<usize> {
+    let Ok(text) = env::var(rt, "COLUMNS") else {
+        return None;
+    };
+    match number_in(text.as_str()) {
+        Some(columns) if 20 <= columns && columns <= 10_000 => Some(columns as usize),
+        _ => None,
+    }
+}
+
+/// The same, for whoever the standard output is for.
+fn print_list_out<S: Alter, W: Write>(
+    rt: &HostRuntime,
+    list: ListOf<'_>,
+    csv: bool,
+    desk: &Desk<S>,
+    writer: &mut W,
+) -> RunEnd
+    requires { IsDesk S.Store desk.now }
+    ensures { PrintsListOut csv (listing_by list.entry (state_of desk.now.shop))
+        (state_of desk.now.shop) (W.contents writer.old) (W.contents writer.new) result }
+{
+    let person = rt.stdout().is_terminal();
+    print_of_list(rt, list, csv, person, told_columns(rt), desk, writer)
 }
 
 /// Prints the report of that name, of the row that the words say. Where a word says none, it is told why.
@@ -322,7 +376,7 @@ fn print_of_row<S: Alter, W: Write>(
 {
     match row_of_report(rt.alloc(), desk, name, of) {
         Ok(number) => print_report(rt.alloc(), desk, name, number, writer),
-        Err(NoRow::Wrong(what)) => tell_no_row(rt, of.word(), &what),
+        Err(NoRow::Wrong(what)) => tell_no_row(rt, desk, of.word(), &what),
         Err(NoRow::Memory) => RunEnd::Memory,
         Err(NoRow::Closed) => RunEnd::Store,
     }
@@ -342,7 +396,8 @@ fn print<S: Alter, W: Write>(
     match task {
         Task::Report { name, of, .. } => print_of_row(rt, *name, *of, desk, writer),
         Task::Export(_, table) => print_export(desk, *table, writer),
-        Task::Show { list, csv, .. } => print_of_list(rt, *list, *csv, desk, writer),
+        Task::Dump(_) => print_dump(desk, writer),
+        Task::Show { list, csv, .. } => print_list_out(rt, *list, *csv, desk, writer),
         Task::Migrate(_) => print_migrated(writer),
         _ => RunEnd::Done(true),
     }
@@ -352,14 +407,21 @@ fn print<S: Alter, W: Write>(
 const PRINTED_AT_ONCE: usize = 65_536;
 
 /// Prints what the words ask for, of the desk, on the standard output. Where there is no memory for a buffer, what is
-/// printed waits in none.
+/// printed waits in none. Where whoever reads it goes before its end, that is no failure.
 fn print_out<S: Alter>(rt: &HostRuntime, task: &Task<'_>, desk: &Desk<S>) -> RunEnd
     requires { IsDesk S.Store desk.now }
-    ensures { Prints task.now (state_of desk.now.shop) None None result }
+    ensures { PrintsOut task.now (state_of desk.now.shop) result }
 {
-    match BufWriter::with_capacity(rt.alloc(), PRINTED_AT_ONCE, io::writer(rt)) {
-        Ok(mut buffered) => print(rt, task, desk, &mut buffered),
-        Err(_) => print(rt, task, desk, &mut io::writer(rt)),
+    match BufWriter::with_capacity(rt.alloc(), PRINTED_AT_ONCE, Output::new(io::writer(rt))) {
+        Ok(mut buffered) => {
+            let end = print(rt, task, desk, &mut buffered);
+            end_of_print(end, buffered.get_ref().is_left)
+        }
+        Err(_) => {
+            let mut output = Output::new(io::writer(rt));
+            let end = print(rt, task, desk, &mut output);
+            end_of_print(end, output.is_left)
+        }
     }
 }
 
@@ -391,7 +453,7 @@ fn lines_in(rt: &HostRuntime) -> TypedLines<StdinLock<'static>, Stderr> {
 fn greet<T: Display + Drop>(rt: &HostRuntime, books: T) {
     if rt.stdin().is_terminal() {
         let _ = eprintln!(rt;
-            "invdesk: {books} One request a line; help tells more, and Ctrl-D ends."
+            "invdesk: {books} One request a line; help tells more, and quit or Ctrl-D ends."
         );
     }
 }
@@ -526,7 +588,12 @@ fn answer_on<S: Alter + Drop>(
     run_on(rt, options, stop, explain, desk, name)
 }
 
-/// Serves clients, so many or until it is stopped.
+/// What a line ends with that tells of a fault of the database, while clients are served until one.
+fn advice(ends_at_fault: bool) -> &'static str {
+    if ends_at_fault { ENDS } else { SERVED }
+}
+
+/// Serves clients, so many or until it is stopped, or, with a page and without a count, until a fault closes the desk.
 fn serve_on(
     rt: &HostRuntime,
     port: u16,
@@ -542,8 +609,9 @@ fn serve_on(
     ensures serves { ServesDesk over_files options port (is_some token.entry) page count desk
         result.0 result.1 }
 {
-    let watched = WatchedDesk::new(desk, name, SERVED, rt.stderr());
-    let mut service = BooksService::new(watched, options, began(rt));
+    let ends = ends_at_fault(page, count);
+    let watched = WatchedDesk::new(desk, name, advice(ends), rt.stderr());
+    let mut service = BooksService::ending_at_fault(watched, options, began(rt), ends);
     let end = serve(rt, port, count, token, page, &mut service);
     (service.books.into_desk(), end)
 }
@@ -562,7 +630,7 @@ fn import_on<S: Alter + Drop>(
     kind: ImportKind,
     document: &Document,
     day: Day,
-    loose: bool,
+    reading: FileReading,
     names: bool,
     explain: bool,
     desk: Desk<S>,
@@ -570,13 +638,14 @@ fn import_on<S: Alter + Drop>(
 ) -> Worked<S>
     requires { IsDesk S.Store desk }
     ensures desk { IsDesk S.Store result.0 }
-    ensures imports { ImportsFile loose names kind document.now day desk.failed result.0.failed
+    ensures imports { ImportsFile reading names kind document.now day desk.failed result.0.failed
         (may_leave S.Store result.0) (state_of desk.shop) (state_of result.0.shop) result.1 }
 {
     let watched = WatchedDesk::new(desk, name, "", rt.stderr());
     let explained = ExplainedBooks::new(rt.alloc(), watched, reasons(rt, explain));
     let mut counted = CountedBooks::new(explained, terminal(rt));
-    let end = import(rt, path, kind, document, day, loose, names, &mut counted);
+    let end = import(rt, path, kind, document, day, reading, names, &mut counted);
+    let loose = reading != FileReading::Strict;
     tell_if_empty(rt, path, loose, end, counted.done());
     (counted.into_books().into_books().into_desk(), end)
 }
@@ -655,12 +724,12 @@ fn done(
             day,
             path,
             names,
-            loose,
+            reading,
             explain,
             ..
         } => {
             import_on(
-                rt, path, *kind, document, *day, *loose, *names, *explain, desk, name,
+                rt, path, *kind, document, *day, *reading, *names, *explain, desk, name,
             )
         }
         Task::Sheet {
@@ -707,6 +776,36 @@ fn opened(
     conn
 }
 
+/// Whether nothing is at the path. Where it can't be seen, something is.
+fn is_absent(rt: &HostRuntime, path: &str) -> bool {
+    match fs::metadata(rt, path) {
+        Ok(_) => false,
+        Err(error) => error.kind() == io::ErrorKind::NotFound,
+    }
+}
+
+/// Says at a terminal that a file was made, if it was.
+fn tell_if_made(rt: &HostRuntime, path: &str, was_absent: bool) {
+    if was_absent && rt.stderr().is_terminal() {
+        tell_line(
+            rt,
+            format_args!("{path}: there was no such file, so it was made"),
+        );
+    }
+}
+
+/// Says at a terminal that a look found no file, if so.
+fn tell_if_absent(rt: &HostRuntime, path: &str, found: Content) {
+    if matches!(found, Content::Absent) && rt.stderr().is_terminal() {
+        tell_line(
+            rt,
+            format_args!(
+                "{path}: there is no such file, and none was made; this is of an empty workshop"
+            ),
+        );
+    }
+}
+
 /// The desk of the file, which is made where there is none. What a real file holds is known to no clause: it is the desk
 /// of some database.
 fn taken(rt: &HostRuntime, path: &str) -> Result<Desk<FileStore<File>>, FileFault>
@@ -717,9 +816,13 @@ fn taken(rt: &HostRuntime, path: &str) -> Result<Desk<FileStore<File>>, FileFaul
         IsOfOpening fault ⊎ HasNone ⟦<File as Disk>⟧ fault) }
 {
     let had_log = has_log(rt, path)?;
+    let was_absent = is_absent(rt, path);
     let conn = opened(rt, path, had_log)?;
     match take_desk(rt.alloc(), conn) {
-        Ok(desk) => Ok(desk),
+        Ok(desk) => {
+            tell_if_made(rt, path, was_absent);
+            Ok(desk)
+        }
         Err((fault, database)) => {
             leave_refused(rt, path, had_log, &fault);
             drop(database);
@@ -835,7 +938,8 @@ fn can_be_migrated(found: Content) -> Result<bool, FileFault>
 }
 
 /// Whether the file in which this was found is to be opened, which makes it where there is none. Where the words only look
-/// it has to have a database; else what they ask for is that of books that are empty. A list is of a file that is there.
+/// it has to have a database; else what they ask for is that of books that are empty. A list and a dump are of a file that
+/// is there.
 /// What is brought along is there, too, and has a database.
 fn is_to_be_opened(task: &Task<'_>, found: Content) -> Result<bool, FileFault>
     ensures opened { result ≡ is_to_be_opened task.now found }
@@ -843,7 +947,7 @@ fn is_to_be_opened(task: &Task<'_>, found: Content) -> Result<bool, FileFault>
 {
     match task {
         Task::Report { .. } | Task::Export(..) => finds_database(found, false),
-        Task::Show { .. } => finds_database(found, true),
+        Task::Show { .. } | Task::Dump(_) => finds_database(found, true),
         Task::Migrate(_) => can_be_migrated(found),
         _ => Ok(true),
     }
@@ -867,7 +971,7 @@ fn look_at_none(rt: &HostRuntime, task: &Task<'_>) -> Result<RunEnd, FileFault>
 fn is_look(task: &Task<'_>) -> bool {
     matches!(
         task,
-        Task::Report { .. } | Task::Export(..) | Task::Show { .. }
+        Task::Report { .. } | Task::Export(..) | Task::Dump(_) | Task::Show { .. }
     )
 }
 
@@ -883,6 +987,7 @@ fn end_by_found(
     ensures { EndsByFound ⟦<File as Disk>⟧ task.now found result }
 {
     if !is_to_be_opened(task, found)? {
+        tell_if_absent(rt, path, found);
         return look_at_none(rt, task);
     }
     let had_log = has_log(rt, path)?;

@@ -53,9 +53,12 @@ th, td { text-align: left; font-weight: normal; padding: .3rem .6rem; border-bot
 thead *, dt { font-weight: 600 }
 thead button { border: 0; background: none; padding: 0 }
 .n { text-align: right; white-space: nowrap }
+.short { white-space: nowrap }
+thead { overflow-wrap: normal }
 .wide { width: 30% }
 .wrap { overflow-x: auto }
 .wrap:focus-within { overflow: visible }
+.lists { float: right; margin: .3rem 0 0 }
 .tools { margin: .2rem 0; justify-content: flex-end; font-size: .85rem }
 .sorter { display: none }
 .tools button { background: none; border-color: var(--line) }
@@ -104,7 +107,7 @@ fieldset { border: 0; margin: 0; padding: 0; min-width: 0 }
   header form input { width: 100% }
   input:not([type=checkbox]), select, button, summary { min-height: 44px }
   input[type=checkbox] { width: 26px; height: 26px; margin: 9px }
-  .button, td a, th a, dd a { display: inline-flex; align-items: center; min-height: 44px }
+  .button, td a, th a, dd a, .lists a { display: inline-flex; align-items: center; min-height: 44px }
   td a, th a { min-width: 44px }
   table, tbody, tr, tbody th, td { display: block; background: none }
   thead, .late, td:empty, td:has(> span:empty:only-child), #again, #print { display: none !important }
@@ -115,6 +118,8 @@ fieldset { border: 0; margin: 0; padding: 0; min-width: 0 }
   td { display: flex; gap: .8rem; justify-content: space-between; align-items: center }
   td::before { content: attr(data-title); color: var(--soft); flex: none; max-width: 45% }
   td > .field, td > div { flex: 1; min-width: 0 }
+  .short { white-space: normal }
+  .lists { float: none; margin: 0 }
   .tools { justify-content: flex-start }
   .sorter { display: inline-block }
   .tree { padding-left: .7rem }
@@ -151,7 +156,6 @@ fieldset { border: 0; margin: 0; padding: 0; min-width: 0 }
 <script>
 'use strict';
 
-// The commands of docs/MACHINE.md: fields with kinds, letters for refusals, rows of WORDS, and effects.
 const COMMANDS = `
 add_category name:text parent:category? | bdz | a category
 add_location name:text parent:location? | bdz | a location
@@ -197,7 +201,6 @@ complete_build build | bgisz | for each of its allocations, in order of number: 
 consume allocation | bghz | less than the item has is cut off first, as a new item; that, or the whole with its content, is used up
 release allocation | b | the allocation goes
 `;
-// The refusals and some faults of docs/REFUSALS.md: what is wrong.
 const WORDS = `
 KeyTaken | Another request was done under this key.
 NoSuch | A number, or a key, says no row of the kind that belongs in that field; or there is nothing to report of.
@@ -228,7 +231,6 @@ Full | The numbers for rows, or for entries of the history, are used up: there a
 BadText | A name, a batch or a partner isn't 1 to 200 bytes, or has a tab or another control character in it.
 BadSerials | The serials can't be read: one is empty, has a wrong character or more than 24, a range doesn't rise, or there are more than 1,000.
 `;
-// The columns of the tables, and the words of their numbers.
 const COLUMNS = `
 categories id name parent
 locations id name parent
@@ -255,13 +257,10 @@ pending,in progress,complete,cancelled
 pending,production,on hold,cancelled,complete
 `.trim().split('\n').map(row => row.split(','));
 
-// Words.
 
-// What a command is called where its name doesn't tell it well, and the first command of each group.
 const TITLES = { found: 'Found stock', order: 'New order', order_line: 'New line of an order', build: 'New build',
   add: 'Add to an item', remove: 'Take out', count: 'Count', outputs: 'Begin outputs', consume: 'Use up' };
 const GROUPS = { add_category: 'Parts, places and bills', found: 'Stock', order: 'Orders', build: 'Builds' };
-// What a flag of a part allows.
 const FLAG_WORDS = {
   template: 'Other parts can be variants of it.', assembly: 'It has a bill of other parts and can be built.',
   component: 'It can stand in the bill of another part.', trackable: 'Its pieces can have serials.',
@@ -282,10 +281,7 @@ const FORMS = new Map(rowsOf(COMMANDS).map(([said, refusals, effect]) => {
 }));
 const MEANINGS = new Map(rowsOf(WORDS));
 
-// Elements. What stands in the books goes into them as text, and never as HTML.
 
-// An element, its class behind a point. Of what follows, an object has its attributes and listeners, and all else
-// stands in it, but for what is nothing, false or 0.
 function node(tag, ...inner) {
   const [name, look] = tag.split('.'), made = document.createElement(name);
   if (look) made.className = look;
@@ -308,7 +304,6 @@ const acts = (...inner) => node('div.row acts', inner);
 const tick = (text, checked, change) =>
   node('label', node('input', { type: 'checkbox', checked, change: event => change(event.target.checked) }), text);
 const section = (title, ...inner) => node('section', node('h2', title), inner);
-// What is made when it is opened.
 function opening(look, words, make, open) {
   const made = node('details.' + look, { open, toggle: () => made.children[1] || made.append(make()) },
     node(look ? 'summary.button' : 'summary', words), open && make());
@@ -320,7 +315,6 @@ const list = rows => node('ul', rows.map(it => node('li', it))), each = (rows, m
 const says = (look, ...inner) =>
   node('div.said ' + look, { role: look === 'good' ? 'status' : 'alert', tabindex: -1 }, inner);
 
-// A box for a whole number: plain text, so that neither wheel nor arrow changes it.
 const numberBox = (label, more = {}) => node('input', { type: 'text', inputmode: 'numeric', autocomplete: 'off',
   'aria-label': label, ...more });
 const NUMBER = ' *([0-9]{1,15}|[0-9]{1,3}([ ,\u00a0\u202f][0-9]{3}){1,4}) *';
@@ -341,7 +335,6 @@ function bar(pieces, whole = 0) {
 let printing = [];   // what draws more of itself before it is printed
 addEventListener('beforeprint', () => printing.forEach(it => it()));
 
-// Draws rows: 25 at first, more as one scrolls or by the button, and 3,000 where they are printed.
 function slices(parent, drawn) {
   let rows = [], at = 0;
   const more = button('', () => draw(1000), 'more');
@@ -359,7 +352,6 @@ function slices(parent, drawn) {
     renew: fresh => { [rows, at] = [fresh, 0]; parent.replaceChildren(); draw(25); } };
 }
 
-// A column of a table: its title, what sorts it, what it shows of a row, and how; a phone leaves out what is late.
 function column(title, of, show, look = '') {
   const by = typeof of === 'string' ? row => row[of] : of;
   return { title, by, show: show || by, look };
@@ -376,10 +368,8 @@ function parts(title, of) {
 const rowNumbers = view => column(capital(view), 'id', row => link(`${view}/${row.id}`, row.id), 'n');
 const states = words => column('State', 'state', row => chip(words[row.state]));
 
-// A table of rows, to be sorted by its heads, or by a list where a phone shows none, saved as a file and printed alone.
-// While the page is open it keeps how it is sorted.
 const sortings = new Map();
-function table(caption, columns, rows) {
+function table(caption, columns, rows, save) {
   const word = `${here().split('?')[0]} ${caption}`;
   let [by, isDown] = sortings.get(word) ?? [], shown = rows;
   by = columns.find(it => it.by && it.title === by);
@@ -398,7 +388,7 @@ function table(caption, columns, rows) {
     'Sort by'), columns.map((it, at) => it.by && ['up', 'down'].map(way =>
     node('option', { value: way[0] + at }, `${it.title}, ${way}`))));
   const grid = node('table', node('caption.unseen', caption), node('thead', node('tr', heads)), body);
-  const tools = node('div.row tools', sorter, button('CSV', () => saveTable(caption, columns, shown)),
+  const tools = node('div.row tools', sorter, button('CSV', save ?? (() => saveTable(caption, columns, shown))),
     button('Print this', () => printOnly(whole)));
   const whole = node('div.table', tools, node('div.wrap', grid, none, drawn.more));
   const renew = fresh => {
@@ -416,7 +406,6 @@ function table(caption, columns, rows) {
 }
 const listed = (title, columns, rows) => section(title, table(title, columns, rows));
 
-// What a spreadsheet would take for a formula has a ' before it.
 function csvOf(rows) {
   const cellOf = it => {
     const text = String(it ?? '').replace(/^[=+\-@\t\r]/, "'$&");
@@ -434,12 +423,14 @@ function saveTable(caption, columns, rows) {
   const good = columns.filter(it => !it.isAct);
   const told = rows.map(row => good.map(it => it.told ? it.told(row) : textOf(it.show(row)).trim()));
   const text = csvOf([good.map(it => it.title), ...told]);
-  const href = URL.createObjectURL(new Blob([text], { type: 'text/csv;charset=utf-8' }));
   const word = `${document.title.replace(/ - invdesk$/, '')} ${caption}`.replace(/[^\w.-]+/g, '-').slice(0, 60);
-  node('a', { href, download: `${word}-${today()}.csv` }).click();
+  saveFile(`${word}-${today()}.csv`, text);
+}
+function saveFile(download, text, type = 'text/csv;charset=utf-8') {
+  const href = URL.createObjectURL(new Blob([text], { type }));
+  node('a', { href, download }).click();
   setTimeout(() => URL.revokeObjectURL(href), 10000);
 }
-// Prints one thing of the page alone, with the titles above it.
 function printOnly(made) {
   const hidden = [];
   for (let it = made; it !== main; it = it.parentElement)
@@ -449,7 +440,6 @@ function printOnly(made) {
   print();
 }
 
-// The day: today's, also over midnight, unless it was set by hand.
 
 const day = byId('day');
 let isByHand = false;
@@ -466,11 +456,9 @@ byId('byhand').append('Set by hand. ', button('Today', () => { isByHand = false;
 day.addEventListener('input', () => { isByHand = true; });
 day.addEventListener('change', keepDay);
 
-// What is asked of the program.
 
 let token = '', turn = Promise.resolve();
 
-// Asks for one thing after another, and gives no request up: the program serves one connection at a time.
 function ask(path, options) {
   const answer = turn.then(() => askNow(path, options));
   turn = answer.catch(() => {});
@@ -491,7 +479,6 @@ async function get(path, headers) {
 const report = async (which, id) =>
   (await get(`/report/${which}/${id}`)).text.split('\n').filter(Boolean).map(line => line.split('\t'));
 
-// A key of the page's own, which begins with the day, as one of a journal does.
 function newKey() {
   const bytes = [...crypto.getRandomValues(new Uint8Array(12))].map(it => it.toString(16).padStart(2, '0'));
   keepDay();
@@ -507,27 +494,33 @@ const store = {
   drop: key => sessionStorage.removeItem(key),
   keys: begin => Object.keys(sessionStorage).filter(it => it.startsWith(begin)),
 };
-// Sends a line, or a file, and again where no answer came: by its key, or by the keys of its rows, it is done once.
-// Tells whether it is done, or why not; where that isn't known it is open, and kept with the marks of its books.
-const OPEN = 'open:', RUN = '/run';
+const OPEN = 'open:', RUN = '/run', LINES = '/lines';
 const UNKNOWN = "It isn't known whether this was done. Send it again: it is done once. ";
 async function send(line, path = RUN, key = path === RUN ? JSON.parse(line).key : path) {
   store.set(OPEN + key, openAt(key) ?? { line, path, books: marksOf(), was: factsIn(line, path) });
   for (let tries = 1; ; tries++) {
     try {
       const { status, text } = await ask(path, { method: 'POST', body: line });
-      const said = path !== RUN && status === 200 ? { report: text } : JSON.parse(text);
+      const faults = text.split('\n').filter(Boolean), said = path !== RUN && status === 200 ? { report: text } :
+        JSON.parse(faults[0]);
       const word = said.refused || said.fault;
       if (status >= 500) return { isOpen: true, why: statusWords(status) };
       store.drop(OPEN + key);
       if (status === 200) return { isDone: true, tries, ...said };
-      return word ? { word, said, why: [MEANINGS.get(word) ?? word, soft(` (${word}. Nothing has changed.)`)] } :
-        { why: statusWords(status) };
+      return word ? { word, said, faults, why: [MEANINGS.get(word) ?? word, soft(` (${word}. Nothing has changed.)`)]
+      } : { why: statusWords(status) };
     } catch (fault) {
       if (tries === 3) return { isOpen: true, why: fault.message };
       await new Promise(go => setTimeout(go, 400 * tries));
     }
   }
+}
+const SETTLE = { isHeld: true, why: 'The same was sent before and not answered. Settle that first, above.' };
+function sendText(text, path, key = path) {
+  const open = openAt(key);
+  if (!open || open.line === text || !areThese(open.books)) return send(text, path, key);
+  offerOpen(true);
+  return SETTLE;
 }
 const openAt = key => {
   const kept = store.get(OPEN + key);
@@ -535,8 +528,6 @@ const openAt = key => {
 };
 const factsIn = (line, path) => path !== RUN ? [] : (({ do: command, ...fields }) =>
   namedIn(command, fields).map(([kind, id]) => [kind, id, factOf(kind, id)]))(JSON.parse(line));
-// The key of a line that wasn't answered and did the same to the same rows, in whatever amount. It has to be settled
-// before another is sent: to send it later would undo what came after it.
 const AMOUNTS = ['do', 'day', 'key', 'location', 'quantity', 'batch', 'serials', 'status'];
 const openLike = (command, fields, key) => store.keys(OPEN).map(it => it.slice(OPEN.length)).find(other => {
   const { line, path, books } = openAt(other);
@@ -544,12 +535,10 @@ const openLike = (command, fields, key) => store.keys(OPEN).map(it => it.slice(O
   const was = JSON.parse(line), names = Object.keys({ ...was, ...fields }).filter(it => !AMOUNTS.includes(it));
   return was.do === command && names.every(it => String(was[it] ?? '') === String(fields[it] ?? ''));
 });
-// For half a second nothing is sent: a click may be meant for what stood there before.
 let calm = 0;
 const hush = () => { calm = performance.now() + 500; };
 const isEarly = go => go?.disabled || performance.now() < calm || !day.reportValidity();
 
-// The books, read as a whole, and what is worked out of them.
 
 const books = {}, TEXTS = ['name', 'batch', 'serial', 'partner', 'day'];
 let find = null, stock = null, choices = null, entries = 0, tag = null, reading = null, isOther = false, readAt = 0;
@@ -564,7 +553,6 @@ const READERS = rowsOf(COLUMNS).map(([row]) => row.split(' ')).map(([table, ...c
 });
 const entryIn = READERS.pop()[1];
 
-// Reads the books, and says whether they had changed.
 async function read() {
   const answer = await get('/books', tag && { 'If-None-Match': tag });
   readAt = performance.now();
@@ -588,8 +576,6 @@ async function read() {
 }
 const refresh = () => reading ||= read().finally(() => { reading = null; });
 
-// The names of orders and builds are the keys of the requests that made them. The books don't have them: the table of
-// kept answers does. It is read once, and then where an order or a build is shown that wasn't looked for.
 const keyNames = new Map(), lookedFor = new Set();
 const owners = () => [...books.orders.keys(), ...books.builds.keys()];
 function ownersShown() {
@@ -608,7 +594,6 @@ async function readNames(wanted) {
   owners().forEach(id => lookedFor.add(id));
   return keyNames.size > before;
 }
-// What the page or a journal made up is no name.
 const isMadeUp = key => /(^|\/)page-[0-9a-f]{24}$|^\d{4}-\d\d-\d\d\/\d+$/.test(key);
 function nameRow(id, key) {
   lookedFor.add(id);
@@ -617,8 +602,6 @@ function nameRow(id, key) {
   choices = new Map();
 }
 
-// Marks that tell these books from others: rows that are for good, the first and the last of each table, by what of
-// them can't change. Books that have all of them are the same, or a copy.
 const LASTING = { categories: 'name', locations: 'name', parts: 'name', orders: 'partner', builds: 'part',
   order_lines: 'part', items: 'part' };
 const marksOf = () => Object.entries(LASTING).flatMap(([table, word]) => {
@@ -669,7 +652,6 @@ function workOut() {
     sums.held += held;
     sums[item.place === IN ? 'inner' : ALLOCATABLE.includes(item.status) ? 'free' : 'stuck'] += item.quantity - held;
   }
-  // How many items lie at a location or deeper; the assemblies whose bills can't change now.
   const count = place => {
     const total = find.placesIn(place).reduce((all, it) => all + count(it.id), find.itemsAt(place).length);
     find.under.set(place, total);
@@ -687,7 +669,6 @@ const has = (row, flag) => (row?.flags >> bitOf(flag)) % 2 === 1;
 const flagsOf = (row, words = FLAGS) => words.filter(it => has(row, it));
 const partAt = id => books.parts.get(id);
 
-// The templates above a part and the variants below it, the lines that hold for it, and those that take it.
 function above(part) {
   const next = books.parts.get(part)?.template;
   return next ? [next, ...above(next)] : [];
@@ -698,12 +679,10 @@ const linesFor = part => [...find.billOf(part), ...above(part).flatMap(find.bill
 const isOwn = (line, part) => part === line.component || has(line, 'variants') && above(part).includes(line.component);
 const fits = (line, part) => isOwn(line, part) || find.substitutesOf(line.id).some(it => it.part === part);
 
-// What may be given to a line: the component, its variants, its substitutes; the oldest item of each first.
 const partsFor = line => [line.component, ...has(line, 'variants') ? below(line.component) : [],
   ...find.substitutesOf(line.id).map(it => it.part)];
 const freeItems = parts => parts.flatMap(part => find.itemsOf(part)).filter(it => freeOf(it) > 0);
 const byAge = rows => [...rows].sort((a, b) => a.id - b.id);
-// Shares an amount out among items, of each of which so much is left.
 function shares(items, wanted, left) {
   const given = [];
   for (const item of items) {
@@ -716,7 +695,6 @@ function shares(items, wanted, left) {
   return given;
 }
 
-// What a line of an order still wants, and what an open build wants of each line of its bill, as its report has it.
 const wantedOf = line => leftOf(line) - sum(find.allocationsOn(`0 ${line.id}`), 'quantity');
 const isOpenBuild = build => build.state < 3;
 const allocatedFor = (build, line, output = null) => sum(find.allocationsOn(`1 ${line.id}`).filter(it =>
@@ -731,7 +709,6 @@ function needsOf(build) {
       isOptional: has(line, 'optional'), component: line.component };
   });
 }
-// What is allocated to a build and can be used up: for lines that aren't tracked.
 const unusedOf = build => find.allocationsFor(`1 ${build.id}`).filter(it => !it.output);
 const begunOf = build => sum(find.outputsOf(build.id), 'quantity');
 const lacksOf = (build, output) => needsOf(build).filter(it => it.isTracked && !it.isOptional)
@@ -745,7 +722,6 @@ async function entriesFrom(begin, end) {
   return rows.slice(0, end + 1 - begin).map(entryIn);
 }
 
-// What rows are called.
 
 function path(table, id) {
   const known = find?.paths.get(table + id);
@@ -771,7 +747,6 @@ function placeName(place, id) {
 const placeLink = (place, id) =>
   place < OFF ? link(`${PLACE_KINDS[place]}/${id}`, name(placeName(place, id))) : placeName(place, id);
 
-// Of each kind of row: what it is called, where it is shown, and more facts.
 const amountOf = (row, part = row.part) => `${digits(row.quantity)} \u00d7 ${partName(part)}`;
 const ownerOf = it => `${it.side ? 'build' : 'order'}/${it.owner}`;
 const ROWS = {
@@ -797,7 +772,6 @@ const rowLink = (kind, id) => link(ROWS[kind][1]?.(rowOf(kind, id)) ?? `${kind}/
 const factOf = (kind, id) => rowOf(kind, id) ?
   [wordsOf(kind, id), ROWS[kind][2]?.(rowOf(kind, id))].filter(Boolean).join('; ') : 'gone';
 
-// Texts to look for: without case and accents; and with nothing but letters and digits.
 const fold = text => (/^[\0-\x7f]*$/.test(text) ? text : text.normalize('NFKD').replace(/[\u0300-\u036f]/g, ''))
   .toLowerCase();
 const squeeze = text => fold(text).replace(/[^\p{L}\p{N}]+/gu, '');
@@ -809,11 +783,9 @@ function choicesOf(kind) {
   }
   return choices.get(kind);
 }
-// Whether all words stand in a choice, however they are written; and how well: the less the better.
 const looselyIn = word => squeeze(word) && RegExp([...squeeze(word)].join('[^\\p{L}\\p{N}]*'), 'u');
 const fitsWords = ({ low }, words, loose) => words.every((word, at) => low.includes(word) ||
   loose[at] && loose[at].test(low));
-// What has the words but for a slip in one that has no digits: a letter more, less or other, or two in the wrong order.
 function isSlip(a, b) {
   let at = 0;
   while (at < a.length && a[at] === b[at]) at++;
@@ -826,7 +798,6 @@ function bySlips(kind, words) {
     const middle = it.length >> 1;
     return [it, [it.slice(0, middle - 1), it.slice(middle + 1)]];
   }));
-  // Of a word with one slip one half is whole, but for what touches the other half.
   const isNear = ({ low }, word) => low.includes(word) || halves.get(word)?.some(half => low.includes(half)) &&
     low.split(/[^\p{L}\p{N}]+/u).some(other => isSlip(word, other));
   return !halves.size ? [] : choicesOf(kind).filter(it => words.every(word => isNear(it, word))).map(it => it.row);
@@ -842,13 +813,10 @@ function rankOf(kind, row, text) {
 const inOrder = new Intl.Collator(undefined, { numeric: true }).compare;
 const byName = rows => [...rows].sort((a, b) => inOrder(a.name, b.name));
 
-// What a request changed, in words, by the books before and after.
 
-// The rows that a request changes.
 function namedIn(command, fields) {
   const named = FORMS.get(command).fields.filter(it => ROWS[it.kind] && rowOf(it.kind, fields[it.name]))
-"#,
-    r#"    .map(it => [it.kind, fields[it.name]]);
+    .map(it => [it.kind, fields[it.name]]);
   return named.flatMap(([kind, id]) => {
     const row = rowOf(kind, id), one = [kind, id];
     if (kind === 'order_line') return [one, ['order', row.owner]];
@@ -877,7 +845,6 @@ function effects({ sums, rows }) {
   }
   return told.slice(0, 12);
 }
-// What was done, in a sentence. Rows are told as they were before.
 const PAST = Object.fromEntries(`found Found,add Added,remove Took out,count Counted,transfer Moved,
 install Put in,uninstall Took out,disassemble Took apart,reinstate Brought back,order New:,order_line Added,
 issue_order Issued,receive Received,
@@ -899,13 +866,11 @@ let flash = null;
 const doneWords = (sentence, told, ...more) => says('good', node('b', 'Done. '), name(sentence), ' ',
   told.length ? list(told) : soft('Nothing in stock changed by it.'), more);
 
-// Fields and forms, all made from the table of commands.
 
-// Which rows suit a field, beside the values of the others: they are offered first. The states that a command is for,
-// where they aren't 1 alone:
 const STATES = { order_line: [0, 1], issue_order: [0], cancel_order: [0, 1], issue_build: [0, 2], hold_build: [0, 1],
   cancel_build: [0, 1, 2], auto_allocate: [0, 1], allocate_build: [0, 1] };
-const AWAY = { uninstall: IN, reinstate: OFF, return_item: SENT };
+"#,
+    r#"const AWAY = { uninstall: IN, reinstate: OFF, return_item: SENT };
 const isFree = item => freeOf(item) > 0, isPlain = item => isAt(item) && !item.serial;
 const live = flag => part => has(part, flag) && !part.retired, maySet = line => !find.fixed.has(line.assembly);
 const isOpenLine = side => line => leftOf(line) > 0 && orderOf(line).side === side && orderOf(line).state === PROGRESS;
@@ -943,7 +908,6 @@ function suits({ command }, { name, kind }) {
   return it => !it.retired;
 }
 
-// What is put into fields that weren't touched, by what is chosen in the others.
 let lastPlace = null;   // the location that was named last in this window
 function usualPlace(part) {
   return find.itemsOf(part).findLast(isAt)?.ref ?? (books.locations.has(lastPlace) ? lastPlace : undefined);
@@ -961,13 +925,11 @@ const PREFILL = {
   allocate_build: it => ofRow('line', line => oneOf(it.item, partsFor(line), rowOf('build', it.build) &&
     needsOf(rowOf('build', it.build)).find(other => other.id === line.id)?.missing))(it.line),
 };
-// The item that is chosen, or else the oldest that is free, and as much of it as is wanted.
 function oneOf(id, parts, wanted) {
   const item = rowOf('item', id) ?? freeItems(parts)[0];
   return item ? { item: item.id, quantity: Math.max(1, Math.min(freeOf(item), wanted || 1)) } : {};
 }
 
-// What a form says to what stands in it.
 const NAMED = { add_part: 'part', add_category: 'category', add_location: 'location' };
 function nearWords(text, known, told) {
   const tight = squeeze(text), one = text && known.find(it => it[1] === text);
@@ -991,7 +953,6 @@ function adviceOn(command, now, given) {
 }
 
 let lastId = 0;
-// A field that says a row: one types words of its name, or its number, and chooses.
 function rowField({ kind, isOptional }, label, isSuited, now, changed = () => {}, isBare = false) {
   const id = `f${++lastId}`, hint = node('div.soft', { hidden: isBare });
   const list = node('ul', { role: 'listbox', id: id + 'l', 'aria-label': label, hidden: true });
@@ -1100,8 +1061,6 @@ function fieldOf(form, field, now, changed) {
   get: () => isYes ? box.checked || null : isNumber ? numberIn(box.value) : box.value || null };
   return of;
 }
-// A request that is sent when it is called; once more as it was, if its answer was lost. What was read is at most two
-// seconds old then: so it isn't sent to other books than it was made for.
 function request(command, fields, key) {
   let line = null;
   const sent = async () => {
@@ -1112,7 +1071,7 @@ function request(command, fields, key) {
     }
     if (!line && openLike(command, fields, key)) {
       offerOpen(true);
-      return { isHeld: true, why: 'The same was sent before and not answered. Settle that first, above.' };
+      return SETTLE;
     }
     const answer = await send(line ||= lineOf(command, fields, key));
     if (!answer.isDone && !answer.isOpen) line = null;
@@ -1128,8 +1087,6 @@ const reread = () => refresh().catch(() => {});
 const notDone = ({ isOpen, isHeld, why }, ...more) =>
   says(isOpen ? 'warn' : 'bad', node('b', isOpen ? UNKNOWN : isHeld ? 'Not sent: ' : 'Refused: '), why, more);
 
-// The form of a command, without the fields in `hides`, which have what is given. Then one comes back to the page of
-// the row, or to the form.
 function commandForm(command, given, { hides = [], title, go: verb, back } = {}) {
   const form = FORMS.get(command), words = title ?? form.title, isOwner = command === 'order' || command === 'build';
   const advice = node('div'), said = node('div'), go = node('button.main', verb ?? words);
@@ -1167,7 +1124,6 @@ function commandForm(command, given, { hides = [], title, go: verb, back } = {})
         'It was there already: nothing new was made. '), kinds.length > 0 && ['New: ', each(kinds, it =>
         rowLink(...it))]), words);
   };
-  // A name that is taken isn't sent: under it the program would answer as it did then.
   const isTaken = async called => {
     await reread();
     await readNames(owners()).catch(() => {});
@@ -1217,7 +1173,6 @@ function doView(_, query, command) {
       [...MEANINGS.values()][it.charCodeAt(0) - 97])))];
 }
 
-// Several requests at once.
 
 function quick(text, command, fields, look = '') {
   const said = node('div'), asked = request(command, fields);
@@ -1233,8 +1188,6 @@ function quick(text, command, fields, look = '') {
   return node('span', go, said);
 }
 
-// A table of which each row that is ticked is a request of its own, by fieldsOf, or else says what is wrong. Steps in
-// `first` and `last` frame them and need them all. When all is done one is told; else each row says how it went.
 function batch({ verb, past, about, columns, rows, command, fieldsOf, first = [], last = [], end = '', to = here }) {
   const said = node('div'), steps = [...first, ...last];
   let before = null;
@@ -1292,7 +1245,6 @@ function batch({ verb, past, about, columns, rows, command, fieldsOf, first = []
   const grid = table(verb, [ticks, ...columns.map(once), answers], rows);
   return node('div', rows.length > 0 && grid, acts(go), said);
 }
-// Boxes of a row of a batch. A location is put into the other rows that have none.
 const boxed = (row, box) => { (row.boxes ||= []).push(box); return box; };
 const amountBox = (row, quantity) =>
   row.amount = boxed(row, numberBox(`Quantity of ${row.called}`, { value: String(quantity) }));
@@ -1316,7 +1268,6 @@ function placeIn(row) {
   return row.place.get() ? { location: row.place.get() } : { fault: 'Say the location.' };
 }
 
-// Views. Each gives its title and what stands under it.
 
 const isLow = part => !part.retired && !has(part, 'template') && !has(part, 'virtual') && freeIn(part.id) < lowBelow;
 const LOOKS = [['free', 'free'], ['held', 'allocated'], ['inner', 'in other items'], ['stuck', "can't be given out"]];
@@ -1324,7 +1275,6 @@ const stockBar = sums => bar(LOOKS.map(([look, word]) => [look, sums[look], word
 const marks = part => [part.retired && chip('retired', 'warn'), isLow(part) && chip('low', 'warn')];
 const stockKey = () => node('p.key soft', LOOKS.map(([look, word]) => [node('i.' + look), word]));
 
-// What may be done with a row, to come back then.
 const backTo = () => 'back=' + encodeURIComponent(here());
 const actOn = (command, given, text = FORMS.get(command).title) =>
   act(`${command}?${new URLSearchParams(given)}&${backTo()}`, text);
@@ -1380,7 +1330,6 @@ function lowView() {
   return ['What is low', acts(node('label', 'Parts of which less is free than', box)), stockKey(), grid];
 }
 
-// What all open builds together still want.
 function shoppingRows(withOptional) {
   const rows = new Map();
   for (const build of books.builds.values()) for (const need of needsOf(build)) {
@@ -1420,7 +1369,6 @@ const partColumn = parts('Part', 'part');
 
 const branch = (words, grow, open) => node('li', grow ? opening('', words, grow, open) : words);
 
-// What lies at a location, or deeper too, by the names of parts.
 function itemsUnder(place, isDeep) {
   const inner = at => [at, ...isDeep ? find.placesIn(at).flatMap(it => inner(it.id)) : []];
   const places = new Set(inner(place));
@@ -1443,7 +1391,6 @@ function locationsView(here, query) {
     acts(actOn('add_location', here ? { parent: here.id } : {}, 'New location'))))];
 }
 
-// A section that is filled when the program has answered.
 function asked(promise, drawn) {
   const made = node('div', { 'aria-busy': 'true' }, 'Asking ...');
   promise.then(told => node('div', drawn(told)), fault => fault.message)
@@ -1451,7 +1398,6 @@ function asked(promise, drawn) {
   return made;
 }
 
-// Wanted entries of the history, the latest first: it looks back until fifty are found.
 const kindWord = kind => ({ written: 'written off', consumed: 'used up' })[kind] || plain(kind);
 const entryWords = it => [node('b', kindWord(KINDS[it.kind])), ` ${digits(it.quantity)} \u00d7 `, partLink(it.part),
   it.place === AT ? ' at ' : ' ', it.place === OFF ? `(${REASONS[it.ref]})` : placeLink(it.place, it.ref),
@@ -1496,7 +1442,6 @@ function recentView(_, query) {
   return ['Recent activity', acts(boxes[0], boxes.slice(1).map(it => node('label', it.ariaLabel, it))), frame];
 }
 
-// The law of the books as two stacks of one length.
 function ledgerPicture(lines) {
   const amounts = Object.fromEntries(lines.slice(1)), looks = ['free', 'inner', 'held', 'stuck'];
   const sides = ['received found built returned', 'present consumed shipped written'].map(it => it.split(' '));
@@ -1604,7 +1549,6 @@ function ordersView(_, query) {
     listed(title, columns, rows.filter(it => it.side === side)))];
 }
 
-// What has the words that are looked for, in whatever way they are written: what begins with them stands first.
 const FOUND = ['location', 'part', 'order', 'build', 'item'];
 function findView(_, query, text = '') {
   const low = fold(text.trim()), words = wordsIn(text), loose = words.map(looselyIn);
@@ -1626,7 +1570,6 @@ function findView(_, query, text = '') {
   [...sections].sort((a, b) => !!b.children[1] - !!a.children[1])];
 }
 
-// Work on orders, and how what is free is shared out.
 
 const ofLine = (line, missing = line.quantity) => `${digits(missing)} \u00d7 ${partName(line.component ?? line.part)}`;
 function orderView(order) {
@@ -1657,15 +1600,13 @@ function receiveWork(order, open) {
   const fieldsOf = row => ({ line: row.line.id, ...row.batch.value && { batch: row.batch.value },
     ...row.serials?.value && { serials: row.serials.value }, ...placeIn(row), ...amountIn(row) });
   return section('Receive', node('p.soft', 'Serials are written as M1,M2 or as a range 1-20. ',
-"#,
-    r#"    link(`files?kind=receipts&order=${order.id}`, 'Rows from a file')), batch({ verb: 'Receive',
+    link(`files?kind=receipts&order=${order.id}`, 'Rows from a file')), batch({ verb: 'Receive',
     past: 'Received', rows, command: 'receive', fieldsOf, about: ['order', order.id], columns: [
       cell('Part', it => partLink(it.line.part), 'head'),
       cell('Outstanding', it => digits(leftOf(it.line)), 'n'), cell('Quantity', it => amountBox(it, leftOf(it.line))),
       cell('Location', it => placeBox(it, it.line.part, rows)), cell('Batch', it => textBox(it, 'batch')),
       cell('Serials', it => has(partAt(it.line.part), 'trackable') && textBox(it, 'serials'))] }));
 }
-// What is free is shared out among what is wanted, the oldest item first.
 function allocateWork(command, about, wants) {
   const left = new Map(), rows = [], short = [];
   for (const it of wants) {
@@ -1682,7 +1623,6 @@ function allocateWork(command, about, wants) {
       cell('For', it => it.what.cloneNode(true)), cell('Quantity', it => amountBox(it, it.quantity))] }));
 }
 
-// Work on builds.
 
 function buildView(build, query) {
   const outputs = find.outputsOf(build.id), needs = needsOf(build), isLive = build.state === PROGRESS, { id } = build;
@@ -1729,13 +1669,13 @@ function completeWork(build, outputs) {
   const rows = outputs.map(item => ({ item, quantity: item.quantity, called: itemName(item),
     isOff: lacks(item) !== '' }));
   const near = find.allocationsFor(`1 ${build.id}`).map(it => rowOf('item', it.item).ref)[0];
-  return section('Complete outputs', batch({ verb: 'Complete', past: 'Completed', rows, command: 'complete_output',
+"#,
+    r#"  return section('Complete outputs', batch({ verb: 'Complete', past: 'Completed', rows, command: 'complete_output',
     fieldsOf: row => ({ output: row.item.id, ...placeIn(row) }), about: ['build', build.id],
     columns: [cell('Output', it => itemLink(it.item), 'head'), cell('Quantity', it => digits(it.quantity), 'n'),
       cell('Lacks', it => node(it.isOff ? 'span.bad' : 'span.good', name(lacks(it.item) || 'nothing'))),
       cell('Location', it => placeBox(it, build.part, rows, near))] }));
 }
-// What a build that is cancelled gives back, though it may be used up in truth.
 function cancelWarning(build) {
   const unused = unusedOf(build);
   return unused.length > 0 && node('div.warn', { role: 'alert' }, build.done > 0 && node('b',
@@ -1761,7 +1701,6 @@ function endWork(build) {
       acts(quick('Cancel, and use nothing up', ...one)))];
 }
 
-// What mends a mistake: rows of whether it applies, what went wrong in a clerk's words, and the acts.
 const mends = make => panel('When something went wrong', () => node('dl', make().filter(it => it[0])
   .map(([, wrong, ...how]) => [node('dt', wrong), node('dd', how)])));
 const takeOut = it => actOn('remove', { item: it.id }, ['Take out of ', name(wordsOf('item', it.id))]);
@@ -1810,7 +1749,6 @@ function wrongWithOrder(order, lines, held) {
       ['Take back ', name(itemName(it))]))],
   ];
 }
-// The same order once more, with another partner or other lines; this one is cancelled.
 function anewForm(order, lines) {
   const partner = node('input', { 'aria-label': 'Right partner', value: order.partner, autocomplete: 'off' });
   const rows = lines.map(line => ({ line, called: partName(line.part), isOff: !leftOf(line) }));
@@ -1836,8 +1774,6 @@ function wrongWithBuild(build, outputs) {
   ];
 }
 
-// The sheet on which one writes how many of each item are there. What is typed is kept in the window until it is sent,
-// with the marks of its books.
 const SHEET = 'sheet:';
 const isUnanswered = line => line != null && openAt(JSON.parse(line).key) !== null;
 function sheetView(here, query) {
@@ -1906,7 +1842,6 @@ function sheetView(here, query) {
     'and the arrows go from row to row. Nothing is sent before you have seen what will change. An empty box isn\'t ',
     'counted.'), sheet, below];
 }
-// Where a count was answered at last, its row is empty, or has what was typed since then, over that count.
 function settleCount(line, isDone) {
   const { item, quantity, do: command } = JSON.parse(line);
   for (const word of command === 'count' ? store.keys(SHEET) : []) {
@@ -1920,7 +1855,6 @@ function settleCount(line, isDone) {
     store.set(word, sheet);
   }
 }
-// Sends what wasn't answered once more, and tells what came of it.
 async function settle(key) {
   const { line, path, books } = openAt(key) ?? {};
   if (!line) return { isDone: true };
@@ -1933,7 +1867,6 @@ async function settle(key) {
   if (!answer.isOpen && path === RUN) settleCount(line, answer.isDone);
   return answer;
 }
-// Counts that weren't answered, of this sheet or of another that has the same items: they are settled first.
 function settleFirst(of) {
   const keys = Object.entries(of.kept).flatMap(([id, { line }]) => {
     const own = isUnanswered(line) && JSON.parse(line).key;
@@ -1951,8 +1884,6 @@ function settleFirst(of) {
   return keys.length > 0 && [node('b', `Sent and not answered: ${digits(new Set(keys).size)}. `), UNKNOWN,
     'Until then nothing else is sent. ', go];
 }
-// What the counts of a sheet would change, by the books as they are now. Where they changed since the sheet was opened,
-// it is asked whether it was counted before that or after; without an answer it is left out.
 async function countSummary(of, message) {
   const { kept, rows, sheet, below, look } = of;
   const say = (look, ...told) => below.replaceChildren(says(look, ...told));
@@ -2007,7 +1938,6 @@ async function countSummary(of, message) {
   titled.focus();
   hush();
 }
-// Sends what was confirmed, if the books are still those of the summary.
 async function sendCounts(of, chosen) {
   const { kept, keep, below } = of;
   if (isEarly() || busy) return;
@@ -2060,10 +1990,7 @@ function countReport(of, chosen, written) {
   of.below.firstChild.focus();
 }
 
-// Where items came from, and where they went: by the books, and by the kept answers, whose requests name what they
-// made. A request without a key isn't kept, and what it made isn't known.
 
-// The records of comma-separated values; empty lines are none. A quote that nothing closes is a fault.
 function recordsIn(text, comma = ',') {
   const rows = [[]], end = `(${comma}|\r\n|\n|\r|$)`;
   const cell = RegExp(`(?:"([^"]*(?:""[^"]*)*)"|([^"${comma}\r\n][^${comma}\r\n]*|))${end}`, 'y');
@@ -2075,80 +2002,34 @@ function recordsIn(text, comma = ',') {
   }
   return rows.filter(it => it.length > 1 || it[0]);
 }
-// Keys that tell one nothing: those of the page.
-const BARE_KEY = /(^|\/)page-[0-9a-f]{24}$/, CUTS = ['transfer', 'split', 'serialise', 'install'];
-// Of the books of a tag: what made each row; the items that were cut off each, that were poured into each, or into
-// which it was poured; and the items that were begun for each build.
+const origins = make => opening('origins', 'Where it came from, and where it went', () => node('div', make(),
+  node('p.soft', "What a request without a key made isn't known here.")));
+const traced = (title, list, word) => [node('h3', title), asked(readList(list, word), text =>
+  listTable(title, list, text))];
+const itemOrigins = item => origins(() => [traced('Came from', 'trace-back', itemWord(item.id)),
+  traced('Went to', 'trace-forward', itemWord(item.id))]);
 let makers = null;
+const CUTS = ['transfer', 'split', 'serialise', 'install'];
 async function readMakers() {
   if (makers?.tag === tag) return makers;
-  const read = { tag, by: new Map(), cut: new Map(), poured: new Map(), into: new Map(), begun: new Map() };
-  const put = (map, key, ids) => map.set(key, [...map.get(key) ?? [], ...ids]);
-  const [, ...rows] = recordsIn((await get('/export/kept')).text);
-  for (const [key, command, answer] of rows) {
-    const { ids } = JSON.parse(answer), made = { ...JSON.parse(command), key };
-    if (!ids) continue;
-    if (['order', 'build'].includes(made.do)) nameRow(ids[0], key);
-    ids.forEach(id => read.by.set(id, made));
-    if (CUTS.includes(made.do)) put(read.cut, made.item, ids);
-    if (made.do === 'outputs') put(read.begun, made.build, ids);
-    if (made.do === 'merge') put(read.poured, made.into, made.items);
-    if (made.do === 'merge') made.items.forEach(it => read.into.set(it, made.into));
+  const read = { tag, of: new Map() }, [, ...rows] = recordsIn((await get('/export/kept')).text);
+  for (const [, command, answer] of rows) {
+    const { ids = [] } = JSON.parse(answer), { do: made, build, item } = JSON.parse(command);
+    const key = made === 'outputs' ? 'build ' + build : CUTS.includes(made) && 'item ' + item;
+    if (key) read.of.set(key, [...read.of.get(key) ?? [], ...ids]);
   }
   return makers = read;
 }
-const itemWords = id => rowOf('item', id) ? link('item/' + id, name(wordsOf('item', id))) : `item ${id}`;
-// Where an item came from, in one step, and the item that it was cut off.
-function cameFrom({ by }, id) {
-  const made = by.get(id);
-  if (!made) return [[soft("isn't known: no request that is kept made it")]];
-  const { do: command, line, build, item, order, key } = made, under = soft(BARE_KEY.test(key) ? '' : ` (${key})`);
-  if (command === 'receive' && rowOf('order_line', line))
-    return [['received for ', rowLink('order', rowOf('order_line', line).owner), under]];
-  if (command === 'outputs') return [['begun for ', rowLink('build', build), under]];
-  if (CUTS.includes(command) && item) return [['cut off ', itemWords(item), under], item];
-  const owner = order ? ['order', order] : build && ['build', build];
-  return [[`by '${FORMS.get(command)?.title ?? command}'`, owner && [' of ', rowLink(...owner)], under,
-    command === 'found' ? '' : soft("; of which item it was cut off isn't known")]];
-}
-// All that an item came from, each item once, and 500 at most.
-const isNext = (id, seen) => !seen.has(id) && seen.size < 500 && seen.add(id);
-function allFrom(read, id, seen = new Set()) {
-  if (!isNext(id, seen)) return [];
-  const [words, parent] = cameFrom(read, id), poured = read.poured.get(id) ?? [];
-  return [node('li', itemWords(id), ': ', words), poured.length > 0 && node('li', 'Into ', itemWords(id),
-    ' were poured ', each(poured, itemWords)),
-  ...[parent ?? [], poured].flat(2).flatMap(it => allFrom(read, it, seen))];
-}
-// Where what an item was is now: itself, what it lies in or was poured into, and what was cut off it.
-function goneTo(read, id, seen = new Set()) {
-  if (!isNext(id, seen)) return [];
-  const item = rowOf('item', id), into = read.into.get(id);
-  const made = item?.place === USED ? outputsBy(read, item.ref) : [];
-  const next = [item?.place === IN ? item.ref : [], into ?? [], read.cut.get(id) ?? []].flat(2);
-  return node('li', itemWords(id), item && [': ', placeLink(item.place, item.ref)], into &&
-    [', poured into ', itemWords(into)], made.length > 0 &&
-    [', of which was made ', each(made.slice(0, 20), itemWords)],
-  next.length > 0 && node('ul', next.map(it => goneTo(read, it, seen))));
-}
-const outputsBy = ({ begun }, build) => (begun.get(build) ?? []).filter(it => rowOf('item', it));
-const origins = make => opening('origins', 'Where it came from, and where it went', () => asked(readMakers(), make));
-const itemOrigins = item => origins(read => [node('h3', 'Came from'), node('ul', allFrom(read, item.id)),
-  node('h3', 'Went to'), node('ul', goneTo(read, item.id))]);
-const fromColumn = read => column('Came from', null, it => cameFrom(read, it.id)[0]);
+const madeOf = (read, key) => (read.of.get(key) ?? []).flatMap(it => [it, ...madeOf(read, 'item ' + it)]);
 function buildOrigins(build) {
-  const used = find.usedBy(build.id);
-  return origins(read => {
-    const made = outputsBy(read, build.id).map(it => rowOf('item', it)), known = sum(made, 'quantity');
-    const inner = made.flatMap(it => find.itemsIn(it.id));
-    return [node('h3', 'Went into it'), table('Went into it', [...itemColumns(partColumn, where), fromColumn(read)],
-      [...used, ...inner]), node('h3', 'Came of it'),
-    made.length > 0 && node('ul', made.map(it => goneTo(read, it.id))),
-    known < build.done && node('p.soft', `Of ${digits(build.done)} that are done ${digits(known)} can be told here: `,
-      "what was cut off them since stands under them, and what no request that is kept began isn't known.")];
-  });
+  return origins(() => asked(readMakers(), read => {
+    const made = madeOf(read, 'build ' + build.id).map(it => rowOf('item', it)).filter(it => it && it.place !== GONE);
+    const known = sum(made, 'quantity'), inner = made.flatMap(it => find.itemsIn(it.id));
+    return [node('h3', 'Went into it'), table('Went into it', itemColumns(partColumn, where),
+      [...find.usedBy(build.id), ...inner]), node('h3', 'Came of it'), table('Came of it', itemColumns(where), made),
+    known < build.done && node('p.soft', `Of ${digits(build.done)} that are done ${digits(known)} can be told here.`)];
+  }));
 }
-// A batch: its items, where each is, and what it went into.
 function batchView(_, query, word) {
   const part = Number(word), batch = query.get('text'), isOne = it => it.part === part && it.batch === batch;
   const items = [...books.items.values()].filter(isOne), sums = new Map();
@@ -2159,22 +2040,19 @@ function batchView(_, query, word) {
   return [`Batch ${batch} of ${partName(part)}`, facts({ Part: partLink(part), Batch: name(batch),
     ...Object.fromEntries(places.map((it, at) => [capital(it), sums.get(at) && digits(sums.get(at))])) }),
   listed('Items', [...itemColumns(where), column('Went into', null, went)], items),
-  origins(read => items.map(it => [node('h3', itemWords(it.id)), node('ul', allFrom(read, it.id)), 'Went to',
-    node('ul', goneTo(read, it.id))]))];
+  origins(() => [each(items.slice(0, 20), it => traced(`Came from: ${wordsOf('item', it.id)}`, 'trace-back',
+    itemWord(it.id))), traced('Went to', 'trace-forward', batch)])];
 }
 
-// Rows from a file or a spreadsheet, chosen or pasted: what they would do is shown before anything is sent. Deliveries
-// and counts are imported as one file; each row of another command is a line under a key of its own, as docs/IMPORTS.md
-// has it. So a file may be sent again, and each row is done once.
 
-const FILES = { receipts: 'receive', counts: 'count' }, filed = { text: '', document: '' };
+const FILES = { receipts: 'receive', counts: 'count' }, filed = { text: '', document: '', ...store.get('filed') };
+const WAS = { receipts: 'outstanding', counts: 'expected' };
 const HEADS = { receipts: 'number,line,location,quantity,batch,serials', counts: 'number,item,quantity' };
-// What else a column may be called that has a field.
 const ALIASES = { quantity: ['counted', 'qty'], line: ['order line', 'part'], component: ['part'], name: ['part'] };
-const MOST_BYTES = 1048576, COMMAS = [',', ';', '\t'];
+const MOST_BYTES = 1048576, sizeOf = text => new TextEncoder().encode(text).length,
+  TOO_LONG = `The file has more than ${digits(MOST_BYTES)} bytes: cut it up.`, COMMAS = [',', ';', '\t'];
 const fieldsOfKind = kind => FORMS.get(FILES[kind] ?? kind).fields;
 const isRequired = it => !it.isOptional && !['yes', 'words'].includes(it.kind);
-// A file, by that separator by which its header names the most of what it has to, with the number of each record.
 function fileIn(text, kind) {
   const named = heads => fieldsOfKind(kind).filter(it => columnOf(it.name, heads) >= 0).length;
   let best = null;
@@ -2192,8 +2070,6 @@ function columnOf(field, heads) {
   const known = heads.map(it => fold(it.trim()));
   return [field, ...ALIASES[field] ?? []].map(it => known.indexOf(it)).find(at => at >= 0) ?? -1;
 }
-// The rows of a kind that a text says: by a number, or by what they are called. Locations and categories may have those
-// above them before them, with a stroke between.
 const withoutGaps = text => text.replace(/\s*\/\s*/g, '/');
 function namesOf(kind, { id, part, name: own, place, serial, batch, owner }, order) {
   const isOpen = () => isOpenLine(0)(rowOf(kind, id)) && (!order || owner === order);
@@ -2212,7 +2088,6 @@ function rowsCalled(kind, text, { order, known }) {
   }
   return known.get(kind).get(text) ?? known.get(kind).get(withoutGaps(text)) ?? [];
 }
-// A field of a row, or what is wrong with it.
 function valueIn({ name: field, kind }, text, given) {
   if (ROWS[kind]) {
     const found = rowsCalled(kind, text, given);
@@ -2225,7 +2100,6 @@ function valueIn({ name: field, kind }, text, given) {
   if (kind === 'yes' && !/^(yes|no|true|false)$/i.test(text)) throw new Error(`${field}: ${text} isn't yes or no`);
   return kind === 'number' ? numberIn(text) : kind === 'yes' ? /^(yes|true)$/i.test(text) : text;
 }
-// What a record says: the fields of its command, or its fault; nothing where it says nothing.
 function fieldsIn(row, kind, sources, given) {
   const of = it => (sources[it].fixed || row.cells[sources[it].column] || '').trim();
   const own = fieldsOfKind(kind), number = of('number'), isSaid = Object.keys(sources).some(it => it !== 'number' &&
@@ -2242,18 +2116,16 @@ function fieldsIn(row, kind, sources, given) {
   if (day && !/^\d{4}-\d\d-\d\d$/.test(day)) faults.push(`day: ${day} is no day`);
   if (FILES[kind] && number && !/^\d{1,15}$/.test(number)) faults.push(`number: ${number} is none`);
   return { number: FILES[kind] ? Number(number || row.record) : number || '@' + row.record, fields: day ?
-    { ...fields, day } : fields, key, expected: kind === 'counts' ? numberIn(of('expected')) : NaN,
+    { ...fields, day } : fields, key, expected: WAS[kind] ? numberIn(of(WAS[kind])) : NaN,
   fault: faults.join('; ') };
 }
-// A file's text: of UTF-8 if it can be that, and else as a spreadsheet of Windows has it.
 function textIn(bytes) {
   try {
     return new TextDecoder('utf-8', { fatal: true }).decode(bytes);
   } catch { return new TextDecoder('windows-1252').decode(bytes); }
 }
-// Which column has each field, or what text it has in each row: chosen by the names of the columns, and by hand.
 function columnChoices(kind, heads, sources, changed) {
-  const extra = { receipts: ['number'], counts: ['number', 'expected'] }[kind] ?? ['number', 'key', 'day'];
+  const extra = WAS[kind] ? ['number', WAS[kind]] : ['number', 'key', 'day'];
   Object.keys(sources).forEach(it => delete sources[it]);
   const choice = (field, isNeeded) => {
     const source = sources[field] = { column: columnOf(field, heads), fixed: '' };
@@ -2301,6 +2173,7 @@ function filesView(_, query) {
   let drawn = '';
   const changed = () => {
     Object.assign(filed, { text: box.value, document: called.value, kind: kind.value });
+    if (filed.text.length < 200000) store.set('filed', filed);   // lines without an answer need the room more
     ofOrder.hidden = kind.value !== 'receipts';
     below.replaceChildren();
     let heads = [];
@@ -2313,13 +2186,15 @@ function filesView(_, query) {
     drawn = now;   // of the same columns what was chosen stays
   };
   changed();
-  const look = async () => {
+  const look = isWhole => async () => {
     const say = (...it) => below.replaceChildren(says('bad', 'Nothing was sent. ', it));
     if (!/^[A-Za-z0-9._-]{1,32}$/.test(called.value))
       return say('The document needs a name of letters, digits, dots, _ and - alone, 32 at most.');
     try {
       await refresh();
       if (isOther) return show(true);
+      const text = box.value.replace(/^\ufeff/, '');
+      if (isWhole) return below.replaceChildren(...wholeFile(kind.value, called.value, text));
       const { rows } = fileIn(box.value, kind.value), given = { order: order.get(), known: new Map() };
       const all = rows.map(it => ({ ...it, ...fieldsIn(it, kind.value, sources, given) })).filter(it => it.fields);
       below.replaceChildren(...fileSummary(kind.value, called.value, all, rows.length));
@@ -2329,22 +2204,25 @@ function filesView(_, query) {
   return ['Rows from a file', node('div.card', labelled(kind, 'What the rows are'), labelled(file, 'A file'),
     labelled(box, 'Or rows that are pasted, a line of heads above them'), ofOrder,
     labelled(called, 'Name of the document', soft('A row is done once under this name and its number: that in the ',
-      'column number, or else its place in the file.')), columns, acts(button('Look at the rows', look, 'main'))),
+      'column number, or else its place in the file.')), columns, acts(button('Look at the rows', look(false), 'main'),
+    button('Let the program read it', look(true)))),
   below];
 }
-// What the rows would do, and beside each what it was told when it was sent.
 function fileSummary(kind, document, all, count) {
   const command = FILES[kind] ?? kind, good = all.filter(it => !it.fault), said = node('div');
   for (const row of all) row.told = node('span', { role: 'status' }, row.fault && node('span.bad', row.fault));
   const numbers = new Set(), twice = good.find(it => numbers.size === numbers.add(it.number).size);
   const item = row => rowOf('item', row.fields.item), more = row => row.fields.quantity - item(row).quantity;
   const rowsToCount = row => !row.fault && item(row), chosen = () => good.filter(it => !it.tick || it.tick.checked);
-  const isChanged = row => rowsToCount(row) && row.expected >= 0 &&
-    ![row.expected, row.fields.quantity].includes(item(row).quantity);
-  for (const row of good.filter(isChanged))
-    row.tick = node('input', { type: 'checkbox', change: () => drawn() });
+  const now = row => kind === 'counts' ? item(row).quantity : leftOf(rowOf('order_line', row.fields.line));
+  const isChanged = row => !row.fault && row.expected >= 0 && now(row) !== row.expected &&
+    (kind === 'receipts' || now(row) !== row.fields.quantity);
+  for (const row of WAS[kind] ? good : []) {
+    row.now = now(row);
+    if (isChanged(row)) row.tick = node('input', { type: 'checkbox', change: () => drawn() });
+  }
   const settled = row => row.tick && node('label.warn', row.tick, `The books changed from ${digits(row.expected)} to ${
-    digits(item(row).quantity)} since the sheet was saved: count it all the same`);
+    digits(now(row))} since the sheet was saved: send it all the same`);
   const go = button('', async () => {
     if (isEarly(go) || busy) return;
     go.disabled = true;
@@ -2356,7 +2234,11 @@ function fileSummary(kind, document, all, count) {
       busy--;
       return show(true);
     }
-    try { answer = await (FILES[kind] ? sendFile : sendRows)(kind, document, rows); } finally { busy--; }
+    try {
+      answer = WAS[kind] && rows.some(it => it.now !== now(it)) ? { isHeld: true,
+        why: 'The books changed since the rows were looked at. Look at them again.' } :
+        await (FILES[kind] ? sendFile : sendRows)(kind, document, rows);
+    } finally { busy--; }
     await reread();
     go.disabled = false;
     if (kind === 'counts') rows.filter(it => it.isDone && item(it)?.quantity !== it.fields.quantity).forEach(it =>
@@ -2378,18 +2260,48 @@ function fileSummary(kind, document, all, count) {
   drawn();
   hush();
   return [node('h2', 'What the rows will do'), twice ? says('bad', `Two rows have the number ${twice.number}. `,
-    'Nothing can be sent.') : head,
+    'Nothing can be sent.') : head, !twice && good.length > 0 && acts(go), said,
   table('What the rows will do', [cell('Row', it => digits(it.record), 'n'), cell('What', it => name(it.fault ?
     it.cells.join(', ') : sentenceOf(command, it.fields, FORMS.get(command).title + ':')), 'head'),
   ...kind === 'counts' ? [
     cell('Expected', it => rowsToCount(it) && digits(item(it).quantity), 'n'),
     cell('Difference', it => rowsToCount(it) && [signed(more(it)), Math.abs(more(it)) >= Math.max(3,
-      item(it).quantity / 5) && chip('big', 'bad')], 'n'), cell('To settle', settled)] : [],
+      item(it).quantity / 5) && chip('big', 'bad')], 'n')] : [], ...WAS[kind] ? [cell('To settle', settled)] : [],
   cell('Answer', it => it.told)],
-  [...all].sort((a, b) => !!(b.fault || b.tick) - !!(a.fault || a.tick))), !twice && good.length > 0 && acts(go),
-  said].filter(Boolean);
+  [...all].sort((a, b) => !!(b.fault || b.tick) - !!(a.fault || a.tick)))].filter(Boolean);
 }
-// What was told of a row. It was done before where what it made is in the books that were read before it was sent.
+function wholeFile(kind, document, text) {
+  if (sizeOf(text) > MOST_BYTES) throw new Error(TOO_LONG);
+  const { heads, rows } = fileIn(text, kind), at = columnOf('number', heads), said = node('div');
+  for (const row of rows) row.told = node('span', { role: 'status' });
+  const full = rows.filter(row => row.cells.some((it, n) => n !== at && it.trim()));
+  const go = button(`Send these ${digits(rows.length)} records as they are`, async () => {
+    if (isEarly(go) || busy) return;
+    go.disabled = true;
+    busy++;
+    keepDay();
+    const before = snapshot([]), path = `/import/${kind}/${document}/${day.value}${FILES[kind] ? '?loose' : ''}`;
+    let answer = null;
+    try { answer = await sendText(text, path); } finally { busy--; }
+    const told = answer.isDone ? [...toldIn(answer.report)] : [];
+    const of = ([number, it]) => [FILES[kind] ? rows.find(row => row.cells[at]?.trim() === number) :
+      full[number - 1], it];
+    for (const [row, it] of [...told.map(of), ...(answer.faults ?? []).map(it => JSON.parse(it)).map(it =>
+      [rows.find(row => row.record === it.line), it])]) if (row) tellRow(row, it);
+    await reread();
+    go.disabled = false;
+    const done = told.filter(it => it[1].ids).length;
+    said.replaceChildren(answer.isDone ? says(done < told.length ? 'bad' : 'good', node('b', `Done: ${digits(done)
+    }. Refused: ${digits(told.length - done)}. `), list(effects(before))) : notDone(answer));
+    said.firstChild.focus();
+    offerOpen();
+  }, 'main');
+  hush();
+  return [node('h2', 'As the program reads it'), node('p', { role: 'status' }, 'The program takes columns and rows by ',
+    `name itself, as 'import${FILES[kind] ? ' --loose' : ''}' does. Nothing is sent yet.`), acts(go), said,
+  table('As the program reads it', [cell('Row', it => digits(it.record), 'n'),
+    cell('What', it => name(it.cells.join(', ')), 'head'), cell('Answer', it => it.told)], rows)];
+}
 function tellRow(row, answer) {
   row.isDone = !!answer.ids;
   const word = answer.refused ?? answer.fault, isOld = answer.ids?.length > 0 &&
@@ -2397,52 +2309,199 @@ function tellRow(row, answer) {
   row.told.replaceChildren(isOld ? node('span.warn', 'done before: nothing new was made') : row.isDone ?
     node('span.good', 'done') : node('span.bad', answer.why ?? [MEANINGS.get(word) ?? '', soft(` (${word})`)]));
 }
-// Deliveries and counts go as one file with the strict header.
 async function sendFile(kind, document, rows) {
   const names = HEADS[kind].split(',').slice(1);
   const quoted = it => /[",\r\n]/.test(it) ? `"${it.replaceAll('"', '""')}"` : it;
   const lineIn = row => [row.number, ...names.map(it => quoted(String(row.fields[it] ?? '')))].join(',') + '\n';
   const body = HEADS[kind] + '\n' + rows.map(lineIn).join('');
-  if (new TextEncoder().encode(body).length > MOST_BYTES)
-    return { why: `The file has more than ${digits(MOST_BYTES)} bytes: cut it up.` };
+  if (sizeOf(body) > MOST_BYTES)
+    return { why: TOO_LONG };
   keepDay();
-  const answer = await send(body, `/import/${kind}/${document}/${day.value}`);
+  const answer = await sendText(body, `/import/${kind}/${document}/${day.value}`);
   const faulty = rows[answer.said?.line - 2];
   if (!answer.isDone) return faulty ? { ...answer, why: [`Row ${digits(faulty.record)}: `, answer.why] } : answer;
   const told = toldIn(answer.report);
   for (const row of rows) if (told.has(String(row.number))) tellRow(row, told.get(String(row.number)));
   return null;
 }
-// What a report tells of each row, by its number.
-const toldIn = report => new Map(report.split('\n').filter(Boolean).map(it => it.split('\t')).map(([number, it]) =>
-  [number, JSON.parse(it)]));
+const toldIn = report => new Map(report.split('\n').filter(Boolean).map((line, at) => {
+  const [, number = String(at + 1), it] = line.match(/^(?:(\d+)\t)?(.*)$/);
+  return [number, JSON.parse(it)];
+}));
 async function sendRows(kind, document, rows) {
+  const keyOf = row => row.key || `${kind}/${document}/${row.number}`, parts = [];
+  if (rows.some(row => openLike(kind, row.fields, keyOf(row)))) {
+    offerOpen(true);
+    return SETTLE;
+  }
+  let size = 0;
   for (const row of rows) {
-    const answer = await request(kind, row.fields, row.key || `${kind}/${document}/${row.number}`)();
-    if (answer.isOpen || answer.isHeld) {
-      row.told.replaceChildren(node('span.bad', answer.why));
-      return answer;
+    const line = lineOf(kind, row.fields, keyOf(row)) + '\n';
+    size += sizeOf(line);
+    if (!parts.length || size > MOST_BYTES) {
+      parts.push({ body: '', rows: [] });
+      size = sizeOf(line);
     }
-    tellRow(row, answer);
+    parts.at(-1).body += line;
+    parts.at(-1).rows.push(row);
+  }
+  for (const { body, rows } of parts) {
+    const answer = await sendText(body, LINES, `${LINES}/${kind}/${document}/${rows[0].number}`);
+    if (!answer.isDone) return answer;
+    [...toldIn(answer.report).values()].forEach((it, at) => rows[at] && tellRow(rows[at], it));
   }
   return null;
 }
 
-// Which view is shown.
+
+const LISTS = new Map(rowsOf(`stock low | What is there of each part, and where it lies.
+at location | What lies at a location and below it.
+part part | All there is of a part.
+item item | All there is of an item, and what became of it.
+orders open | Orders with their lines, keys and days.
+builds open | Builds with what they need, keys and days.
+find text | What has a word in its name, key, batch or serial.
+shortages | What all open builds together lack.
+trace-forward item batch | Where an item or a batch went.
+trace-back item | Where an item came from.
+count-sheet location | A sheet for a stocktake, to be filled in and sent as a file of counts.
+receipt-sheet order | A sheet for what purchases have outstanding, to be filled in and sent as a file of deliveries.`)
+  .map(([said, does]) => [said.split(' ')[0], { words: said.split(' ').slice(1), does }]));
+const SUMS = RegExp(`^(present|free|allocated|items|quantity|wanted|done|outstanding|required|missing|buy|expected)$`);
+const KIND_OF = { part: 'part', item: 'item', order: 'order', build: 'build', component: 'part' };
+const NAME_OF = { stock: 'part', 'used in': 'part' };
+function itemWord(id) {
+  const batches = new Set([...books.items.values()].map(it => it.batch));
+  let word = String(id);
+  while (batches.has(word)) word = '0' + word;
+  return word;
+}
+async function readList(list, word, said = []) {
+  const path = `/show/${list}${word ? '/' + encodeURIComponent(word) : ''}?${[...said, 'csv'].join('&')}`;
+  const { status, text } = await ask(path, {}), told = status === 409 && JSON.parse(text);
+  if (told) throw new Error(MEANINGS.get(told.refused) ?? 'Nothing is called so, or several rows are.');
+  if (status !== 200) throw new Error(statusWords(status));
+  return text;
+}
+function listTable(title, list, text) {
+  const [heads, ...records] = recordsIn(text), at = Object.fromEntries(heads.map((it, n) => [it, n]));
+  const head = ['name', 'partner', 'part', 'component name'].find(it => it in at), of = it => row => row[at[it]];
+  const kindIn = (word, row) => word === 'number' ? NAME_OF[row[at.kind] ?? list] ?? row[at.kind] :
+    word === 'part' && !('name' in at) ? '' : KIND_OF[word];
+  const shown = (word, row) => {
+    const text = row[at[word]], kind = kindIn(word, row), id = Number(text);
+    if (text && ROWS[kind] && rowOf(kind, id)) return link(`${kind}/${id}`, text);
+    if (word === 'key' && isMadeUp(text)) return '';
+    const made = text && name(text);
+    if (made && word === head && at.depth >= 0) made.style.marginLeft = `${row[at.depth]}em`;
+    return made;
+  };
+  const isNumber = it => /^(number|line|depth|day|last)$/.test(it) || it in KIND_OF && it !== head;
+  const columns = heads.map(it => SUMS.test(it) ? column(capital(it), row => Number(of(it)(row)), row =>
+    of(it)(row) && digits(of(it)(row)), 'n') : column(capital(it), row => isNumber(it) && /^\d+$/.test(of(it)(row)) ?
+    Number(of(it)(row)) : of(it)(row), row => shown(it, row), it === head ? 'head' : it === 'depth' ? 'n late' :
+    isNumber(it) ? 'n' : /^(kind|side|state|status|how)$/.test(it) ? 'short' : ''));
+  return table(title, columns, records, () => saveFile(`${list}-${today()}.csv`, text));
+}
+const LISTS_OF = { stock: 'stock', low: 'stock', shopping: 'shortages', location: 'at count-sheet', part: 'part',
+  item: 'item trace-forward trace-back', order: 'receipt-sheet', orders: 'orders receipt-sheet', builds: 'builds',
+  find: 'find', batch: 'trace-forward' };
+function listLinks(view, row, query, word) {
+  const said = { stock: [], low: ['low', lowBelow], find: ['text', word], batch: ['batch', query.get('text')],
+    orders: !query.has('all') && ['open', 1], builds: !query.has('all') && ['open', 1] }[view] || row && [view, row.id];
+  const lists = LISTS_OF[view]?.split(' ') ?? [], ofView = list => LISTS.get(list).words.includes(said?.[0]);
+  return !lists.length ? '' : node('p.row acts soft lists', 'Lists:', lists.map(it => link(`list/${it}${
+    said && ofView(it) ? `?${new URLSearchParams([said])}` : ''}`, it)));
+}
+function listView(_, query, list) {
+  const { words, does } = LISTS.get(list) ?? { words: [] };
+  if (!does) return [`No list ${list}`, 'There is no such list.'];
+  const boxes = words.map(word => {
+    const value = query.get(word), label = capital(word), id = `list-${word}`;
+    if (ROWS[word]) {
+      const of = rowField({ kind: word, isOptional: true }, label, () => true, () => ({}));
+      if (value) of.set(value);
+      return [word, of.get, node('div.field', of.made)];
+    }
+    const box = word === 'open' ? node('input', { id, type: 'checkbox', checked: value }) : word === 'low' ?
+      numberBox(label, { id, value, pattern: NUMBER, title: 'digits' }) :
+      node('input', { id, value, autocomplete: 'off' });
+    return [word, () => word === 'open' ? box.checked && 1 : word === 'low' ? box.value && numberIn(box.value) :
+      box.value, node('div.field', word === 'open' ? node('label', box, ' the open ones alone') : [
+      node('label', { for: id }, word === 'low' ? 'Parts of which less is free than' : label), box])];
+  });
+  const submit = event => {
+    event.preventDefault();
+    const said = new URLSearchParams(boxes.map(([word, of]) => [word, of()]).filter(it => it[1]));
+    if (here() === `list/${list}?${said}`) show(true);
+    location.hash = `#/list/${list}${said.size ? '?' + said : ''}`;
+  };
+  const word = words.map(it => ['low', 'open'].includes(it) ? null : it === 'item' ? query.get(it) &&
+    itemWord(query.get(it)) : query.get(it)).find(Boolean);
+  const said = [query.has('open') && 'open', query.has('low') && `low=${query.get('low')}`].filter(Boolean);
+  const isWhole = word || list.endsWith('-sheet') || !words.some(it => !['low', 'open'].includes(it));
+  return [`List: ${list}`, node('p.soft', does), boxes.length > 0 && node('form.card acts', { submit,
+    'aria-label': 'What is listed', 'data-view': true }, boxes.map(it => it[2]), node('button.main', 'Show it')),
+  isWhole && asked(readList(list, word, said), text => listTable(list, list, text)),
+  acts(link('lists', '\u2190 all lists'))];
+}
+function listsView() {
+  const said = node('div'), told = node('div');
+  const save = button('Save a dump', async () => {
+    if (save.disabled) return;
+    save.disabled = true;
+    said.replaceChildren(await dump().then(it => says('good', `Saved: ${it}.`), fault =>
+      says('bad', 'Nothing was saved. ', fault.message)));
+    save.disabled = false;
+  });
+  const stop = button('Stop it now', async () => {
+    if (isEarly(stop) || busy) return;
+    stop.disabled = true;
+    told.replaceChildren(...[await stopProgram()].filter(Boolean));
+    stop.disabled = false;
+  }, 'main');
+  const open = () => store.keys(OPEN).length;
+  return ['Lists', [...LISTS].map(([it, { does }]) => node('p', link('list/' + it, capital(it)), ' ', soft(does))),
+    section('A backup', node('p', 'All of the books as they are now, as SQL: sqlite3 makes a file of them again. ',
+      'Nobody stops working for it.'), acts(save), said),
+    section('The program', panel('Stop the program', () => ['It ends for everybody who uses it. What was answered is ',
+      'kept, and the file alone has all of the books then. It has to be started again on its own machine.',
+      open() > 0 && node('p.warn', `Not answered yet: ${digits(open())}. Settle that first, above.`), acts(stop),
+      told]))];
+}
+async function dump() {
+  const { text } = await get('/dump'), called = `invdesk-${today()}.sql`;
+  if (!/(^|\n)COMMIT;\s*$/.test(text)) throw new Error('The dump was cut short.');
+  saveFile(called, text, 'application/sql');
+  return called;
+}
+let isStopped = false;
+async function stopProgram() {
+  busy++;
+  try {
+    const { status } = await ask('/stop', { method: 'POST' });
+    if (status !== 200) return says('bad', statusWords(status));
+    isStopped = true;
+    show(true);
+  } catch (fault) {
+    return says('warn', "It isn't known whether it stopped. ", fault.message);
+  } finally { busy--; }
+}
+
 
 const VIEWS = { stock: stockView, low: lowView, shopping: shoppingView, locations: locationsView, builds: buildsView,
-  orders: ordersView, recent: recentView, do: doView, files: filesView, location: locationsView, sheet: sheetView,
+"#,
+    r#"  orders: ordersView, recent: recentView, do: doView, files: filesView, lists: listsView, list: listView,
+  location: locationsView, sheet: sheetView,
   part: partView, line: lineView, item: itemView, build: buildView, order: orderView, batch: batchView,
   find: findView };
 const here = () => location.hash.replace(/^#\/?/, '');
 function place() {
-"#,
-    r#"  const [at, query] = here().split('?'), [view, word = ''] = at.split('/');
+  const [at, query] = here().split('?'), [view, word = ''] = at.split('/');
   const decoded = new URLSearchParams('word=' + word.replaceAll('+', '%2B')).get('word');
   return [Object.hasOwn(VIEWS, view) ? view : 'stock', decoded, new URLSearchParams(query)];
 }
 
-// What a view speaks of, as it was when it was shown; and what it does when the books change.
 let watched = new Map(), whenRead = [], isDirty = false, busy = 0;
 function watchRow(kind, id) {
   const key = `${kind} ${id}`;
@@ -2452,10 +2511,12 @@ main.addEventListener('input', event => { if (!event.target.closest('[data-view]
 const isWriting = () => busy > 0 || isDirty || ['do', 'sheet', 'files'].includes(place()[0]) ||
   main.contains(document.activeElement) &&
   document.activeElement.matches('input:not([data-view]), select:not([data-view]), textarea');
-// Books that were changed by oneself are what one knows of.
 const rewatch = () => watched.forEach(it => { it[2] = factOf(it[0], it[1]); });
 
 function show(isMoved) {
+  if (isStopped) return main.replaceChildren(node('h1', 'The program was stopped'), node('p', { role: 'status' },
+    'Its file alone has all of the books. Nothing is read or sent until it is started again on its machine.'),
+  button('Try again', start));
   const [view, word, query] = place(), height = scrollY, kind = view === 'sheet' ? 'location' : view;
   const row = ROWS[kind] && rowOf(kind, Number(word)), focused = !isMoved && document.activeElement?.id;
   const caret = focused && document.activeElement.selectionStart;
@@ -2471,9 +2532,9 @@ function show(isMoved) {
   const [title, ...inner] =
     ROWS[kind] && !row ? [`No ${kind} ${word}`, 'There is no such row.'] : VIEWS[view](row, query, word);
   const head = node('h1', { tabindex: -1 }, name(title));
-  main.replaceChildren(head, ...flash ? [flash.made] : [], node('div', inner));
+  main.replaceChildren(listLinks(view, row, query, word), head, ...flash ? [flash.made] : [], node('div', inner));
   document.title = `${title} - invdesk`;
-  byId('views').replaceChildren(...Object.keys(VIEWS).slice(0, 9).map(it =>
+  byId('views').replaceChildren(...Object.keys(VIEWS).slice(0, 10).map(it =>
     node('a', { href: '#/' + it, 'aria-current': (it === view || it === kind + 's') && 'page' }, capital(it))));
   if (opened.length) for (const it of main.querySelectorAll('details > summary'))
     if (opened.includes(it.textContent)) it.parentElement.open = true;
@@ -2485,7 +2546,6 @@ function show(isMoved) {
   scrollTo(0, isMoved ? 0 : height);
   if (isMoved && query.has('end')) main.querySelector('details[open]')?.scrollIntoView();
 }
-// After an act one is where one was, or in the form again, and is told what was done. Who went elsewhere stays there.
 function comeBack(from, to, made, form) {
   if (!from.isConnected) { made.classList.add('news'); return byId('notices').append(made); }
   flash = { at: to.split('?')[0], made };
@@ -2514,6 +2574,7 @@ function failed(fault) {
 }
 async function start() {
   const begun = performance.now();
+  isStopped = false;
   try {
     await refresh();
     show(true);
@@ -2527,11 +2588,10 @@ async function named() {
   warmUp();
   if (!isWriting()) show(false);
 }
-// What this window sent and was never answered is offered again, under its key; but not to other books.
 function offerOpen(isAsked) {
   byId('notices').querySelectorAll('.open').forEach(it => it.remove());
   for (const key of busy && !isAsked ? [] : store.keys(OPEN).map(it => it.slice(OPEN.length))) {
-    const { line, path, books, was } = openAt(key), told = name(path === RUN ? line : path);
+    const { line, path, books, was } = openAt(key), told = name(path === RUN ? line : key);
     const forget = button('Forget it', () => { store.drop(OPEN + key); made.remove(); });
     const again = button('Send it again', async () => {
       if (busy) return;
@@ -2562,9 +2622,9 @@ function warmUp() {
   };
   (self.requestIdleCallback ?? setTimeout)(next);
 }
-// Reads anew. What is being written stays, and what changed of it is told.
 async function renew(isAsked) {
   keepDay();
+  if (isStopped) return;
   try {
     const isNew = await refresh();
     away();
@@ -2578,7 +2638,6 @@ async function renew(isAsked) {
     else failed(fault);
   }
 }
-// Says that the program doesn't answer, while something is written that has to stay; and no more when it does.
 function away(fault) {
   const told = byId('notices').querySelector('.away');
   if (!fault) told?.remove();
@@ -2594,7 +2653,6 @@ function news() {
     'This has changed meanwhile: '), list(changed.slice(0, 8).map(([was, now]) => [name(was), ' \u2192 ', name(now)])),
   'What you typed is still there. ', place()[0] !== 'do' && button('Show it anew, without that', () => show(false))));
 }
-// Takes the token out of the address, where it stands in it.
 function takeToken() {
   const told = location.hash.match(/^#token=(.+)$/);
   if (!told) return false;
@@ -2641,4 +2699,4 @@ start();
 
 /// What a browser may do for the page: run its one script, use its one style, and ask this service.
 pub const POLICY: &str =
-    "default-src 'none'; script-src 'sha256-E4N6MLkFn3vkkBGFlIJE39NBjgODC7fYPv5FM2OWrg0='; style-src 'sha256-cyzrRSYnJH2DRque8IBNnDUYeL4xZIFQAN1XT+fgws4='; connect-src 'self'; img-src data:; base-uri 'none'; form-action 'none'; frame-ancestors 'none'; require-trusted-types-for 'script'; trusted-types 'none'";
+    "default-src 'none'; script-src 'sha256-bU94L1G9XuL62Sr83WCL2fAypzvhmGkL6BLt0Z19eJA='; style-src 'sha256-H/RH2zxl1jPpzQh/MiuMidWBHtQ8tXiKS5i1xLCOEYs='; connect-src 'self'; img-src data:; base-uri 'none'; form-action 'none'; frame-ancestors 'none'; require-trusted-types-for 'script'; trusted-types 'none'";

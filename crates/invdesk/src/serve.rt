@@ -1,6 +1,7 @@
 //! Serves clients on the loopback.
 ghost use Rattle.std.specs.Prelude.{◌≡◌, ◌⊎◌, IfErr, IfOk, IfSome, is_some};
-ghost use Rattle.invdesk.specs.Clients.{IsInFile, Offers, OffersTo, ServesClients};
+ghost use Rattle.invdesk.specs.Clients.{ends_at_fault, IsInFile, IsOfServing, Offers, OffersTo};
+ghost use Rattle.invdesk.specs.Clients.{ServesClients};
 
 use crate::page::{PAGE, POLICY};
 use crate::tell_line;
@@ -114,9 +115,28 @@ fn say_where(rt: &HostRuntime, port: u16, page: bool) -> io::Result<()> {
     Ok(())
 }
 
-/// Serves so many connections, whatever each gives, or one after another until the program is stopped. It ends otherwise
-/// only where there is no token to ask for, or it can't listen, accept or tell that it listens. What clients send, and
-/// what they get, is known to no clause.
+/// Whether a serving ends once a fault has closed its books: with a page, where no count says when it ends.
+pub fn ends_at_fault(page: bool, count: Option<u64>) -> bool
+    ensures { result ≡ ends_at_fault page count }
+{
+    page && count.is_none()
+}
+
+/// How a serving ends to which no connection comes more: by a fault of its books, where it ends at one.
+fn end_of_serving<B: Books>(ends_at_fault: bool, service: &BooksService<B>) -> RunEnd
+    requires { B.are_kept service.now.books }
+    ensures { IsOfServing ends_at_fault (B.failure_of service.now.books) result }
+{
+    if ends_at_fault && service.has_failed() {
+        RunEnd::Store
+    } else {
+        RunEnd::Done(true)
+    }
+}
+
+/// Serves so many connections, whatever each gives, or one after another until the program is stopped or the service is
+/// over: it was asked to stop, or a fault has closed its books. It ends otherwise only where there is no token to ask for,
+/// or it can't listen, accept or tell that it listens. What clients send, and what they get, is known to no clause.
 pub fn serve<B: Books>(
     rt: &HostRuntime,
     port: u16,
@@ -141,10 +161,11 @@ pub fn serve<B: Books>(
     if let Err(error) = say_where(rt, port, page) {
         return failed(rt, "standard output", &error, RunEnd::WriteFailed);
     }
+    let ends_at_fault = service.ends_at_fault;
     let count = count.unwrap_or(u64::MAX);
     let mut clients = Clients::of(listener);
     match serve_connections(rt, rt.alloc(), &mut clients, count, service, &site) {
-        Ok(()) => RunEnd::Done(true),
+        Ok(()) => end_of_serving(ends_at_fault, service),
         Err(error) => port_failed(rt, port, &error),
     }
 }

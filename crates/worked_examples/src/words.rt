@@ -1,6 +1,6 @@
 //! The words that the program is called with, and what they ask for.
 use desk_cli::{ReportOf, Task, early_status, read_words};
-use desk_wire::Sheet;
+use desk_wire::{FileReading, Sheet};
 use std::alloc::{AllocError, Global};
 use std::fs;
 use std::test::Fail;
@@ -66,6 +66,7 @@ fn told(alloc: Global, task: &Task<'_>) -> Result<String, AllocError> {
             ReportOf::Word(word) => format!(in alloc; "report {file} {name:?} called {word}"),
         },
         Task::Export(file, table) => format!(in alloc; "export {file} {table:?}"),
+        Task::Dump(file) => format!(in alloc; "dump {file}"),
         Task::Show { file, list, csv } => {
             let how = if *csv { " for a spreadsheet" } else { "" };
             format!(in alloc; "show{how} {file} {list:?}")
@@ -78,12 +79,16 @@ fn told(alloc: Global, task: &Task<'_>) -> Result<String, AllocError> {
             day,
             path,
             names,
-            loose,
+            reading,
             explain,
         } => {
             let (document, day) = (document.as_str(), day.text(alloc)?);
             let (named, explains) = (named(*names), explains(*explain));
-            let loosely = if *loose { " loosely" } else { "" };
+            let loosely = match reading {
+                FileReading::Strict => "",
+                FileReading::Loose => " loosely",
+                FileReading::Unchanged => " loosely unless changed",
+            };
             format!(in alloc;
                 "import{named}{loosely}{explains} {file} {kind:?} {document} {day} {path}"
             )

@@ -19,7 +19,7 @@ returns-clause-desk g c =
 pub returns-clause-imports : goal.returns-clause-imports
 returns-clause-imports g c =
     along c.args.desk c.into_desk.result c.new-counted.result.books.books.desk c.import-end.new.books.books.books.desk
-    (λ old new. ImportsFile c.args.loose c.args.names c.args.kind c.args.document.now c.args.day old.failed new.failed
+    (λ old new. ImportsFile c.args.reading c.args.names c.args.kind c.args.document.now c.args.day old.failed new.failed
     (may_leave g.S.Store new) (state_of old.shop) (state_of new.shop) c.import-end.result)
     (ap (λ explained. explained.books.desk) c.new-counted.ensures.books
     ∙ (ap (λ watched. watched.desk) c.new-explained.ensures.books ∙ c.new-watched.ensures.desk))

@@ -11,8 +11,14 @@ returns-in-Export g c =
     (prints_lines _ _ _ c.print_export.result c.print_export.ensures.whole c.print_export.ensures.front
     c.print_export.ensures.nothing c.print_export.ensures.never)
 
+pub returns-in-Dump : goal.returns-in-Dump
+returns-in-Dump g c =
+    rw c.in-Dump.is
+    (prints_lines _ _ _ c.print_dump.result c.print_dump.ensures.whole c.print_dump.ensures.front
+    c.print_dump.ensures.nothing c.print_dump.ensures.never)
+
 pub returns-in-Show : goal.returns-in-Show
-returns-in-Show g c = rw c.in-Show.is c.print_of_list.ensures
+returns-in-Show g c = rw c.in-Show.is c.print_list_out.ensures
 
 pub returns-in-Migrate : goal.returns-in-Migrate
 returns-in-Migrate g c =
@@ -23,4 +29,4 @@ returns-in-Migrate g c =
 pub returns-in_default : goal.returns-in_default
 returns-in_default g c =
     prints_nothing c.args.task.now (state_of c.args.desk.now.shop) _ c.in_default.not-Report c.in_default.not-Export
-    c.in_default.not-Show c.in_default.not-Migrate
+    c.in_default.not-Dump c.in_default.not-Show c.in_default.not-Migrate

@@ -7,19 +7,22 @@ pub returns-in-Err-clause-serves : goal.returns-in-Err-clause-serves
 returns-in-Err-clause-serves g c =
     unserved g.B.Books.state_in g.B.Books.failure_of g.B.Books.may_leave c.args.service.now.options c.args.port
     (is_some c.args.token) c.args.page c.args.count
-    c.args.service.now c.in-Err.end refl (of_serving c.in-Err.end c.in-Err.ensures.why)
+    c.args.service.now c.in-Err.end refl (of_serving c.args.service.now.ends_at_fault (g.B.Books.failure_of c.args.service.now.books)
+    c.in-Err.end c.in-Err.ensures.why)
 
 pub returns-in-Err-bind-clause-serves : goal.returns-in-Err-bind-clause-serves
 returns-in-Err-bind-clause-serves g c =
     unserved g.B.Books.state_in g.B.Books.failure_of g.B.Books.may_leave c.args.service.now.options c.args.port
     (is_some c.args.token) c.args.page c.args.count
-    c.args.service.now c.port_failed.result refl (of_serving c.port_failed.result c.port_failed.ensures)
+    c.args.service.now c.port_failed.result refl (of_serving c.args.service.now.ends_at_fault (g.B.Books.failure_of c.args.service.now.books)
+    c.port_failed.result c.port_failed.ensures)
 
 pub returns-in-Err-say_where-clause-serves : goal.returns-in-Err-say_where-clause-serves
 returns-in-Err-say_where-clause-serves g c =
     unserved g.B.Books.state_in g.B.Books.failure_of g.B.Books.may_leave c.args.service.now.options c.args.port
     (is_some c.args.token) c.args.page c.args.count
-    c.args.service.now c.failed.result refl (of_telling c.failed.result c.failed.ensures)
+    c.args.service.now c.failed.result refl (of_telling c.args.service.now.ends_at_fault (g.B.Books.failure_of c.args.service.now.books)
+    c.failed.result c.failed.ensures)
 
 pub returns-in-Ok-serve_connections-clause-serves : goal.returns-in-Ok-serve_connections-clause-serves
 returns-in-Ok-serve_connections-clause-serves g c = record {
@@ -32,7 +35,7 @@ returns-in-Ok-serve_connections-clause-serves g c = record {
   operations =
       let s = c.serve_connections.ensures.operations in
       (s.0, most_is c.args.count s.0 (rw c.unwrap_or-count.ensures at s.1), s.2);
-  ends = refl;
+  ends = c.end_of_serving.ensures;
 }
 
 pub returns-clause-serves : goal.returns-clause-serves
@@ -46,5 +49,7 @@ returns-clause-serves g c = record {
   operations =
       let s = c.serve_connections.ensures.operations in
       (s.0, most_is c.args.count s.0 (rw c.unwrap_or-count.ensures at s.1), s.2);
-  ends = of_serving c.port_failed-in-Err-serve_connections.result c.port_failed-in-Err-serve_connections.ensures;
+  ends =
+      of_serving c.args.service.now.ends_at_fault (g.B.Books.failure_of c.serve_connections.new.service.books)
+      c.port_failed-in-Err-serve_connections.result c.port_failed-in-Err-serve_connections.ensures;
 }
