@@ -20,7 +20,7 @@ import shutil
 import sys
 
 TOP = pathlib.Path(__file__).resolve().parent.parent
-DOCUMENTS = [TOP / "README.md", *sorted((TOP / "docs").glob("*.md"))]
+DOCUMENTS = [TOP / "README.md", *sorted((TOP / "docs").glob("**/*.md"))]
 CRATES = {path.name for path in (TOP / "crates").iterdir()}
 # The libraries of the kit that crates stand on, whose sources lie beside `rt`, if it is here.
 KIT_CRATES = set(re.findall(r"\w+", re.sub(r"(?m)^\w+:", "", (TOP / "crates.txt").read_text()))) - CRATES

@@ -169,7 +169,7 @@ def page_of(top):
 def number_of(top):
     """The program's version. Behind it the program says with which kit it is proved, as the documents do."""
     number, kit = re.fullmatch(r"(\S+) \((.*)\)", top.said["version"]).groups()
-    for name in "README.md", "docs/PROOF.md":
+    for name in "README.md", "docs/engineering/PROOF.md":
         expect(f"`{kit}`" in (TOP / name).read_text(), f"{name} names another kit than the program: {kit}")
     if shutil.which("rt"):
         here = subprocess.run(["rt", "version"], capture_output=True, text=True, check=True).stdout.strip()
