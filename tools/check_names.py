@@ -1,10 +1,13 @@
 #!/usr/bin/env python3
-"""Looks whether the names that the documents cite stand where they are said to stand.
+"""Looks whether what the documents cite is there.
 
-- A place: `crates/desk_core/src/shop.rt:293` `accept`, or lines, `crates/desk_core/specs/Key.antt:6-11` `is_visible`.
-  The name stands on the first line as a word, and on the last one a definition ends. For a clause its function is told,
-  too: `crates/desk_core/src/shop.rt:295` `accepts` of `accept`; then no other function's head stands between. Where a
-  section says how many its lines are, '1,200 lines in all', they are so many.
+- A clause: `crates/desk_core/src/shop.rt` `accepts` of `accept` is a clause of that function in that file.
+- A function or a type, `crates/desk_core/src/shop.rt` `accept`, or a definition, `crates/desk_core/specs/Key.antt`
+  `is_key`, one of its fields or constructors too, is declared in that file. `is_visible`..`is_key` are those from the
+  one to the other, in the file's order; a file alone is all of it. Where a section says how many lines its files and
+  definitions are, '1,200 lines in all', they are so many.
+- So are several of one file, with commas between: `crates/desk_core/src/shop.rt` `drawn`, `written` of `run_list`,
+  `accepts` of `accept`.
 - A definition: `Tables.forest_of` stands in specs/Tables.antt of the crate that is told before it (`forest`
   `Tables.forest_of`), or else of the crate that its table's header, its section or its heading names, or else of some
   crate. In a column of definitions a bare name stands in the module or the crate that was named last.
@@ -12,7 +15,8 @@
 - A call: `Shop::accept` is a function of that crate, or of some.
 - Any other name of two words or more, as `is_visible` or `IsDesk`, stands in some source.
 
-usage: tools/check_names.py [--mend]     --mend writes for each place the line where its name stands now, the nearest"""
+usage: tools/check_names.py"""
+import difflib
 import functools
 import pathlib
 import re
@@ -28,7 +32,13 @@ RT = shutil.which("rt")
 KIT = pathlib.Path(RT).resolve().parent.parent / "rattle" if RT else None
 
 TOKEN = re.compile(r"`([^`]+)`")
-PLACE = re.compile(r"`([\w./-]+\.(?:rt|antt|py)):(\d+)(?:-(\d+))?`(?: `([^`]+)`)?(?: of `([^`]+)`)?")
+# A file of a crate with the names that it is to have, and each of these: with the last of those that begin with it, or
+# the function of the clauses that are named before it.
+PLACE = re.compile(r"`(crates/[\w./-]+\.(?:rt|antt))`((?: `[^`/\s]+`(?:\.\.`[^`/\s]+`)?"
+                   r"(?:, `[^`/\s]+`(?:\.\.`[^`/\s]+`)?| of `\w+`)*)?)")
+PART = re.compile(r"( of )?`([^`]+)`(?:\.\.`([^`]+)`)?")
+# A line number behind a name of a file: nothing that the documents say, as it is another one with the next change.
+NUMBERED = re.compile(r"`[\w./-]+\.(?:rt|antt|py):[\d-]+`")
 IN_ALL = re.compile(r"([\d,]+) lines in all")
 DEFINITION = re.compile(r"[A-Z]+[a-z]\w*\.[\w-]+")
 BARE = re.compile(r"[A-Za-z][\w-]*")
@@ -94,73 +104,112 @@ def has_function(crate, name):
     return bool(re.search(rf"\bfn {re.escape(name)}\b", text_of(crate, "src/**/*.rt")))
 
 
-def function_above(lines, at):
-    """The name of the function whose head stands on the line or above it, the nearest."""
-    for line in reversed(lines[:at]):
-        found = re.match(r"\s*(?:pub(?:\(crate\))? )?fn (\w+)", line)
-        if found:
-            return found[1]
-    return None
-
-
-def stands(lines, at, name, function):
-    """Whether the name stands on that line, the first being 1, and under that function's head, if one is told."""
-    if not 1 <= at <= len(lines) or not re.search(rf"(?<![\w-]){re.escape(name)}(?![\w-])", lines[at - 1]):
-        return False
-    return function is None or function_above(lines, at) == function
-
-
-def ends(lines, at):
-    """Whether a definition ends on that line: there is text on it and none on the next."""
-    return at < len(lines) and bool(lines[at - 1].strip()) and not lines[at].strip()
-
-
 def is_head(line, name):
-    """Whether the line declares the name: a function, a type, a clause or a definition."""
-    name = re.escape(name)
-    return re.match(rf"\s*(?:pub(?:\(crate\))? )?(?:fn|struct|enum|trait) {name}\b", line) or re.match(
-        rf"\s*(?:ensures|requires|ghost) {name}\b", line) or re.match(
-        rf" *(?:abbrev |unfoldable )?(?:pub )?(?:record |data )?{name} .*", line)
+    """Whether the line declares the name: a function, a type or a definition, with what is a part of it."""
+    kinds = "fn|struct|enum|trait|ghost"
+    return re.match(rf"\s*(?:pub(?:\(crate\))? )?(?:{kinds}) {re.escape(name)}\b", line) or declares(line, name)
 
 
-def nearest(lines, at, name, function):
-    """The line near the one that is told where the name stands, one that declares it before others."""
-    there = [n for n in range(1, len(lines) + 1) if stands(lines, n, name, function)]
-    heads = [n for n in there if is_head(lines[n - 1], name)]
-    return min(heads or there, key=lambda n: abs(n - at), default=None)
+def heads(lines, name):
+    """The lines that declare a name, the first line of all being 0."""
+    return [at for at, line in enumerate(lines) if is_head(line, name)]
 
 
-def check_places(document, mend, faults):
-    def look(found):
-        path, name, function = found[1], found[4], found[5]
-        first, last = int(found[2]), int(found[3] or found[2])
-        where = f"{document.relative_to(TOP)}: {path}:{first}"
-        if name is None:
-            faults.append(f"{where} has no name behind it")
-        elif not (TOP / path).is_file():
-            faults.append(f"{where}: there is no such file")
-        elif not stands(lines_of(TOP / path), first, name, function):
-            now = nearest(lines_of(TOP / path), first, name, function)
-            if mend and now:
-                told = f":{now}" + (f"-{now + last - first}" if found[3] else "")
-                return re.sub(r":[\d-]+`", f"{told}`", found[0], count=1)
-            under = f" under {function}" if function else ""
-            faults.append(f"{where}: {name} isn't there{under}" + (f", but on line {now}" if now else ""))
-        elif found[3] and not ends(lines_of(TOP / path), last):
-            faults.append(f"{where}: on line {last} no definition ends")
-        return found[0]
+def end_of(lines, at):
+    """Where the definition ends that begins on that line: behind it stands an empty line, or none."""
+    return next((below for below in range(at, len(lines)) if not lines[below].strip()), len(lines))
 
+
+def clauses(lines, function):
+    """The clauses of the functions of that name, or None where there is none."""
+    found, within = None, False
+    for line in lines:
+        head = re.match(r"\s*(?:pub(?:\(crate\))? )?(?:ghost )?fn (\w+)", line)
+        if head:
+            within = head[1] == function
+            found = (found or []) if within else found
+        clause = re.match(r"\s*(?:ensures|requires|ghost) (\w+)", line)
+        if within and clause:
+            found.append(clause[1])
+    return found
+
+
+def others_with(path, name):
+    """The files of crates that declare a name, those of one name with that one before others."""
+    kind = "specs/**/*.antt" if path.endswith(".antt") else "src/**/*.rt"
+    there = [it for crate in sorted(CRATES) for it in sorted(folder_of(crate).glob(kind)) if heads(lines_of(it), name)]
+    there.sort(key=lambda it: it.name != pathlib.Path(path).name)
+    return [str(it.relative_to(TOP)) for it in there]
+
+
+def elsewhere(path, name):
+    found = others_with(path, name)[:3]
+    return f", but in {', '.join(found)}" if found else ""
+
+
+def place_fault(path, name, last, function):
+    """What is wrong with what is said to stand in a file, or None."""
+    if not (TOP / path).is_file():
+        return f"there is no such file{elsewhere(path, name)}" if name else "there is no such file"
+    lines = lines_of(TOP / path)
+    if name is None:
+        return None
+    if function:
+        there = clauses(lines, function)
+        if there is None:
+            return f"no function {function} is there{elsewhere(path, function)}"
+        return None if name in there else f"{name} is no clause of {function}, which has {', '.join(there) or 'none'}"
+    for it in filter(None, (name, last)):
+        if not heads(lines, it):
+            near = difflib.get_close_matches(it, re.findall(r"\w+", "\n".join(lines)), 1)
+            hint = elsewhere(path, it) or "".join(f", but {word} stands there" for word in near)
+            return f"{it} isn't declared there{hint}"
+    return f"{last} stands before {name}" if last and heads(lines, last)[-1] < heads(lines, name)[0] else None
+
+
+def count_lines(path, name, last):
+    """How many lines a file has of the definitions from the one to the other, or without names of all."""
+    lines = lines_of(TOP / path)
+    if name is None:
+        first = next(at for at, line in enumerate(lines) if line.strip() and not re.match("--|use |pub use ", line))
+        return max(at for at, line in enumerate(lines) if line.strip()) + 1 - first
+    first = heads(lines, name)[0]
+    return end_of(lines, next(at for at in heads(lines, last or name) if at >= first)) - first
+
+
+def places(text):
+    """Each place that a text cites: a file, and a name, the last name and the function where these are told."""
+    for path, names in PLACE.findall(text):
+        found = []
+        for is_function, name, last in PART.findall(names):
+            if is_function:
+                yield from ((path, clause, None, name) for clause, _ in found)
+                found = []
+            else:
+                found.append((name, last or None))
+        yield from ((path, name, last, None) for name, last in found)
+        if not names:
+            yield path, None, None, None
+
+
+def check_places(document, faults):
     text = document.read_text()
-    mended = PLACE.sub(look, text)
-    if mended != text:
-        document.write_text(mended)
-    for section in re.split(r"(?m)^#", mended):
-        lines = sum(int(found[3]) - int(found[2]) + 1 for found in PLACE.finditer(section) if found[3])
+    for found in NUMBERED.findall(text):
+        faults.append(f"{document.relative_to(TOP)}: {found}: a name says where, and no number")
+    right = set()
+    for place in places(text):
+        fault = place_fault(*place)
+        if fault:
+            faults.append(f"{document.relative_to(TOP)}: {place[0]}: {fault}")
+        else:
+            right.add(place)
+    for section in re.split(r"(?m)^#", text):
+        lines = sum(count_lines(*it[:3]) for it in places(section) if it in right and not it[3])
         for told in IN_ALL.findall(section):
             if int(told.replace(",", "")) != lines:
                 title = section.split("\n")[0].strip("# ")
                 where = f"{document.relative_to(TOP)}: under {title!r}"
-                faults.append(f"{where} {lines} lines in all are cited, and not {told}")
+                faults.append(f"{where} {lines:,} lines in all are cited, and not {told}")
 
 
 class Checker:
@@ -268,7 +317,7 @@ class Checker:
 def main():
     faults = []
     for document in DOCUMENTS:
-        check_places(document, "--mend" in sys.argv[1:], faults)
+        check_places(document, faults)
         Checker(document, faults).check()
     print("\n".join([*faults, f"{len(DOCUMENTS)} documents: {len(faults)} names don't stand where they are said to"]))
     sys.exit(1 if faults else 0)
