@@ -352,7 +352,7 @@ ASKED = {"location": "Store", "part": "Lamp", "serial": "L3", "other": "Driver",
 def questions():
     """The SQL of each question of the document."""
     return ["".join(line + "\n" for line in text.split("\n")[1:-2])
-            for _, text, _ in commands(DOCUMENT) if text.startswith("sqlite3")]
+            for _, text, _ in commands(f"docs/{DOCUMENT}") if text.startswith("sqlite3")]
 
 
 def asked_about(sql, subject):
@@ -498,7 +498,7 @@ def is_tried(command, has_server):
 
 def try_document(program, has_server):
     """Runs the document, and its questions once more by the shell of sqlite where that is installed."""
-    steps = [step for step in commands(DOCUMENT) if is_tried(step[1], has_server)]
+    steps = [step for step in commands(f"docs/{DOCUMENT}") if is_tried(step[1], has_server)]
     shell = shutil.which("sqlite3")
     if shell:
         steps += [[n, f"{shell}{text[7:]}", wanted] for n, text, wanted in steps if text.startswith("sqlite3")]

@@ -1,10 +1,11 @@
 #!/usr/bin/env python3
-"""Does what `docs/TUTORIAL.md`, `docs/MOVING-IN.md`, `docs/RECALL.md` and `docs/MISTAKES.md` say, on the built program.
-The commands of the blocks of each are run in their order, each by a shell, in one temporary folder, and what comes back
-is compared byte for byte with what stands there. What lies in `docs` in a folder of the document's name, in small
-letters, is in it at first. Then it looks whether the tables of `docs/REFUSALS.md` have one row for each word that the
-program says: each refusal, each fault, what is told of a file or a token, and each status, as the sources have them;
-and whether those of `docs/MISTAKES.md` have a row for each command, and its blocks a line for each that mends one.
+"""Does what the README, `docs/TUTORIAL.md`, `docs/MOVING-IN.md`, `docs/RECALL.md` and `docs/MISTAKES.md` say, on the
+built program. The commands of the blocks of each are run in their order, each by a shell, in one temporary folder, and
+what comes back is compared byte for byte with what stands there. What lies in `docs` in a folder of the document's
+name, in small letters, is in it at first. The README has the commands of `make` besides, in a block that isn't run.
+Then it looks whether the tables of `docs/REFUSALS.md` have one row for each word that the program says: each refusal,
+each fault, what is told of a file or a token, and each status, as the sources have them; and whether those of
+`docs/MISTAKES.md` have a row for each command, and its blocks a line for each that mends one.
 
 usage: tools/check_tutorial.py PROGRAM"""
 import os
@@ -18,7 +19,8 @@ import tempfile
 from machine.lines import FIELDS
 from shared import TOP, expect, reader_of_words
 
-DOCUMENTS = ["TUTORIAL.md", "MOVING-IN.md", "RECALL.md", "MISTAKES.md"]
+README = "README.md"
+DOCUMENTS = [README, *(f"docs/{name}.md" for name in ("TUTORIAL", "MOVING-IN", "RECALL", "MISTAKES"))]
 REFUSALS, MISTAKES = TOP / "docs" / "REFUSALS.md", TOP / "docs" / "MISTAKES.md"
 # What is told of a variant, behind its name: a text, a text that is written, or one that is written with values in it.
 ARM = r'::(\w+)(?:\([\w()]*\))? =>\s*\{?\s*(?:f\.write_str\(|write!\(f,)?\s*"([^"]*)"'
@@ -30,14 +32,15 @@ HIDDEN = ["OpenFault::Memory", "OpenFault::Foreign", "OpenFault::Old", "Cause::N
 
 def commands(document):
     """Each command of a document: the number of its line, its text, and the output that stands behind it."""
-    found, end, is_inside = [], None, False
-    for number, line in enumerate((TOP / "docs" / document).read_text().splitlines(), 1):
-        where = f"docs/{document}:{number}"
+    found, end, is_inside, is_run = [], None, False, False
+    for number, line in enumerate((TOP / document).read_text().splitlines(), 1):
+        where = f"{document}:{number}"
         if line.startswith("```"):
             is_inside = not is_inside
-            expect(line == "```console" or not is_inside, f"{where}: a block isn't one of commands")
+            is_run = is_inside and line == "```console"
+            expect(is_run or not is_inside or document == README, f"{where}: a block isn't one of commands")
             expect(end is None, f"{where}: a block ends amid what a command reads")
-        elif not is_inside:
+        elif not is_run:
             continue
         elif end:
             found[-1][1] += line + "\n"
@@ -83,7 +86,7 @@ def differing(program, document):
     steps = commands(document)
     told = outputs(program, steps, TOP / "docs" / pathlib.Path(document).stem.lower())
     differences = [(number, difference(wanted, it)) for (number, _, wanted), it in zip(steps, told)]
-    return [f"docs/{document}:{at}: the command answers {it}" for at, it in differences if it], len(steps)
+    return [f"{document}:{at}: the command answers {it}" for at, it in differences if it], len(steps)
 
 
 def source(path):

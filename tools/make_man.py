@@ -1,7 +1,8 @@
 #!/usr/bin/env python3
 """Writes the page of `man invdesk`, `contrib/invdesk.1`, and the completions of bash, `contrib/invdesk.bash`. Both have
 the commands with their words as the program reads them (`tools/program_words.py`). The page has besides what the README
-says first and of answers, the tables of `docs/REFUSALS.md`, and the files and the environment of `docs/OPERATING.md`.
+says first, the answers of `docs/TUTORIAL.md`, the tables of `docs/REFUSALS.md`, and the files and the environment of
+`docs/OPERATING.md`.
 It bears the day on which the rest of it was last written otherwise. The kit that the program says it is proved with has to
 be the one of `rt version`, and of the documents.
 
@@ -151,9 +152,7 @@ def page_of(top):
     yield from [".PP", *filled(f"Without a command it is {named('run')}, of books that end with it.",
                                f"{named('invdesk help commands')} prints what a line can ask for.")]
     yield from [".SH COMMANDS", *(line for command in top.commands for line in part_of(command, shown))]
-    answers = readme.split("Each line has one answer:\n\n")
-    expect(len(answers) == 2, "the README has no table of answers")
-    yield from [".SH ANSWERS", "Each line has one answer:", *table(answers[1].split("\n\n")[0])]
+    yield from [".SH ANSWERS", "Each line has one answer:", *table(section("TUTORIAL.md", "What is answered"))]
     for title, text in (
             ("EXIT STATUS", section("REFUSALS.md", "Statuses that the program ends with")),
             ("FILES", section("OPERATING.md", "Files")), ("ENVIRONMENT", section("OPERATING.md", "Environment"))):
