@@ -9,8 +9,8 @@
 - So are several of one file, with commas between: `crates/desk_core/src/shop.rt` `drawn`, `written` of `run_list`,
   `accepts` of `accept`.
 - A definition: `Tables.forest_of` stands in specs/Tables.antt of the crate that is told before it (`forest`
-  `Tables.forest_of`), or else of the crate that its table's header, its section or its heading names, or else of some
-  crate. In a column of definitions a bare name stands in the module or the crate that was named last.
+  `Tables.forest_of`), or else of the crate that its table's header or row, the begin of its item of a list, its section
+  or its heading names, or else of some crate. In a column of definitions a bare name stands in the module or the crate that was named last.
 - A path: `src/run.rt` is a file of such a crate, `docs/HTTP.md` or `contrib/views.sql` one of the repository.
 - A call: `Shop::accept` is a function of that crate, or of some.
 - Any other name of two words or more, as `is_visible` or `IsDesk`, stands in some source.
@@ -239,7 +239,9 @@ class Checker:
                 told = re.search(r"[Dd]efinitions(?: and the calls)? stand in `(\w+)`", line)
                 if told and told[1] in CRATES:
                     self.section = told[1]
-                self.names(number, line, self.section, None, False)
+                item = re.match(r"- `(\w+)`:", line)
+                crate = item[1] if item and item[1] in CRATES else self.section
+                self.names(number, line, crate, None, False)
             self.columns = []
 
     def row(self, number, line):
