@@ -7,7 +7,7 @@
   one to the other, in the file's order; a file alone is all of it. Where a section says how many lines its files and
   definitions are, '1,200 lines in all', they are so many.
 - So are several of one file, with commas between: `crates/desk_core/src/shop.rt` `drawn`, `written` of `run_list`,
-  `accepts` of `accept`.
+  `accepts` of `accept`. Further on in that line `acts` of `act` is a clause of the file that was told last.
 - A definition: `Tables.forest_of` stands in specs/Tables.antt of the crate that is told before it (`forest`
   `Tables.forest_of`), or else of the crate that its table's header or row, the begin of its item of a list, its section
   or its heading names, or else of some crate. In a column of definitions a bare name stands in the module or the crate that was named last.
@@ -18,6 +18,7 @@
 usage: tools/check_names.py"""
 import difflib
 import functools
+import itertools
 import pathlib
 import re
 import shutil
@@ -37,6 +38,7 @@ TOKEN = re.compile(r"`([^`]+)`")
 PLACE = re.compile(r"`(crates/[\w./-]+\.(?:rt|antt))`((?: `[^`/\s]+`(?:\.\.`[^`/\s]+`)?"
                    r"(?:, `[^`/\s]+`(?:\.\.`[^`/\s]+`)?| of `\w+`)*)?)")
 PART = re.compile(r"( of )?`([^`]+)`(?:\.\.`([^`]+)`)?")
+CLAUSE = re.compile(r"`([a-z]\w*)` of `([a-z]\w*)`")
 # A line number behind a name of a file: nothing that the documents say, as it is another one with the next change.
 NUMBERED = re.compile(r"`[\w./-]+\.(?:rt|antt|py):[\d-]+`")
 IN_ALL = re.compile(r"([\d,]+) lines in all")
@@ -192,12 +194,21 @@ def places(text):
             yield path, None, None, None
 
 
+def clauses_behind(text):
+    """Each clause that a text names further on in the line of the file of code that it is of: as a place."""
+    for line in text.split("\n"):
+        found = list(PLACE.finditer(line))
+        for place, end in zip(found, [*(it.start() for it in found[1:]), len(line)]):
+            if place[1].endswith(".rt"):
+                yield from ((place[1], clause, None, name) for clause, name in CLAUSE.findall(line[place.end():end]))
+
+
 def check_places(document, faults):
     text = document.read_text()
     for found in NUMBERED.findall(text):
         faults.append(f"{document.relative_to(TOP)}: {found}: a name says where, and no number")
     right = set()
-    for place in places(text):
+    for place in itertools.chain(places(text), clauses_behind(text)):
         fault = place_fault(*place)
         if fault:
             faults.append(f"{document.relative_to(TOP)}: {place[0]}: {fault}")
