@@ -5,7 +5,7 @@ use crate::devices::{Sink, Source};
 use crate::play::{
     PAGE, answer_of, error, guarded, is_read, is_rejected, open, response, status_of, with_page,
 };
-use desk_http::{Clients, Served, Service, serve_connections, serve_one};
+use desk_http::{Clients, Served, Service, Site, serve_connections, serve_one};
 use std::alloc::{AllocError, Global};
 use std::io::{Read, Write};
 use std::net::{Ipv4Addr, Shutdown, TcpListener, TcpStream};
@@ -153,25 +153,34 @@ const METHODS: [(&str, &str); 7] = [
     ("/dump", "GET"),
 ];
 
+/// Whether a target has one method: with a page another is told so, and without a page there is neither.
+fn has_one_method(
+    alloc: Global,
+    site: &Site,
+    (target, allowed): (&str, &str),
+    method: &str,
+) -> Result<bool, Fail> {
+    let request = format!(in alloc; "{method} {target} HTTP/1.1\r\nContent-Length: 0\r\n\r\n")?;
+    if !is_rejected(alloc, request.as_str(), (404, "Not Found"), "")? {
+        return Ok(false);
+    }
+    if method == allowed {
+        return Ok(true);
+    }
+    let fields = format!(in alloc; "Allow: {allowed}\r\n{GUARDS}")?;
+    let wanted = error(alloc, (405, "Method Not Allowed"), fields.as_str())?;
+    let wanted = (405, wanted.as_str().as_bytes());
+    Ok(is_read(alloc, site, 0, request.as_str(), wanted))
+}
+
 /// Each has its one method, and with a page alone there is any of them.
 #[test]
 fn other_methods(rt: HostRuntime) -> Result<(), Fail> {
     let alloc = rt.alloc();
     let site = with_page(alloc)?;
-    for (target, allowed) in METHODS {
-        for method in ["GET", "POST", "HEAD", "PUT", "DELETE", "get"] {
-            let request = format!(in alloc;
-                "{method} {target} HTTP/1.1\r\nContent-Length: 0\r\n\r\n"
-            )?;
-            let request = request.as_str();
-            let absent = is_rejected(alloc, request, (404, "Not Found"), "")?;
-            assert!(rt; absent, "at {request}");
-            if method != allowed {
-                let fields = format!(in alloc; "Allow: {allowed}\r\n{GUARDS}")?;
-                let wanted = error(alloc, (405, "Method Not Allowed"), fields.as_str())?;
-                let wanted = (405, wanted.as_str().as_bytes());
-                assert!(rt; is_read(alloc, &site, 0, request, wanted), "at {request}");
-            }
+    for method in ["GET", "POST", "HEAD", "PUT", "DELETE", "get"] {
+        for target in METHODS {
+            assert!(rt; has_one_method(alloc, &site, target, method)?);
         }
     }
     Ok(())
@@ -422,7 +431,8 @@ fn ends_once_stopped(rt: HostRuntime) -> Result<(), Fail> {
     let site = with_page(alloc)?;
     serve_connections(&rt, alloc, &mut clients, 1_000, &mut service, &site)?;
     assert!(rt; service.is_over());
-    serve_connections(&rt, alloc, &mut clients, 1_000, &mut service, &site)?;
+    let mut others = Clients::of(TcpListener::bind(&rt, (Ipv4Addr::LOCALHOST, 0))?);
+    serve_connections(&rt, alloc, &mut others, 1_000, &mut service, &site)?;
     let mut answer = Vec::new(alloc);
     client.read_to_end(&mut answer)?;
     assert!(rt; answer.as_slice().starts_with(b"HTTP/1.1 200 OK\r\n"));
