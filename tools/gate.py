@@ -32,8 +32,13 @@ from shared import TOP, copy_crates, expect
 PROGRAM = "crates/invdesk/out/invdesk"
 # All crates stand on it, so nothing is proved beside it.
 FIRST = "part_core"
-# What 'rt ci' writes of a proof, a wrong body, a test or a program that failed. Much comes behind it.
-LOST = re.compile(r"^rt: .*(NOT PROVED|NOT REFUSED|NOT TRIED|BAD EDIT|FAILED)|^test .* FAILED$")
+# What 'rt ci' writes of a proof, a wrong body, a test or a program that failed, and of which function. Much comes behind
+# it.
+LOST = re.compile(
+    r"^rt: .*(NOT PROVED|NOT REFUSED|NOT TRIED|BAD EDIT|FAILED|was killed)|^fn .*: (no proof|not proved|could not tell)"
+    r"|^test .* FAILED$")
+# What it writes of a check that the system ended, most likely since there was no memory.
+KILLED = "was killed"
 # The memory that there has to be for each proof. The largest takes 7 GB, and most 2 to 4.
 FOR_EACH = 5_500 * 1024**2
 BEFORE = [
@@ -105,14 +110,24 @@ def is_first_refused():
         return echoed(["rt", "ci", FIRST], cwd=folder, env=words)[-1] == 1
 
 
+def prove_all(jobs):
+    """Runs 'rt ci' with so many proofs side by side: what `echoed` tells of it. Where a check was killed and that failed
+    it, half as many are run once more: what passed is kept."""
+    told = echoed(["rt", "ci"], cwd=TOP, env={**os.environ, "RT_JOBS": str(jobs)})
+    lost, _, status = told
+    if status == 0 or jobs == 1 or not any(KILLED in line for line in lost):
+        return told
+    print(f"== once more, {jobs // 2} side by side", flush=True)
+    return prove_all(jobs // 2)
+
+
 def count_proofs(jobs):
     """Runs 'rt ci': how many passed, and how many failed, by its last line."""
     watch = proof_times.Watch()
     watch.start()
     lost, last, status = [], "0 passed, 1 failed", 1
     if jobs or not may_prove_first() or not is_first_refused():
-        environment = {**os.environ, "RT_JOBS": str(jobs or proofs_at_once())}
-        lost, last, status = echoed(["rt", "ci"], cwd=TOP, env=environment)
+        lost, last, status = prove_all(jobs or proofs_at_once())
     steps = watch.stop()
     proof_times.keep(steps)
     print("\n".join(proof_times.table_of(steps)), *lost, sep="\n", flush=True)
