@@ -76,10 +76,11 @@ file: build ## tries files, dumps, kills, imports and tables
 	python3 tools/check_tables.py $(PROGRAM)
 
 # The program as a server, asked by Python's http.client, by curl and by bare sockets, and killed; and with its page,
-# asked for all that the page reads.
+# asked for all that the page reads; and asked by the program itself, with '--at' in the place of '--db'.
 http: build ## tries the service, and what its page reads
 	python3 tools/check_http.py $(PROGRAM)
 	python3 tools/check_site.py $(PROGRAM)
+	python3 tools/check_at.py $(PROGRAM)
 
 # The page of 'serve --page' in Chromium, which has to be here, and in Firefox where that is; as a clerk uses it, at a
 # desk and on a phone; and where answers are lost, others work too, or the file fails. 'tools/make_page.py' writes the

@@ -83,7 +83,7 @@ _invdesk()
         given+="${word%%=*} "
         case $word in
             --kind=*) kind=${word#*=} ;;
-            --db|--low|--from|--to|--kind|--document|--day|--set|--column|--port|--count|--token)
+            --db|--at|--token|--low|--from|--to|--kind|--document|--day|--set|--column|--port|--count)
                 ((++at < last)) || before=$word
                 [[ $word == --kind ]] && kind=${said[at]} ;;
             -*) ;;
@@ -96,6 +96,8 @@ _invdesk()
     COMPREPLY=()
     case $before in
         --db) _invdesk_files; return ;;
+        --at) :; return ;;
+        --token) _invdesk_files; return ;;
         --low) :; return ;;
         --from) :; return ;;
         --to) :; return ;;
@@ -106,19 +108,19 @@ _invdesk()
         --column) _invdesk_members; return ;;
         --port) :; return ;;
         --count) :; return ;;
-        --token) _invdesk_files; return ;;
     esac
     case $command in
-        '') options='run report export dump show migrate import lines serve help --help --version' ;;
-        run) options='--db --names --journal --stop --check --explain --help' ;;
-        report) options='--db --names --csv --help' ;;
-        export) options='--db --help' ;;
-        dump) options='--db --help' ;;
-        show) options='--db --csv --open --low --from --to --help' ;;
+        '') options='run report export dump show migrate import lines serve stop help --help --version' ;;
+        run) options='--db --at --token --names --journal --stop --check --explain --help' ;;
+        report) options='--db --at --token --names --csv --help' ;;
+        export) options='--db --at --token --help' ;;
+        dump) options='--db --at --token --help' ;;
+        show) options='--db --at --token --csv --open --low --from --to --help' ;;
         migrate) options='--db --help' ;;
-        import) options='--db --names --loose --unchanged --explain --kind --document --day --set --column --stop --help' ;;
+        import) options='--db --at --token --names --loose --unchanged --explain --kind --document --day --set --column --stop --help' ;;
         lines) options='--kind --document --day --set --column --help' ;;
         serve) options='--db --names --journal --page --port --count --token --help' ;;
+        stop) options='--at --token --help' ;;
         help) options='--help' ;;
     esac
     if [[ $typed != -* ]]; then

@@ -350,7 +350,8 @@ def refused(program, folder, path):
     held.stdin.write(AGAIN.encode())
     held.stdin.flush()
     held.stdout.readline()
-    told(program, path, "another program has it open", "a file in use")
+    told(program, path,
+         "another program has it open; where that serves it, say --at PORT in the place of --db", "a file in use")
     held.communicate()
     if os.geteuid() == 0:
         locked = shutil.copy(path, folder / "locked.db")

@@ -114,6 +114,8 @@ def words_of_sections():
         "Words of a report": set(re.findall(r'=> "([^"]*)"', source("desk_cli/src/subject.rt"))),
         "Workshop files": set().union(*(texts(path, enum) for path, enum in files)),
         "Tokens": texts("invdesk/src/token.rt", "TokenFault"),
+        "Services": {"..", "it says no row, or several",
+                     *re.findall(r'=> Some\(\s*"([^"]*)",?\s*\)', source("invdesk/src/at.rt"))},
         "Statuses of HTTP": set(re.findall(r"///.*: (\d{3})[.,]", statuses)),
         "Statuses that the program ends with": set(re.findall(r": u8 = (\d);", source("desk_cli/src/status.rt"))),
     }

@@ -56,6 +56,7 @@ AFTER = [
     f"check_tables.py {PROGRAM}",
     f"check_http.py {PROGRAM}",
     f"check_site.py {PROGRAM}",
+    f"check_at.py {PROGRAM}",
     f"check_kills.py {PROGRAM}",
     f"check_machine.py {PROGRAM} --runs 9",
     f"check_opening.py {PROGRAM} --runs 3",

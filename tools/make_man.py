@@ -27,6 +27,7 @@ SAID = {
     "Words of a report": "A word that is to call a row may call none.",
     "Workshop files": "A line on the standard error says why a file isn't opened, or that it failed.",
     "Tokens": "So does one of the file of a token.",
+    "Services": "And so does one of a service that is asked.",
     "Statuses of HTTP": "The service answers with these.",
 }
 # What a word of the program names where its value has this name.

@@ -1,5 +1,5 @@
 //! The statuses that the program ends with, and the files that its tasks name.
-use desk_cli::{Task, early_status, status_of};
+use desk_cli::{Asked, Task, early_status, status_of};
 use desk_ends::RunEnd;
 use table_store::TableName;
 
@@ -42,4 +42,11 @@ fn names_its_file(rt: HostRuntime) {
     assert_eq!(rt; Task::Export("w.db", TableName::Parts).file(), Some("w.db"));
     assert_eq!(rt; Task::Dump("w.db").file(), Some("w.db"));
     assert_eq!(rt; Task::Memory.file(), None);
+    let at = Task::At {
+        port: 8080,
+        token: None,
+        asked: Asked::Dump,
+    };
+    assert_eq!(rt; at.file(), None);
+    assert_eq!(rt; early_status(&at), None);
 }

@@ -20,3 +20,5 @@ pub mod SheetRuns
 pub mod SheetReplies
 pub mod ListReplies
 pub mod SheetsAgain
+pub mod Asking
+pub mod Hearing

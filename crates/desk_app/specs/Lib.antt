@@ -13,3 +13,5 @@ pub mod Reasons
 pub mod SheetRuns
 pub mod SheetReplies
 pub mod SheetsAgain
+pub mod Heard
+pub mod Asked

@@ -98,7 +98,7 @@ fn look_at(
 
 /// The first line of a text, without its LF.
 #[tactic(auto, using(crate::proofs::Checking::first_short))]
-fn first_line(text: &[u8]) -> &[u8]
+pub(crate) fn first_line(text: &[u8]) -> &[u8]
     ensures first { result.now ≡ first_of text.now }
     ensures bound { length result.now ≤ length text.now }
 {

@@ -3,12 +3,14 @@
 #![tactic(auto)]
 
 mod again;
+mod at;
 mod books;
 mod checked;
 mod close;
 mod counted;
 mod explained;
 mod guesses;
+mod heard;
 mod import;
 mod journal;
 mod json_place;
@@ -30,11 +32,13 @@ pub use again::{
     files_sent_again_change_nothing, lines_sent_again_end_alike, sheets_sent_again_change_nothing,
     texts_are_lines, texts_run_alike,
 };
+pub use at::{Asker, ask_and_print, ask_lines};
 pub use books::Books;
 pub use checked::{explain_faults, run_checked};
 pub use close::{close_desk, end_of_work, let_go};
 pub use counted::CountedBooks;
 pub use explained::ExplainedBooks;
+pub use heard::{Shown, Trouble, shown_of};
 pub use import::import_file;
 pub use journal::{journal_keeps_answers_alone, journal_keys_are_new, journalled};
 pub use memory::run_in_memory;

@@ -1,13 +1,16 @@
 -- What is found in words that name a file for a run.
 use Rattle.std.proofs.Common.{◌≡◌, ◌∙◌, ℕ, Bool, true, false, List, [], ◌∷◌, ap, refl}
 use Rattle.std.specs.Prelude.{◌==◌, ◌++◌, not, None, Some, codes}
+use Rattle.clap.specs.Faults.{check_fault, defaults_fault, level_fault, settle_fault, turn_fault, walk_fault}
+use Rattle.clap.specs.Kinds.{Kinds, or_else}
+use Rattle.clap.specs.Simple.{Shape, built_leaf, filled_from, help_rule, inherited, marked_built, with_leaf_noted}
+use Rattle.clap.specs.Simple.{with_subcommand}
+use Rattle.clap.specs.Walk.{Held, Walk, finished, nothing_held, option, rows_after, settled, walked, walk_from}
 use Rattle.clap.specs.Words.{IsAmong, Row, Rule, Text, subcommand_of}
-use Rattle.clap.specs.Simple.{filled_from, help_rule}
-use Rattle.clap.specs.Walk.{Held, Walk, finished, nothing_held, option, rows_after, walked, walk_from}
 use Rattle.clap.specs.declared.error.kind.ErrorKind.{ErrorKind}
 use Rattle.clap.proofs.OnLiterals.{clap_on_literals}
 use Rattle.desk_cli.specs.Words.{faults, Places, run, run_on, run_with, is_path, desk_task}
-use Rattle.desk_cli.specs.Words.{command_line, desk_task_met, run_line}
+use Rattle.desk_cli.specs.Words.{command_line, desk_task_met, run_line, top_line}
 use Rattle.desk_cli.proofs.Faulty.{nothing_among}
 
 named_free : (places : Places) (name file : Text) → faults places (run_on name file) ≡ []
@@ -27,11 +30,6 @@ pub no_run_on : (places : Places) (words : List Text) (k : ErrorKind) → IsAmon
     → words ≡ run_on name file → ⊥
 no_run_on places words k h name file e =
     nothing_among k (faults places words) (ap (faults places) e ∙ named_free places name file) h
-
-begun_free : (places : Places) (name : Text) (first : ℕ) (rest : Text) → (first == 45) ≡ false
-    → faults places (run_with name (first ∷ rest)) ≡ []
-unfolding faults clap_on_literals
-begun_free places name first rest h = simp h
 
 -- the rules of `run`, once built
 abbrev run_rules : List Rule
@@ -71,6 +69,65 @@ rows_met : (first : ℕ) (rest : Text) → (first == 45) ≡ false
 rows_met first rest h =
     ap (λ (w : Walk). finished run_rules (walked run_rules [] w (first ∷ rest)).held) file_waits
     ∙ ap (λ (w : Walk). finished run_rules w.held) (file_told first rest h)
+
+-- ---- nothing is wrong with these words
+
+-- `run`, once built
+abbrev run_built : Shape
+run_built =
+    built_leaf (inherited (with_leaf_noted (marked_built (with_subcommand top_line run_line.top).top)) run_line.top)
+
+-- what is wrong with them is what is wrong with those of `run`
+begun_met : (places : Places) (name word more : Text)
+    → faults places (name ∷ codes "run" ∷ word ∷ more ∷ [])
+    ≡ or_else (level_fault run_built [] nothing_held (word ∷ more ∷ []) false []) []
+unfolding faults clap_on_literals
+begun_met places name word more = refl
+
+file_free : turn_fault run_built [] (walk_from nothing_held) (codes "--db") ≡ []
+unfolding clap_on_literals
+file_free = refl
+
+value_free : (first : ℕ) (rest : Text) → (first == 45) ≡ false → turn_fault run_built [] waiting (first ∷ rest) ≡ []
+unfolding waiting clap_on_literals
+value_free first rest h = simp h
+
+turns_free : (first : ℕ) (rest : Text) → (first == 45) ≡ false
+    → walk_fault run_built [] (walk_from nothing_held) (codes "--db" ∷ (first ∷ rest) ∷ []) ≡ []
+unfolding walk_fault
+turns_free first rest h =
+    ap
+    (λ (k : Kinds). or_else k (or_else (turn_fault run_built []
+    (walked run_rules [] (walk_from nothing_held) (codes "--db")) (first ∷ rest)) [])) file_free
+    ∙ ap (λ (w : Walk). or_else (turn_fault run_built [] w (first ∷ rest)) []) file_waits
+    ∙ ap (λ (k : Kinds). or_else k []) (value_free first rest h)
+
+-- what is wrong once all words are read, of what is held then
+abbrev end_fault : Held → Kinds
+end_fault held =
+    or_else (settle_fault run_rules run_built.args_override_self held)
+    (or_else (defaults_fault (settled run_rules held).rows run_rules)
+    (check_fault run_built (finished run_rules held) false))
+
+end_free : (file : Text) → end_fault (told file) ≡ []
+unfolding told clap_on_literals
+end_free file = refl
+
+level_free : (first : ℕ) (rest : Text) → (first == 45) ≡ false
+    → level_fault run_built [] nothing_held (codes "--db" ∷ (first ∷ rest) ∷ []) false [] ≡ []
+level_free first rest h =
+    ap
+    (λ (k : Kinds). or_else k (end_fault (walked run_rules [] (walked run_rules [] (walk_from nothing_held) (codes "--db"))
+    (first ∷ rest)).held)) (turns_free first rest h)
+    ∙ ap (λ (w : Walk). end_fault (walked run_rules [] w (first ∷ rest)).held) file_waits
+    ∙ ap (λ (w : Walk). end_fault w.held) (file_told first rest h)
+    ∙ end_free (first ∷ rest)
+
+begun_free : (places : Places) (name : Text) (first : ℕ) (rest : Text) → (first == 45) ≡ false
+    → faults places (run_with name (first ∷ rest)) ≡ []
+begun_free places name first rest h =
+    begun_met places name (codes "--db") (first ∷ rest)
+    ∙ ap (λ (k : Kinds). or_else k []) (level_free first rest h)
 
 begun_task : (places : Places) (name : Text) (first : ℕ) (rest : Text) → (first == 45) ≡ false
     → desk_task places (run_with name (first ∷ rest)) ≡ Some (run (Some (first ∷ rest)) false false false false false)

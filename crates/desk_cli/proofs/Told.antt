@@ -5,9 +5,10 @@ use Rattle.clap.specs.Words.{Text}
 use Rattle.desk_wire.specs.SheetViews.{shown_sheet}
 use Rattle.desk_cli.specs.declared.words.Task.{Task}
 use Rattle.desk_cli.specs.declared.words.Task.TheVariants.{Run, Report, Export, Dump, Show, Migrate, Import, Sheet, Lines}
-use Rattle.desk_cli.specs.declared.words.Task.TheVariants.{Serve, Guide, Help, Wrong, Unreadable, Memory}
+use Rattle.desk_cli.specs.declared.words.Task.TheVariants.{Serve, Guide, At, Help, Wrong, Unreadable, Memory}
 use Rattle.desk_cli.specs.Words.{Places, DeskTask, guide, run, report, export, dump, show, migrate, import, sheet, lines}
-use Rattle.desk_cli.specs.Words.{serve}
+use Rattle.desk_cli.specs.AtWords.{asking_of}
+use Rattle.desk_cli.specs.Words.{at, serve}
 use Rattle.desk_ends.specs.Lists.{listed_of}
 use Rattle.desk_cli.specs.Words.{desk_task, faults, subject_of, Tells, AnswersAt, Runs, RunsOn}
 
@@ -25,6 +26,7 @@ told_answers places words w (Sheet file told path stop explain) free same t = (f
 told_answers places words w (Lines told path) free same t = (free, sym same ∙ t)
 told_answers places words w (Serve file port count token names page journal) free same t = (free, sym same ∙ t)
 told_answers places words w (Guide topic) free same t = (free, sym same ∙ t)
+told_answers places words w (At port token asked) free same t = (free, sym same ∙ t)
 told_answers places words w (Help e) free same t = absurd t
 told_answers places words w (Wrong e) free same t = inr (free, sym same ∙ t.0, t.1)
 told_answers places words w Unreadable free same t = absurd t
@@ -69,6 +71,9 @@ told_runs w (Serve file port count token names page journal) e t =
     ∙ t in
     absurd (cc)
 told_runs w (Guide topic) e t = let f : Some (plain_run None) ≡ Some (guide topic.now) = sym e ∙ t in absurd (cc)
+told_runs w (At port token asked) e t =
+    let f : Some (plain_run None) ≡ Some (at port (option_map (λ path. path.now) token) (asking_of asked)) = sym e ∙ t in
+    absurd (cc)
 told_runs w (Help error) e t = absurd t
 told_runs w (Wrong error) e t = let f = t.0 in absurd (cc)
 told_runs w Unreadable e t = absurd t
@@ -106,6 +111,10 @@ told_runs_on path w (Serve file port count token names page journal) e t =
     absurd (cc)
 told_runs_on path w (Guide topic) e t =
     let f : Some (plain_run (Some path)) ≡ Some (guide topic.now) = sym e ∙ t in absurd (cc)
+told_runs_on path w (At port token asked) e t =
+    let f : Some (plain_run (Some path)) ≡ Some (at port (option_map (λ given. given.now) token) (asking_of asked)) =
+    sym e ∙ t in
+    absurd (cc)
 told_runs_on path w (Help error) e t = absurd t
 told_runs_on path w (Wrong error) e t = let f = t.0 in absurd (cc)
 told_runs_on path w Unreadable e t = absurd t

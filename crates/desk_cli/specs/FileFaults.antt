@@ -112,7 +112,8 @@ file_fault_text NoLog = Some (codes "a folder or a device lies where its log is 
 file_fault_text SecondLog = Some (codes "its log has a second name")
 file_fault_text NotMade = Some (codes "it, or its log, can't be made in its folder")
 file_fault_text (Device error) = None
-file_fault_text InUse = Some (codes "another program has it open")
+file_fault_text InUse = Some (codes
+    "another program has it open; where that serves it, say --at PORT in the place of --db")
 file_fault_text NoDatabase = Some (codes "it is no database, or a damaged one")
 file_fault_text (Database error) = None
 file_fault_text OtherTables = Some (codes "it is a database, and no workshop's")

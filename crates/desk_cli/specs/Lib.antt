@@ -4,3 +4,4 @@ pub mod FileFaults
 pub mod Looks
 pub mod Subjects
 pub mod SheetWords
+pub mod AtWords

@@ -33,6 +33,7 @@ early_status (task.Import file kind document day path names reading explain) = N
 early_status (task.Sheet file told path stop explain) = None
 early_status (task.Lines told path) = None
 early_status (task.Serve file port count token names page journal) = None
+early_status (task.At port token asked) = None
 early_status (task.Guide topic) = Some 0
 early_status (task.Help e) = Some 0
 early_status (task.Wrong e) = Some 2

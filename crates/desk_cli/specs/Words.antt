@@ -1,7 +1,7 @@
 -- What the words ask for, of which the first is the program's name.
 use Rattle.std.specs.Prelude.{◌≡◌, ◌≢◌, ◌⊎◌, ◌||◌, ◌&&◌, ◌==◌, not, nat_lt, nat_le, ℕ, Bool, true, false, List, [], ◌∷◌}
 use Rattle.std.specs.Prelude.{◌++◌, codes, Option, Some, None, option_map, option_and_then, Result, IfOk, if◌then◌else◌}
-use Rattle.std.specs.Prelude.{is_none, is_some}
+use Rattle.std.specs.Prelude.{is_none, is_some, length}
 use Rattle.std.specs.Borrow.{Bor}
 use Rattle.std.specs.Str.{bytes_eq}
 use Rattle.clap.specs.Words.{App, Rule, Row, Text, new_app, new_rule, with_rule, with_subcommand, fault_of, Kinds}
@@ -31,12 +31,14 @@ use Rattle.desk_wire.specs.declared.kind.FileReading.TheVariants.{Strict, Loose,
 use Rattle.desk_wire.specs.declared.kind.ImportKind.{ImportKind}
 use Rattle.desk_ends.specs.Lists.{Listed, history, list_by, listed_of, named}
 use Rattle.desk_ends.specs.Named.{document_named, table_named}
+use Rattle.desk_cli.specs.AtWords as ats
+use Rattle.desk_cli.specs.AtWords.{Asking, asking_of}
 use Rattle.desk_cli.specs.SheetWords.{form_in, sheet_in}
 use Rattle.desk_cli.specs.declared.words.ReportOf.{ReportOf}
 use Rattle.desk_cli.specs.declared.words.ReportOf.TheVariants.{Number, Word}
 use Rattle.desk_cli.specs.declared.words.Task.{Task}
 use Rattle.desk_cli.specs.declared.words.Task.TheVariants.{Run, Report, Export, Dump, Show, Migrate, Import, Sheet, Lines}
-use Rattle.desk_cli.specs.declared.words.Task.TheVariants.{Serve, Guide, Help, Wrong, Unreadable, Memory}
+use Rattle.desk_cli.specs.declared.words.Task.TheVariants.{Serve, Guide, At, Help, Wrong, Unreadable, Memory}
 
 -- no more words, or `run`
 abbrev pub asks_run : List (List ℕ) → Bool
@@ -175,10 +177,15 @@ needed rule = record rule { required = true }
 abbrev pub among : Bor (List (Bor Text)) → Rule → Rule
 among names rule = record rule { parser = Some (Names names) }
 
+-- where the books are: in a file, or at a port, where a token may be shown
+abbrev pub with_place : App → App
+with_place app =
+    with_rule (with_rule (with_rule app file_rule) (optional_rule (codes "at"))) (optional_rule (codes "token"))
+
 abbrev pub run_line : App
 run_line =
     with_rule
-    (with_rule (with_rule (with_rule (with_rule (with_rule (new_app (codes "run")) file_rule) names_rule) journal_rule)
+    (with_rule (with_rule (with_rule (with_rule (with_place (new_app (codes "run"))) names_rule) journal_rule)
     (flag_rule (codes "stop"))) (flag_rule (codes "check"))) (flag_rule (codes "explain"))
 
 -- NAME, of the names that are listed there
@@ -188,15 +195,15 @@ report_rule names = among names.at (word_rule (codes "name"))
 abbrev pub report_line : Listing report_names → App
 report_line names =
     with_rule
-    (with_rule (with_rule (with_rule (with_rule (new_app (codes "report")) (needed file_rule)) names_rule)
-    (flag_rule (codes "csv"))) (report_rule names)) (word_rule (codes "number"))
+    (with_rule (with_rule (with_rule (with_place (new_app (codes "report"))) names_rule) (flag_rule (codes "csv")))
+    (report_rule names)) (word_rule (codes "number"))
 
 abbrev pub export_line : Listing table_names → App
 export_line names =
-    with_rule (with_rule (new_app (codes "export")) (needed file_rule)) (among names.at (word_rule (codes "table")))
+    with_rule (with_place (new_app (codes "export"))) (among names.at (word_rule (codes "table")))
 
 abbrev pub dump_line : App
-dump_line = with_rule (new_app (codes "dump")) (needed file_rule)
+dump_line = with_place (new_app (codes "dump"))
 
 -- LIST, of the names that are listed there
 abbrev pub list_rule : Listing list_names → Rule
@@ -205,9 +212,9 @@ list_rule names = among names.at (word_rule (codes "list"))
 abbrev pub show_line : Listing list_names → App
 show_line names =
     with_rule
-    (with_rule (with_rule (with_rule (with_rule (with_rule (with_rule (with_rule (new_app (codes "show"))
-    (needed file_rule)) (flag_rule (codes "csv"))) (flag_rule (codes "open"))) (optional_rule (codes "low")))
-    (optional_rule (codes "from"))) (optional_rule (codes "to"))) (list_rule names)) (optional_word_rule (codes "of"))
+    (with_rule (with_rule (with_rule (with_rule (with_rule (with_rule (with_place (new_app (codes "show")))
+    (flag_rule (codes "csv"))) (flag_rule (codes "open"))) (optional_rule (codes "low"))) (optional_rule (codes "from")))
+    (optional_rule (codes "to"))) (list_rule names)) (optional_word_rule (codes "of"))
 
 abbrev pub migrate_line : App
 migrate_line = with_rule (new_app (codes "migrate")) (needed file_rule)
@@ -219,8 +226,8 @@ kind_rule names = among names.at (option_rule (codes "kind"))
 abbrev pub import_line : Listing kind_names → App
 import_line names =
     with_rule
-    (with_rule (with_rule (with_rule (with_rule (with_rule (with_rule (with_rule (with_rule (with_rule (with_rule (with_rule
-    (new_app (codes "import")) (needed file_rule)) names_rule) (flag_rule (codes "loose"))) (flag_rule (codes "unchanged")))
+    (with_rule (with_rule (with_rule (with_rule (with_rule (with_rule (with_rule (with_rule (with_rule (with_rule
+    (with_place (new_app (codes "import"))) names_rule) (flag_rule (codes "loose"))) (flag_rule (codes "unchanged")))
     (flag_rule (codes "explain")))
     (kind_rule names)) (option_rule (codes "document"))) (option_rule (codes "day"))) (repeated_rule (codes "set")))
     (repeated_rule (codes "column"))) (flag_rule (codes "stop"))) (word_rule (codes "path"))
@@ -239,6 +246,10 @@ serve_line =
     journal_rule) (flag_rule (codes "page"))) (option_rule (codes "port"))) (optional_rule (codes "count")))
     (optional_rule (codes "token"))
 
+abbrev pub stop_line : App
+stop_line =
+    with_rule (with_rule (new_app (codes "stop")) (option_rule (codes "at"))) (optional_rule (codes "token"))
+
 -- TOPIC, which may be left out, of the names that are listed there
 abbrev pub topic_rule : Listing topic_names → Rule
 topic_rule names = among names.at (optional_word_rule (codes "topic"))
@@ -250,13 +261,14 @@ abbrev pub top_line : App
 top_line =
     on_top (λ shape. record shape { disable_help_subcommand = true; has_version = true }) (new_app (codes "invdesk"))
 
--- the program's command line, as `clap` sees it: it has a version, and ten subcommands
+-- the program's command line, as `clap` sees it: it has a version, and eleven subcommands
 abbrev pub command_line : Places → App
 command_line places =
     with_subcommand (with_subcommand (with_subcommand (with_subcommand (with_subcommand (with_subcommand (with_subcommand
-    (with_subcommand (with_subcommand (with_subcommand top_line run_line.top) (report_line places.reports).top)
-    (export_line places.tables).top) dump_line.top) (show_line places.lists).top) migrate_line.top)
-    (import_line places.kinds).top) (lines_line places.line_kinds).top) serve_line.top) (help_line places.topics).top
+    (with_subcommand (with_subcommand (with_subcommand (with_subcommand top_line run_line.top)
+    (report_line places.reports).top) (export_line places.tables).top) dump_line.top) (show_line places.lists).top)
+    migrate_line.top) (import_line places.kinds).top) (lines_line places.line_kinds).top) serve_line.top) stop_line.top)
+    (help_line places.topics).top
 
 abbrev pub IsReportRule : Rule → Type 0
 IsReportRule rule = (names : Listing report_names) × (rule ≡ report_rule names)
@@ -319,7 +331,8 @@ subject_of (Word word) = worded word.now
 -- line that is refused or faulty, and whether a person is told why a line isn't done; those of a serving whether rows
 -- may be named, whether the page is served, and whether requests get keys. The words of a run are whether rows may be
 -- named, whether it ends at the first line that is refused or faulty, whether all lines are read before any is run,
--- whether a person is told why a line isn't done, and whether requests get keys
+-- whether a person is told why a line isn't done, and whether requests get keys. At last, what a service at a port is asked,
+-- with the file of a token if one is named
 pub data DeskTask : Type 0 where
   run : Option Text → Bool → Bool → Bool → Bool → Bool → DeskTask
   report : Text → ReportName → Subject → DeskTask
@@ -332,6 +345,7 @@ pub data DeskTask : Type 0 where
   lines : sheets.Sheet → Text → DeskTask
   serve : Option Text → ℕ → Option ℕ → Option Text → Bool → Bool → Bool → DeskTask
   guide : Text → DeskTask
+  at : ℕ → Option Text → Asking → DeskTask
 
 abbrev pub export_with : Option Text → Option TableName → Option DeskTask
 export_with None table = None
@@ -520,6 +534,65 @@ topic_by (Some topic) = topic
 abbrev pub guide_in : List Row → DeskTask
 guide_in rows = guide (topic_by (first_of (codes "topic") rows))
 
+-- ---- by the matches of the subcommand: what is asked of a service
+
+-- it is asked, where its port or a token is told
+abbrev pub is_at : List Row → Bool
+is_at rows = is_some (first_of (codes "at") rows) || is_some (first_of (codes "token") rows)
+
+-- what no service is told: a file, or what was said when it was started, or that reasons be told
+abbrev pub has_own_words : List Row → Bool
+has_own_words rows = is_some (first_of (codes "db") rows) || names_in rows || journal_in rows || explain_in rows
+
+unfoldable pub served : List Row → Option Asking → Option DeskTask
+served rows asking = do
+  port ← option_and_then (number_up_to 65535) (first_of (codes "at") rows)
+  asked ← asking
+  if has_own_words rows then None else Some (at port (first_of (codes "token") rows) asked)
+
+-- of a service, where it is asked, and else as it is
+abbrev pub placed : List Row → Option DeskTask → Option Asking → Option DeskTask
+placed rows local asking = if is_at rows then served rows asking else local
+
+abbrev pub lines_asked : List Row → Option Asking
+lines_asked rows = Some (ats.lines (stop_in rows) (check_in rows))
+
+-- not in its second form
+unfoldable pub report_asked : List Row → Option Asking
+report_asked rows = do
+  name ← first_of (codes "name") rows
+  number ← option_and_then number_in (first_of (codes "number") rows)
+  if csv_in rows then None else Some (ats.report name number)
+
+abbrev pub table_asked : List Row → Option Asking
+table_asked rows = option_map ats.table (first_of (codes "table") rows)
+
+abbrev pub is_empty_word : Option Text → Bool
+is_empty_word None = false
+is_empty_word (Some word) = length word == 0
+
+-- no list by days, and none of a word that has no byte
+unfoldable pub show_asked : List Row → Option Asking
+show_asked rows = do
+  name ← first_of (codes "list") rows
+  low ← low_in (first_of (codes "low") rows)
+  if not (is_some (list_by name (first_of (codes "of") rows) low (open_in rows)))
+      || (is_some (first_of (codes "from") rows) || is_some (first_of (codes "to") rows))
+      || is_empty_word (first_of (codes "of") rows) then None
+      else Some (ats.show name (first_of (codes "of") rows) low (open_in rows) (csv_in rows))
+
+-- a file as it stands
+unfoldable pub file_asked : List Row → Option Asking
+file_asked rows = do
+  kind ← first_of (codes "kind") rows
+  document ← first_of (codes "document") rows
+  proper ← document_named document
+  day ← first_of (codes "day") rows
+  known ← day_of day
+  path ← first_of (codes "path") rows
+  if has_sheet_words rows || unchanged_in rows then None
+      else Some (ats.file (loose_in rows && is_some (import_kind_named kind)) kind document day path)
+
 abbrev pub rows_in : ArgMatches → List Row
 rows_in m = rows_of (found_of m)
 
@@ -531,16 +604,17 @@ given_in id m = first_of id (rows_in m)
 abbrev pub desk_task_met : Option (Text × List Row) → Option DeskTask
 desk_task_met None = Some (run None false false false false false)
 desk_task_met (Some met) =
-    if bytes_eq met.0 (codes "report") then report_in met.1
-    else if bytes_eq met.0 (codes "export") then export_in met.1
-    else if bytes_eq met.0 (codes "dump") then dump_in met.1
-    else if bytes_eq met.0 (codes "show") then show_in met.1
+    if bytes_eq met.0 (codes "report") then placed met.1 (report_in met.1) (report_asked met.1)
+    else if bytes_eq met.0 (codes "export") then placed met.1 (export_in met.1) (table_asked met.1)
+    else if bytes_eq met.0 (codes "dump") then placed met.1 (dump_in met.1) (Some ats.dump)
+    else if bytes_eq met.0 (codes "show") then placed met.1 (show_in met.1) (show_asked met.1)
     else if bytes_eq met.0 (codes "migrate") then migrate_in met.1
-    else if bytes_eq met.0 (codes "import") then import_in met.1
+    else if bytes_eq met.0 (codes "import") then placed met.1 (import_in met.1) (file_asked met.1)
     else if bytes_eq met.0 (codes "lines") then lines_in met.1
     else if bytes_eq met.0 (codes "serve") then serve_in met.1
+    else if bytes_eq met.0 (codes "stop") then served met.1 (Some ats.stop)
     else if bytes_eq met.0 (codes "help") then Some (guide_in met.1)
-    else Some (run_in met.1)
+    else placed met.1 (Some (run_in met.1)) (lines_asked met.1)
 
 -- what the words ask of a desk, where nothing is found wrong
 unfoldable pub desk_task : Places → List Text → Option DeskTask
@@ -562,6 +636,7 @@ desk_task_of (Lines told path) = Some (lines (shown_sheet told) path.now)
 desk_task_of (Serve file port count token names page journal) =
     Some (serve (option_map (λ path. path.now) file) port count (option_map (λ path. path.now) token) names page journal)
 desk_task_of (Guide topic) = Some (guide topic.now)
+desk_task_of (At port token asked) = Some (at port (option_map (λ path. path.now) token) (asking_of asked))
 desk_task_of (Help e) = None
 desk_task_of (Wrong e) = None
 desk_task_of Unreadable = None
@@ -583,6 +658,7 @@ file_of (Sheet file told path stop explain) = Some file
 file_of (Lines told path) = None
 file_of (Serve file port count token names page journal) = file
 file_of (Guide topic) = None
+file_of (At port token asked) = None
 file_of (Help e) = None
 file_of (Wrong e) = None
 file_of Unreadable = None
@@ -603,6 +679,7 @@ Tells desk_task (Lines told path) = desk_task ≡ desk_task_of (Lines told path)
 Tells desk_task (Serve file port count token names page journal) =
     desk_task ≡ desk_task_of (Serve file port count token names page journal)
 Tells desk_task (Guide topic) = desk_task ≡ desk_task_of (Guide topic)
+Tells desk_task (At port token asked) = desk_task ≡ desk_task_of (At port token asked)
 Tells desk_task (Help e) = ⊥
 Tells desk_task (Wrong e) = (desk_task ≡ None) × (kind_of e ≡ ValueValidation)
 Tells desk_task Unreadable = ⊥
@@ -641,6 +718,8 @@ AnswersAt places words (Serve file port count token names page journal) =
     (faults places words ≡ []) × (desk_task places words ≡ desk_task_of (Serve file port count token names page journal))
 AnswersAt places words (Guide topic) =
     (faults places words ≡ []) × (desk_task places words ≡ desk_task_of (Guide topic))
+AnswersAt places words (At port token asked) =
+    (faults places words ≡ []) × (desk_task places words ≡ desk_task_of (At port token asked))
 AnswersAt places words (Help e) = IsShown (kind_of e) × IsAmong (kind_of e) (faults places words)
 AnswersAt places words (Wrong e) =
     ((¬ IsShown (kind_of e)) × (kind_of e ≢ OutOfMemory) × IsAmong (kind_of e) (faults places words))
@@ -666,6 +745,7 @@ Runs (Sheet file told path stop explain) = ⊥
 Runs (Lines told path) = ⊥
 Runs (Serve file port count token names page journal) = ⊥
 Runs (Guide topic) = ⊥
+Runs (At port token asked) = ⊥
 Runs (Help e) = ⊥
 Runs (Wrong e) = ⊥
 Runs Unreadable = ⊥
@@ -687,6 +767,7 @@ RunsOn path (Sheet file told from stop explain) = ⊥
 RunsOn path (Lines told from) = ⊥
 RunsOn path (Serve file port count token names page journal) = ⊥
 RunsOn path (Guide topic) = ⊥
+RunsOn path (At port token asked) = ⊥
 RunsOn path (Help e) = ⊥
 RunsOn path (Wrong e) = ⊥
 RunsOn path Unreadable = ⊥
@@ -705,6 +786,7 @@ HelpsBy kind (Sheet file told path stop explain) = ⊥
 HelpsBy kind (Lines told path) = ⊥
 HelpsBy kind (Serve file port count token names page journal) = ⊥
 HelpsBy kind (Guide topic) = ⊥
+HelpsBy kind (At port token asked) = ⊥
 HelpsBy kind (Help e) = kind_of e ≡ kind
 HelpsBy kind (Wrong e) = ⊥
 HelpsBy kind Unreadable = ⊥

@@ -146,7 +146,9 @@ impl fmt::Display for FileFault {
             FileFault::SecondLog => f.write_str("its log has a second name"),
             FileFault::NotMade => f.write_str("it, or its log, can't be made in its folder"),
             FileFault::Device(error) => write!(f, "{error}"),
-            FileFault::InUse => f.write_str("another program has it open"),
+            FileFault::InUse => f.write_str(
+                "another program has it open; where that serves it, say --at PORT in the place of --db",
+            ),
             FileFault::NoDatabase => f.write_str("it is no database, or a damaged one"),
             FileFault::Database(error) => write!(f, "the database answered: {error}"),
             FileFault::OtherTables => f.write_str("it is a database, and no workshop's"),

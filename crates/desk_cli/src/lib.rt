@@ -2,6 +2,7 @@
 //! typed, and the status that the program ends with.
 #![tactic(auto)]
 
+mod at_words;
 mod database;
 mod file;
 mod look;
@@ -12,6 +13,7 @@ mod subject;
 mod typed;
 mod words;
 
+pub use at_words::Asked;
 pub use database::{FaultyFile, FileFault, connect};
 pub use file::{migrate_desk, print_dump, print_export, print_migrated, print_report, take_desk};
 pub use look::{Content, has_log, look_into, remove_log};

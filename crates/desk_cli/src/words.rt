@@ -10,7 +10,9 @@ ghost use Rattle.desk_wire.specs.Kinds.{import_kind_named};
 ghost use Rattle.desk_cli.specs.Subjects.{said_word};
 ghost use Rattle.desk_cli.specs.Words.{file_rule, flag_rule, journal_rule, names_rule, option_rule};
 ghost use Rattle.desk_cli.specs.Words.{is_given, optional_rule, word_rule};
-ghost use Rattle.desk_cli.specs.Words.{dump_line, migrate_line, run_line, serve_line, IsKindRule};
+ghost use Rattle.desk_cli.specs.AtWords as ats;
+ghost use Rattle.desk_cli.specs.Words.{dump_line, migrate_line, run_line, serve_line, stop_line, with_place, IsKindRule};
+ghost use Rattle.desk_cli.specs.Words.{file_asked, lines_asked, placed, report_asked, show_asked, table_asked};
 ghost use Rattle.desk_cli.specs.Words.{IsReportLine, IsExportLine, IsImportLine, IsCommandLine, IsLinesLine};
 ghost use Rattle.desk_cli.specs.Words.{has_sheet_words, lines_in, repeated_rule, rows_import_in, sheet_import_in};
 ghost use Rattle.part_core.specs.Forms.{shown};
@@ -26,6 +28,10 @@ ghost use Rattle.desk_cli.specs.Words.{given_in, rows_in, AsksFor, Tells, Parses
 ghost use Rattle.desk_cli.specs.Words.{asks_run, asks_help, asks_version, run_on};
 ghost use Rattle.desk_cli.specs.Words.{run_with, is_path, Answers, Runs, RunsOn, HelpsBy};
 
+use crate::at_words::{
+    Asked, at_task, file_asked, is_at, lines_asked, report_asked, show_asked, table_asked,
+    tell_port_alone,
+};
 use crate::sheet_words::{kind_form, sheet_of};
 use clap::error::ErrorKind;
 use clap::{Arg, ArgAction, ArgMatches, Command, Error};
@@ -134,6 +140,12 @@ pub enum Task<'a> {
     },
     /// Help on this topic is printed.
     Guide(&'a str),
+    /// The service at this port of the loopback is asked. Where a token is shown, it stands in the file at the path.
+    At {
+        port: u16,
+        token: Option<&'a str>,
+        asked: Asked<'a>,
+    },
     /// Help, or the version, is printed.
     Help(Error),
     /// The words are wrong.
@@ -191,6 +203,8 @@ const LINES_EXAMPLE: &str =
     "Example: invdesk lines --kind found --document S1 --day 2026-05-02 stock.csv";
 
 const SERVE_EXAMPLE: &str = "Example: invdesk serve --db workshop.db --port 8080";
+
+const STOP_EXAMPLE: &str = "Example: invdesk stop --at 8080";
 
 /// The names of the reports.
 const REPORTS: [&str; 6] = [
@@ -486,13 +500,47 @@ fn optional<'a>(alloc: Global, id: &'a str, name: &'a str) -> Arg<'a>
         .action(ArgAction::Set)
 }
 
+/// The option that names the port of a service, in the place of a file.
+fn at_option<'a>(alloc: Global) -> Arg<'a>
+    ensures rule { rule_of result ≡ optional_rule (codes "at") }
+    ensures local { result.global ≡ false }
+{
+    optional(alloc, "at", "PORT").help(
+        "In the place of --db: the port at which 'serve --page' has the file open",
+    )
+}
+
+/// The option that names the file of the token that the service is shown.
+fn token_option<'a>(alloc: Global) -> Arg<'a>
+    ensures rule { rule_of result ≡ optional_rule (codes "token") }
+    ensures local { result.global ≡ false }
+{
+    optional(alloc, "token", "FILE").help(
+        "With --at: the file with the token that the service asks for",
+    )
+}
+
+/// A command with the options that say where the books are.
+fn with_place<'a>(
+    alloc: Global,
+    command: Command<'a>,
+    help: &'a str,
+) -> Result<Command<'a>, AllocError>
+    ensures { IfOk result (λ placed. app_of placed ≡ with_place (app_of command)) }
+{
+    command
+        .arg(file(alloc, help))?
+        .arg(at_option(alloc))?
+        .arg(token_option(alloc))
+}
+
 fn run_command<'a>(alloc: Global) -> Result<Command<'a>, AllocError>
     ensures { IfOk result (λ command. app_of command ≡ run_line) }
 {
-    Command::new(alloc, "run")
+    let command = Command::new(alloc, "run")
         .about("Answers each line of the standard input")
-        .after_help(RUN_EXAMPLE)
-        .arg(file(alloc, MADE_FILE))?
+        .after_help(RUN_EXAMPLE);
+    with_place(alloc, command, MADE_FILE)?
         .arg(names_flag(alloc))?
         .arg(journal_flag(alloc, RUN_JOURNAL))?
         .arg(flag(
@@ -524,10 +572,10 @@ fn report_command<'a>(alloc: Global) -> Result<Command<'a>, AllocError>
     let number = word(alloc, "number", "NUMBER").help(
         "The number of the part, the item or the build, or with --names what it is called",
     );
-    Command::new(alloc, "report")
+    let command = Command::new(alloc, "report")
         .about("Prints a report")
-        .after_help(REPORT_EXAMPLE)
-        .arg(file(alloc, KEPT_FILE).required(true))?
+        .after_help(REPORT_EXAMPLE);
+    with_place(alloc, command, KEPT_FILE)?
         .arg(names_flag(alloc))?
         .arg(flag(
             alloc,
@@ -544,20 +592,19 @@ fn export_command<'a>(alloc: Global) -> Result<Command<'a>, AllocError>
     let table = word(alloc, "table", "TABLE")
         .value_parser(TABLES.as_slice())
         .help("The name of the table");
-    Command::new(alloc, "export")
+    let command = Command::new(alloc, "export")
         .about("Prints a table as comma-separated values")
-        .after_help(EXPORT_EXAMPLE)
-        .arg(file(alloc, KEPT_FILE).required(true))?
-        .arg(table)
+        .after_help(EXPORT_EXAMPLE);
+    with_place(alloc, command, KEPT_FILE)?.arg(table)
 }
 
 fn dump_command<'a>(alloc: Global) -> Result<Command<'a>, AllocError>
     ensures { IfOk result (λ command. app_of command ≡ dump_line) }
 {
-    Command::new(alloc, "dump")
+    let command = Command::new(alloc, "dump")
         .about("Prints all tables as SQL, which sqlite3 makes a file of again")
-        .after_help(DUMP_EXAMPLE)
-        .arg(file(alloc, KEPT_FILE).required(true))
+        .after_help(DUMP_EXAMPLE);
+    with_place(alloc, command, KEPT_FILE)
 }
 
 /// The word that says which list it is.
@@ -583,10 +630,10 @@ fn show_command<'a>(alloc: Global) -> Result<Command<'a>, AllocError>
         "The number of a location, a part, an item or an order, or what it is called; of trace-forward a batch, too; \
         of find, what to look for",
     );
-    Command::new(alloc, "show")
+    let command = Command::new(alloc, "show")
         .about("Shows a list")
-        .after_help(SHOW_EXAMPLE)
-        .arg(file(alloc, KEPT_FILE).required(true))?
+        .after_help(SHOW_EXAMPLE);
+    with_place(alloc, command, KEPT_FILE)?
         .arg(flag(alloc, "csv", "As comma-separated values, for a spreadsheet"))?
         .arg(flag(alloc, "open", "Of orders and builds: the open ones alone"))?
         .arg(low)?
@@ -663,10 +710,10 @@ fn import_command<'a>(alloc: Global) -> Result<Command<'a>, AllocError>
         "The day of its rows, as YYYY-MM-DD; of a command, but of those that tell one",
     );
     let path = word(alloc, "path", "PATH").help("The file of comma-separated values");
-    Command::new(alloc, "import")
+    let command = Command::new(alloc, "import")
         .about("Runs each row of a file of comma-separated values")
-        .after_help(IMPORT_EXAMPLE)
-        .arg(file(alloc, MADE_FILE).required(true))?
+        .after_help(IMPORT_EXAMPLE);
+    with_place(alloc, command, MADE_FILE)?
         .arg(names_flag(alloc))?
         .arg(flag(
             alloc,
@@ -733,6 +780,17 @@ fn serve_command<'a>(alloc: Global) -> Result<Command<'a>, AllocError>
         .arg(token)
 }
 
+fn stop_command<'a>(alloc: Global) -> Result<Command<'a>, AllocError>
+    ensures { IfOk result (λ command. app_of command ≡ stop_line) }
+{
+    let port = option(alloc, "at", "PORT").help("The port of the service, 1 to 65535");
+    Command::new(alloc, "stop")
+        .about("Stops a service, which closes its file")
+        .after_help(STOP_EXAMPLE)
+        .arg(port)?
+        .arg(token_option(alloc))
+}
+
 /// The word that says on what help is asked for.
 fn topic_word<'a>(alloc: Global) -> Arg<'a>
     ensures rule { IsTopicRule (rule_of result) }
@@ -767,11 +825,12 @@ fn command<'a>(alloc: Global) -> Result<Command<'a>, AllocError>
         .subcommand(import_command(alloc)?)?
         .subcommand(lines_command(alloc)?)?
         .subcommand(serve_command(alloc)?)?
+        .subcommand(stop_command(alloc)?)?
         .subcommand(help_command(alloc)?)
 }
 
 /// The number from 1 to so many that 1 to 19 digits are.
-fn number_up_to(most: u64, text: &str) -> Option<u64>
+pub fn number_up_to(most: u64, text: &str) -> Option<u64>
     ensures value { result ≡ number_up_to most text.now }
     ensures bound { IfSome result (λ number. number ≤ most) }
 {
@@ -797,7 +856,7 @@ fn report_name(matches: &ArgMatches<'_>) -> Option<ReportName>
 }
 
 /// Whether the flag was given.
-fn has_flag(matches: &ArgMatches<'_>, id: &str) -> bool
+pub fn has_flag(matches: &ArgMatches<'_>, id: &str) -> bool
     ensures { result ≡ is_given (given_in id.now matches.now) }
 {
     match given(matches, id) {
@@ -831,7 +890,7 @@ fn export_table(matches: &ArgMatches<'_>) -> Option<TableName>
     table_named(given(matches, "table")?)
 }
 
-fn import_kind(matches: &ArgMatches<'_>) -> Option<ImportKind>
+pub fn import_kind(matches: &ArgMatches<'_>) -> Option<ImportKind>
     ensures { result ≡ option_and_then import_kind_named (given_in (codes "kind") matches.now) }
 {
     import_kind_named(given(matches, "kind")?)
@@ -929,7 +988,7 @@ fn dump_task<'a>(matches: &ArgMatches<'a>) -> Option<Task<'a>>
 }
 
 /// The amount below which a part is low, if it is said; none where what is said is no number.
-fn low_amount(low: Option<&str>) -> Option<Option<u64>>
+pub fn low_amount(low: Option<&str>) -> Option<Option<u64>>
     ensures { result ≡ low_in (option_map (λ t. t.now) low.entry) }
 {
     match low {
@@ -1035,7 +1094,7 @@ fn migrate_task<'a>(matches: &ArgMatches<'a>) -> Option<Task<'a>>
 }
 
 /// Whether the words have what goes with the name of a command alone.
-fn has_sheet_words(matches: &ArgMatches<'_>) -> bool
+pub fn has_sheet_words(matches: &ArgMatches<'_>) -> bool
     ensures { result ≡ has_sheet_words (rows_in matches.now) }
 {
     given(matches, "set").is_some()
@@ -1169,21 +1228,89 @@ fn guide_task<'a>(matches: &ArgMatches<'a>) -> Task<'a>
     }
 }
 
+/// The run that is asked for, of a desk or a service.
+fn run_words<'a>(matches: &ArgMatches<'a>) -> Option<Task<'a>>
+    ensures { AsksFor (placed (rows_in matches.now) (Some (run_in (rows_in matches.now)))
+        (lines_asked (rows_in matches.now))) result }
+{
+    if is_at(matches) {
+        return at_task(matches, lines_asked(matches));
+    }
+    Some(run_task(matches))
+}
+
+/// The report that is asked for, of a desk or a service.
+fn report_words<'a>(matches: &ArgMatches<'a>) -> Option<Task<'a>>
+    ensures { AsksFor (placed (rows_in matches.now) (report_in (rows_in matches.now))
+        (report_asked (rows_in matches.now))) result }
+{
+    if is_at(matches) {
+        return at_task(matches, report_asked(matches));
+    }
+    report_task(matches)
+}
+
+/// The table that is asked for, of a desk or a service.
+fn export_words<'a>(matches: &ArgMatches<'a>) -> Option<Task<'a>>
+    ensures { AsksFor (placed (rows_in matches.now) (export_in (rows_in matches.now))
+        (table_asked (rows_in matches.now))) result }
+{
+    if is_at(matches) {
+        return at_task(matches, table_asked(matches));
+    }
+    export_task(matches)
+}
+
+/// The dump that is asked for, of a desk or a service.
+fn dump_words<'a>(matches: &ArgMatches<'a>) -> Option<Task<'a>>
+    ensures { AsksFor (placed (rows_in matches.now) (dump_in (rows_in matches.now))
+        (Some ats.dump)) result }
+{
+    if is_at(matches) {
+        return at_task(matches, Some(Asked::Dump));
+    }
+    dump_task(matches)
+}
+
+/// The list that is asked for, of a desk or a service.
+fn show_words<'a>(matches: &ArgMatches<'a>) -> Option<Task<'a>>
+    ensures { AsksFor (placed (rows_in matches.now) (show_in (rows_in matches.now))
+        (show_asked (rows_in matches.now))) result }
+{
+    if is_at(matches) {
+        return at_task(matches, show_asked(matches));
+    }
+    show_task(matches)
+}
+
+/// The import that is asked for, by a desk or a service.
+fn import_words<'a>(alloc: Global, matches: &ArgMatches<'a>) -> Result<Option<Task<'a>>, AllocError>
+    ensures { IfOk result (AsksFor (placed (rows_in matches.now) (import_in (rows_in matches.now))
+        (file_asked (rows_in matches.now)))) }
+{
+    if is_at(matches) {
+        let asked = file_asked(alloc, matches)?;
+        return Ok(at_task(matches, asked));
+    }
+    import_task(alloc, matches)
+}
+
 /// The task that words ask for in which nothing is wrong but, it may be, the form of a value.
 fn task_by<'a>(alloc: Global, matches: &ArgMatches<'a>) -> Result<Option<Task<'a>>, AllocError>
     ensures { IfOk result (AsksFor (desk_task_met (subcommand_rows_of matches.now))) }
 {
     match matches.subcommand() {
-        Some(("report", matches)) => Ok(report_task(matches)),
-        Some(("export", matches)) => Ok(export_task(matches)),
-        Some(("dump", matches)) => Ok(dump_task(matches)),
-        Some(("show", matches)) => Ok(show_task(matches)),
+        Some(("report", matches)) => Ok(report_words(matches)),
+        Some(("export", matches)) => Ok(export_words(matches)),
+        Some(("dump", matches)) => Ok(dump_words(matches)),
+        Some(("show", matches)) => Ok(show_words(matches)),
         Some(("migrate", matches)) => Ok(migrate_task(matches)),
-        Some(("import", matches)) => import_task(alloc, matches),
+        Some(("import", matches)) => import_words(alloc, matches),
         Some(("lines", matches)) => lines_task(alloc, matches),
         Some(("serve", matches)) => Ok(serve_task(matches)),
+        Some(("stop", matches)) => Ok(at_task(matches, Some(Asked::Stop))),
         Some(("help", matches)) => Ok(Some(guide_task(matches))),
-        Some((_, matches)) => Ok(Some(run_task(matches))),
+        Some((_, matches)) => Ok(run_words(matches)),
         None => Ok(Some(Task::Run {
             file: None,
             names: false,
@@ -1261,8 +1388,35 @@ const SHOW_WANTS: &str =
     --to DAY, where DAY is YYYY-MM-DD of the years 2000 to 2099; at, part, item, find, trace-forward and trace-back take a \
     word, count-sheet, receipt-sheet and history may take one, and no other list does";
 
-/// What the values are to be where one isn't so.
-fn wants(alloc: Global, matches: &ArgMatches<'_>) -> Result<&'static str, AllocError> {
+/// What goes with --at.
+const AT_WANTS: &str =
+    "PORT is 1 to 65535; --at stands in the place of --db, and --token goes with it; neither --names nor --journal do, since \
+    they are said when the service is started, nor --explain, --unchanged, --set and --column, nor the --stop of a file, the \
+    --csv of a report and show history; a report is of a number then, which has 1 to 19 digits";
+
+/// What is to be said, where neither a file nor a port is.
+const PLACE_WANTS: &str = "--db FILE says where the books are, or --at PORT";
+
+/// Whether the words say where the books are.
+fn has_place(matches: &ArgMatches<'_>) -> bool {
+    given(matches, "db").is_some() || is_at(matches)
+}
+
+/// Whether the words of that name tell what a service takes, so that only a value can be wrong, as with a file.
+fn ask_as_of_file(name: &str, matches: &ArgMatches<'_>) -> bool {
+    match name {
+        "import" => !has_sheet_words(matches) && !has_flag(matches, "unchanged"),
+        "show" => {
+            !matches!(given(matches, "list"), Some("history"))
+                && given(matches, "from").is_none()
+                && given(matches, "to").is_none()
+        }
+        _ => false,
+    }
+}
+
+/// What the values are to be where one isn't so, of words that say where the books are.
+fn value_wants(alloc: Global, matches: &ArgMatches<'_>) -> Result<&'static str, AllocError> {
     match matches.subcommand() {
         Some(("import", matches)) => import_wants(alloc, matches),
         Some(("lines", matches)) => lines_wants(alloc, matches),
@@ -1272,14 +1426,34 @@ fn wants(alloc: Global, matches: &ArgMatches<'_>) -> Result<&'static str, AllocE
     }
 }
 
+/// What the values are to be where one isn't so.
+fn wants(alloc: Global, matches: &ArgMatches<'_>) -> Result<&'static str, AllocError> {
+    match matches.subcommand() {
+        Some(("lines" | "serve", _)) | None => value_wants(alloc, matches),
+        Some((_, given)) if !has_place(given) => Ok(PLACE_WANTS),
+        Some((name, given)) if is_at(given) => {
+            if tell_port_alone(given) && ask_as_of_file(name, given) {
+                value_wants(alloc, matches)
+            } else {
+                Ok(AT_WANTS)
+            }
+        }
+        Some(_) => value_wants(alloc, matches),
+    }
+}
+
 /// The command whose values are told of: that of the word, under the name by which it is called.
 fn faulty_command<'a>(alloc: Global, word: Option<&str>) -> Result<Command<'a>, AllocError> {
     match word {
+        Some("run") => run_command(alloc)?.bin_name("invdesk run"),
         Some("report") => report_command(alloc)?.bin_name("invdesk report"),
+        Some("export") => export_command(alloc)?.bin_name("invdesk export"),
+        Some("dump") => dump_command(alloc)?.bin_name("invdesk dump"),
         Some("import") => import_command(alloc)?.bin_name("invdesk import"),
         Some("lines") => lines_command(alloc)?.bin_name("invdesk lines"),
         Some("show") => show_command(alloc)?.bin_name("invdesk show"),
         Some("serve") => serve_command(alloc)?.bin_name("invdesk serve"),
+        Some("stop") => stop_command(alloc)?.bin_name("invdesk stop"),
         _ => command(alloc),
     }
 }
@@ -1307,7 +1481,7 @@ fn told_by<'a>(alloc: Global, matches: &ArgMatches<'a>) -> Task<'a>
 }
 
 /// Reads the words, of which the first is the program's name: no more, or `run`, `report`, `export`, `dump`, `show`,
-/// `migrate`, `import`, `lines`, `serve` or `help` with theirs.
+/// `migrate`, `import`, `lines`, `serve`, `stop` or `help` with theirs.
 pub fn read_words<'a, S: AsStr>(alloc: Global, words: &'a [S]) -> Task<'a>
     ensures answers { Answers (map S.text words.now) result }
     ensures runs { asks_run (map S.text words.now) ≡ true → Runs result }

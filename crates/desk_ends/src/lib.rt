@@ -14,6 +14,7 @@ mod table_word;
 mod told;
 mod word_rows;
 
+pub use cut::cut_lines;
 pub use end::{RunEnd, Stop};
 pub use escape::{escaped, escaped_report, told_line};
 pub use guide::guide_to;

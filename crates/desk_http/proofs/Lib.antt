@@ -16,3 +16,5 @@ pub mod Plain
 pub mod Readings
 pub mod Queries
 pub mod Dumping
+pub mod Asking
+pub mod Answering

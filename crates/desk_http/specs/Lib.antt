@@ -10,3 +10,5 @@ pub mod Plans
 pub mod Services
 pub mod Responses
 pub mod Serving
+pub mod Asking
+pub mod Answering

@@ -8,6 +8,7 @@ ghost use Rattle.httparse.specs.Spans.{IsHeaderWithin, header_bytes};
 ghost use Rattle.desk_http.specs.Fields.{said_in};
 ghost use Rattle.desk_http.specs.AccessRules.{is_host, is_own_name, is_own_origin, is_own_site, may_say, shows};
 ghost use Rattle.desk_http.specs.AccessRules.{access_fault, page_fault, is_port_part, port_part};
+ghost use Rattle.desk_http.specs.Targets.{some_text};
 
 use crate::field::{FieldValue, find_field};
 use crate::rejection::Rejection;
@@ -71,6 +72,23 @@ impl Access {
             port_suffix: port_text(alloc, port)?,
             token,
         })
+    }
+
+    /// The port as it stands behind a host.
+    pub fn port_part(&self) -> &str
+        ensures { result.now ≡ port_part self.now.port }
+    {
+        self.port_suffix.as_str()
+    }
+
+    /// The token that is to be shown, if one is.
+    pub fn token_text(&self) -> Option<&[u8]>
+        ensures { some_text result ≡ self.now.token }
+    {
+        match &self.token {
+            Some(token) => Some(token.text()),
+            None => None,
+        }
     }
 
     /// Whether the text is the port as it stands behind a host, which may be left out where it is HTTP's own.

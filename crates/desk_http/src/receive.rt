@@ -119,6 +119,13 @@ impl Input {
         }
     }
 
+    /// The bytes that were read.
+    pub fn into_bytes(self) -> Vec<u8>
+        ensures { result ≡ self.bytes }
+    {
+        self.bytes
+    }
+
     /// Reads until a body of this length has come behind the head: false where the input ended first.
     pub fn receive_body<R: Read>(
         &mut self,

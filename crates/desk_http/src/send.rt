@@ -30,7 +30,7 @@ fn send<W: Write>(writer: &mut W, text: &[u8]) -> Result<(), Stop>
 
 /// Writes all the bytes and has them go out at once; else a front of them is written.
 #[tactic(auto, using(crate::proofs::Known::kept_whole, crate::proofs::Known::kept_front))]
-fn send_now<W: Write>(writer: &mut W, text: &[u8]) -> Result<(), Stop>
+pub fn send_now<W: Write>(writer: &mut W, text: &[u8]) -> Result<(), Stop>
     ensures { MatchResult result
         (λ _. Appends (W.contents writer.old) (W.contents writer.new) text.now)
         (λ e. (e ≡ Stop.WriteFailed)

@@ -81,6 +81,13 @@ impl Token {
         }
     }
 
+    /// Its bytes.
+    pub fn text(&self) -> &[u8]
+        ensures { result.now ≡ self.now }
+    {
+        &self.bytes
+    }
+
     /// Whether a text, the value of a field `Authorization`, shows this token: `Bearer`, a space, and the token.
     pub fn is_shown_by(&self, text: &[u8]) -> bool
         ensures { result ≡ is_bearer self.now text.now }

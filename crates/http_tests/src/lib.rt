@@ -1,10 +1,13 @@
-//! Tests of requests of HTTP, over a service that counts bytes: what is answered, and how a connection ends.
+//! Tests of requests of HTTP, over a service that counts bytes: what is answered, and how a connection ends; and
+//! of a client that asks.
 #![tactic(auto)]
 
 #[cfg(test)]
 mod access;
 #[cfg(test)]
 mod asked;
+#[cfg(test)]
+mod asking;
 mod counting;
 #[cfg(test)]
 mod devices;

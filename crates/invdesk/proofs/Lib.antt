@@ -1,3 +1,4 @@
 pub mod Printing
 pub mod Ending
 pub mod Working
+pub mod Asking

@@ -180,6 +180,7 @@ prints_nothing (task.Sheet file told path stop explain) s w report export dump s
 prints_nothing (task.Lines told path) s w report export dump show migrate = (refl, Keeps-refl w)
 prints_nothing (task.Serve file port count token names page journal) s w report export dump show migrate = (refl, Keeps-refl w)
 prints_nothing (task.Guide topic) s w report export dump show migrate = (refl, Keeps-refl w)
+prints_nothing (task.At port token asked) s w report export dump show migrate = (refl, Keeps-refl w)
 prints_nothing (task.Help e) s w report export dump show migrate = (refl, Keeps-refl w)
 prints_nothing (task.Wrong e) s w report export dump show migrate = (refl, Keeps-refl w)
 prints_nothing task.Unreadable s w report export dump show migrate = (refl, Keeps-refl w)

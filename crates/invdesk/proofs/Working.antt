@@ -48,6 +48,7 @@ does_printing g (task.Show file list csv) desk end run serve import sheet prints
 does_printing g (task.Migrate file) desk end run serve import sheet prints = (refl, prints)
 does_printing g (task.Lines told path) desk end run serve import sheet prints = (refl, prints)
 does_printing g (task.Guide topic) desk end run serve import sheet prints = (refl, prints)
+does_printing g (task.At port token asked) desk end run serve import sheet prints = (refl, prints)
 does_printing g (task.Help e) desk end run serve import sheet prints = (refl, prints)
 does_printing g (task.Wrong e) desk end run serve import sheet prints = (refl, prints)
 does_printing g task.Unreadable desk end run serve import sheet prints = (refl, prints)

@@ -3,6 +3,7 @@ pub mod Rows
 pub mod Checks
 pub mod Prints
 pub mod Clients
+pub mod Asks
 pub mod Works
 pub mod Files
 pub mod Memory

@@ -1,4 +1,4 @@
--- What is done with new books in memory.
+-- What is done with new books in memory, or by a service.
 use Rattle.std.specs.Prelude.{ℕ, Bool, true, false, Option, None, is_some}
 use Rattle.table_store.specs.declared.fault.Failed.{Failed}
 use Rattle.desk_core.specs.Machine.{IsSoundState, State}
@@ -11,6 +11,7 @@ use Rattle.desk_app.specs.declared.service.BooksService.{BooksService}
 use Rattle.desk_ends.specs.declared.end.RunEnd.{RunEnd}
 use Rattle.desk_cli.specs.declared.words.Task.{Task}
 use Rattle.desk_cli.specs.declared.words.Task.TheVariants as task
+use Rattle.invdesk.specs.Asks.{AsksService}
 use Rattle.invdesk.specs.Checks.{ChecksInput}
 use Rattle.invdesk.specs.Clients.{ServesClients}
 use Rattle.invdesk.specs.Lines.{AreTakenBy, RunsLines}
@@ -47,11 +48,12 @@ pub record ServesInMemory (options : LineOptions) (port : ℕ) (has_token has_pa
   pub serves : ServesClients {F = Failed} state_of (λ _. None) (λ _ _. ⊥) options port has_token has_page count before
       after end
 
--- the lines that a file is are printed without any, and nothing else is asked of them
+-- the lines that a file is are printed without any, and a service is asked without any; nothing else is asked of them
 abbrev pub DoesInMemory : Task → RunEnd → Type 0
 DoesInMemory (task.Run file names stop check explain journal) end =
     (options : LineOptions) × AreTakenBy names journal options × AnswersInMemory options stop check end
 DoesInMemory (task.Serve file port count token names page journal) end =
     ServesInMemory (record { names = names; journal = journal }) port (is_some token) page count end
 DoesInMemory (task.Lines told path) end = PrintsLines (shown_sheet told) end
+DoesInMemory (task.At port token asked) end = AsksService asked end
 DoesInMemory _ end = ⊥

@@ -3,6 +3,7 @@
 //! stocktakes are read as files of comma-separated values. Requests over HTTP are answered on the loopback.
 #![tactic(auto)]
 
+mod at;
 mod page;
 mod pipe;
 mod serve;
@@ -32,6 +33,7 @@ ghost use Rattle.invdesk.specs.Statuses.{IsToldAtOnce, status_on_file};
 ghost use Rattle.invdesk.specs.Works.{AnswersOnDesk, ChecksOnDesk, Does, RunsOnDesk, ServesDesk};
 ghost use Rattle.invdesk.specs.Works.{may_leave};
 
+use crate::at::ask_at;
 use crate::pipe::{Output, end_of_print, is_of_a_reader};
 use crate::serve::{began, ends_at_fault, serve};
 use desk_app::{
@@ -1067,7 +1069,7 @@ fn answer_in_memory(
     )
 }
 
-/// Does what the words ask for, with new books in memory.
+/// Does what the words ask for, with new books in memory, or by a service that is asked.
 fn act_in_memory(rt: &HostRuntime, task: &Task<'_>) -> RunEnd
     requires desk { early_status task.now ≡ None }
     requires no_file { file_of task.now ≡ None }
@@ -1101,11 +1103,12 @@ fn act_in_memory(rt: &HostRuntime, task: &Task<'_>) -> RunEnd
             answer_in_memory(rt, options, *stop, *check, *explain)
         }
         Task::Lines { sheet, path } => print_lines(rt, path, sheet),
+        Task::At { port, token, asked } => ask_at(rt, *port, *token, *asked),
         _ => unreachable!(),
     }
 }
 
-/// Does what the words ask for, with the desk of the file, or with new books in memory.
+/// Does what the words ask for, with the desk of the file, with new books in memory, or by a service.
 fn status_after(rt: &HostRuntime, task: &Task<'_>) -> u8
     requires { early_status task.now ≡ None }
     ensures { IsStatusAfter ⟦<File as Disk>⟧ task.now result }

@@ -38,7 +38,7 @@ fn port_failed(rt: &HostRuntime, port: u16, error: &io::Error) -> RunEnd
 }
 
 /// The token in the file at the path, if one is named.
-fn token_to_show(rt: &HostRuntime, path: Option<&str>) -> Result<Option<Token>, RunEnd>
+pub fn token_to_show(rt: &HostRuntime, path: Option<&str>) -> Result<Option<Token>, RunEnd>
     ensures there { IfOk result (λ token. is_some token ≡ is_some path.entry) }
     ensures in_file { IfOk result (λ token. IfSome token IsInFile) }
     ensures why { IfErr result (λ end.

@@ -122,6 +122,7 @@ fn told(alloc: Global, task: &Task<'_>) -> Result<String, AllocError> {
             format!(in alloc; "serve{named}{journals}{paged} {file:?} {port} {count:?} {token:?}")
         }
         Task::Guide(topic) => format!(in alloc; "help on {topic}"),
+        Task::At { port, token, asked } => format!(in alloc; "at {port} {token:?} {asked:?}"),
         Task::Help(text) | Task::Wrong(text) => {
             let text = format!(in alloc; "{text}")?;
             format!(in alloc; "{text:?}")

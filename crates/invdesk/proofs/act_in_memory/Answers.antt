@@ -29,3 +29,6 @@ returns-in-Run c = rw c.in-Run.is (c.options_of-options.result, c.options_of-opt
 
 pub returns-in-Lines : goal.returns-in-Lines
 returns-in-Lines c = rw c.in-Lines.is c.print_lines.ensures
+
+pub returns-in-At : goal.returns-in-At
+returns-in-At c = rw c.in-At.is c.ask_at.ensures

@@ -3,7 +3,7 @@ use Rattle.std.proofs.lemmas.Result.{IfOk-weaker}
 use Rattle.clap.specs.Words.{App, app_of, new_app, with_subcommand}
 use Rattle.clap.specs.Simple.{app_of_fields, on_top}
 use Rattle.desk_cli.specs.Words.{Places, top_line, run_line, report_line, export_line, dump_line, migrate_line}
-use Rattle.desk_cli.specs.Words.{help_line, import_line, lines_line, serve_line, show_line}
+use Rattle.desk_cli.specs.Words.{help_line, import_line, lines_line, serve_line, show_line, stop_line}
 use Rattle.desk_cli.proofs.CommandLines.{line_added}
 use Rattle.desk_cli.proofs.words.command.Goals as goal
 
@@ -40,6 +40,7 @@ returns c =
     let with_import : App = with_subcommand with_migrate (import_line import.0).top in
     let with_lines : App = with_subcommand with_import (lines_line lines.0).top in
     let with_serve : App = with_subcommand with_lines serve_line.top in
+    let with_stop : App = with_subcommand with_serve stop_line.top in
     let one =
     line_added c.version.result c.in_ok-run_command.field-0 c.in_ok-subcommand.field-0 top_line run_line
     c.in_ok-subcommand.ensures refl top_is c.in_ok-run_command.ensures in
@@ -67,8 +68,11 @@ returns c =
     let nine =
     line_added c.in_ok-subcommand-8.field-0 c.in_ok-serve_command.field-0 c.in_ok-subcommand-9.field-0 with_lines
     serve_line c.in_ok-subcommand-9.ensures refl eight c.in_ok-serve_command.ensures in
-    IfOk-weaker c.subcommand-10.result _ _ (λ r added. (
+    let ten =
+    line_added c.in_ok-subcommand-9.field-0 c.in_ok-stop_command.field-0 c.in_ok-subcommand-10.field-0 with_serve
+    stop_line c.in_ok-subcommand-10.ensures refl nine c.in_ok-stop_command.ensures in
+    IfOk-weaker c.subcommand-11.result _ _ (λ r added. (
       places,
-      line_added c.in_ok-subcommand-9.field-0 c.in_ok-help_command.field-0 r with_serve (help_line help.0) added refl
-          nine help.1,
-    )) c.subcommand-10.ensures
+      line_added c.in_ok-subcommand-10.field-0 c.in_ok-help_command.field-0 r with_stop (help_line help.0) added refl
+          ten help.1,
+    )) c.subcommand-11.ensures

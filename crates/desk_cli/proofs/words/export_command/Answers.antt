@@ -1,21 +1,17 @@
 use Rattle.std.proofs.Common.{ap, codes, false, rules, ◌≡◌, ◌∙◌}
 use Rattle.std.proofs.lemmas.Result.{IfOk-weaker}
-use Rattle.clap.specs.Words.{app_of, new_app, rule_of, with_rule}
+use Rattle.clap.specs.Words.{app_of, new_app, rule_of}
 use Rattle.clap.specs.Simple.{app_of_fields}
 use Rattle.clap.specs.declared.builder.arg.Arg.{Arg}
-use Rattle.desk_cli.specs.Words.{Listing, table_names, file_rule, word_rule, needed, among}
+use Rattle.desk_cli.specs.Words.{Listing, table_names, word_rule, among, with_place}
 use Rattle.desk_cli.proofs.CommandLines.{rule_added, rule_among}
 use Rattle.desk_cli.proofs.words.export_command.Goals as goal
 
 pub returns : goal.returns
 returns c =
     let names : Listing table_names = record { at = c.as_slice.result; are = search rules } in
-    let line_is : app_of c.after_help.result ≡ new_app (codes "export") =
-    ap app_of_fields c.after_help.ensures ∙ ap app_of_fields c.about.ensures ∙ c.new.ensures.app in
-    let file_is : rule_of c.required.result ≡ needed file_rule =
-    ap rule_of c.required.ensures ∙ ap needed c.file.ensures.rule in
-    let file_local : c.required.result.global ≡ false =
-    ap (λ (a : Arg). a.global) c.required.ensures ∙ c.file.ensures.local in
+    let line_is : app_of c.after_help-command.result ≡ new_app (codes "export") =
+    ap app_of_fields c.after_help-command.ensures ∙ ap app_of_fields c.about.ensures ∙ c.new.ensures.app in
     let given = c.value_parser.ensures.given in
     let table_is : rule_of c.help-table.result ≡ among c.as_slice.result (word_rule (codes "table")) =
     ap rule_of c.help-table.ensures ∙ rule_among c.word.result c.value_parser.result c.as_slice.result
@@ -23,11 +19,9 @@ returns c =
     let table_local : c.help-table.result.global ≡ false =
     ap (λ (a : Arg). a.global) c.help-table.ensures
     ∙ (ap (λ (a : Arg). a.global) c.value_parser.ensures.others ∙ c.word.ensures.local) in
-    let one =
-    rule_added c.after_help.result c.required.result c.in_ok-arg.field-0 (new_app (codes "export")) (needed file_rule)
-    c.in_ok-arg.ensures file_local line_is file_is in
-    IfOk-weaker c.arg-2.result _ _ (λ r added. (
+    let one = c.in_ok-with_place.ensures ∙ ap with_place line_is in
+    IfOk-weaker c.arg.result _ _ (λ r added. (
       names,
-      rule_added c.in_ok-arg.field-0 c.help-table.result r (with_rule (new_app (codes "export")) (needed file_rule))
+      rule_added c.in_ok-with_place.field-0 c.help-table.result r (with_place (new_app (codes "export")))
           (among c.as_slice.result (word_rule (codes "table"))) added table_local one table_is,
-    )) c.arg-2.ensures
+    )) c.arg.ensures

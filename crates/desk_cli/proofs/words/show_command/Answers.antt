@@ -3,19 +3,15 @@ use Rattle.std.proofs.lemmas.Result.{IfOk-weaker}
 use Rattle.clap.specs.Words.{App, app_of, new_app, rule_of, with_rule}
 use Rattle.clap.specs.Simple.{app_of_fields}
 use Rattle.clap.specs.declared.builder.arg.Arg.{Arg}
-use Rattle.desk_cli.specs.Words.{file_rule, flag_rule, list_rule, needed, optional_rule, optional_word_rule}
+use Rattle.desk_cli.specs.Words.{flag_rule, list_rule, optional_rule, optional_word_rule, with_place}
 use Rattle.desk_cli.proofs.CommandLines.{rule_added}
 use Rattle.desk_cli.proofs.words.show_command.Goals as goal
 
 pub returns : goal.returns
 returns c =
     let list = c.list_word.ensures.rule in
-    let line_is : app_of c.after_help.result ≡ new_app (codes "show") =
-    ap app_of_fields c.after_help.ensures ∙ ap app_of_fields c.about.ensures ∙ c.new.ensures.app in
-    let file_is : rule_of c.required.result ≡ needed file_rule =
-    ap rule_of c.required.ensures ∙ ap needed c.file.ensures.rule in
-    let file_local : c.required.result.global ≡ false =
-    ap (λ (a : Arg). a.global) c.required.ensures ∙ c.file.ensures.local in
+    let line_is : app_of c.after_help-command.result ≡ new_app (codes "show") =
+    ap app_of_fields c.after_help-command.ensures ∙ ap app_of_fields c.about.ensures ∙ c.new.ensures.app in
     let low_is : rule_of c.help-low.result ≡ optional_rule (codes "low") =
     ap rule_of c.help-low.ensures ∙ c.optional.ensures.rule in
     let low_local : c.help-low.result.global ≡ false =
@@ -32,36 +28,34 @@ returns c =
     ap rule_of c.help-of.ensures ∙ c.optional_word.ensures.rule in
     let of_local : c.help-of.result.global ≡ false =
     ap (λ (a : Arg). a.global) c.help-of.ensures ∙ c.optional_word.ensures.local in
-    let one : App = with_rule (new_app (codes "show")) (needed file_rule) in
+    let one : App = with_place (new_app (codes "show")) in
     let two : App = with_rule one (flag_rule (codes "csv")) in
     let three : App = with_rule two (flag_rule (codes "open")) in
     let four : App = with_rule three (optional_rule (codes "low")) in
     let five : App = with_rule four (optional_rule (codes "from")) in
     let six : App = with_rule five (optional_rule (codes "to")) in
     let seven : App = with_rule six (list_rule list.0) in
-    let one_is =
-    rule_added c.after_help.result c.required.result c.in_ok-arg.field-0 (new_app (codes "show")) (needed file_rule)
-    c.in_ok-arg.ensures file_local line_is file_is in
+    let one_is = c.in_ok-with_place.ensures ∙ ap with_place line_is in
     let two_is =
-    rule_added c.in_ok-arg.field-0 c.flag.result c.in_ok-arg-2.field-0 one (flag_rule (codes "csv"))
-    c.in_ok-arg-2.ensures c.flag.ensures.local one_is c.flag.ensures.rule in
+    rule_added c.in_ok-with_place.field-0 c.flag.result c.in_ok-arg.field-0 one (flag_rule (codes "csv"))
+    c.in_ok-arg.ensures c.flag.ensures.local one_is c.flag.ensures.rule in
     let three_is =
-    rule_added c.in_ok-arg-2.field-0 c.flag-2.result c.in_ok-arg-3.field-0 two (flag_rule (codes "open"))
-    c.in_ok-arg-3.ensures c.flag-2.ensures.local two_is c.flag-2.ensures.rule in
+    rule_added c.in_ok-arg.field-0 c.flag-2.result c.in_ok-arg-2.field-0 two (flag_rule (codes "open"))
+    c.in_ok-arg-2.ensures c.flag-2.ensures.local two_is c.flag-2.ensures.rule in
     let four_is =
-    rule_added c.in_ok-arg-3.field-0 c.help-low.result c.in_ok-arg-4.field-0 three (optional_rule (codes "low"))
-    c.in_ok-arg-4.ensures low_local three_is low_is in
+    rule_added c.in_ok-arg-2.field-0 c.help-low.result c.in_ok-arg-3.field-0 three (optional_rule (codes "low"))
+    c.in_ok-arg-3.ensures low_local three_is low_is in
     let five_is =
-    rule_added c.in_ok-arg-4.field-0 c.help-from.result c.in_ok-arg-5.field-0 four (optional_rule (codes "from"))
-    c.in_ok-arg-5.ensures from_local four_is from_is in
+    rule_added c.in_ok-arg-3.field-0 c.help-from.result c.in_ok-arg-4.field-0 four (optional_rule (codes "from"))
+    c.in_ok-arg-4.ensures from_local four_is from_is in
     let six_is =
-    rule_added c.in_ok-arg-5.field-0 c.help-to.result c.in_ok-arg-6.field-0 five (optional_rule (codes "to"))
-    c.in_ok-arg-6.ensures to_local five_is to_is in
+    rule_added c.in_ok-arg-4.field-0 c.help-to.result c.in_ok-arg-5.field-0 five (optional_rule (codes "to"))
+    c.in_ok-arg-5.ensures to_local five_is to_is in
     let seven_is =
-    rule_added c.in_ok-arg-6.field-0 c.list_word.result c.in_ok-arg-7.field-0 six (list_rule list.0)
-    c.in_ok-arg-7.ensures c.list_word.ensures.local six_is list.1 in
-    IfOk-weaker c.arg-8.result _ _ (λ r added. (
+    rule_added c.in_ok-arg-5.field-0 c.list_word.result c.in_ok-arg-6.field-0 six (list_rule list.0)
+    c.in_ok-arg-6.ensures c.list_word.ensures.local six_is list.1 in
+    IfOk-weaker c.arg-7.result _ _ (λ r added. (
       list.0,
-      rule_added c.in_ok-arg-7.field-0 c.help-of.result r seven (optional_word_rule (codes "of")) added of_local
+      rule_added c.in_ok-arg-6.field-0 c.help-of.result r seven (optional_word_rule (codes "of")) added of_local
           seven_is of_is,
-    )) c.arg-8.ensures
+    )) c.arg-7.ensures
