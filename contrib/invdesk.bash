@@ -83,7 +83,7 @@ _invdesk()
         given+="${word%%=*} "
         case $word in
             --kind=*) kind=${word#*=} ;;
-            --db|--at|--token|--low|--from|--to|--kind|--document|--day|--set|--column|--port|--count)
+            --db|--at|--token|--low|--levels|--from|--to|--kind|--document|--day|--set|--column|--port|--count)
                 ((++at < last)) || before=$word
                 [[ $word == --kind ]] && kind=${said[at]} ;;
             -*) ;;
@@ -99,6 +99,7 @@ _invdesk()
         --at) :; return ;;
         --token) _invdesk_files; return ;;
         --low) :; return ;;
+        --levels) _invdesk_files; return ;;
         --from) :; return ;;
         --to) :; return ;;
         --kind) _invdesk_words 'receipts counts add_category add_location add_part retire_part add_line drop_line add_substitute drop_substitute found add remove transfer split merge serialise set_status install uninstall disassemble reinstate order order_line issue_order allocate_sale ship return_item close_order cancel_order build issue_build hold_build cancel_build outputs complete_output cancel_output scrap_output allocate_build auto_allocate release complete_build consume'; return ;;
@@ -115,7 +116,7 @@ _invdesk()
         report) options='--db --at --token --names --csv --help' ;;
         export) options='--db --at --token --help' ;;
         dump) options='--db --at --token --help' ;;
-        show) options='--db --at --token --csv --open --low --from --to --help' ;;
+        show) options='--db --at --token --csv --open --low --levels --from --to --help' ;;
         migrate) options='--db --help' ;;
         import) options='--db --at --token --names --loose --unchanged --explain --kind --document --day --set --column --stop --help' ;;
         lines) options='--kind --document --day --set --column --help' ;;
@@ -127,7 +128,7 @@ _invdesk()
         case $command:$place in
             report:0) _invdesk_words 'ledger stock where_used history content shortage'; return ;;
             export:0) _invdesk_words 'meta categories locations parts lines substitutes items history orders order_lines builds allocations kept spent'; return ;;
-            show:0) _invdesk_words 'stock at part item orders builds find shortages trace-forward trace-back count-sheet receipt-sheet history'; return ;;
+            show:0) _invdesk_words 'stock at part item orders builds find shortages trace-forward trace-back count-sheet receipt-sheet history low'; return ;;
             import:0) _invdesk_files; return ;;
             lines:0) _invdesk_files; return ;;
             help:0) _invdesk_words 'help commands add_category add_location add_part retire_part add_line drop_line add_substitute drop_substitute found add remove count transfer split merge serialise set_status install uninstall disassemble reinstate order order_line issue_order receive allocate_sale ship return_item close_order cancel_order build issue_build hold_build cancel_build outputs complete_output cancel_output scrap_output allocate_build auto_allocate complete_build consume release flags refusals KeyTaken NoSuch BadNumber NameTaken WrongFlag Retired WrongState Mismatch OpenOutputs InUse Cycle SelfInside Unfit NotLoose Serialised NotSerialised HasContent Unavailable Short Allocated OverNeed SerialCount SerialTaken TooDeep TooLarge Full faults TooLong NotJson NotObject NoField WrongType UnknownCommand UnknownField BadKey BadDay BadText BadSerials BadWord NoName Ambiguous Csv Header Changed mistakes'; return ;;

@@ -1,7 +1,8 @@
 #!/usr/bin/env python3
 """Tries `show` on the built program: each list of a small workshop, in columns and as comma-separated values, beside
-rows that were worked out by hand, and so each report for a spreadsheet; locations, parts and items by number and by name; words that go with no list; rows
-that aren't there; and that no list changes the file. Then books in which it is recalled where things came from and
+rows that were worked out by hand, and so each report for a spreadsheet; locations, parts and items by number and by
+name; what has less free than an owner's sheet says, and sheets that are faulty; words that go with no list; rows that
+aren't there; and that no list changes the file. Then books in which it is recalled where things came from and
 where they went: those that were worked out by hand, and made-up ones of 2,000 requests, with a journal and without,
 whose lists are compared with the rules written once more, also once what the file keeps was changed; and a chain of
 30,000 pieces, each cut off the one before. Then it types at a terminal: a greeting, a prompt, `help`, and the same
@@ -191,12 +192,44 @@ WRONG = [
     ["stock", "Store"], ["stock", "--open"], ["stock", "--low", "few"], ["at"], ["at", "Store", "--open"],
     ["orders", "14"], ["builds", "--low", "3"], ["find"], ["shortages", "x"], ["shortages", "--open"],
     ["count-sheet", "--low", "1"], ["parts"], ["receipt-sheet", "--open"], ["history", "--from", "2030-2-1"],
-    ["history", "--open"], ["stock", "--to", DAY],
+    ["history", "--open"], ["stock", "--to", DAY], ["low"], ["low", "--low", "3"], ["stock", "--levels", "x.csv"],
+    ["low", "Screw", "--levels", "x.csv"], ["low", "--levels", "x.csv", "--low", "3"],
+    ["low", "--levels", "x.csv", "--open"], ["low", "--levels", "x.csv", "--from", DAY],
     []]
 NONE = [(["at", "99"], '{"refused":"NoSuch"}\n'), (["item", "99"], '{"refused":"NoSuch"}\n'), (["part", "Nut"], ""),
         (["history", "99"], '{"refused":"NoSuch"}\n'), (["receipt-sheet", "99"], '{"refused":"NoSuch"}\n'),
         (["item", "M9"], ""), (["history", "M9"], ""), (["at", "Store / Shelf B"], ""),
         (["at", "Nowhere"], ""), (["count-sheet", "99"], '{"refused":"NoSuch"}\n'), (["count-sheet", "[7]"], "")]
+
+# Sheets of levels, and what is below. 117 screws are free, and 30 are to come.
+LOW = "part name category level free coming buy".split()
+LEVELS = [
+    ("part,level\nScrew,150\nMotor,2\n6,1\nBölt,0\n", [
+        ["4", "Screw", "Fixings", "150", "117", "30", "3"], ["5", "Motor", "", "2", "0", "0", "2"],
+        ["6", "Robot", "", "1", "0", "0", "1"]]),
+    ("level;remark;part\r\n118;cheap;Screw\r\n;none;Motor\r\n117;;4\r\n\r\n", [
+        ["4", "Screw", "Fixings", "118", "117", "30", "0"]]),
+    ('\ufeffpart\tlevel\tplace\n5\t1\n"Bölt"\t12\tbox\n5\t3\n', [
+        ["5", "Motor", "", "1", "0", "0", "1"], ["7", "Bölt", "", "12", "0", "0", "12"],
+        ["5", "Motor", "", "3", "0", "0", "3"]]),
+    (f"part,level\nMotor,{'9' * 19}\n", [["5", "Motor", "", "9" * 19, "0", "0", "9" * 19]]),
+    ("part,level\n", []),
+]
+# Sheets with a fault: what is told of it, with its record, and what of the field that is wrong.
+FAULTY_LEVELS = [
+    (b"part,level\nScrew,1\nNut,2\n", {"fault": "NoName", "field": "part", "line": 3}, "part: NoName: Nut"),
+    (b"part,level\nScrew,few\nNut,2\n", {"fault": "WrongType", "line": 2}, "level: WrongType: few"),
+    (b"part,level\nScrew,99999999999999999999\n", {"fault": "WrongType", "line": 2}, "level: WrongType: 9999"),
+    (b"name,level\nScrew,1\n", {"fault": "Header", "line": 1}, "part and level are wanted"),
+    (b"part,level,level\nScrew,1,2\n", {"fault": "Header", "line": 1}, "part and level are wanted"),
+    (b"", {"fault": "Header", "line": 1}, "part and level are wanted"),
+    (b"part,level\nScr\0ew,1\n", {"fault": "NoName", "field": "part", "line": 2}, "part: NoName: Scr"),
+    (b"part,level\nB\xf6lt,1\n", {"fault": "Csv", "line": 2}, "record 2: Csv"),
+    (b"part,level\n4,1,1\n", {"fault": "Csv", "line": 2}, "record 2: Csv"),
+    (b'part,level\n4,1\n"5,1\n', {"fault": "Csv", "line": 3}, "record 3: Csv"),
+    (b"part,level\n4;1\n", {"fault": "Csv", "line": 2}, "record 2: Csv"),
+    (b"part,level\n" + b"4,1\n" * 4_194_304, {"fault": "TooLong", "line": 0}, "record 0: TooLong"),
+]
 
 
 def show(program, path, *words):
@@ -227,6 +260,47 @@ def try_named(program, path):
             (["where_used", "7"], "6\tRobot\n", 0)]:
         told = run(program, "report", "--db", path, *words)
         expect((told.stdout, told.returncode) == (answer, status), f"report {words}: {told}")
+
+
+def try_low(program, path, top):
+    """What has less free than a sheet says, and sheets that say nothing."""
+    sheet = os.path.join(top, "levels.csv")
+    words = ["low", "--levels", sheet]
+    for text, wanted in LEVELS:
+        with open(sheet, "wb") as file:
+            file.write(text.encode())
+        told = show(program, path, "--csv", *words)
+        rows = list(csv.reader(io.StringIO(told.stdout, newline="")))
+        expect(rows == [LOW, *wanted] and told.returncode == 0, f"by {text!r}: {rows}, and not {wanted}; {told.stderr}")
+        told = show(program, path, *words)
+        expect(told.stdout == lists.columns([LOW, *wanted]), f"by {text!r} in columns:\n{told.stdout}")
+    for text, fault, said in FAULTY_LEVELS:
+        with open(sheet, "wb") as file:
+            file.write(text)
+        told = show(program, path, *words)
+        expect(json.loads(told.stdout) == fault and told.returncode == 1, f"by {text[:40]!r}: {told}")
+        expect(said in told.stderr and "\0" not in told.stderr, f"by {text[:40]!r} is told {told.stderr!r}")
+    with open(sheet, "w") as file:
+        file.write("part,level\n4,1\n99,1\n")
+    told = show(program, path, *words)
+    expect((told.stdout, told.returncode) == ('{"refused":"NoSuch"}\n', 1), f"of a part that isn't there: {told}")
+    os.remove(sheet)
+    told = show(program, path, *words)
+    expect((told.stdout, told.returncode) == ("", 3) and sheet in told.stderr, f"without its sheet: {told}")
+    told = run(program, "show", "--at", "1", *words)
+    expect(told.returncode == 2 and "show low" in told.stderr, f"of a service: {told}")
+
+
+def try_low_at_terminal(program, path, top):
+    """At a terminal that list is cut as others are."""
+    sheet = os.path.join(top, "levels.csv")
+    with open(sheet, "w") as file:
+        file.write("part,level\nScrew,9999999999999999999\n")
+    words = ["low", "--levels", sheet]
+    whole = show(program, path, *words).stdout.split("\n")[:-1]
+    for columns in "20", "80":
+        shown = shown_at_terminal(program, columns, "--db", path, *words)
+        expect(shown == [cut(line, int(columns)) for line in whole], f"low at {columns} columns: {shown}")
 
 
 def try_wrong(program, path):
@@ -449,6 +523,7 @@ def main():
             before = file.read()
         try_lists(program, path)
         try_named(program, path)
+        try_low(program, path, top)
         try_wrong(program, path)
         with contextlib.closing(open(path, "rb")) as file:
             expect(file.read() == before, "a list changed the file")
@@ -465,11 +540,12 @@ def main():
             try_end(program, top)
             try_made(program, top)
             try_cut(program, top)
+            try_low_at_terminal(program, path, top)
             try_long(program, top, terminal())
             try_hidden(program, top, terminal())
     seen = "a terminal" if ends else "no terminal, as there is none here"
-    absent = len(WRONG) + len(NONE)
-    shown = f"{len(WANTED)} lists, {compared} of what is recalled, {absent} that aren't there"
+    absent = len(WRONG) + len(NONE) + len(FAULTY_LEVELS)
+    shown = f"{len(WANTED) + len(LEVELS)} lists, {compared} of what is recalled, {absent} that aren't there"
     print(f"check_lists: {shown}, {seen}: all as they should be")
 
 

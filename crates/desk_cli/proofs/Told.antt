@@ -5,10 +5,10 @@ use Rattle.clap.specs.Words.{Text}
 use Rattle.desk_wire.specs.SheetViews.{shown_sheet}
 use Rattle.desk_cli.specs.declared.words.Task.{Task}
 use Rattle.desk_cli.specs.declared.words.Task.TheVariants.{Run, Report, Export, Dump, Show, Migrate, Import, Sheet, Lines}
-use Rattle.desk_cli.specs.declared.words.Task.TheVariants.{Serve, Guide, At, Help, Wrong, Unreadable, Memory}
+use Rattle.desk_cli.specs.declared.words.Task.TheVariants.{Low, Serve, Guide, At, Help, Wrong, Unreadable, Memory}
 use Rattle.desk_cli.specs.Words.{Places, DeskTask, guide, run, report, export, dump, show, migrate, import, sheet, lines}
 use Rattle.desk_cli.specs.AtWords.{asking_of}
-use Rattle.desk_cli.specs.Words.{at, serve}
+use Rattle.desk_cli.specs.Words.{at, low, serve}
 use Rattle.desk_ends.specs.Lists.{listed_of}
 use Rattle.desk_cli.specs.Words.{desk_task, faults, subject_of, Tells, AnswersAt, Runs, RunsOn}
 
@@ -20,6 +20,7 @@ told_answers places words w (Report file name of) free same t = (free, sym same 
 told_answers places words w (Export file table) free same t = (free, sym same ∙ t)
 told_answers places words w (Dump file) free same t = (free, sym same ∙ t)
 told_answers places words w (Show file list csv) free same t = (free, sym same ∙ t)
+told_answers places words w (Low file levels csv) free same t = (free, sym same ∙ t)
 told_answers places words w (Migrate file) free same t = (free, sym same ∙ t)
 told_answers places words w (Import file kind document day path names reading explain) free same t = (free, sym same ∙ t)
 told_answers places words w (Sheet file told path stop explain) free same t = (free, sym same ∙ t)
@@ -54,6 +55,8 @@ told_runs w (Dump file) e t = let f : Some (plain_run None) ≡ Some (dump file.
     ∙ t in absurd (cc)
 told_runs w (Show file list csv) e t =
     let f : Some (plain_run None) ≡ Some (show file.now (listed_of list) csv) = sym e ∙ t in absurd (cc)
+told_runs w (Low file levels csv) e t =
+    let f : Some (plain_run None) ≡ Some (low file.now levels.now csv) = sym e ∙ t in absurd (cc)
 told_runs w (Migrate file) e t = let f : Some (plain_run None) ≡ Some (migrate file.now) = sym e ∙ t in absurd (cc)
 told_runs w (Import file kind document day path names reading explain) e t =
     let f : Some (plain_run None) ≡ Some (import file.now kind document day path.now names reading explain) = sym e
@@ -93,6 +96,8 @@ told_runs_on path w (Dump file) e t =
     let f : Some (plain_run (Some path)) ≡ Some (dump file.now) = sym e ∙ t in absurd (cc)
 told_runs_on path w (Show file list csv) e t =
     let f : Some (plain_run (Some path)) ≡ Some (show file.now (listed_of list) csv) = sym e ∙ t in absurd (cc)
+told_runs_on path w (Low file levels csv) e t =
+    let f : Some (plain_run (Some path)) ≡ Some (low file.now levels.now csv) = sym e ∙ t in absurd (cc)
 told_runs_on path w (Migrate file) e t =
     let f : Some (plain_run (Some path)) ≡ Some (migrate file.now) = sym e ∙ t in absurd (cc)
 told_runs_on path w (Import file kind document day from names reading explain) e t =

@@ -5,3 +5,4 @@ pub mod Looks
 pub mod Subjects
 pub mod SheetWords
 pub mod AtWords
+pub mod LowLists

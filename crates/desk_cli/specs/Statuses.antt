@@ -28,6 +28,7 @@ early_status (task.Report file name of) = None
 early_status (task.Export file table) = None
 early_status (task.Dump file) = None
 early_status (task.Show file list csv) = None
+early_status (task.Low file levels csv) = None
 early_status (task.Migrate file) = None
 early_status (task.Import file kind document day path names reading explain) = None
 early_status (task.Sheet file told path stop explain) = None

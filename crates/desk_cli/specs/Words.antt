@@ -38,7 +38,7 @@ use Rattle.desk_cli.specs.declared.words.ReportOf.{ReportOf}
 use Rattle.desk_cli.specs.declared.words.ReportOf.TheVariants.{Number, Word}
 use Rattle.desk_cli.specs.declared.words.Task.{Task}
 use Rattle.desk_cli.specs.declared.words.Task.TheVariants.{Run, Report, Export, Dump, Show, Migrate, Import, Sheet, Lines}
-use Rattle.desk_cli.specs.declared.words.Task.TheVariants.{Serve, Guide, At, Help, Wrong, Unreadable, Memory}
+use Rattle.desk_cli.specs.declared.words.Task.TheVariants.{Low, Serve, Guide, At, Help, Wrong, Unreadable, Memory}
 
 -- no more words, or `run`
 abbrev pub asks_run : List (List ℕ) → Bool
@@ -89,7 +89,7 @@ abbrev pub list_names : List Text
 list_names =
     codes "stock" ∷ codes "at" ∷ codes "part" ∷ codes "item" ∷ codes "orders" ∷ codes "builds" ∷ codes "find"
     ∷ codes "shortages" ∷ codes "trace-forward" ∷ codes "trace-back" ∷ codes "count-sheet" ∷ codes "receipt-sheet"
-    ∷ codes "history" ∷ []
+    ∷ codes "history" ∷ codes "low" ∷ []
 
 -- receipts, counts, and each command but those two's
 abbrev pub kind_names : List Text
@@ -212,9 +212,9 @@ list_rule names = among names.at (word_rule (codes "list"))
 abbrev pub show_line : Listing list_names → App
 show_line names =
     with_rule
-    (with_rule (with_rule (with_rule (with_rule (with_rule (with_rule (with_place (new_app (codes "show")))
-    (flag_rule (codes "csv"))) (flag_rule (codes "open"))) (optional_rule (codes "low"))) (optional_rule (codes "from")))
-    (optional_rule (codes "to"))) (list_rule names)) (optional_word_rule (codes "of"))
+    (with_rule (with_rule (with_rule (with_rule (with_rule (with_rule (with_rule (with_place (new_app (codes "show")))
+    (flag_rule (codes "csv"))) (flag_rule (codes "open"))) (optional_rule (codes "low"))) (optional_rule (codes "levels")))
+    (optional_rule (codes "from"))) (optional_rule (codes "to"))) (list_rule names)) (optional_word_rule (codes "of"))
 
 abbrev pub migrate_line : App
 migrate_line = with_rule (new_app (codes "migrate")) (needed file_rule)
@@ -323,8 +323,8 @@ abbrev pub subject_of : ReportOf → Subject
 subject_of (Number number) = numbered number
 subject_of (Word word) = worded word.now
 
--- a task of a desk: a run, with the file if one is named; a report of a row; a table; all tables; that a file is
--- brought along; the rows at a path; the lines that a file of a command at a path is, or that these be printed, which
+-- a task of a desk: a run, with the file if one is named; a report of a row; a table; all tables; a list; the list of what has
+-- less free than the file at a path says; that a file is brought along; the rows at a path; the lines that a file of a command at a path is, or that these be printed, which
 -- needs no desk; so many connections to a port, or any number, with the file of a token if one is named; help on a
 -- topic, which needs none either. The last words of an import are whether rows may be named, how the file is read,
 -- and whether a person is told why a row isn't done; those of a file of a command whether it ends at the first
@@ -339,6 +339,7 @@ pub data DeskTask : Type 0 where
   export : Text → TableName → DeskTask
   dump : Text → DeskTask
   show : Text → Listed → Bool → DeskTask
+  low : Text → Text → Bool → DeskTask
   migrate : Text → DeskTask
   import : Text → ImportKind → Text → CivilDay → Text → Bool → FileReading → Bool → DeskTask
   sheet : Text → sheets.Sheet → Text → Bool → Bool → DeskTask
@@ -468,6 +469,28 @@ show_in rows = do
       (first_of (codes "to") rows)
   Some (show file listed (csv_in rows))
 
+-- something is said of a list beside its name and a file of levels
+abbrev pub has_list_words : List Row → Bool
+has_list_words rows =
+    is_some (first_of (codes "of") rows) || is_some (first_of (codes "low") rows) || open_in rows
+    || is_some (first_of (codes "from") rows) || is_some (first_of (codes "to") rows)
+
+-- whether a file of levels is named
+abbrev pub has_levels : List Row → Bool
+has_levels rows = is_some (first_of (codes "levels") rows)
+
+-- the list of what has less free than its level, with which the file of levels goes, and nothing else
+unfoldable pub low_list_in : List Row → Option DeskTask
+low_list_in rows = do
+  file ← first_of (codes "db") rows
+  name ← first_of (codes "list") rows
+  levels ← first_of (codes "levels") rows
+  if not (bytes_eq name (codes "low")) || has_list_words rows then None else Some (low file levels (csv_in rows))
+
+-- a list, by whether a file of levels is named
+abbrev pub shown_in : List Row → Option DeskTask
+shown_in rows = if has_levels rows then low_list_in rows else show_in rows
+
 unfoldable pub dump_in : List Row → Option DeskTask
 dump_in rows = option_map dump (first_of (codes "db") rows)
 
@@ -571,13 +594,13 @@ abbrev pub is_empty_word : Option Text → Bool
 is_empty_word None = false
 is_empty_word (Some word) = length word == 0
 
--- no list by days, and none of a word that has no byte
+-- no list by days, none of a file of levels, and none of a word that has no byte
 unfoldable pub show_asked : List Row → Option Asking
 show_asked rows = do
   name ← first_of (codes "list") rows
   low ← low_in (first_of (codes "low") rows)
   if not (is_some (list_by name (first_of (codes "of") rows) low (open_in rows)))
-      || (is_some (first_of (codes "from") rows) || is_some (first_of (codes "to") rows))
+      || (is_some (first_of (codes "from") rows) || is_some (first_of (codes "to") rows) || has_levels rows)
       || is_empty_word (first_of (codes "of") rows) then None
       else Some (ats.show name (first_of (codes "of") rows) low (open_in rows) (csv_in rows))
 
@@ -607,7 +630,7 @@ desk_task_met (Some met) =
     if bytes_eq met.0 (codes "report") then placed met.1 (report_in met.1) (report_asked met.1)
     else if bytes_eq met.0 (codes "export") then placed met.1 (export_in met.1) (table_asked met.1)
     else if bytes_eq met.0 (codes "dump") then placed met.1 (dump_in met.1) (Some ats.dump)
-    else if bytes_eq met.0 (codes "show") then placed met.1 (show_in met.1) (show_asked met.1)
+    else if bytes_eq met.0 (codes "show") then placed met.1 (shown_in met.1) (show_asked met.1)
     else if bytes_eq met.0 (codes "migrate") then migrate_in met.1
     else if bytes_eq met.0 (codes "import") then placed met.1 (import_in met.1) (file_asked met.1)
     else if bytes_eq met.0 (codes "lines") then lines_in met.1
@@ -628,6 +651,7 @@ desk_task_of (Report file name of) = Some (report file.now name (subject_of of))
 desk_task_of (Export file table) = Some (export file.now table)
 desk_task_of (Dump file) = Some (dump file.now)
 desk_task_of (Show file list csv) = Some (show file.now (listed_of list) csv)
+desk_task_of (Low file levels csv) = Some (low file.now levels.now csv)
 desk_task_of (Migrate file) = Some (migrate file.now)
 desk_task_of (Import file kind document day path names reading explain) =
     Some (import file.now kind document day path.now names reading explain)
@@ -652,6 +676,7 @@ file_of (Report file name of) = Some file
 file_of (Export file table) = Some file
 file_of (Dump file) = Some file
 file_of (Show file list csv) = Some file
+file_of (Low file levels csv) = Some file
 file_of (Migrate file) = Some file
 file_of (Import file kind document day path names reading explain) = Some file
 file_of (Sheet file told path stop explain) = Some file
@@ -671,6 +696,7 @@ Tells desk_task (Report file name of) = desk_task ≡ desk_task_of (Report file 
 Tells desk_task (Export file table) = desk_task ≡ desk_task_of (Export file table)
 Tells desk_task (Dump file) = desk_task ≡ desk_task_of (Dump file)
 Tells desk_task (Show file list csv) = desk_task ≡ desk_task_of (Show file list csv)
+Tells desk_task (Low file levels csv) = desk_task ≡ desk_task_of (Low file levels csv)
 Tells desk_task (Migrate file) = desk_task ≡ desk_task_of (Migrate file)
 Tells desk_task (Import file kind document day path names reading explain) = desk_task ≡ desk_task_of
     (Import file kind document day path names reading explain)
@@ -706,6 +732,8 @@ AnswersAt places words (Dump file) =
     (faults places words ≡ []) × (desk_task places words ≡ desk_task_of (Dump file))
 AnswersAt places words (Show file list csv) =
     (faults places words ≡ []) × (desk_task places words ≡ desk_task_of (Show file list csv))
+AnswersAt places words (Low file levels csv) =
+    (faults places words ≡ []) × (desk_task places words ≡ desk_task_of (Low file levels csv))
 AnswersAt places words (Migrate file) =
     (faults places words ≡ []) × (desk_task places words ≡ desk_task_of (Migrate file))
 AnswersAt places words (Import file kind document day path names reading explain) =
@@ -739,6 +767,7 @@ Runs (Report file name of) = ⊥
 Runs (Export file table) = ⊥
 Runs (Dump file) = ⊥
 Runs (Show file list csv) = ⊥
+Runs (Low file levels csv) = ⊥
 Runs (Migrate file) = ⊥
 Runs (Import file kind document day path names reading explain) = ⊥
 Runs (Sheet file told path stop explain) = ⊥
@@ -761,6 +790,7 @@ RunsOn path (Report file name of) = ⊥
 RunsOn path (Export file table) = ⊥
 RunsOn path (Dump file) = ⊥
 RunsOn path (Show file list csv) = ⊥
+RunsOn path (Low file levels csv) = ⊥
 RunsOn path (Migrate file) = ⊥
 RunsOn path (Import file kind document day from names reading explain) = ⊥
 RunsOn path (Sheet file told from stop explain) = ⊥
@@ -780,6 +810,7 @@ HelpsBy kind (Report file name of) = ⊥
 HelpsBy kind (Export file table) = ⊥
 HelpsBy kind (Dump file) = ⊥
 HelpsBy kind (Show file list csv) = ⊥
+HelpsBy kind (Low file levels csv) = ⊥
 HelpsBy kind (Migrate file) = ⊥
 HelpsBy kind (Import file of document day path names reading explain) = ⊥
 HelpsBy kind (Sheet file told path stop explain) = ⊥

@@ -8,8 +8,8 @@ ghost use Rattle.desk_cli.specs.Words.{lines_asked, number_up_to, report_asked, 
 ghost use Rattle.desk_cli.specs.Words.{show_asked, table_asked, AsksFor};
 
 use crate::words::{
-    Task, given, has_flag, has_sheet_words, import_day, import_document, import_kind, low_amount,
-    number_up_to,
+    Task, given, has_flag, has_levels, has_sheet_words, import_day, import_document, import_kind,
+    low_amount, number_up_to,
 };
 use clap::ArgMatches;
 use desk_ends::list_called;
@@ -155,8 +155,10 @@ pub fn show_asked<'a>(matches: &ArgMatches<'a>) -> Option<Asked<'a>>
     let low = low_amount(given(matches, "low"))?;
     let of = given(matches, "of");
     let only_open = has_flag(matches, "open");
-    let days = given(matches, "from").is_some() || given(matches, "to").is_some();
-    if !is_list(list, of, low, only_open) || days || is_empty_word(of) {
+    let own = given(matches, "from").is_some()
+        || given(matches, "to").is_some()
+        || has_levels(matches);
+    if !is_list(list, of, low, only_open) || own || is_empty_word(of) {
         return None;
     }
     Some(Asked::Show {

@@ -43,7 +43,7 @@ pub fn early_status(task: &Task<'_>) -> Option<u8>
 {
     match task {
         Task::Run { .. } | Task::Report { .. } | Task::Export(..) | Task::Show { .. } => None,
-        Task::Migrate(_) | Task::Import { .. } | Task::Serve { .. } => None,
+        Task::Low { .. } | Task::Migrate(_) | Task::Import { .. } | Task::Serve { .. } => None,
         Task::Dump(_) | Task::Sheet { .. } | Task::Lines { .. } | Task::At { .. } => None,
         Task::Guide(_) | Task::Help(_) => Some(0),
         Task::Wrong(_) | Task::Unreadable => Some(WRONG_WORDS),

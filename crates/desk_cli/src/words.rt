@@ -17,6 +17,7 @@ ghost use Rattle.desk_cli.specs.Words.{IsReportLine, IsExportLine, IsImportLine,
 ghost use Rattle.desk_cli.specs.Words.{has_sheet_words, lines_in, repeated_rule, rows_import_in, sheet_import_in};
 ghost use Rattle.part_core.specs.Forms.{shown};
 ghost use Rattle.desk_cli.specs.Words.{IsListRule, IsReportRule, IsShowLine, optional_word_rule, show_in};
+ghost use Rattle.desk_cli.specs.Words.{has_levels, has_list_words, low_list_in, shown_in};
 ghost use Rattle.desk_cli.specs.Words.{guide_in, IsHelpLine, IsTopicRule};
 ghost use Rattle.desk_cli.specs.Words.{day_in, days_in, history_by, listed_by, low_in};
 ghost use Rattle.desk_ends.specs.Lists.{listed_of};
@@ -97,6 +98,13 @@ pub enum Task<'a> {
         list: ListOf<'a>,
         csv: bool,
     },
+    /// The list of what has less free than its level is printed of the desk in the file, in columns or as comma-separated
+    /// values. Which level each part has is said by the file at the path `levels`.
+    Low {
+        file: &'a str,
+        levels: &'a str,
+        csv: bool,
+    },
     /// The file, if an earlier program wrote it, is brought along.
     Migrate(&'a str),
     /// The rows of the file at the path, which is read in this way, are run by the desk in the file. Where `explain` is set,
@@ -165,7 +173,9 @@ impl<'a> Task<'a> {
             Task::Run { file, .. } | Task::Serve { file, .. } => *file,
             Task::Migrate(file) | Task::Export(file, _) | Task::Dump(file) => Some(*file),
             Task::Report { file, .. } | Task::Import { file, .. } => Some(*file),
-            Task::Show { file, .. } | Task::Sheet { file, .. } => Some(*file),
+            Task::Show { file, .. } | Task::Low { file, .. } | Task::Sheet { file, .. } => {
+                Some(*file)
+            }
             _ => None,
         }
     }
@@ -186,6 +196,7 @@ const DUMP_EXAMPLE: &str = "Example: invdesk dump --db workshop.db > workshop.sq
 
 const SHOW_EXAMPLE: &str = "Examples:
   invdesk show --db workshop.db stock --low 20
+  invdesk show --db workshop.db low --levels levels.csv
   invdesk show --db workshop.db at Store
   invdesk show --db workshop.db trace-forward L22
   invdesk show --db workshop.db --csv count-sheet > sheet.csv
@@ -235,7 +246,7 @@ const TABLES: [&str; 14] = [
 ];
 
 /// The names of the lists.
-const LISTS: [&str; 13] = [
+const LISTS: [&str; 14] = [
     "stock",
     "at",
     "part",
@@ -249,6 +260,7 @@ const LISTS: [&str; 13] = [
     "count-sheet",
     "receipt-sheet",
     "history",
+    "low",
 ];
 
 /// The names of the kinds of files: receipts, counts, and each command but those two's.
@@ -624,6 +636,9 @@ fn show_command<'a>(alloc: Global) -> Result<Command<'a>, AllocError>
     ensures { IfOk result (λ command. IsShowLine (app_of command)) }
 {
     let low = optional(alloc, "low", "N").help("Of stock: those parts of which less is free");
+    let levels = optional(alloc, "levels", "FILE").help(
+        "Of low: comma-separated values of columns part and level; those parts are listed of which less is free",
+    );
     let from = optional(alloc, "from", "DAY").help("Of history: from this day on, YYYY-MM-DD");
     let to = optional(alloc, "to", "DAY").help("Of history: up to this day, and with it");
     let of = optional_word(alloc, "of", "WORD").help(
@@ -637,6 +652,7 @@ fn show_command<'a>(alloc: Global) -> Result<Command<'a>, AllocError>
         .arg(flag(alloc, "csv", "As comma-separated values, for a spreadsheet"))?
         .arg(flag(alloc, "open", "Of orders and builds: the open ones alone"))?
         .arg(low)?
+        .arg(levels)?
         .arg(from)?
         .arg(to)?
         .arg(list_word(alloc))?
@@ -1084,6 +1100,52 @@ fn show_task<'a>(matches: &ArgMatches<'a>) -> Option<Task<'a>>
     })
 }
 
+/// Whether something is said of a list beside its name and a file of levels.
+fn has_list_words(matches: &ArgMatches<'_>) -> bool
+    ensures { result ≡ has_list_words (rows_in matches.now) }
+{
+    given(matches, "of").is_some()
+        || given(matches, "low").is_some()
+        || has_flag(matches, "open")
+        || given(matches, "from").is_some()
+        || given(matches, "to").is_some()
+}
+
+/// Whether a file of levels is named.
+pub fn has_levels(matches: &ArgMatches<'_>) -> bool
+    ensures { result ≡ has_levels (rows_in matches.now) }
+{
+    given(matches, "levels").is_some()
+}
+
+/// The list of what has less free than its level, if the words name it with the file of levels, and nothing else goes with it.
+#[tactic(auto, unfolding(crate::specs::Words::low_list_in))]
+fn low_task<'a>(matches: &ArgMatches<'a>) -> Option<Task<'a>>
+    ensures { AsksFor (low_list_in (rows_in matches.now)) result }
+{
+    let file = given(matches, "db")?;
+    let name = given(matches, "list")?;
+    let levels = given(matches, "levels")?;
+    if name != "low" || has_list_words(matches) {
+        return None;
+    }
+    Some(Task::Low {
+        file,
+        levels,
+        csv: has_flag(matches, "csv"),
+    })
+}
+
+/// The list that is asked for, by whether a file of levels is named.
+fn shown_task<'a>(matches: &ArgMatches<'a>) -> Option<Task<'a>>
+    ensures { AsksFor (shown_in (rows_in matches.now)) result }
+{
+    if has_levels(matches) {
+        return low_task(matches);
+    }
+    show_task(matches)
+}
+
 /// The migration that is asked for, if the words name a file.
 #[tactic(auto, unfolding(crate::specs::Words::migrate_in))]
 fn migrate_task<'a>(matches: &ArgMatches<'a>) -> Option<Task<'a>>
@@ -1274,13 +1336,13 @@ fn dump_words<'a>(matches: &ArgMatches<'a>) -> Option<Task<'a>>
 
 /// The list that is asked for, of a desk or a service.
 fn show_words<'a>(matches: &ArgMatches<'a>) -> Option<Task<'a>>
-    ensures { AsksFor (placed (rows_in matches.now) (show_in (rows_in matches.now))
+    ensures { AsksFor (placed (rows_in matches.now) (shown_in (rows_in matches.now))
         (show_asked (rows_in matches.now))) result }
 {
     if is_at(matches) {
         return at_task(matches, show_asked(matches));
     }
-    show_task(matches)
+    shown_task(matches)
 }
 
 /// The import that is asked for, by a desk or a service.
@@ -1384,7 +1446,7 @@ fn serve_wants(matches: &ArgMatches<'_>) -> &'static str {
 
 /// What goes with which list.
 const SHOW_WANTS: &str =
-    "stock takes --low N, where N has 1 to 19 digits; orders and builds take --open; history takes --from DAY and \
+    "stock takes --low N, where N has 1 to 19 digits; low takes --levels FILE; orders and builds take --open; history takes --from DAY and \
     --to DAY, where DAY is YYYY-MM-DD of the years 2000 to 2099; at, part, item, find, trace-forward and trace-back take a \
     word, count-sheet, receipt-sheet and history may take one, and no other list does";
 
@@ -1392,7 +1454,7 @@ const SHOW_WANTS: &str =
 const AT_WANTS: &str =
     "PORT is 1 to 65535; --at stands in the place of --db, and --token goes with it; neither --names nor --journal do, since \
     they are said when the service is started, nor --explain, --unchanged, --set and --column, nor the --stop of a file, the \
-    --csv of a report and show history; a report is of a number then, which has 1 to 19 digits";
+    --csv of a report, show history and show low; a report is of a number then, which has 1 to 19 digits";
 
 /// What is to be said, where neither a file nor a port is.
 const PLACE_WANTS: &str = "--db FILE says where the books are, or --at PORT";
@@ -1407,7 +1469,8 @@ fn ask_as_of_file(name: &str, matches: &ArgMatches<'_>) -> bool {
     match name {
         "import" => !has_sheet_words(matches) && !has_flag(matches, "unchanged"),
         "show" => {
-            !matches!(given(matches, "list"), Some("history"))
+            !matches!(given(matches, "list"), Some("history" | "low"))
+                && !has_levels(matches)
                 && given(matches, "from").is_none()
                 && given(matches, "to").is_none()
         }

@@ -5,4 +5,5 @@ pub mod Named
 pub mod Escaped
 pub mod Cut
 pub mod Lists
+pub mod LowLevels
 pub mod WordRows

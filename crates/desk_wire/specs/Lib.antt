@@ -22,6 +22,7 @@ pub mod RowCommands
 pub mod NumberedRequests
 pub mod ImportRows
 pub mod Layouts
+pub mod Levels
 pub mod Sheets
 pub mod SheetViews
 pub mod SheetForms

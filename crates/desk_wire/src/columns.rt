@@ -21,7 +21,7 @@ use desk_core::Shop;
 use std::alloc::{AllocError, Global};
 
 /// What may stand between two fields, in the order in which they are tried.
-const SEPARATORS: [u8; 3] = [b',', b';', b'\t'];
+pub const SEPARATORS: [u8; 3] = [b',', b';', b'\t'];
 
 /// The columns that a header names.
 #[derive(Drop)]

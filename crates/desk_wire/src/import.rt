@@ -28,10 +28,10 @@ use part_core::Day;
 use std::alloc::Global;
 
 /// How many bytes a file may have.
-const MOST_BYTES: usize = 16_777_216;
+pub const MOST_BYTES: usize = 16_777_216;
 
 /// The file has too many bytes.
-fn too_long() -> FileError
+pub fn too_long() -> FileError
     ensures { result ≡ Wrong (record { line = 0; what = TooLong }) None }
 {
     FileError::Wrong(
@@ -44,7 +44,7 @@ fn too_long() -> FileError
 }
 
 /// The file has no header.
-fn no_header() -> FileError
+pub fn no_header() -> FileError
     ensures { result ≡ Wrong (record { line = 1; what = Header }) None }
 {
     FileError::Wrong(

@@ -60,6 +60,7 @@ mod import;
 mod json_fault;
 mod kind;
 mod layout;
+mod levels;
 mod line_faults;
 mod members;
 mod number;
@@ -92,6 +93,7 @@ pub use import::{
 };
 pub use json_fault::json_stop;
 pub use kind::{FileReading, ImportKind, import_kind_named};
+pub use levels::{LevelRow, read_levels};
 pub use line_faults::wrong_field;
 pub use number::number_in;
 pub use read::{Wish, lines_are_commands, names_change_little, read_line, read_request, table_of};

@@ -18,6 +18,7 @@ ghost use Rattle.desk_wire.specs.Steps.{Fails, FailsIn};
 
 use crate::document::Document;
 use crate::fault::{ReadError, Unread, What, WireFault};
+use crate::import::MOST_BYTES;
 use crate::quotes::open_record;
 use crate::records::{next_record, records_of};
 use crate::sheet_columns::{FieldPlace, HeaderPlaces, Said, cell, layout_of};
@@ -26,9 +27,6 @@ use csv::{Reader, StringRecord};
 use part_core::{Day, Form};
 use serde_json::{Map, Value, put};
 use std::alloc::{AllocError, Global};
-
-/// How many bytes a file may have.
-const MOST_BYTES: usize = 16_777_216;
 
 /// What is told beside a file.
 #[derive(Drop)]
@@ -152,7 +150,7 @@ fn line_text(
 }
 
 /// Whether no quote in the record at that place is open where the file ends: the one in which one is may be told.
-fn is_closed(unclosed: Option<u64>, place: u64) -> bool
+pub fn is_closed(unclosed: Option<u64>, place: u64) -> bool
     ensures { result ≡ is_closed unclosed place }
 {
     match unclosed {

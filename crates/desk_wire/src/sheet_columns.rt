@@ -13,15 +13,13 @@ ghost use Rattle.desk_wire.specs.SheetViews.{shown_columns, shown_fields, shown_
 ghost use Rattle.desk_wire.specs.SheetViews.{shown_said, shown_sayings};
 ghost use Rattle.std.specs.List.{list_all};
 
+use crate::columns::SEPARATORS;
 use crate::fault::Unread;
 use crate::records::{next_record, records_of};
 use crate::row::field;
 use csv::StringRecord;
 use part_core::{FieldKind, Form};
 use std::alloc::{AllocError, Global};
-
-/// What may stand between two fields, in the order in which they are tried.
-const SEPARATORS: [u8; 3] = [b',', b';', b'\t'];
 
 /// What is said of a member of a line.
 #[derive(Clone, Copy, Debug)]
@@ -88,7 +86,7 @@ pub fn may_lack(kind: FieldKind) -> bool
 }
 
 /// The column of that name, if there is one; none at all where two columns have the name.
-fn column_headed(name: &str, header: &StringRecord) -> Option<Option<usize>>
+pub fn column_headed(name: &str, header: &StringRecord) -> Option<Option<usize>>
     ensures { result ≡ column_headed name.now (fields_of header.now) }
 {
     let mut column = None;

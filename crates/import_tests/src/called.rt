@@ -25,7 +25,7 @@ const SHOP: [&str; 10] = [
 ];
 
 /// The shop of these lines: locations 1 to 4, parts 5 and 6, order 7 with line 8, and items 9 to 11.
-fn shop(alloc: Global) -> Result<Shop, Fail> {
+pub fn shop(alloc: Global) -> Result<Shop, Fail> {
     let mut requests = Vec::new(alloc);
     for line in SHOP {
         let request = read_request::<Shop>(alloc, None, line.as_bytes(), 1).map_err(

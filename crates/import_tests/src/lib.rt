@@ -7,6 +7,8 @@ mod called;
 #[cfg(test)]
 mod faults;
 #[cfg(test)]
+mod levels;
+#[cfg(test)]
 mod loose;
 #[cfg(test)]
 mod names;

@@ -118,7 +118,7 @@ pub fn show(
 }
 
 /// The fault, with the field that can't be read, if it is one.
-fn show_field(
+pub fn show_field(
     alloc: Global,
     fault: &WireFault,
     field: &Option<WrongField>,

@@ -9,15 +9,23 @@ use Rattle.desk_core.specs.Machine.{State}
 use Rattle.desk_store.specs.Exports.{AppendsFront}
 use Rattle.list_core.specs.Listings.{listing_lines}
 use Rattle.report_core.specs.Reports.{report_lines}
+use Rattle.list_core.specs.LowList.{low_list}
 use Rattle.list_core.specs.declared.listing.Listing.{Listing}
+use Rattle.list_core.specs.declared.low_list.Level.{Level}
 use Rattle.report_core.specs.declared.name.ReportName.{ReportName}
 use Rattle.report_core.specs.declared.name.ReportName.TheVariants.{Ledger, Stock, WhereUsed, History, Content, Shortage}
+use Rattle.desk_wire.specs.Imports.{Wrong}
+use Rattle.desk_wire.specs.Levels.{Fault}
+use Rattle.desk_wire.specs.Writing.{fault_text}
 use Rattle.desk_wire.specs.declared.fault.What.{What}
+use Rattle.desk_wire.specs.declared.fault.WireFault.{WireFault}
 use Rattle.desk_ends.specs.Printed.{IsPrinted, migrated_text, printed}
 use Rattle.desk_ends.specs.Lists.{told_list}
+use Rattle.desk_ends.specs.LowLevels.{low_by}
 use Rattle.desk_ends.specs.declared.end.RunEnd.{RunEnd}
 use Rattle.desk_ends.specs.declared.end.RunEnd.TheVariants.{Done, ReadFailed, WriteFailed, Memory, Store}
 use Rattle.desk_ends.specs.declared.list_of.ListOf.{ListOf}
+use Rattle.desk_cli.specs.LowLists.{told_low}
 use Rattle.desk_cli.specs.declared.words.ReportOf.{ReportOf}
 use Rattle.desk_cli.specs.declared.words.Task.{Task}
 use Rattle.desk_cli.specs.declared.words.Task.TheVariants as task
@@ -161,27 +169,52 @@ pub list_closed : (csv person : Bool) (most : Option ℕ) (asked : Result Listin
 list_closed csv person most (Ok listing) s w = Keeps-refl w
 list_closed csv person most (Err what) s w = Keeps-refl w
 
--- of a task that isn't one of the five nothing is printed
+-- ---- the list of what has less free than its level
+
+-- the file says these levels
+pub low_found : (csv person : Bool) (most : Option ℕ) (read : Result (List Level) Fault) (levels : List Level) (s : State)
+    (w w' : Option (List ℕ)) (end : RunEnd) → read ≡ Ok levels
+    → PrintsText (told_list csv person most (low_list levels s)) w w' end
+    → PrintsText (told_low csv person most (low_by read s)) w w' end
+low_found csv person most read levels s w w' end found h =
+    subst (λ r. PrintsText (told_low csv person most (low_by r s)) w w' end) (sym found) h
+
+-- ... or it has this fault, whose line was printed
+pub low_faulty : (csv person : Bool) (most : Option ℕ) (read : Result (List Level) Fault) (what : WireFault)
+    (field : Option Wrong) (s : State) (w w' : Option (List ℕ)) (end : RunEnd) → read ≡ Err (what, field)
+    → ((fine : Bool) → end ≡ Done fine → (fine ≡ false) × Appends w w' (fault_text what))
+    → (end ≡ WriteFailed → AppendsFront w w' (fault_text what))
+    → (end ≡ Memory → Keeps w w')
+    → end ≢ ReadFailed → end ≢ Store
+    → PrintsText (told_low csv person most (low_by read s)) w w' end
+low_faulty csv person most read what field s w w' end found whole front nothing never_read never_stored =
+    subst (λ r. PrintsText (told_low csv person most (low_by r s)) w w' end) (sym found)
+    (prints_text (fault_text what, false) w w' end whole front
+    (λ h. elim h [ inl e ↦ nothing e | inr e ↦ absurd (never_stored e) ]) never_read)
+
+-- of a task that isn't one of the six nothing is printed
 pub prints_nothing : (it : Task) (s : State) (w : Option (List ℕ))
     → ((file : Bor (List ℕ)) (name : ReportName) (of : ReportOf) → it ≡ task.Report file name of → ⊥)
     → ((file : Bor (List ℕ)) (table : TableName) → it ≡ task.Export file table → ⊥)
     → ((file : Bor (List ℕ)) → it ≡ task.Dump file → ⊥)
     → ((file : Bor (List ℕ)) (list : ListOf) (csv : Bool) → it ≡ task.Show file list csv → ⊥)
+    → ((file levels : Bor (List ℕ)) (csv : Bool) → it ≡ task.Low file levels csv → ⊥)
     → ((file : Bor (List ℕ)) → it ≡ task.Migrate file → ⊥)
     → Prints it s w w (Done true)
-prints_nothing (task.Report file name of) s w report export dump show migrate = absurd (report file name of refl)
-prints_nothing (task.Export file table) s w report export dump show migrate = absurd (export file table refl)
-prints_nothing (task.Dump file) s w report export dump show migrate = absurd (dump file refl)
-prints_nothing (task.Show file list csv) s w report export dump show migrate = absurd (show file list csv refl)
-prints_nothing (task.Migrate file) s w report export dump show migrate = absurd (migrate file refl)
-prints_nothing (task.Run file names stop check explain journal) s w report export dump show migrate = (refl, Keeps-refl w)
-prints_nothing (task.Import file kind document day path names reading explain) s w report export dump show migrate = (refl, Keeps-refl w)
-prints_nothing (task.Sheet file told path stop explain) s w report export dump show migrate = (refl, Keeps-refl w)
-prints_nothing (task.Lines told path) s w report export dump show migrate = (refl, Keeps-refl w)
-prints_nothing (task.Serve file port count token names page journal) s w report export dump show migrate = (refl, Keeps-refl w)
-prints_nothing (task.Guide topic) s w report export dump show migrate = (refl, Keeps-refl w)
-prints_nothing (task.At port token asked) s w report export dump show migrate = (refl, Keeps-refl w)
-prints_nothing (task.Help e) s w report export dump show migrate = (refl, Keeps-refl w)
-prints_nothing (task.Wrong e) s w report export dump show migrate = (refl, Keeps-refl w)
-prints_nothing task.Unreadable s w report export dump show migrate = (refl, Keeps-refl w)
-prints_nothing task.Memory s w report export dump show migrate = (refl, Keeps-refl w)
+prints_nothing (task.Report file name of) s w report export dump show low migrate = absurd (report file name of refl)
+prints_nothing (task.Export file table) s w report export dump show low migrate = absurd (export file table refl)
+prints_nothing (task.Dump file) s w report export dump show low migrate = absurd (dump file refl)
+prints_nothing (task.Show file list csv) s w report export dump show low migrate = absurd (show file list csv refl)
+prints_nothing (task.Low file levels csv) s w report export dump show low migrate = absurd (low file levels csv refl)
+prints_nothing (task.Migrate file) s w report export dump show low migrate = absurd (migrate file refl)
+prints_nothing (task.Run file names stop check explain journal) s w report export dump show low migrate = (refl, Keeps-refl w)
+prints_nothing (task.Import file kind document day path names reading explain) s w report export dump show low migrate = (refl, Keeps-refl w)
+prints_nothing (task.Sheet file told path stop explain) s w report export dump show low migrate = (refl, Keeps-refl w)
+prints_nothing (task.Lines told path) s w report export dump show low migrate = (refl, Keeps-refl w)
+prints_nothing (task.Serve file port count token names page journal) s w report export dump show low migrate = (refl, Keeps-refl w)
+prints_nothing (task.Guide topic) s w report export dump show low migrate = (refl, Keeps-refl w)
+prints_nothing (task.At port token asked) s w report export dump show low migrate = (refl, Keeps-refl w)
+prints_nothing (task.Help e) s w report export dump show low migrate = (refl, Keeps-refl w)
+prints_nothing (task.Wrong e) s w report export dump show low migrate = (refl, Keeps-refl w)
+prints_nothing task.Unreadable s w report export dump show low migrate = (refl, Keeps-refl w)
+prints_nothing task.Memory s w report export dump show low migrate = (refl, Keeps-refl w)

@@ -45,6 +45,7 @@ does_printing g (task.Report file name of) desk end run serve import sheet print
 does_printing g (task.Export file table) desk end run serve import sheet prints = (refl, prints)
 does_printing g (task.Dump file) desk end run serve import sheet prints = (refl, prints)
 does_printing g (task.Show file list csv) desk end run serve import sheet prints = (refl, prints)
+does_printing g (task.Low file levels csv) desk end run serve import sheet prints = (refl, prints)
 does_printing g (task.Migrate file) desk end run serve import sheet prints = (refl, prints)
 does_printing g (task.Lines told path) desk end run serve import sheet prints = (refl, prints)
 does_printing g (task.Guide topic) desk end run serve import sheet prints = (refl, prints)

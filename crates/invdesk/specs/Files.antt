@@ -84,6 +84,7 @@ IsLook (task.Report file name of) = Unit {0}
 IsLook (task.Export file table) = Unit {0}
 IsLook (task.Dump file) = Unit {0}
 IsLook (task.Show file list csv) = Unit {0}
+IsLook (task.Low file levels csv) = Unit {0}
 IsLook _ = ⊥
 
 -- whether a look finds a database where this was found; it may have to be there
@@ -108,6 +109,7 @@ is_to_be_opened (task.Report file name of) found = finds_database found false
 is_to_be_opened (task.Export file table) found = finds_database found false
 is_to_be_opened (task.Dump file) found = finds_database found true
 is_to_be_opened (task.Show file list csv) found = finds_database found true
+is_to_be_opened (task.Low file levels csv) found = finds_database found true
 is_to_be_opened (task.Migrate file) found = can_be_migrated found
 is_to_be_opened it found = Ok true
 

@@ -1,22 +1,27 @@
 -- What is printed of a desk.
-use Rattle.std.specs.Prelude.{◌≡◌, ℕ, List, Bool, true, false, Option, None, Result, Ok, Err}
+use Rattle.std.specs.Prelude.{◌≡◌, ◌⊎◌, ℕ, List, Bool, true, false, Option, None, Result, Ok, Err}
 use Rattle.std.specs.Io.KnownBytes.{Appends, Keeps}
 use Rattle.desk_core.specs.Machine.{State}
 use Rattle.desk_store.specs.Dumps.{dump_text}
 use Rattle.desk_store.specs.Exports.{AppendsFront, table_text}
 use Rattle.list_core.specs.Listings.{listing_lines}
+use Rattle.report_core.specs.Lines.{Lines}
 use Rattle.report_core.specs.Reports.{report_lines}
 use Rattle.list_core.specs.declared.listing.Listing.{Listing}
 use Rattle.report_core.specs.declared.name.ReportName.{ReportName}
 use Rattle.report_core.specs.declared.name.ReportName.TheVariants.{History}
+use Rattle.desk_wire.specs.Levels.{Fault}
 use Rattle.desk_wire.specs.declared.fault.What.{What}
 use Rattle.desk_ends.specs.Printed.{migrated_text, printed}
 use Rattle.desk_ends.specs.Lists.{listing_by, told_list}
+use Rattle.desk_ends.specs.LowLevels.{low_lines}
+use Rattle.desk_cli.specs.LowLists.{told_low}
 use Rattle.desk_cli.specs.Subjects.{row_of_report}
 use Rattle.desk_ends.specs.declared.end.RunEnd.{RunEnd}
 use Rattle.desk_ends.specs.declared.end.RunEnd.TheVariants.{Done, ReadFailed, WriteFailed, Memory, Store}
 use Rattle.desk_cli.specs.declared.words.Task.{Task}
 use Rattle.desk_cli.specs.declared.words.Task.TheVariants as task
+use Rattle.invdesk.specs.Rows.{IsOfFile}
 
 -- this text was printed whole, and the end tells whether it is what was asked for; or a front of it, where the writer
 -- failed; or nothing
@@ -59,12 +64,21 @@ PrintsList csv person most (Err what) s w w' end = PrintsNone w w' end
 abbrev pub PrintsListOut : Bool → Result Listing What → State → Option (List ℕ) → Option (List ℕ) → RunEnd → Type 0
 PrintsListOut csv listing s w w' end = (person : Bool) × (most : Option ℕ) × PrintsList csv person most listing s w w' end
 
+-- the list of what has less free than a file of levels says was printed, or the file's fault; or the file couldn't be read.
+-- Which bytes it has is known to no clause, so some bytes
+abbrev pub PrintsLow : Bool → State → Option (List ℕ) → Option (List ℕ) → RunEnd → Type 0
+PrintsLow csv s w w' end =
+    (IsOfFile end × Keeps w w')
+    ⊎ ((bytes : List ℕ) × (person : Bool) × (most : Option ℕ)
+    × PrintsText (told_low csv person most (low_lines bytes s)) w w' end)
+
 -- what the words ask for was printed of a desk in this state; of other tasks nothing is printed
 abbrev pub Prints : Task → State → Option (List ℕ) → Option (List ℕ) → RunEnd → Type 0
 Prints (task.Report file name of) s w w' end = PrintsOfRow name (row_of_report name of s) s w w' end
 Prints (task.Export file table) s w w' end = PrintsLines (table_text table s, true) w w' end
 Prints (task.Dump file) s w w' end = PrintsLines (dump_text s, true) w w' end
 Prints (task.Show file list csv) s w w' end = PrintsListOut csv (listing_by list s) s w w' end
+Prints (task.Low file levels csv) s w w' end = PrintsLow csv s w w' end
 Prints (task.Migrate file) s w w' end = PrintsText (migrated_text, true) w w' end
 Prints _ s w w' end = (end ≡ Done true) × Keeps w w'
 

@@ -4,6 +4,7 @@
 #![tactic(auto)]
 
 mod at;
+mod low;
 mod page;
 mod pipe;
 mod serve;
@@ -34,6 +35,7 @@ ghost use Rattle.invdesk.specs.Works.{AnswersOnDesk, ChecksOnDesk, Does, RunsOnD
 ghost use Rattle.invdesk.specs.Works.{may_leave};
 
 use crate::at::ask_at;
+use crate::low::print_low;
 use crate::pipe::{Output, end_of_print, is_of_a_reader};
 use crate::serve::{began, ends_at_fault, serve};
 use desk_app::{
@@ -400,6 +402,7 @@ fn print<S: Alter, W: Write>(
         Task::Export(_, table) => print_export(desk, *table, writer),
         Task::Dump(_) => print_dump(desk, writer),
         Task::Show { list, csv, .. } => print_list_out(rt, *list, *csv, desk, writer),
+        Task::Low { levels, csv, .. } => print_low(rt, levels, *csv, desk, writer),
         Task::Migrate(_) => print_migrated(writer),
         _ => RunEnd::Done(true),
     }
@@ -949,7 +952,7 @@ fn is_to_be_opened(task: &Task<'_>, found: Content) -> Result<bool, FileFault>
 {
     match task {
         Task::Report { .. } | Task::Export(..) => finds_database(found, false),
-        Task::Show { .. } | Task::Dump(_) => finds_database(found, true),
+        Task::Show { .. } | Task::Low { .. } | Task::Dump(_) => finds_database(found, true),
         Task::Migrate(_) => can_be_migrated(found),
         _ => Ok(true),
     }
@@ -973,7 +976,11 @@ fn look_at_none(rt: &HostRuntime, task: &Task<'_>) -> Result<RunEnd, FileFault>
 fn is_look(task: &Task<'_>) -> bool {
     matches!(
         task,
-        Task::Report { .. } | Task::Export(..) | Task::Dump(_) | Task::Show { .. }
+        Task::Report { .. }
+            | Task::Export(..)
+            | Task::Dump(_)
+            | Task::Show { .. }
+            | Task::Low { .. }
     )
 }
 

@@ -2,6 +2,7 @@ pub mod Adding
 pub mod BillTree
 pub mod Climbing
 pub mod Closing
+pub mod ComingTold
 pub mod Commas
 pub mod FactsLeft
 pub mod FreeKept

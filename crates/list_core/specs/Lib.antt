@@ -1,5 +1,6 @@
 pub mod Amounts
 pub mod BuildList
+pub mod Coming
 pub mod CountSheet
 pub mod Facts
 pub mod FindList
@@ -11,6 +12,7 @@ pub mod ItemList
 pub mod Lies
 pub mod Listings
 pub mod Lives
+pub mod LowList
 pub mod NamedReports
 pub mod NearNames
 pub mod OrderList

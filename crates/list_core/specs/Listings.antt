@@ -7,6 +7,7 @@ use Rattle.list_core.specs.CountSheet.{count_sheet}
 use Rattle.list_core.specs.FindList.{find_list}
 use Rattle.list_core.specs.HistoryList.{history_list, span_of}
 use Rattle.list_core.specs.ItemList.{item_list}
+use Rattle.list_core.specs.LowList.{low_list}
 use Rattle.report_core.specs.Lines.{Gives, Lines}
 use Rattle.list_core.specs.NamedReports.{named_report}
 use Rattle.list_core.specs.OrderList.{order_list}
@@ -37,6 +38,7 @@ listing_lines (listing.TraceBack item) s = trace_list Back s (item_roots item s)
 listing_lines (listing.CountSheet location) s = count_sheet location s
 listing_lines (listing.ReceiptSheet order) s = receipt_sheet order s
 listing_lines (listing.History of days) s = history_list of (span_of days) s
+listing_lines (listing.Low levels) s = low_list levels.now s
 listing_lines (listing.Report name number) s = named_report name number s
 
 -- what is told is the list's lines; or NoSuch where there is no such row; or it ran out of memory

@@ -4,6 +4,7 @@
 
 mod amounts;
 mod build_list;
+mod coming;
 mod command_facts;
 mod count_sheet;
 mod find_list;
@@ -16,6 +17,7 @@ mod lies;
 mod listing;
 mod lists;
 mod lives;
+mod low_list;
 mod near_names;
 mod order_list;
 mod origins;
@@ -41,6 +43,7 @@ pub use history_list::Days;
 pub use laws::{back_lists_are_complete, forward_lists_are_complete};
 pub use listing::Listing;
 pub use lists::listed;
+pub use low_list::Level;
 pub use near_names::NearNames;
 pub use requests::request_facts;
 pub use serial_words::{called_text, serial_found};

@@ -1,6 +1,7 @@
 //! Which list is asked for.
 
 use crate::history_list::Days;
+use crate::low_list::Level;
 use part_core::Id;
 use report_core::ReportName;
 
@@ -36,6 +37,8 @@ pub enum Listing<'a> {
     ReceiptSheet(Option<Id>),
     /// The history of these days, in words: all of it, or that of the part, the item or the order of this number.
     History(Option<Id>, Days<'a>),
+    /// Those of these levels whose part has less free, in their order.
+    Low(&'a [Level]),
     /// The report of that name, of the part, the item or the build of this number, in its second form.
     Report(ReportName, Id),
 }

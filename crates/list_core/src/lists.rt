@@ -9,6 +9,7 @@ use crate::find_list::find_list;
 use crate::history_list::history_list;
 use crate::item_list::item_list;
 use crate::listing::Listing;
+use crate::low_list::low_list;
 use crate::order_list::order_list;
 use crate::part_list::part_list;
 use crate::place_list::place_list;
@@ -44,6 +45,7 @@ pub fn listed(alloc: Global, shop: &Shop, listing: Listing<'_>) -> Result<Report
         Listing::CountSheet(location) => count_sheet(alloc, shop, location),
         Listing::ReceiptSheet(order) => receipt_sheet(alloc, shop, order),
         Listing::History(of, days) => history_list(alloc, shop, of, &days),
+        Listing::Low(levels) => low_list(alloc, shop, levels),
         Listing::Report(name, number) => named_report(alloc, shop, name, number),
     }
 }

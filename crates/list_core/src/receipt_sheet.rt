@@ -42,7 +42,7 @@ fn is_awaited(shop: &Shop, of: Option<Id>, line: &OrderLine) -> bool
 
 /// The lines of which something is still to come, in order of number. It goes over all lines once. An error is one of
 /// memory.
-fn awaited(shop: &Shop, of: Option<Id>) -> Result<Vec<&OrderLine>, AllocError>
+pub(crate) fn awaited(shop: &Shop, of: Option<Id>) -> Result<Vec<&OrderLine>, AllocError>
     ensures { IfOk result (λ lines.
         map (λ l. l.now) lines.items ≡ awaited of (state_of shop.now)) }
 {

@@ -12,7 +12,7 @@ use crate::requests::{
     location, order_line, part, part_in, purchase, receive, remove, sale, serialised, set_status,
 };
 use desk_core::{Request, Shop};
-use list_core::{Listing, called_text, listed, serial_found};
+use list_core::{Level, Listing, called_text, listed, serial_found};
 use part_core::{CoreFault, Flags, Found, Limits, Refusal, Status};
 use std::alloc::Global;
 use std::test::Fail;
@@ -436,6 +436,42 @@ fn lists_what_a_word_finds(rt: HostRuntime) -> Result<(), Fail> {
         Listing::Find("Ol"),
         [FOUND, "key\t\tA-1/bolts\t"].as_slice(),
     )
+}
+
+const LOW: &'static str = "part\tname\tcategory\tlevel\tfree\tcoming\tbuy";
+
+/// A part with its level.
+fn level(part: u64, amount: u64) -> Level {
+    Level { part, amount }
+}
+
+/// 14 screws are free, and 12 are to come by the purchase that is under way; of motors none is free, and of robots one.
+#[test]
+fn lists_what_is_below_its_level(rt: HostRuntime) -> Result<(), Fail> {
+    let alloc = rt.alloc();
+    let shop = filled(alloc)?;
+    let levels = [
+        level(7, 40),
+        level(9, 1),
+        level(8, 2),
+        level(7, 14),
+        level(7, 15),
+    ];
+    tells(
+        alloc,
+        &shop,
+        Listing::Low(levels.as_slice()),
+        [
+            LOW,
+            "7\tScrew\t\t40\t14\t12\t14",
+            "8\tMotor A-1\tDrives / Motors\t2\t0\t0\t2",
+            "7\tScrew\t\t15\t14\t12\t0",
+        ]
+        .as_slice(),
+    )?;
+    tells(alloc, &shop, Listing::Low([].as_slice()), [LOW].as_slice())?;
+    let absent = [level(8, 2), level(12, 1)];
+    finds_nothing(alloc, &shop, Listing::Low(absent.as_slice()))
 }
 
 const SHEET: &'static str = "number\titem\tpart\tway\tbatch\tserial\texpected\tquantity";

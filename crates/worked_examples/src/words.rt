@@ -71,6 +71,10 @@ fn told(alloc: Global, task: &Task<'_>) -> Result<String, AllocError> {
             let how = if *csv { " for a spreadsheet" } else { "" };
             format!(in alloc; "show{how} {file} {list:?}")
         }
+        Task::Low { file, levels, csv } => {
+            let how = if *csv { " for a spreadsheet" } else { "" };
+            format!(in alloc; "show low{how} {file} {levels}")
+        }
         Task::Migrate(file) => format!(in alloc; "migrate {file}"),
         Task::Import {
             file,

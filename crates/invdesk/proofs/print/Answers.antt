@@ -20,6 +20,9 @@ returns-in-Dump g c =
 pub returns-in-Show : goal.returns-in-Show
 returns-in-Show g c = rw c.in-Show.is c.print_list_out.ensures
 
+pub returns-in-Low : goal.returns-in-Low
+returns-in-Low g c = rw c.in-Low.is c.print_low.ensures
+
 pub returns-in-Migrate : goal.returns-in-Migrate
 returns-in-Migrate g c =
     rw c.in-Migrate.is
@@ -29,4 +32,4 @@ returns-in-Migrate g c =
 pub returns-in_default : goal.returns-in_default
 returns-in_default g c =
     prints_nothing c.args.task.now (state_of c.args.desk.now.shop) _ c.in_default.not-Report c.in_default.not-Export
-    c.in_default.not-Dump c.in_default.not-Show c.in_default.not-Migrate
+    c.in_default.not-Dump c.in_default.not-Show c.in_default.not-Low c.in_default.not-Migrate

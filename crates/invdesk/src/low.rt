@@ -1,0 +1,93 @@
+//! The list of what has less free than the level that a file says of it.
+ghost use Rattle.desk_core.specs.ShopView.{state_of};
+ghost use Rattle.desk_store.specs.Desks.{IsDesk};
+ghost use Rattle.desk_cli.specs.LowLists.{told_low};
+ghost use Rattle.desk_ends.specs.LowLevels.{low_lines};
+ghost use Rattle.invdesk.specs.Prints.{PrintsLow, PrintsText};
+
+use crate::{bytes_at, tell_line, told_columns};
+use desk_cli::{NoLevels, levels_of, print_fault, print_list};
+use desk_ends::RunEnd;
+use desk_store::Desk;
+use desk_wire::{FileError, What, WireFault, WrongField};
+use list_core::Listing;
+use sqlite::Alter;
+use std::io::{IsTerminal, Write};
+
+/// Tells which record of the file at the path is at fault and, where it is one of its fields, which and what stands there.
+fn tell_fault(rt: &HostRuntime, path: &str, fault: &WireFault, field: Option<&WrongField>) {
+    let (record, name) = (fault.line, fault.what.name());
+    match field {
+        Some(
+            WrongField {
+                name: column,
+                text: Some(text),
+            },
+        ) => {
+            let (column, text) = (column.as_str(), text.as_str());
+            tell_line(
+                rt,
+                format_args!("{path}: record {record}: {column}: {name}: {text}"),
+            );
+        }
+        _ if matches!(fault.what, What::Header) => {
+            tell_line(
+                rt,
+                format_args!("{path}: record {record}: {name}: columns part and level are wanted"),
+            );
+        }
+        _ => tell_line(rt, format_args!("{path}: record {record}: {name}")),
+    }
+}
+
+/// Prints the list by the bytes of the file at the path, for a person's terminal, which has so many columns, if that is known,
+/// or not for one. A fault of the file is told, too.
+fn print_levels<S: Alter, W: Write>(
+    rt: &HostRuntime,
+    path: &str,
+    bytes: &[u8],
+    csv: bool,
+    person: bool,
+    most: Option<usize>,
+    desk: &Desk<S>,
+    writer: &mut W,
+) -> RunEnd
+    requires { IsDesk S.Store desk.now }
+    ensures { PrintsText (told_low csv person most (low_lines bytes.now (state_of desk.now.shop)))
+        (W.contents writer.old) (W.contents writer.new) result }
+{
+    match levels_of(rt.alloc(), desk, bytes) {
+        Ok(levels) => {
+            let listing = Listing::Low(levels.as_slice());
+            print_list(rt.alloc(), desk, listing, csv, person, most, writer)
+        }
+        Err(NoLevels::Wrong(FileError::Wrong(fault, field))) => {
+            tell_fault(rt, path, &fault, field.as_ref());
+            print_fault(rt.alloc(), fault, writer)
+        }
+        Err(NoLevels::Wrong(FileError::Memory)) => RunEnd::Memory,
+        Err(NoLevels::Closed) => RunEnd::Store,
+    }
+}
+
+/// Prints the list by the file of levels at the path, for whoever the standard output is for. Where the file can't be read,
+/// it is told why.
+pub fn print_low<S: Alter, W: Write>(
+    rt: &HostRuntime,
+    path: &str,
+    csv: bool,
+    desk: &Desk<S>,
+    writer: &mut W,
+) -> RunEnd
+    requires { IsDesk S.Store desk.now }
+    ensures { PrintsLow csv (state_of desk.now.shop) (W.contents writer.old) (W.contents writer.new)
+        result }
+{
+    let bytes = match bytes_at(rt, path) {
+        Ok(bytes) => bytes,
+        Err(end) => return end,
+    };
+    let person = rt.stdout().is_terminal();
+    let most = told_columns(rt);
+    print_levels(rt, path, &bytes, csv, person, most, desk, writer)
+}
