@@ -1,17 +1,18 @@
 -- The columns of a header, and the records that are arranged by them.
 use Rattle.std.proofs.Common.{◌≡◌, ℕ, zero, suc, ◌<◌, ◌+◌, ◌++◌, true, false, List, [], ◌∷◌, length, drop, map, get_or}
-use Rattle.std.proofs.Common.{arith, refl, sym, ap, ◌∙◌, append_assoc}
+use Rattle.std.proofs.Common.{arith, cond, refl, sym, ap, ◌∙◌, append_assoc}
 use Rattle.std.proofs.lemmas.List.{length-map}
 use Rattle.std.proofs.lemmas.Str.{IsUtf8-from_ascii, is_utf8-from_IsUtf8}
 use Rattle.std.specs.Borrow.{Bor}
 use Rattle.std.specs.Prelude.{Option, Some, None, is_some, option_map}
 use Rattle.std.specs.Str.{bytes_eq, is_utf8}
-use Rattle.std.proofs.lemmas.Bool.{and_parts, false≢true, true≢false}
+use Rattle.std.proofs.lemmas.Bool.{and_parts, true≢false}
 use Rattle.csv.specs.Records.{field_at}
 use Rattle.desk_wire.specs.Imports.{Columns, arranged, column_by, columns_at, columns_of, field, field_at_place}
-use Rattle.desk_wire.specs.Imports.{names_of, places_from, places_of}
+use Rattle.desk_wire.specs.Imports.{may_lack, names_of, places_from, places_of}
 use Rattle.desk_wire.specs.Layouts.{place_list}
 use Rattle.desk_wire.specs.Records.{Fields, are_texts}
+use Rattle.desk_wire.specs.Sheets.{one_of}
 use Rattle.desk_wire.specs.declared.kind.ImportKind.{ImportKind}
 use Rattle.desk_wire.proofs.Rows.{drop-field, field-name}
 
@@ -31,11 +32,24 @@ pub first-place : (column : Option ℕ) (i : ℕ) (more : List ℕ) → is_some 
 first-place None i more h = refl
 first-place (Some j) i more h = absurd (true≢false h)
 
--- a name that stands twice has no column
-pub no-column : (name : List ℕ) (column : Option ℕ) (i : ℕ) (more : List ℕ) → is_some column ≡ true
-    → column_by name (place_list column ++ i ∷ more) ≡ None
-no-column name None i more h = absurd (false≢true h)
-no-column name (Some j) i more h = refl
+-- by the column of a name, if there is one: what has one has it, ...
+pub column_one : (name places : List ℕ) (i : ℕ) → one_of places ≡ Some (Some i) → column_by name places ≡ Some (Some i)
+column_one name [] i e = absurd (cc)
+column_one name (j ∷ []) i e = e
+column_one name (j ∷ k ∷ ks) i e = absurd (cc)
+
+-- ... what has none may lack it or not, ...
+pub column_none : (name places : List ℕ) → one_of places ≡ Some None
+    → column_by name places ≡ cond (may_lack name) (Some None) None
+column_none name [] e = refl
+column_none name (j ∷ []) e = absurd (cc)
+column_none name (j ∷ k ∷ ks) e = absurd (cc)
+
+-- ... and a name that stands twice has no column
+pub column_twice : (name places : List ℕ) → one_of places ≡ None → column_by name places ≡ None
+column_twice name [] e = absurd (cc)
+column_twice name (j ∷ []) e = absurd (cc)
+column_twice name (j ∷ k ∷ ks) e = refl
 
 -- ---- the columns of all names
 

@@ -14,7 +14,7 @@ pub mod Words
 pub mod AlikeFiles
 pub mod LineFaults
 pub mod Layouts
-pub mod LevelFacts
+pub mod FirstLayouts
 pub mod ColumnFacts
 pub mod RowFaults
 pub mod LooseFiles

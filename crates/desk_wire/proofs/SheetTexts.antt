@@ -29,7 +29,7 @@ use Rattle.desk_wire.specs.Sheets.{is_closed, is_left_out, key_of, layout_by, li
 use Rattle.desk_wire.specs.Sheets.{sheet_columns, sheet_text, text_below, text_by, text_from, with_column}
 use Rattle.desk_wire.specs.Steps.{◌>>=◌, at, must}
 use Rattle.desk_wire.proofs.OneLine.{one_line}
-use Rattle.desk_wire.proofs.SheetFacts.{layout-first}
+use Rattle.desk_wire.proofs.FirstLayouts.{layout-first}
 use Rattle.desk_wire.proofs.SheetReads.{line_fits, lines_ask_under_keys}
 
 -- ---- steps that went well
@@ -263,7 +263,7 @@ sheets_ask_under_keys command sheet bytes text form e =
     let whole = strip_bom bytes in
     let named =
     first_named sheet.form sheet.said (records (config_by lines.separator) whole) lines.columns
-    (layout-first sheet.form sheet.said whole separators (lines.separator, lines.columns) lines.layout) in
+    (layout-first (first_columns sheet.form sheet.said) whole separators (lines.separator, lines.columns) lines.layout) in
     let apart = names_apart (names_of sheet.form.fields) (form_distinct command sheet.form form) in
     let line =
     line_of sheet.form.verb sheet.document (day_text sheet.day) lines.columns (open_record (config_by lines.separator) whole) in

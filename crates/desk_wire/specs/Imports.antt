@@ -35,7 +35,7 @@ use Rattle.desk_wire.specs.Numbers.{number_in, row_number_in}
 use Rattle.desk_wire.specs.RowWords.{number_of, row_at_word}
 use Rattle.desk_wire.specs.Kinds.{import_kind_name}
 use Rattle.desk_wire.specs.Quotes.{but_last, closed_of, ends_in_quotes}
-use Rattle.desk_wire.specs.Records.{Fields, are_texts, config_by}
+use Rattle.desk_wire.specs.Records.{Fields, are_texts, config_by, first_layout}
 
 -- ---- one record
 
@@ -259,13 +259,7 @@ first_columns kind (r ∷ rs) = columns_of kind r
 
 -- the first of these separators by which the first record names the columns, with the columns
 abbrev pub layout_by : ImportKind → List ℕ → List ℕ → Option (ℕ × Columns)
-layout_by kind text [] = None
-layout_by kind text (s ∷ ss) =
-    by_columns (first_columns kind (records (config_by s) text)) (layout_by kind text ss)
-  where
-    by_columns : Option Columns → Option (ℕ × Columns) → Option (ℕ × Columns)
-    by_columns None others = others
-    by_columns (Some columns) others = Some (s, columns)
+layout_by kind text separators = first_layout (first_columns kind) text separators
 
 -- the records under the header
 abbrev pub records_under : ℕ → List ℕ → List Fields

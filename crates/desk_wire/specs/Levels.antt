@@ -15,7 +15,7 @@ use Rattle.desk_wire.specs.declared.levels.LevelRow.{LevelRow}
 use Rattle.desk_wire.specs.Faults.{shown_field}
 use Rattle.desk_wire.specs.Imports.{Wrong, field, has_other_separator, separators}
 use Rattle.desk_wire.specs.Quotes.{open_record}
-use Rattle.desk_wire.specs.Records.{Fields, are_texts, config_by}
+use Rattle.desk_wire.specs.Records.{Fields, are_texts, config_by, first_layout}
 use Rattle.desk_wire.specs.RowWords.{number_of, row_at_word}
 use Rattle.desk_wire.specs.Sheets.{column_headed, is_closed}
 use Rattle.desk_wire.specs.Steps.{◌>>=◌, must}
@@ -41,12 +41,7 @@ first_columns (r ∷ rs) = level_columns r
 
 -- the first of these separators by which the first record names the columns, with the columns
 abbrev pub layout_by : List ℕ → List ℕ → Option (ℕ × LevelColumns)
-layout_by text [] = None
-layout_by text (s ∷ ss) = by_columns (first_columns (records (config_by s) text)) (layout_by text ss)
-  where
-    by_columns : Option LevelColumns → Option (ℕ × LevelColumns) → Option (ℕ × LevelColumns)
-    by_columns None others = others
-    by_columns (Some columns) others = Some (s, columns)
+layout_by text separators = first_layout first_columns text separators
 
 -- ---- one record
 

@@ -21,7 +21,7 @@ use Rattle.desk_wire.specs.Numbers.{number_in}
 use Rattle.desk_wire.specs.RowWords.{is_json, json_of}
 use Rattle.desk_wire.specs.Imports.{field, places_from, separators}
 use Rattle.desk_wire.specs.Quotes.{open_record}
-use Rattle.desk_wire.specs.Records.{Fields, are_texts, config_by}
+use Rattle.desk_wire.specs.Records.{Fields, are_texts, config_by, first_layout}
 
 -- ---- what is said of a member
 
@@ -132,13 +132,7 @@ first_columns form said (r ∷ rs) = sheet_columns form said r
 
 -- the first of these separators by which the first record names the columns, with the columns
 abbrev pub layout_by : Form → Sayings → List ℕ → List ℕ → Option (ℕ × SheetColumns)
-layout_by form said text [] = None
-layout_by form said text (s ∷ ss) =
-    by_columns (first_columns form said (records (config_by s) text)) (layout_by form said text ss)
-  where
-    by_columns : Option SheetColumns → Option (ℕ × SheetColumns) → Option (ℕ × SheetColumns)
-    by_columns None others = others
-    by_columns (Some columns) others = Some (s, columns)
+layout_by form said text separators = first_layout (first_columns form said) text separators
 
 -- ---- what stands in a record
 

@@ -16,6 +16,7 @@ use crate::kind::ImportKind;
 use crate::number::number_in;
 use crate::records::{next_record, records_of};
 use crate::row::{ImportRow, field, header};
+use crate::sheet_columns::column_headed;
 use csv::{Reader, StringRecord};
 use desk_core::Shop;
 use std::alloc::{AllocError, Global};
@@ -66,18 +67,11 @@ fn may_lack(name: &str) -> bool
 }
 
 /// The column of that name, if it has just one, or, where it may, none.
+#[tactic(auto, using(crate::proofs::ColumnFacts::column_one, crate::proofs::ColumnFacts::column_none, crate::proofs::ColumnFacts::column_twice))]
 fn column_by(name: &str, header: &StringRecord) -> Option<Option<usize>>
     ensures { result ≡ column_by name.now (places_from 0 name.now (fields_of header.now)) }
 {
-    let mut column = None;
-    for index in 0..header.len() {
-        if name == field(header, index) {
-            if column.is_some() {
-                return None;
-            }
-            column = Some(index);
-        }
-    }
+    let column = column_headed(name, header)?;
     if column.is_some() || may_lack(name) {
         Some(column)
     } else {

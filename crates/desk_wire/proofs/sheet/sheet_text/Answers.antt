@@ -1,11 +1,11 @@
-use Rattle.std.proofs.Common.{◌≡◌, ℕ, Some, ◌∙◌, sym, ap}
+use Rattle.std.proofs.Common.{ℕ, ◌∙◌, refl, sym, ap}
 use Rattle.std.specs.Prelude.{option_map}
 use Rattle.csv.specs.Reading.{strip_bom}
 use Rattle.part_core.specs.Forms.{shown}
 use Rattle.desk_wire.specs.Imports.{separators}
-use Rattle.desk_wire.specs.Sheets.{SheetColumns, layout_by}
+use Rattle.desk_wire.specs.Sheets.{SheetColumns, first_columns}
 use Rattle.desk_wire.specs.SheetViews.{shown_columns, shown_layout, shown_sayings}
-use Rattle.desk_wire.proofs.SheetFacts.{not-text}
+use Rattle.desk_wire.proofs.FirstLayouts.{not-none}
 use Rattle.desk_wire.proofs.sheet.sheet_text.Goals as goal
 
 pub returns-in-Err-Wrong : goal.returns-in-Err-Wrong
@@ -17,6 +17,6 @@ returns-in-Err-Wrong c =
     let layout : ℕ × SheetColumns = (c.in-Some.separator, shown_columns c.in-Some.columns) in
     let read = rw c.deref.ensures.value at c.in_ok-separator.ensures in
     absurd
-    (not-text form said text separators layout bad rest
+    (not-none (first_columns form said) text separators layout bad rest
     (sym read ∙ ap (option_map shown_layout) c.in-Some.is)
-    (sym c.records_of-reader.ensures.left ∙ e) h)
+    (sym c.records_of-reader.ensures.left ∙ e) (rw h refl))
