@@ -1,6 +1,33 @@
 // What is asked of the program.
 
-let token = '', turn = Promise.resolve();
+let token = '', turn = Promise.resolve(), provenAt = null;
+const setToken = text => { [token, provenAt] = [text, null]; };
+const hexOf = bytes => [...new Uint8Array(bytes)].map(it => it.toString(16).padStart(2, '0')).join('');
+const bytesOf = text => new TextEncoder().encode(text);
+const fetchNow = (path, options) => fetch(path, { ...options, cache: 'no-store', signal: AbortSignal.timeout(120000) });
+
+// What listens at the port may be another program than the one that the page came from. So it proves that it knows the
+// token before that is sent: when the page is opened, where an answer failed to come, and where a proof is old.
+const PROOF_HOLDS = 5000;
+const isProven = () => provenAt !== null && Math.abs(Date.now() - provenAt) < PROOF_HOLDS;
+const unproven = why => Object.assign(new Error(`${why} Nothing was sent`), { isUnproven: true });
+async function prove() {
+  await dismissWorkers();
+  const nonce = hexOf(crypto.getRandomValues(new Uint8Array(16)));
+  const reply = await fetchNow(`/prove/${nonce}`), told = await reply.text();
+  const key = await crypto.subtle.importKey('raw', bytesOf(token), { name: 'HMAC', hash: 'SHA-256' }, false, ['sign']);
+  const right = await crypto.subtle.sign('HMAC', key, bytesOf(`${location.port || 80}:${nonce}`));
+  if (reply.status !== 200 || told !== hexOf(right))
+    throw unproven("What listens at this port doesn't know the token: it is another program, or the token is wrong.");
+  provenAt = Date.now();
+}
+// A worker that another program left in the browser, when it listened at this port, would be handed what is sent.
+async function dismissWorkers() {
+  const workers = await navigator.serviceWorker?.getRegistrations() ?? [];
+  await Promise.all(workers.map(it => it.unregister()));
+  if (navigator.serviceWorker?.controller)
+    throw unproven('Another program at this port had left a worker in the browser. Load the page again.');
+}
 
 // Asks for one thing after another, and gives no request up: the program serves one connection at a time.
 function ask(path, options) {
@@ -9,10 +36,16 @@ function ask(path, options) {
   return answer;
 }
 async function askNow(path, { headers, ...options } = {}) {
+  if (token && !isProven()) await prove();
   const all = { ...headers, ...token && { Authorization: `Bearer ${token}` } };
-  const reply = await fetch(path, { ...options, headers: all, cache: 'no-store', signal: AbortSignal.timeout(120000) });
-  if (reply.status === 401) askForToken();
-  return { status: reply.status, tag: reply.headers.get('ETag'), text: await reply.text() };
+  try {
+    const reply = await fetchNow(path, { ...options, headers: all }), text = await reply.text();
+    if (reply.status === 401) askForToken();
+    return { status: reply.status, tag: reply.headers.get('ETag'), text };
+  } catch (fault) {
+    provenAt = null;
+    throw fault;
+  }
 }
 const statusWords = status => `The program answered ${status}${status === 500 ? ': its file failed' : ''}.`;
 async function get(path, headers) {
@@ -25,9 +58,8 @@ const report = async (which, id) =>
 
 // A key of the page's own, which begins with the day, as one of a journal does.
 function newKey() {
-  const bytes = [...crypto.getRandomValues(new Uint8Array(12))].map(it => it.toString(16).padStart(2, '0'));
   keepDay();
-  return `${day.value}/page-${bytes.join('')}`;
+  return `${day.value}/page-${hexOf(crypto.getRandomValues(new Uint8Array(12)))}`;
 }
 function lineOf(command, fields, key = newKey()) {
   keepDay();

@@ -70,19 +70,22 @@ function comeBack(from, to, made, form) {
   (again?.checkVisibility() ? again : made).focus({ preventScroll: true });
 }
 const tell = text => { byId('status').textContent = text; };
-function askForToken() {
+function askForToken(why) {
   const box = node('input', { id: 'token', type: 'password', required: true });
   const submit = event => {
     event.preventDefault();
-    token = box.value.trim();
+    setToken(box.value.trim());
     start();
   };
-  main.replaceChildren(node('h1', 'The token'), node('form.card', { submit, 'aria-label': 'Token' },
-    node('label', 'The token of the program', box), node('button.main', 'Go on')));
+  main.replaceChildren(node('h1', 'The token'), ...why ? [node('p.bad', { role: 'alert' }, `${why}.`)] : [],
+    node('form.card', { submit, 'aria-label': 'Token' }, node('label', 'The token of the program', box),
+      node('button.main', 'Go on')));
 }
 function failed(fault) {
   tag = null;   // what is read next is shown
-  if (!byId('token')) main.replaceChildren(node('h1', "The program doesn't answer"),
+  if (byId('token')) return;
+  if (fault.isUnproven) askForToken(fault.message);
+  else main.replaceChildren(node('h1', "The program doesn't answer"),
     node('p.bad', { role: 'alert' }, fault.message), button('Try again', start));
 }
 async function start() {
@@ -94,7 +97,10 @@ async function start() {
     tell(`Read in ${Math.round(performance.now() - begun)} ms.`);
     warmUp();
     await named();
-  } catch (fault) { if (!find) failed(fault); }
+  } catch (fault) {
+    if (fault.isUnproven) askForToken(fault.message);
+    else if (!find) failed(fault);
+  }
 }
 async function named() {
   if (!await readNames(ownersShown())) return;
@@ -173,7 +179,7 @@ function news() {
 function takeToken() {
   const told = location.hash.match(/^#token=(.+)$/);
   if (!told) return false;
-  token = told[1];
+  setToken(told[1]);
   history.replaceState(null, '', '#/stock');
   return true;
 }

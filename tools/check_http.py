@@ -4,8 +4,9 @@ is there, and with bare sockets: each route and each error; rows that are said b
 request that is sent in pieces, cut off at a byte, or sent again under its key after its connection was dropped; clients
 that wait to be told that their body may come; made-up bytes; many connections one after another, of which no descriptor
 and no memory may stay; and a server that is killed, whose file has to be the books before or after each request. What a
-web page sends is refused, and who doesn't show the token; clients that are silent or slow are left; descriptors are
-waited for; and a server that goes on is stopped by a signal, and its books are copied. With a page many lines come in
+web page sends is refused, and who doesn't show the token; clients that are silent keep nobody waiting, also where there
+are many that come again and again, and they and slow ones are left; descriptors are waited for; and a server that goes
+on is stopped by a signal, and its books are copied. With a page many lines come in
 one body, lists are those that are printed, the books are dumped, and it is asked to stop. It takes about a minute.
 
 usage: tools/check_http.py PROGRAM"""
@@ -16,6 +17,7 @@ import os
 import pathlib
 import random
 import resource
+import select
 import shutil
 import signal
 import socket
@@ -442,25 +444,37 @@ def tokens(program, folder):
         refused(f"{text!r} in a file of mode {mode:o}")
     for text, mode in ((TOKEN, 0o600), (f"{TOKEN}\nmore\n", 0o400)):
         kept(text, mode)
-        server = Server(program, 6, "--token", str(path))
+        server = Server(program, 9, "--token", str(path))
+        local = f"localhost:{server.port}"
         for status, fields in ((200, {"Authorization": f"Bearer {TOKEN}"}), (401, {}),
                                (401, {"Authorization": f"Bearer {TOKEN[:-1]}"}), (401, {"Authorization": TOKEN}),
                                (401, {"Authorization": f"Bearer {TOKEN}a"}),
-                               (403, {"Authorization": f"Bearer {TOKEN}", "Origin": "null"})):
+                               (403, {"Authorization": f"Bearer {TOKEN}", "Origin": "null"}),
+                               (421, {"Authorization": f"Bearer {TOKEN}", "Host": local}),
+                               (403, {"Authorization": f"Bearer {TOKEN}", "Origin": f"http://{local}"})):
             got, headers, answer = server.asked("POST", "/run", json.dumps(LOCATION), **fields)
             expect(got == status, f"{fields} is answered {got}, {answer!r}")
             expect(headers["WWW-Authenticate"] == ("Bearer" if status == 401 else None), f"{got} asks for no token")
+        expect(server.asked("GET", "/prove/a")[0] == 404, "without a page something is proved")
         expect(server.ended() == 0, "it doesn't end well")
 
 
 def silent(program):
-    """Clients that say nothing are left after a second, and so are those that send on after an answer."""
-    server = Server(program, 4)
-    with contextlib.closing(socket.create_connection(("127.0.0.1", server.port))):
+    """Clients that say nothing keep nobody waiting, and are left after a second; so are those that send on after an
+    answer. One that asks late is answered."""
+    server = Server(program, 5)
+    with contextlib.closing(socket.create_connection(("127.0.0.1", server.port), timeout=20)) as stream:
         begun = time.monotonic()
         expect(server.asked("GET", "/x")[0] == 404, "a client behind a silent one isn't answered")
         seconds = time.monotonic() - begun
-        expect(0.5 < seconds < 3, f"a silent client is left after {seconds:.1f} s")
+        expect(seconds < 0.5, f"a client behind a silent one is answered after {seconds:.1f} s")
+        expect(stream.recv(1) == b"", "a silent client is told something")
+        seconds = time.monotonic() - begun
+        expect(0.8 < seconds < 3, f"a silent client is left after {seconds:.1f} s")
+    with contextlib.closing(socket.create_connection(("127.0.0.1", server.port), timeout=20)) as stream:
+        time.sleep(0.5)
+        stream.sendall(b"GET /x HTTP/1.1\r\n\r\n")
+        expect(stream.recv(20).startswith(b"HTTP/1.1 404 "), "a client that asks late isn't answered")
     begun = time.monotonic()
     with contextlib.closing(socket.create_connection(("127.0.0.1", server.port))) as stream:
         stream.sendall(b"GET /x HTTP/1.1\r\n\r\n")
@@ -472,6 +486,69 @@ def silent(program):
     with contextlib.closing(socket.create_connection(("127.0.0.1", server.port))) as stream:
         stream.sendall(b"GET /rep")
     expect(server.ended() == 0, "it doesn't end well")
+
+
+class Crowd:
+    """Clients that say nothing, and each of whom comes again as soon as its connection is closed."""
+
+    def __init__(self, port, count):
+        self.port, self.came, self.goes_on = port, 0, True
+        self.streams = {}
+        self.poll = select.poll()
+        for _ in range(count):
+            self.come()
+        self.thread = threading.Thread(target=self.stay)
+        self.thread.start()
+
+    def come(self):
+        stream = socket.create_connection(("127.0.0.1", self.port), timeout=20)
+        self.streams[stream.fileno()] = stream
+        self.poll.register(stream, select.POLLIN)
+        self.came += 1
+
+    def stay(self):
+        while self.goes_on:
+            for number, _ in self.poll.poll(100):
+                self.poll.unregister(number)
+                self.streams.pop(number).close()
+                self.come()
+
+    def go(self):
+        self.goes_on = False
+        self.thread.join()
+        for stream in self.streams.values():
+            stream.close()
+
+
+def crowd(program):
+    """Beside 200 clients that say nothing and come again, each client is answered within a tenth of a second; of 300
+    that come at once those that came first are closed at once."""
+    server = Server(program, None)
+    others = Crowd(server.port, 200)
+    times = []
+    for _ in range(60):
+        begun = time.monotonic()
+        expect(server.asked("GET", "/x")[0] == 404, "beside silent clients one isn't answered")
+        times.append(time.monotonic() - begun)
+        time.sleep(0.05)
+    others.go()
+    expect(others.came > 400, f"of 200 silent clients {others.came} came in three seconds")
+    middle, worst = sorted(times)[30], max(times)
+    expect(middle < 0.1 and worst < 1, f"beside 200 silent clients one waits {middle:.3f} s, and {worst:.3f} s at most")
+    time.sleep(1.5)
+    begun = time.monotonic()
+    streams = []
+    for _ in range(300):
+        streams.append(socket.create_connection(("127.0.0.1", server.port), timeout=20))
+        time.sleep(0.001)
+    closed = [bool(select.select([it], [], [], 0)[0]) for it in streams]
+    is_soon = time.monotonic() - begun < 0.9
+    is_so = sum(closed[:44]) > 40 and not any(closed[100:])
+    expect(is_so or not is_soon, f"of 300 silent clients are closed: {closed}")
+    for stream in streams:
+        stream.close()
+    server.stopped()
+    print(f"check_http: beside 200 silent clients one is answered in {1000 * middle:.1f} ms, or {1000 * worst:.1f}")
 
 
 def slow_head(program):
@@ -515,6 +592,29 @@ def slow_taker(program):
         seconds = time.monotonic() - begun
         expect(14 < seconds < 60, f"a client that takes nothing is left after {seconds:.1f} s")
     expect(server.ended() == 0, "it doesn't end well")
+
+
+def slow_reader(program):
+    """A client that takes 2,000 bytes a second of an answer of 12 MB has half a minute, and a second for each 100 KiB
+    that the system takes for it; less where the system takes nothing for a quarter of a minute."""
+    server = Server(program, None, "--page")
+    lines = "[]\n" * 349_525
+    with contextlib.closing(socket.create_connection(("127.0.0.1", server.port))) as stream:
+        stream.sendall(posted(lines, "/lines"))
+        begun = time.monotonic()
+        waits = threading.Thread(target=trickle, args=(stream, 1_000, 0.5), daemon=True)
+        waits.start()
+        expect(ask(server.port, "GET", "/x", timeout=600)[0] == 404, "who comes behind isn't answered")
+        seconds = time.monotonic() - begun
+        expect(14 < seconds < 100, f"a client that takes 2,000 bytes a second is left after {seconds:.1f} s")
+    server.stopped()
+
+
+def trickle(stream, size, pause):
+    """Takes so many bytes at a time, with such pauses."""
+    with contextlib.suppress(OSError):
+        while stream.recv(size):
+            time.sleep(pause)
 
 
 def crowded(program):
@@ -661,10 +761,13 @@ def words(program):
         expect(done.returncode == 3, f"a port that is taken ends with {done.returncode}")
 
 
+SLOW = (slow_head, fair_body, slow_body, slow_taker, slow_reader, slow_answer)
+
+
 def main():
     program = reader_of_words(__doc__).parse_args().program
     with concurrent.futures.ThreadPoolExecutor() as beside, tempfile.TemporaryDirectory() as folder:
-        waits = [beside.submit(slow, program) for slow in (slow_head, fair_body, slow_body, slow_taker, slow_answer)]
+        waits = [beside.submit(slow, program) for slow in SLOW]
         words(program)
         routes(program)
         names(program)
@@ -675,6 +778,7 @@ def main():
         pages(program)
         tokens(program, folder)
         silent(program)
+        crowd(program)
         crowded(program)
         made_up(program)
         goes_on(program, folder)

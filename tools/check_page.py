@@ -668,6 +668,49 @@ def check_token(c, program, folder):
             b.type(TOKEN)
             b.key("Enter")
             c.say("opened anew it asks for it", b.wait(f"{H1} === 'Stock'"))
+            b.js(f"location.hash = '#token={TOKEN}'")
+            b.wait("!location.hash.includes('token')")
+            c.say("an open page takes it out of the address too", TOKEN not in b.js("location.href"))
+            b.rest()
+            check_another(c, desk, b)
+
+
+class Another(http.server.BaseHTTPRequestHandler):
+    """Another program, which answers all that it is asked, and keeps it."""
+
+    heard = []
+
+    def do_GET(self):
+        self.heard.append((self.path, self.headers.get("Authorization")))
+        body = b"0" * 64
+        self.send_response(200)
+        self.send_header("Content-Type", "text/plain")
+        self.send_header("Content-Length", str(len(body)))
+        self.end_headers()
+        self.wfile.write(body)
+
+    do_POST = do_GET
+
+    def log_message(self, *_):
+        pass
+
+
+def check_another(c, desk, b):
+    """Once the service has ended another program at its port is sent nothing by the page that is open."""
+    desk.kill()
+    if desk.proxy:
+        desk.proxy.shutdown()
+        desk.proxy.server_close()
+    b.js("provenAt = null")
+    with http.server.ThreadingHTTPServer(("127.0.0.1", desk.port), Another) as another:
+        threading.Thread(target=another.serve_forever, daemon=True).start()
+        b.js("renew(true)")
+        told = b.wait("document.body.textContent.includes('Nothing was sent')")
+        another.shutdown()
+    paths = [path for path, _ in Another.heard if not path.startswith("/prove/")]
+    shown = [it for _, it in Another.heard if it]
+    c.say("another program at the port isn't sent the token, and the page tells so", told and Another.heard and
+          not paths and not shown, Another.heard)
 
 
 def check_many(c, program, folder):

@@ -11,6 +11,7 @@ import base64
 import contextlib
 import csv
 import hashlib
+import hmac
 import io
 import json
 import os
@@ -30,11 +31,13 @@ GUARDS = [
     "Cache-Control: no-store",
     "Cross-Origin-Resource-Policy: same-origin",
 ]
-OF_PAGE = ["Referrer-Policy: same-origin", "Cross-Origin-Opener-Policy: same-origin"]
+OF_PAGE = ["Referrer-Policy: same-origin", "Cross-Origin-Opener-Policy: same-origin", 'Clear-Site-Data: "cache"']
 READINGS = 2_000
 # Names that JSON and comma-separated values have to escape.
 NAMES = ['Nut "M4"', "Plate, 3 mm", "Mu\u0308tter \u20ac \U0001f529", "Back\\slash", "=1+1"]
 PATHS = ["/", "/books", "/export/items", "/history/1"]
+# What is there with a page, or with a page and a token alone.
+UNKNOWN = [*PATHS, "/prove/a"]
 
 
 def line(**members):
@@ -250,7 +253,8 @@ def wrong_paths(site):
     """What is no path, and what has another method."""
     for path in ("/index.html", "/export", "/export/", "/export/robots", "/export/Items", "/export/items/1", "/books/",
                  "/books?x=1", "/history", "/history/", "/history/x", "/history/-1", "/history/1/2",
-                 "/history/10000000000000000000", "//", "/?x=1"):
+                 "/history/10000000000000000000", "//", "/?x=1",
+                 "/prove", "/prove/a"):
         head, body = site.sent("GET", path)
         expect(body == b'{"http":404}\n', f"{path} is answered {body!r}")
         expect_head(path, head, 404, "application/json", len(body))
@@ -280,8 +284,27 @@ def who_may_ask(site):
                 expect_head(path, head, status, "application/json", len(body))
 
 
+def proved(site):
+    """What proves that the service knows its token, as Python's `hmac` has it; it isn't called localhost, and proves
+    nothing to a page of another site."""
+    for nonce in ("a", "abc-DEF_09", "z" * 64):
+        right = hmac.new(TOKEN.encode(), f"{site.port}:{nonce}".encode(), hashlib.sha256).hexdigest()
+        head, body = site.sent("GET", f"/prove/{nonce}", f"Host: 127.0.0.1:{site.port}")
+        expect(body == right.encode(), f"of {nonce} is proved {body!r}, and not {right}")
+        expect_head("a proof", head, 200, "text/plain; charset=utf-8", len(body))
+    for nonce in ("", "z" * 65, "a.b", "a%20b", "a/b", "a?b"):
+        head, body = site.sent("GET", f"/prove/{nonce}")
+        expect(head[0] == status_line(404) and body == b'{"http":404}\n', f"of {nonce!r} is proved {body!r}")
+    for field, status in ((f"Host: localhost:{site.port}", 421), ("Sec-Fetch-Site: cross-site", 403),
+                          ("Origin: http://evil.example", 403), ("Sec-Fetch-Site: same-origin", 200)):
+        head, _ = site.sent("GET", "/prove/a", field)
+        expect(head[0] == status_line(status), f"with {field!r} a proof is answered {head[0]}")
+    head, _ = site.sent("POST", "/prove/a")
+    expect(head[0] == status_line(405) and "Allow: GET" in head, f"a proof that is posted is answered {head}")
+
+
 def with_a_token(program, path, folder):
-    """All but the page asks for the token."""
+    """All but the page and the proof that the token is known asks for the token. The service isn't called localhost."""
     at = pathlib.Path(folder) / "token"
     at.write_text(TOKEN + "\n", encoding="ascii")
     at.chmod(0o600)
@@ -295,13 +318,16 @@ def with_a_token(program, path, folder):
             expect_head(asked, head, 401, "application/json", len(body), further)
         head, _ = site.sent("GET", asked, f"Authorization: Bearer {TOKEN}")
         expect(head[0] == status_line(200), f"{asked} with its token is answered {head[0]}")
+        head, _ = site.sent("GET", asked, f"Authorization: Bearer {TOKEN}", f"Host: localhost:{site.port}")
+        expect(head[0] == status_line(421), f"{asked} of localhost is answered {head[0]}")
+    proved(site)
     site.ended()
 
 
 def without_a_page(program, path):
     """The paths of a page are unknown, and no field is more than before."""
     site = Site(program, path)
-    for asked in PATHS:
+    for asked in UNKNOWN:
         head, body = site.sent("GET", asked)
         expect(body == b'{"http":404}\n', f"without a page {asked} is answered {body!r}")
         expect_head(asked, head, 404, "application/json", len(body), guards=False)

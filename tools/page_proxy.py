@@ -1,7 +1,9 @@
 """A service that shows the page as the files of `page/` have it now, before one that was built with an older page, so
 that a page which is worked on can be tried without building the program. Who may ask is looked at here by the service's
-rules, for the port of this one; all but the page is handed on."""
+rules, for the port of this one; all but the page, and the proof that the token is known at that port, is handed on."""
 import contextlib
+import hashlib
+import hmac
 import http.client
 import http.server
 import threading
@@ -12,10 +14,10 @@ import make_page
 class Proxy(http.server.BaseHTTPRequestHandler):
     """Answers one request of a browser."""
 
-    behind = 0
+    behind, token = 0, None
 
     def own_names(self):
-        return [f"{name}:{self.server.server_port}" for name in ("127.0.0.1", "localhost")]
+        return [f"{name}:{self.server.server_port}" for name in ["127.0.0.1"] + ["localhost"] * (not self.token)]
 
     def do_GET(self):
         own = self.own_names()
@@ -29,6 +31,9 @@ class Proxy(http.server.BaseHTTPRequestHandler):
             self.close_connection = True   # as by a service that has ended
             return None
         status, fields, body = told
+        if self.token and self.path.startswith("/prove/") and status == 200:
+            text = f"{self.server.server_port}:{self.path.removeprefix('/prove/')}"
+            body = hmac.new(self.token, text.encode(), hashlib.sha256).hexdigest().encode()
         if self.path == "/" and status == 200:
             page = make_page.page()
             body = page.encode()
@@ -68,9 +73,9 @@ class Proxy(http.server.BaseHTTPRequestHandler):
         pass
 
 
-def start(behind):
-    """A proxy that is served already, before the service at that port."""
-    made = http.server.ThreadingHTTPServer(("127.0.0.1", 0), type("One", (Proxy,), {"behind": behind}))
+def start(behind, token=None):
+    """A proxy that is served already, before the service at that port, which asks for that token if there is one."""
+    made = http.server.ThreadingHTTPServer(("127.0.0.1", 0), type("One", (Proxy,), {"behind": behind, "token": token}))
     made.daemon_threads = True
     threading.Thread(target=made.serve_forever, daemon=True).start()
     return made

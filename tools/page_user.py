@@ -1,5 +1,6 @@
 """The page as its user has it: served by the program, opened in Chromium, looked at and used."""
 import json
+import pathlib
 import shutil
 import urllib.parse
 
@@ -97,9 +98,15 @@ class Desk:
         words = [self.program, "--db", self.path, "--page", *self.words]
         self.process, self.own_port = serve(*words, stderr=None, port=self.own_port, **more)
         if self.is_draft and not self.proxy:
-            self.proxy = page_proxy.start(self.own_port)
+            self.proxy = page_proxy.start(self.own_port, self.token())
         self.port = self.proxy.server_port if self.proxy else self.own_port
         self.url = f"http://127.0.0.1:{self.port}/"
+
+    def token(self):
+        """The token that is asked for, if one is."""
+        if "--token" not in self.words:
+            return None
+        return pathlib.Path(self.words[self.words.index("--token") + 1]).read_bytes().split(b"\n")[0]
 
     def ask(self, method, path, body=None, **fields):
         fields = {name.replace("_", "-"): value for name, value in fields.items()}

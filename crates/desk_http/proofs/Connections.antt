@@ -5,7 +5,7 @@ use Rattle.desk_http.specs.Sites.{SiteRules}
 use Rattle.desk_http.specs.Responses.{Response}
 use Rattle.desk_http.specs.Services.{Operation, ReplyView}
 use Rattle.desk_http.specs.Serving.{AreSteps, IsOneStep, IsOneOperation, IsTaken, Answers, Received, Incomplete, Rejected}
-use Rattle.desk_http.specs.Serving.{ForPage, Complete, Responds, Serves, ServesOne, IsReceived, Waits}
+use Rattle.desk_http.specs.Serving.{ForPage, ForProof, Complete, Responds, Serves, ServesOne, IsReceived, Waits}
 use Rattle.desk_http.specs.declared.service.NoReply.{NoReply}
 use Rattle.desk_http.specs.declared.service.NoReply.TheVariants.{Failed}
 use Rattle.desk_http.specs.declared.served.Stop.{Stop}
@@ -23,6 +23,7 @@ module _ {D : Type 0} (performs : D → Operation → Result ReplyView NoReply �
   responds d d' Incomplete p h = absurd h
   responds d d' (Rejected rejection) p h = inl h.0
   responds d d' (ForPage page) p h = inl h.0
+  responds d d' (ForProof nonce) p h = inl h.0
   responds d d' (Complete o) p h = elim h [
     | inl replied ↦ inr (o, Ok replied.0, replied.1)
     | inr failed ↦ inr (o, Err (Failed failed.0), failed.1)

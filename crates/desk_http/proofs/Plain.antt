@@ -1,12 +1,13 @@
 -- What is planned with a page, and without one.
-use Rattle.std.proofs.Common.{◌≡◌, ap, refl, ℕ, List, [], ◌∷◌, Bool, true, false, cond, drop}
+use Rattle.std.proofs.Common.{◌≡◌, ◌∙◌, ap, refl, sym, subst, ℕ, List, [], ◌∷◌, Bool, true, false, cond, drop}
 use Rattle.std.specs.Prelude.{Option, Some, None, Result, Ok, Err, codes, nat_eq}
 use Rattle.std.specs.List.{starts_with}
 use Rattle.part_core.specs.Day.{day_of}
-use Rattle.desk_http.specs.AccessRules.{AccessRules, access_fault, page_fault}
+use Rattle.desk_http.specs.AccessRules.{AccessRules, access_fault, page_fault, sender_fault}
 use Rattle.desk_http.specs.Heads.{Class, HeadParts, WellFormed, TooManyFields, Malformed}
 use Rattle.desk_http.specs.Plans.{IsOfProgram, ShowsNoPage, checked, known_tag, planned, planned_page, plan_by, plan_of}
-use Rattle.desk_http.specs.Plans.{with_length}
+use Rattle.desk_http.specs.Plans.{plan_beside, planned_else, planned_proof, with_length}
+use Rattle.desk_http.specs.Proofs.{nonce_at, nonce_by}
 use Rattle.desk_http.specs.Sites.{PageView, SiteRules}
 use Rattle.desk_http.specs.Targets.{Resource, ◌then◌, where_it, cut, kind_of, name_of, number_of, is_document}
 use Rattle.desk_http.specs.Targets.{import_resource, report_resource, run_resource, resource_of, page_at}
@@ -56,15 +57,47 @@ plans fault method None fields h = tt
 plans fault method (Some resource) fields h =
     with_any resource (known_tag fields) (checked fault method resource fields) h
 
+no_nonce : (token : Option (List ℕ)) (target : List ℕ) → nonce_by token None target ≡ None
+no_nonce None target = refl
+no_nonce (Some token) target = refl
+
 pub no_page : (access : AccessRules) (class : Class)
     → ShowsNoPage (plan_of (record { access = access; page = None }) class)
 no_page access TooManyFields = tt
 no_page access Malformed = tt
 no_page access (WellFormed parts) =
-    plans (access_fault access parts.fields) parts.method (resource_of parts.target) parts.fields (of_program parts.target)
+    subst
+    (λ nonce. ShowsNoPage (plan_beside (sender_fault access parts.fields) (access_fault access parts.fields) None parts nonce))
+    (sym (no_nonce access.token parts.target))
+    (plans (access_fault access parts.fields) parts.method (resource_of parts.target) parts.fields (of_program parts.target))
 
 -- where the target names the page, that is what is planned for it
 pub page_planned : (site : SiteRules) (parts : HeadParts) (page : PageView) → Some page ≡ page_at site.page parts.target
     → planned_page (page_fault site.access parts.fields) parts.method page ≡ plan_of site (WellFormed parts)
 page_planned site parts page e =
-    ap (plan_by (page_fault site.access parts.fields) (access_fault site.access parts.fields) site.page parts) e
+    ap
+    (λ shown. plan_by (page_fault site.access parts.fields) parts shown
+    (plan_beside (sender_fault site.access parts.fields) (access_fault site.access parts.fields) site.page parts
+    (nonce_at site parts.target))) e
+
+-- and where it says what is to be proved, and doesn't name the page, that
+pub proof_planned : (site : SiteRules) (parts : HeadParts) (nonce : List ℕ) → None ≡ page_at site.page parts.target
+    → Some nonce ≡ nonce_at site parts.target
+    → planned_proof (sender_fault site.access parts.fields) parts.method nonce ≡ plan_of site (WellFormed parts)
+proof_planned site parts nonce no_page e =
+    ap (plan_beside (sender_fault site.access parts.fields) (access_fault site.access parts.fields) site.page parts) e
+    ∙ ap
+    (λ shown. plan_by (page_fault site.access parts.fields) parts shown
+    (plan_beside (sender_fault site.access parts.fields) (access_fault site.access parts.fields) site.page parts
+    (nonce_at site parts.target))) no_page
+
+-- and where it does neither, what the target names
+pub else_planned : (site : SiteRules) (parts : HeadParts) → None ≡ page_at site.page parts.target
+    → None ≡ nonce_at site parts.target
+    → planned_else (access_fault site.access parts.fields) site.page parts ≡ plan_of site (WellFormed parts)
+else_planned site parts no_page e =
+    ap (plan_beside (sender_fault site.access parts.fields) (access_fault site.access parts.fields) site.page parts) e
+    ∙ ap
+    (λ shown. plan_by (page_fault site.access parts.fields) parts shown
+    (plan_beside (sender_fault site.access parts.fields) (access_fault site.access parts.fields) site.page parts
+    (nonce_at site parts.target))) no_page

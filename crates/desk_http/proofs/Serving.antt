@@ -20,10 +20,12 @@ use Rattle.desk_http.specs.Sites.{PageView, SiteRules}
 use Rattle.desk_http.specs.Heads.{Class, IsHead}
 use Rattle.desk_http.specs.Targets.{Resource}
 use Rattle.desk_http.specs.Plans.{Plan, Ask, plan_of}
+use Rattle.desk_http.specs.Proofs.{proof_of}
 use Rattle.desk_http.specs.HeadEnds.{arrival, all_of}
 use Rattle.desk_http.specs.Services.{Operation, operation, ReplyView}
-use Rattle.desk_http.specs.Responses.{rejection_response, page_response, reply_response, failure_response}
-use Rattle.desk_http.specs.Serving.{Received, Incomplete, Rejected, ForPage, Complete, received_of, IsReceivedAt}
+use Rattle.desk_http.specs.Responses.{rejection_response, page_response, proof_response, reply_response}
+use Rattle.desk_http.specs.Responses.{failure_response}
+use Rattle.desk_http.specs.Serving.{Received, Incomplete, Rejected, ForPage, ForProof, Complete, received_of, IsReceivedAt}
 use Rattle.desk_http.specs.Serving.{AreReceived, IsReceivedFrom, IsReceived, Serves, Sends, PerformsAndSends}
 use Rattle.desk_http.proofs.Arriving.{head_stays}
 
@@ -210,6 +212,15 @@ module _ {D : Type 0} (performs : D → Operation → Result ReplyView NoReply �
   shown are page d w w' (Err Memory) is k = (inl refl, k)
   shown are page d w w' (Err Ended) is k = absurd k
   shown are page d w w' (Err ReadFailed) is k = absurd k
+
+  -- the proof that the token is known, sent
+  pub proved : (are : Received → Type 0) (nonce : List ℕ) (d : D) (w w' : Option (List ℕ)) (res : Result ℕ Stop)
+      → are (ForProof nonce) → Sends (proof_response site.page (proof_of site.access nonce)) w w' res → Serves performs site are d d w w' res
+  proved are nonce d w w' (Ok status) is k = (proof_response site.page (proof_of site.access nonce), (ForProof nonce, is, (refl, refl)), k.0, k.1)
+  proved are nonce d w w' (Err WriteFailed) is k = (proof_response site.page (proof_of site.access nonce), (ForProof nonce, is, (refl, refl)), k)
+  proved are nonce d w w' (Err Memory) is k = (inl refl, k)
+  proved are nonce d w w' (Err Ended) is k = absurd k
+  proved are nonce d w w' (Err ReadFailed) is k = absurd k
 
   -- a response to what was done, sent
   pub performed : (are : Received → Type 0) (o : Operation) (d d' : D) (w w' : Option (List ℕ)) (res : Result ℕ Stop)

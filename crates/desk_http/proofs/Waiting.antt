@@ -15,14 +15,16 @@ use Rattle.desk_http.specs.declared.served.Stop.TheVariants.{Ended, ReadFailed, 
 use Rattle.desk_http.specs.Sites.{PageView, SiteRules}
 use Rattle.desk_http.specs.Heads.{Class, IsHead}
 use Rattle.desk_http.specs.Targets.{Resource}
-use Rattle.desk_http.specs.Plans.{Plan, Ask, ShowPage, plan_of, expects_continue, waits}
+use Rattle.desk_http.specs.Plans.{Plan, Ask, ShowPage, Prove, plan_of, expects_continue, waits}
+use Rattle.desk_http.specs.Proofs.{proof_of}
 use Rattle.desk_http.specs.HeadEnds.{arrival, all_of, EndsWithHead}
 use Rattle.desk_http.specs.Services.{Operation, operation, ReplyView}
-use Rattle.desk_http.specs.Responses.{rejection_response, page_response, interim_bytes}
-use Rattle.desk_http.specs.Serving.{Received, Incomplete, Rejected, ForPage, AreReceived, IsReceivedFrom}
+use Rattle.desk_http.specs.Responses.{rejection_response, page_response, proof_response, interim_bytes}
+use Rattle.desk_http.specs.Serving.{Received, Incomplete, Rejected, ForPage, ForProof, AreReceived, IsReceivedFrom}
 use Rattle.desk_http.specs.Serving.{IsReadWithHead, PerformsAndSends, Sends, Serves, ServesOne, Waits, WaitsAt}
 use Rattle.desk_http.proofs.Arriving.{head_stays}
-use Rattle.desk_http.proofs.Serving.{are_settled, are_incomplete, are_complete, moved, rejected, shown, ended, performed, stopped}
+use Rattle.desk_http.proofs.Serving.{are_settled, are_incomplete, are_complete, moved, rejected, shown, proved}
+use Rattle.desk_http.proofs.Serving.{ended, performed, stopped}
 
 -- ---- whether a client waits, by what was read
 
@@ -121,6 +123,14 @@ module _ {D : Type 0} (performs : D → Operation → Result ReplyView NoReply �
         uninvited Wait (Are bs) d d w w' res (for_none (Ok (ShowPage page)) (λ _. refl) p)
         (shown performs site (Are bs) page d w w' res
         (are_settled site r bs h n class (Ok (ShowPage page)) (ForPage page) (λ _. refl) inside here cut is p) sends)
+
+    pub proved_one : (nonce : List ℕ) (d : D) (w w' : Option (List ℕ)) (res : Result ℕ Stop)
+        → Ok (Prove nonce) ≡ plan_of site class → Sends (proof_response site.page (proof_of site.access nonce)) w w' res
+        → ServesOne performs site Wait (Are bs) d d w w' res
+    proved_one nonce d w w' res p sends =
+        uninvited Wait (Are bs) d d w w' res (for_none (Ok (Prove nonce)) (λ _. refl) p)
+        (proved performs site (Are bs) nonce d w w' res
+        (are_settled site r bs h n class (Ok (Prove nonce)) (ForProof nonce) (λ _. refl) inside here cut is p) sends)
 
     -- ---- what is done where a body is to be read, of a client that waits or doesn't
     module _ (len : ℕ) (resource : Resource) (known : Option (List ℕ)) (p : Ok (Ask resource known len) ≡ plan_of site class)

@@ -1,7 +1,7 @@
 -- Who may ask, by what a head tells of where it comes from. A browser tells it of each page, and no page can leave it
 -- out; other programs needn't.
 use Rattle.std.specs.Prelude.{◌≡◌, ◌==◌, ◌&&◌, ◌||◌, nat_eq, nat_le, not, ℕ, Bool, true, false, List, ◌∷◌, length, drop}
-use Rattle.std.specs.Prelude.{codes, decimal, Option, Some, None, if◌then◌else◌}
+use Rattle.std.specs.Prelude.{codes, decimal, Option, Some, None, is_none, if◌then◌else◌}
 use Rattle.std.specs.List.{list_all, starts_with}
 use Rattle.std.specs.Str.{bytes_eq}
 use Rattle.desk_http.specs.Fields.{Said, Nothing, One, Several, said}
@@ -32,11 +32,14 @@ is_port_part port text = bytes_eq text (port_part port) || (port == 80 && length
 abbrev pub is_host : ℕ → List ℕ → List ℕ → Bool
 is_host port host text = starts_with nat_eq text host && is_port_part port (drop (length host) text)
 
-abbrev pub is_own_name : ℕ → List ℕ → Bool
-is_own_name port text = is_host port (codes "127.0.0.1") text || is_host port (codes "localhost") text
+-- A service that asks for a token isn't called localhost: that is a name of [::1] too, where another program may listen
+-- at the same port.
+abbrev pub is_own_name : AccessRules → List ℕ → Bool
+is_own_name rules text =
+    is_host rules.port (codes "127.0.0.1") text || (is_none rules.token && is_host rules.port (codes "localhost") text)
 
-abbrev pub is_own_origin : ℕ → List ℕ → Bool
-is_own_origin port text = starts_with nat_eq text (codes "http://") && is_own_name port (drop 7 text)
+abbrev pub is_own_origin : AccessRules → List ℕ → Bool
+is_own_origin rules text = starts_with nat_eq text (codes "http://") && is_own_name rules (drop 7 text)
 
 abbrev pub is_own_site : List ℕ → Bool
 is_own_site text = bytes_eq text (codes "same-origin") || bytes_eq text (codes "none")
@@ -64,21 +67,25 @@ shows (Some token) authorization = has_to_say (is_bearer token) authorization
 -- and to be sent for no other origin. A page is no secret, and may be come to from anywhere
 abbrev pub page_fault : AccessRules → List (List ℕ × List ℕ) → Option Rejection
 page_fault rules fields =
-    if not (may_say (is_own_name rules.port) (said (codes "host") fields)) then Some Misdirected
-    else (if not (may_say (is_own_origin rules.port) (said (codes "origin") fields)) then Some Forbidden
+    if not (may_say (is_own_name rules) (said (codes "host") fields)) then Some Misdirected
+    else (if not (may_say (is_own_origin rules) (said (codes "origin") fields)) then Some Forbidden
     else None)
 
 abbrev pub or_else : Option Rejection → Option Rejection → Option Rejection
 or_else (Some rejection) other = Some rejection
 or_else None other = other
 
--- the same of a head that asks for anything else: it has to be sent for no other site, too, and to show the token
+-- the same of a head that asks for anything else: it has to be sent for no other site, too
+abbrev pub sender_fault : AccessRules → List (List ℕ × List ℕ) → Option Rejection
+sender_fault rules fields =
+    or_else (page_fault rules fields)
+    (if not (may_say is_own_site (said (codes "sec-fetch-site") fields)) then Some Forbidden else None)
+
+-- and, unless it asks for the proof that the token is known, to show the token
 abbrev pub access_fault : AccessRules → List (List ℕ × List ℕ) → Option Rejection
 access_fault rules fields =
-    or_else (page_fault rules fields)
-    (if not (may_say is_own_site (said (codes "sec-fetch-site") fields)) then Some Forbidden
-    else (if not (shows rules.token (said (codes "authorization") fields)) then Some Unauthorized
-    else None))
+    or_else (sender_fault rules fields)
+    (if not (shows rules.token (said (codes "authorization") fields)) then Some Unauthorized else None)
 
 -- the fields tell nothing of where the head comes from
 pub record TellNoOrigin (fields : List (List ℕ × List ℕ)) : Type 0 where

@@ -5,10 +5,12 @@ pub mod Fields
 pub mod AccessRules
 pub mod Sites
 pub mod Targets
+pub mod Proofs
 pub mod Routes
 pub mod Plans
 pub mod Services
 pub mod Responses
 pub mod Serving
+pub mod Paces
 pub mod Asking
 pub mod Answering

@@ -3,9 +3,10 @@ use Rattle.std.specs.Prelude.{◌≡◌, ◌==◌, ◌&&◌, nat_lt, ℕ, Bool, 
 use Rattle.std.specs.Prelude.{length, if◌then◌else◌, codes}
 use Rattle.std.specs.List.{list_any}
 use Rattle.std.specs.Str.{bytes_eq, str_eq_ignore_ascii_case}
-use Rattle.desk_http.specs.AccessRules.{access_fault, has_to_say, page_fault}
+use Rattle.desk_http.specs.AccessRules.{access_fault, has_to_say, page_fault, sender_fault}
 use Rattle.desk_http.specs.Fields.{Said, Nothing, One, Several, said, is_named}
 use Rattle.desk_http.specs.Heads.{HeadParts, Class, WellFormed, TooManyFields, Malformed}
+use Rattle.desk_http.specs.Proofs.{nonce_at}
 use Rattle.desk_http.specs.Sites.{PageView, SiteRules, page_view}
 use Rattle.desk_http.specs.Targets.{Resource, Run, Import, Report, Export, Books, HistoryFrom, Sheet, Show, RunAll, Stop}
 use Rattle.desk_http.specs.Targets.{Dump, resource, resource_at, page_at, number_of, some_text, IsProper}
@@ -15,10 +16,11 @@ use Rattle.desk_http.specs.declared.rejection.Rejection.{Rejection}
 use Rattle.desk_http.specs.declared.rejection.Rejection.TheVariants.{HeadTooLarge, BadRequest, NotFound, OnlyPost}
 use Rattle.desk_http.specs.declared.rejection.Rejection.TheVariants.{OnlyGet, LengthRequired, BodyTooLarge}
 
--- what is to be done: the page is shown; or a resource does something, with what the field If-None-Match says, where it
--- stands once, and a body of so many bytes
+-- what is to be done: the page is shown; or it is proved, by what was said, that the token is known; or a resource does
+-- something, with what the field If-None-Match says, where it stands once, and a body of so many bytes
 pub data Plan : Type 0 where
   ShowPage : PageView → Plan
+  Prove : List ℕ → Plan
   Ask : Resource → Option (List ℕ) → ℕ → Plan
 
 abbrev pub length_within : Option ℕ → Result ℕ Rejection
@@ -100,25 +102,39 @@ planned fault method (Some resource) fields =
 abbrev pub planned_page : Option Rejection → List ℕ → PageView → Result Plan Rejection
 planned_page fault method page = unless (unless_get method) (unless fault (Ok (ShowPage page)))
 
--- of the faults of who asks for the page, and for all else: the page, if that is named, or what the target names
-abbrev pub plan_by : Option Rejection → Option Rejection → Option PageView → HeadParts → Option PageView
+-- the proof of what is said, or the first check that fails: of the method, and of who may ask for it
+abbrev pub planned_proof : Option Rejection → List ℕ → List ℕ → Result Plan Rejection
+planned_proof fault method nonce = unless (unless_get method) (unless fault (Ok (Prove nonce)))
+
+-- what the target names that is no page: of the fault of who asks for it
+abbrev pub planned_else : Option Rejection → Option PageView → HeadParts → Result Plan Rejection
+planned_else fault page parts = planned fault parts.method (resource_at page parts.target) parts.fields
+
+-- of the faults of who asks for a proof, and for what a target names: the proof, if one is asked for
+abbrev pub plan_beside : Option Rejection → Option Rejection → Option PageView → HeadParts → Option (List ℕ)
     → Result Plan Rejection
-plan_by of_page of_else page parts (Some shown) = planned_page of_page parts.method shown
-plan_by of_page of_else page parts None = planned of_else parts.method (resource_at page parts.target) parts.fields
+plan_beside of_proof of_else page parts (Some nonce) = planned_proof of_proof parts.method nonce
+plan_beside of_proof of_else page parts None = planned_else of_else page parts
+
+-- of the fault of who asks for the page: the page, if that is named, or what is planned beside it
+abbrev pub plan_by : Option Rejection → HeadParts → Option PageView → Result Plan Rejection → Result Plan Rejection
+plan_by of_page parts (Some shown) beside = planned_page of_page parts.method shown
+plan_by of_page parts None beside = beside
 
 -- what is to be done, or the first check that fails
 abbrev pub plan_of : SiteRules → Class → Result Plan Rejection
 plan_of site TooManyFields = Err HeadTooLarge
 plan_of site Malformed = Err BadRequest
 plan_of site (WellFormed parts) =
-    plan_by (page_fault site.access parts.fields) (access_fault site.access parts.fields) site.page parts
-    (page_at site.page parts.target)
+    plan_by (page_fault site.access parts.fields) parts (page_at site.page parts.target)
+    (plan_beside (sender_fault site.access parts.fields) (access_fault site.access parts.fields) site.page parts
+    (nonce_at site parts.target))
 
 -- the same of a service with this page, or with none, that anyone may ask
 abbrev pub open_plan_of : Option PageView → Class → Result Plan Rejection
 open_plan_of page TooManyFields = Err HeadTooLarge
 open_plan_of page Malformed = Err BadRequest
-open_plan_of page (WellFormed parts) = plan_by None None page parts (page_at page parts.target)
+open_plan_of page (WellFormed parts) = plan_by None parts (page_at page parts.target) (planned_else None page parts)
 
 -- what is done without a page: a line, an import that isn't read loosely, or a report
 abbrev pub IsOfProgram : Resource → Type 0
@@ -136,6 +152,7 @@ IsOfProgram Dump = ⊥
 
 abbrev pub ShowsNoPage : Result Plan Rejection → Type 0
 ShowsNoPage (Ok (ShowPage page)) = ⊥
+ShowsNoPage (Ok (Prove nonce)) = ⊥
 ShowsNoPage (Ok (Ask resource known n)) = IsOfProgram resource
 ShowsNoPage (Err rejection) = Unit {0}
 
@@ -156,12 +173,14 @@ expects_continue (WellFormed parts) = parts.version == 1 && has_to_say is_contin
 abbrev pub waits : Class → Result Plan Rejection → List ℕ → Bool
 waits class (Err rejection) rest = false
 waits class (Ok (ShowPage page)) rest = false
+waits class (Ok (Prove nonce)) rest = false
 waits class (Ok (Ask resource known n)) rest = nat_lt (length rest) n && expects_continue class
 
 -- ---- the same as code has it
 
 abbrev pub work_plan : Work → Plan
 work_plan (work.ShowPage page) = ShowPage (page_view page)
+work_plan (work.Prove nonce) = Prove nonce.now
 work_plan (work.Ask target known n) = Ask (resource target) (some_text known) n
 
 abbrev pub plan : Result Work Rejection → Result Plan Rejection
@@ -171,4 +190,5 @@ plan (Err rejection) = Err rejection
 -- a target that is asked names a document of its form, if it names one
 abbrev pub AsksProperly : Work → Type 0
 AsksProperly (work.ShowPage page) = Unit {0}
+AsksProperly (work.Prove nonce) = Unit {0}
 AsksProperly (work.Ask target known n) = IsProper target

@@ -140,15 +140,21 @@ rejection_response page rejection = error_response page (rejection_status reject
 
 -- ---- the page
 
--- what the page tells its browser: to name it to no other site, to let no other site's page hold it, and what it may load
--- and run
+-- what the page tells its browser: to name it to no other site, to let no other site's page hold it, to give up what it
+-- kept of whatever listened at this port before, and what it may load and run
 abbrev pub page_fields : PageView → List ℕ
 page_fields page =
     line (codes "Referrer-Policy: ") (codes "same-origin") ++ line (codes "Cross-Origin-Opener-Policy: ") (codes "same-origin")
+    ++ line (codes "Clear-Site-Data: ") (34 ∷ codes "cache" ++ 34 ∷ [])
     ++ line (codes "Content-Security-Policy: ") page.policy
 
 abbrev pub page_response : PageView → Response
 page_response page = response 200 (response_bytes (Some page) 200 html (page_fields page) page.text)
+
+-- ---- the proof that the token is known
+
+abbrev pub proof_response : Option PageView → List ℕ → Response
+proof_response page proof = response 200 (response_bytes page 200 plain_text [] proof)
 
 -- ---- what the service replied
 

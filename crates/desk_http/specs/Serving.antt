@@ -5,11 +5,12 @@ use Rattle.std.specs.Io.{StartsWith}
 use Rattle.std.specs.Io.KnownBytes.{Appends, Keeps}
 use Rattle.desk_http.specs.Sites.{PageView, SiteRules}
 use Rattle.desk_http.specs.Heads.{Class, IsHead}
-use Rattle.desk_http.specs.Plans.{Plan, ShowPage, Ask, plan_of, waits}
+use Rattle.desk_http.specs.Proofs.{proof_of}
+use Rattle.desk_http.specs.Plans.{Plan, ShowPage, Prove, Ask, plan_of, waits}
 use Rattle.desk_http.specs.Services.{Operation, operation, ReplyView}
 use Rattle.desk_http.specs.HeadEnds.{arrival, EndsWithHead}
-use Rattle.desk_http.specs.Responses.{Response, rejection_response, page_response, reply_response, failure_response}
-use Rattle.desk_http.specs.Responses.{interim_bytes}
+use Rattle.desk_http.specs.Responses.{Response, rejection_response, page_response, proof_response, reply_response}
+use Rattle.desk_http.specs.Responses.{failure_response, interim_bytes}
 use Rattle.desk_http.specs.declared.receive.HeadArrival.{HeadArrival}
 use Rattle.desk_http.specs.declared.receive.HeadArrival.TheVariants as arrival
 use Rattle.desk_http.specs.declared.rejection.Rejection.{Rejection}
@@ -29,12 +30,14 @@ pub data Received : Type 0 where
   Incomplete : Received
   Rejected : Rejection → Received
   ForPage : PageView → Received
+  ForProof : List ℕ → Received
   Complete : Operation → Received
 
 -- of a plan and the bytes behind the head: what follows the body doesn't count
 abbrev pub received_of : Result Plan Rejection → List ℕ → Received
 received_of (Err rejection) rest = Rejected rejection
 received_of (Ok (ShowPage page)) rest = ForPage page
+received_of (Ok (Prove nonce)) rest = ForProof nonce
 received_of (Ok (Ask resource known n)) rest =
     if nat_lt (length rest) n then Incomplete else Complete (operation resource known (take n rest))
 
@@ -113,6 +116,7 @@ module _ {D : Type 0} (performs : D → Operation → Result ReplyView NoReply �
   Responds d Incomplete d' p = ⊥
   Responds d (Rejected rejection) d' p = (d' ≡ d) × (p ≡ rejection_response site.page rejection)
   Responds d (ForPage page) d' p = (d' ≡ d) × (p ≡ page_response page)
+  Responds d (ForProof nonce) d' p = (d' ≡ d) × (p ≡ proof_response site.page (proof_of site.access nonce))
   Responds d (Complete o) d' p = Replies d o d' p
 
   -- the response to these bytes

@@ -7,10 +7,13 @@ ghost use Rattle.std.specs.String.{string_bytes};
 ghost use Rattle.httparse.specs.Spans.{IsHeaderWithin, header_bytes};
 ghost use Rattle.desk_http.specs.Fields.{said_in};
 ghost use Rattle.desk_http.specs.AccessRules.{is_host, is_own_name, is_own_origin, is_own_site, may_say, shows};
-ghost use Rattle.desk_http.specs.AccessRules.{access_fault, page_fault, is_port_part, port_part};
+ghost use Rattle.desk_http.specs.AccessRules.{access_fault, page_fault, sender_fault};
+ghost use Rattle.desk_http.specs.AccessRules.{is_port_part, port_part};
+ghost use Rattle.desk_http.specs.Proofs.{proof_of};
 ghost use Rattle.desk_http.specs.Targets.{some_text};
 
 use crate::field::{FieldValue, find_field};
+use crate::proof::proof_text;
 use crate::rejection::Rejection;
 use crate::token::Token;
 use httparse::spans::HeaderSpan;
@@ -91,6 +94,16 @@ impl Access {
         }
     }
 
+    /// What proves to whoever said this that the token is known; nothing without a token.
+    pub fn proof_of(&self, alloc: Global, nonce: &[u8]) -> Result<String, AllocError>
+        ensures { IfOk result (λ text. string_bytes text ≡ proof_of self.now nonce.now) }
+    {
+        match &self.token {
+            Some(token) => proof_text(alloc, self.port, token.text(), nonce),
+            None => Ok(String::new(alloc)),
+        }
+    }
+
     /// Whether the text is the port as it stands behind a host, which may be left out where it is HTTP's own.
     fn is_port(&self, text: &[u8]) -> bool
         ensures { result ≡ is_port_part self.now.port text.now }
@@ -108,14 +121,16 @@ impl Access {
         }
     }
 
+    /// Whether the service is called so. One that asks for a token isn't called `localhost`, since that is a name of
+    /// `[::1]`, too, where another program may listen at the same port.
     fn is_own_name(&self, text: &[u8]) -> bool
-        ensures { result ≡ is_own_name self.now.port text.now }
+        ensures { result ≡ is_own_name self.now text.now }
     {
-        self.is_host(b"127.0.0.1", text) || self.is_host(b"localhost", text)
+        self.is_host(b"127.0.0.1", text) || self.token.is_none() && self.is_host(b"localhost", text)
     }
 
     fn is_own_origin(&self, text: &[u8]) -> bool
-        ensures { result ≡ is_own_origin self.now.port text.now }
+        ensures { result ≡ is_own_origin self.now text.now }
     {
         match text.strip_prefix(b"http://".as_slice()) {
             Some(name) => self.is_own_name(name),
@@ -124,7 +139,7 @@ impl Access {
     }
 
     fn may_be_host(&self, host: FieldValue<'_>) -> bool
-        ensures { result ≡ may_say (is_own_name self.now.port) (said_in host.entry) }
+        ensures { result ≡ may_say (is_own_name self.now) (said_in host.entry) }
     {
         match host {
             FieldValue::Missing => true,
@@ -134,7 +149,7 @@ impl Access {
     }
 
     fn may_be_origin(&self, origin: FieldValue<'_>) -> bool
-        ensures { result ≡ may_say (is_own_origin self.now.port) (said_in origin.entry) }
+        ensures { result ≡ may_say (is_own_origin self.now) (said_in origin.entry) }
     {
         match origin {
             FieldValue::Missing => true,
@@ -170,16 +185,26 @@ impl Access {
         Ok(())
     }
 
+    /// Checks that a head with these fields is sent for no other site, else tells which rule it breaks first.
+    pub fn check_sender(&self, head: &[u8], spans: &[HeaderSpan]) -> Result<(), Rejection>
+        requires { All (IsHeaderWithin (length head.now)) spans.now }
+        ensures { result_err result
+            ≡ sender_fault self.now (map (header_bytes head.now) spans.now) }
+    {
+        self.check_for_page(head, spans)?;
+        if !may_be_site(find_field(head, spans, b"sec-fetch-site")) {
+            return Err(Rejection::Forbidden);
+        }
+        Ok(())
+    }
+
     /// Checks that a head with these fields may ask, else tells which rule it breaks first.
     pub fn check(&self, head: &[u8], spans: &[HeaderSpan]) -> Result<(), Rejection>
         requires { All (IsHeaderWithin (length head.now)) spans.now }
         ensures { result_err result
             ≡ access_fault self.now (map (header_bytes head.now) spans.now) }
     {
-        self.check_for_page(head, spans)?;
-        if !may_be_site(find_field(head, spans, b"sec-fetch-site")) {
-            return Err(Rejection::Forbidden);
-        }
+        self.check_sender(head, spans)?;
         if !self.is_shown_by(find_field(head, spans, b"authorization")) {
             return Err(Rejection::Unauthorized);
         }

@@ -5,6 +5,7 @@
 
 mod access;
 mod answer;
+mod aside;
 mod ask;
 mod asked;
 mod body_length;
@@ -15,6 +16,7 @@ mod head_end;
 mod loopback;
 mod pace;
 mod plan;
+mod proof;
 mod query;
 mod question;
 mod receive;

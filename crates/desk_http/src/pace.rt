@@ -1,21 +1,22 @@
 //! How long clients are waited for.
-ghost use Rattle.std.specs.Prelude.{◌≤◌, IfOk, length};
+ghost use Rattle.std.specs.Prelude.{◌≡◌, ◌≤◌, IfOk, length};
+ghost use Rattle.desk_http.specs.Paces.{answer_seconds, request_seconds};
 
 use std::alloc::Global;
 use std::io::{self, ErrorKind, Read, Write};
 use std::net::TcpStream;
 use std::time::{Clock, Duration, Instant};
 
-/// How many seconds a client that is connected may say nothing.
-const SILENCE: u64 = 1;
-
 /// How many seconds a request may take from its first byte, and an answer from its beginning, however short. Nor is the
 /// next byte of a request waited for longer.
 const SECONDS: u64 = 30;
 
-/// How many bytes earn a second more. So a head, which is shorter, has the seconds above, and a body or an answer goes on
-/// as long as so many bytes a second come or are taken.
+/// How many bytes of a request earn a second more. So a head, which is shorter, has the seconds above, and a body goes on
+/// as long as so many bytes a second come.
 const BYTES_A_SECOND: u64 = 10_240;
+
+/// How many bytes of an answer earn one. Since one client is answered after another, an answer as a whole has an end.
+const TAKEN_A_SECOND: u64 = 102_400;
 
 /// How many bytes of an answer are handed over at a time, so that a client which takes none shows.
 const PIECE: usize = 65_536;
@@ -38,6 +39,20 @@ fn time_left<C: Clock>(clock: &C, began: Instant, allowed: Duration) -> io::Resu
     }
 }
 
+/// For how many seconds a request may go on of which so many bytes have come.
+fn request_seconds(bytes: u64) -> u64
+    ensures { result ≡ request_seconds bytes }
+{
+    SECONDS + bytes / BYTES_A_SECOND
+}
+
+/// For how many seconds an answer may go on of which so many bytes were taken.
+fn answer_seconds(bytes: u64) -> u64
+    ensures { result ≡ answer_seconds bytes }
+{
+    SECONDS + bytes / TAKEN_A_SECOND
+}
+
 /// When a client began, and how many bytes went by since.
 #[derive(Clone, Copy)]
 struct Pace {
@@ -53,9 +68,8 @@ impl Pace {
         })
     }
 
-    /// How long the client may still take for its next bytes, so many seconds at most.
-    fn time_left<C: Clock>(&self, clock: &C, longest: u64) -> io::Result<Duration> {
-        let seconds = (self.bytes / BYTES_A_SECOND).saturating_add(SECONDS);
+    /// How long the client may still take for its next bytes, of so many seconds in all, and so many at most.
+    fn time_left<C: Clock>(&self, clock: &C, seconds: u64, longest: u64) -> io::Result<Duration> {
         let left = time_left(clock, self.began, Duration::from_secs(seconds))?;
         Ok(left.min(Duration::from_secs(longest)))
     }
@@ -65,7 +79,7 @@ impl Pace {
     }
 }
 
-/// Reads what a client sends, as long as it begins at once and keeps the pace.
+/// Reads what a client sends, of whom something has come, as long as it keeps the pace.
 #[derive(Drop)]
 pub struct PacedReader<'a, C: Clock> {
     clock: &'a C,
@@ -82,17 +96,19 @@ impl<'a, C: Clock> PacedReader<'a, C> {
         }
     }
 
-    fn time_left(&self) -> io::Result<Duration> {
-        match &self.pace {
-            None => Ok(Duration::from_secs(SILENCE)),
-            Some(pace) => pace.time_left(self.clock, SECONDS),
-        }
+    /// Has what comes next waited for only as long as the client may take for it. What comes first is there already.
+    fn set_timeout(&self) -> io::Result<()> {
+        let Some(pace) = &self.pace else {
+            return Ok(());
+        };
+        let left = pace.time_left(self.clock, request_seconds(pace.bytes), SECONDS)?;
+        self.stream.set_read_timeout(Some(left))
     }
 }
 
 impl<C: Clock> Read for PacedReader<'_, C> {
     fn read(&mut self, buf: &mut [u8]) -> io::Result<usize> {
-        self.stream.set_read_timeout(Some(self.time_left()?))?;
+        self.set_timeout()?;
         let mut stream = self.stream;
         let n = stream.read(buf)?;
         let mut pace = match self.pace {
@@ -122,7 +138,7 @@ impl<C: Clock> Taker<'_, C> {
             None => Pace::start(self.clock)?,
             Some(pace) => pace,
         };
-        let left = pace.time_left(self.clock, PIECE_SECONDS)?;
+        let left = pace.time_left(self.clock, answer_seconds(pace.bytes), PIECE_SECONDS)?;
         self.stream.set_write_timeout(Some(left))?;
         let mut stream = self.stream;
         let n = stream.write(&bytes[..bytes.len().min(PIECE)])?;

@@ -2,10 +2,11 @@
 ghost use Rattle.std.specs.Prelude.{◌≡◌, [], None, IfOk, length, map, All};
 ghost use Rattle.std.specs.Result.{result_err};
 ghost use Rattle.httparse.specs.Spans.{IsHeaderWithin, header_bytes};
-ghost use Rattle.desk_http.specs.AccessRules.{access_fault, page_fault, TellNoOrigin, AccessRules};
+ghost use Rattle.desk_http.specs.AccessRules.{access_fault, page_fault, sender_fault, TellNoOrigin};
+ghost use Rattle.desk_http.specs.AccessRules.{AccessRules};
 ghost use Rattle.desk_http.specs.Heads.{Class, HeadParts, WellFormed};
 ghost use Rattle.desk_http.specs.Plans.{checked, known_tag, length_for, method_fault, open_plan_of};
-ghost use Rattle.desk_http.specs.Plans.{plan, plan_of, planned_page, unless_get, unless_post};
+ghost use Rattle.desk_http.specs.Plans.{plan, plan_of, planned_page, planned_proof, unless_get, unless_post};
 ghost use Rattle.desk_http.specs.Plans.{AsksProperly, ShowsNoPage};
 ghost use Rattle.desk_http.specs.Responses.{guards};
 ghost use Rattle.desk_http.specs.Routes.{all_routes};
@@ -17,6 +18,7 @@ use crate::access::Access;
 use crate::body_length::read_body_length;
 use crate::field::{FieldValue, find_field};
 use crate::head::Head;
+use crate::proof::find_nonce;
 use crate::rejection::Rejection;
 use crate::route::{Route, find_page, find_target};
 use crate::site::{Page, Site};
@@ -29,6 +31,8 @@ use matchit::Router;
 #[derive(Clone, Copy)]
 pub enum Work<'b> {
     ShowPage(Page),
+    /// It is proved to whoever said this that the token is known.
+    Prove(&'b [u8]),
     /// The service does what a target names, with the tag that is known to whoever asks and a body of so many bytes.
     Ask(Target<'b>, Option<&'b [u8]>, usize),
 }
@@ -126,6 +130,24 @@ fn plan_page<'b>(
     Ok(Work::ShowPage(page))
 }
 
+/// The proof that the token is known, or the first check that fails.
+fn plan_proof<'b>(
+    access: &Access,
+    head: &'b [u8],
+    method: &[u8],
+    nonce: &'b [u8],
+    spans: &[HeaderSpan],
+) -> Result<Work<'b>, Rejection>
+    requires { All (IsHeaderWithin (length head.now)) spans.now }
+    ensures value { plan result ≡ planned_proof
+        (sender_fault access.now (map (header_bytes head.now) spans.now)) method.now nonce.now }
+    ensures proper { IfOk result AsksProperly }
+{
+    check_get(method)?;
+    access.check_sender(head, spans)?;
+    Ok(Work::Prove(nonce))
+}
+
 /// The tag of the books that is known to whoever asks.
 fn find_known_tag<'b>(head: &'b [u8], spans: &[HeaderSpan]) -> Option<&'b [u8]>
     requires { All (IsHeaderWithin (length head.now)) spans.now }
@@ -160,6 +182,9 @@ pub fn make_plan<'b>(
     let spans = &spans[..found.headers];
     if let Some(page) = find_page(&site.page, target) {
         return plan_page(&site.access, bytes, method, page, spans);
+    }
+    if let Some(nonce) = find_nonce(&site.access, &site.page, target) {
+        return plan_proof(&site.access, bytes, method, nonce, spans);
     }
     match find_target(router, &site.page, target) {
         None => Err(Rejection::NotFound),

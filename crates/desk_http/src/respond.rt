@@ -2,7 +2,8 @@
 ghost use Rattle.std.specs.Prelude.{◌≡◌, false, IfOk, MatchResult, option_map, string_bytes};
 ghost use Rattle.std.specs.Str.{bytes_eq};
 ghost use Rattle.desk_http.specs.Responses.{dump_response, error_response, failure_response};
-ghost use Rattle.desk_http.specs.Responses.{page_response};
+ghost use Rattle.desk_http.specs.Responses.{page_response, proof_response};
+ghost use Rattle.desk_http.specs.Proofs.{proof_of};
 ghost use Rattle.desk_http.specs.Responses.{rejection_response, reply_response, told_response};
 ghost use Rattle.desk_http.specs.Responses.{unchanged_response};
 ghost use Rattle.desk_http.specs.Services.{Performs, ShowBooks, ShowDump, ShowList, heard, operation};
@@ -11,6 +12,7 @@ ghost use Rattle.desk_http.specs.Serving.{PerformsAndSends, Sends};
 ghost use Rattle.desk_http.specs.Sites.{page_view, some_page};
 ghost use Rattle.desk_http.specs.Targets.{is_dump, meant, resource, some_text, IsProper};
 
+use crate::access::Access;
 use crate::query::ListWords;
 use crate::rejection::Rejection;
 use crate::response::{
@@ -86,6 +88,24 @@ pub fn show_page<W: Write>(alloc: Global, writer: &mut W, page: Page) -> Result<
         body.len(),
         lines.as_str(),
     )?;
+    send_response(writer, StatusCode::OK, head.as_str(), body)
+}
+
+/// Proves to whoever said this that the token is known.
+pub fn prove<W: Write>(
+    alloc: Global,
+    writer: &mut W,
+    access: &Access,
+    page: &Option<Page>,
+    nonce: &[u8],
+) -> Result<u16, Stop>
+    ensures { Sends (proof_response (some_page page.now) (proof_of access.now nonce.now))
+        (W.contents writer.old) (W.contents writer.new) result }
+{
+    let proof = access.proof_of(alloc, nonce)?;
+    let body = proof.as_str().as_bytes();
+    let media = "text/plain; charset=utf-8";
+    let head = head_text(alloc, page, StatusCode::OK, media, body.len(), "")?;
     send_response(writer, StatusCode::OK, head.as_str(), body)
 }
 

@@ -138,6 +138,7 @@ pub fn page_lines(alloc: Global, page: &Page) -> Result<String, AllocError>
     let mut text = String::new(alloc);
     push_line(&mut text, "Referrer-Policy: ", "same-origin")?;
     push_line(&mut text, "Cross-Origin-Opener-Policy: ", "same-origin")?;
+    push_line(&mut text, "Clear-Site-Data: ", "\"cache\"")?;
     push_line(&mut text, "Content-Security-Policy: ", page.policy)?;
     Ok(text)
 }

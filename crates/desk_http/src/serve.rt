@@ -11,7 +11,7 @@ use crate::head::read_head;
 use crate::plan::{Work, make_plan};
 use crate::receive::{HeadArrival, Input};
 use crate::rejection::Rejection;
-use crate::respond::{reject, respond, show_page};
+use crate::respond::{prove, reject, respond, show_page};
 use crate::route::{Route, make_router};
 use crate::send::send_interim;
 use crate::served::{Served, Stop};
@@ -62,6 +62,7 @@ fn serve_head<R: Read, W: Write, S: Service>(
     };
     match work {
         Work::ShowPage(page) => show_page(alloc, writer, page),
+        Work::Prove(nonce) => prove(alloc, writer, &site.access, &site.page, nonce),
         Work::Ask(target, known, len) => {
             let waits = is_waiting(&head, class, &spans, input.bytes.len() - n, len);
             send_interim(writer, waits)?;

@@ -235,6 +235,24 @@ fn tokens_are_shown(rt: HostRuntime) -> Result<(), Fail> {
     Ok(())
 }
 
+/// A service that asks for a token isn't called localhost, though the token is shown.
+#[test]
+fn localhost_is_another(rt: HostRuntime) -> Result<(), Fail> {
+    let alloc = rt.alloc();
+    let site = guarded(alloc, TOKEN, None)?;
+    for (fields, status) in [
+        ("Host: 127.0.0.1:8080\r\n", 200),
+        ("Host: localhost:8080\r\n", 421),
+        ("Origin: http://127.0.0.1:8080\r\n", 200),
+        ("Origin: http://localhost:8080\r\n", 403),
+    ] {
+        let fields = format!(in alloc; "Authorization: Bearer {TOKEN}\r\n{fields}")?;
+        let (answer, _) = answers(alloc, &site, fields.as_str())?;
+        assert!(rt; answer == status, "at {fields}");
+    }
+    Ok(())
+}
+
 /// Whoever shows no token is told how to show one.
 #[test]
 fn tokens_are_asked_for(rt: HostRuntime) -> Result<(), Fail> {

@@ -314,11 +314,11 @@ fn may_ask(rt: HostRuntime) -> Result<(), Fail> {
         for (fields, status, guarded_status) in [
             ("", 200, 401),
             (SHOWN_TOKEN, 200, 200),
-            ("Host: localhost:8080\r\n", 200, 401),
+            ("Host: localhost:8080\r\n", 200, 421),
             ("Host: evil.example\r\n", 421, 421),
             ("Origin: null\r\n", 403, 403),
             ("Origin: http://evil.example\r\n", 403, 403),
-            ("Origin: http://localhost:8080\r\n", 200, 401),
+            ("Origin: http://localhost:8080\r\n", 200, 403),
             ("Sec-Fetch-Site: cross-site\r\n", 403, 403),
             ("Sec-Fetch-Site: same-origin\r\n", 200, 401),
         ] {

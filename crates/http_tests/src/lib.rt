@@ -20,6 +20,8 @@ mod pages;
 #[cfg(test)]
 mod play;
 #[cfg(test)]
+mod proving;
+#[cfg(test)]
 mod requests;
 
 pub use counting::Counting;

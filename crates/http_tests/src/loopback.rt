@@ -1,7 +1,7 @@
 //! Clients on the loopback, over sockets: slow ones, silent ones, and a listener that fails. The clock is the test's own,
 //! so that nothing waits.
 use crate::counting::Counting;
-use crate::play::open;
+use crate::play::{open, with_page};
 use desk_http::{Clients, serve_connections};
 use std::alloc::{AllocError, Global};
 use std::cell::Cell;
@@ -43,6 +43,32 @@ impl Clock for SteppingClock {
         let slept = u64::try_from(duration.as_millis()).unwrap_or(u64::MAX);
         self.now.set(self.now.get().saturating_add(slept));
         self.sleeps.set(self.sleeps.get().saturating_add(1));
+    }
+}
+
+/// A clock that stands still, and at which a client that said nothing asks once somebody sleeps.
+#[derive(Drop)]
+struct WakingClock {
+    client: TcpStream,
+    has_asked: Cell<bool>,
+}
+
+impl Clock for WakingClock {
+    fn monotonic(&self) -> io::Result<Duration> {
+        Ok(Duration::from_millis(0))
+    }
+
+    fn since_1970(&self) -> io::Result<Duration> {
+        self.monotonic()
+    }
+
+    fn sleep(&self, _: Duration) {
+        if !self.has_asked.get() {
+            self.has_asked.set(true);
+            let mut client = &self.client;
+            let _ = client.write_all(REPORT);
+            let _ = self.client.shutdown(Shutdown::Write);
+        }
     }
 }
 
@@ -198,5 +224,54 @@ fn silent_clients(rt: HostRuntime) -> Result<(), Fail> {
     assert!(rt; is_answered(alloc, silent, None)?);
     assert!(rt; is_answered(alloc, early, None)?);
     assert!(rt; is_answered(alloc, third, OK)?);
+    Ok(())
+}
+
+/// A client that says nothing keeps nobody waiting, and is answered once it asks.
+#[test]
+fn silent_clients_wait_aside(rt: HostRuntime) -> Result<(), Fail> {
+    let alloc = rt.alloc();
+    let listener = TcpListener::bind(&rt, (Ipv4Addr::LOCALHOST, 0))?;
+    let silent = TcpStream::connect(&rt, listener.local_addr()?)?;
+    let other = asked(&rt, &listener, REPORT)?;
+    let clock = WakingClock {
+        client: silent.try_clone()?,
+        has_asked: Cell::new(false),
+    };
+    let mut service = Counting::new(0);
+    let mut clients = Clients::of(listener);
+    serve_connections(&clock, alloc, &mut clients, 2, &mut service, &open(alloc)?)?;
+    assert!(rt; is_answered(alloc, other, OK)?);
+    assert!(rt; is_answered(alloc, silent, OK)?);
+    Ok(())
+}
+
+/// How many bytes a client gets of an answer of 400,000 and its head, where each look at the clock finds it so many
+/// milliseconds later.
+fn taken_at(rt: &HostRuntime, step: u64) -> Result<usize, Fail> {
+    let alloc = rt.alloc();
+    let listener = TcpListener::bind(rt, (Ipv4Addr::LOCALHOST, 0))?;
+    let mut client = asked(rt, &listener, b"GET /export/items HTTP/1.1\r\n\r\n")?;
+    let clock = SteppingClock::new(step);
+    let mut service = Counting::new(400_000);
+    let mut clients = Clients::of(listener);
+    serve_connections(
+        &clock,
+        alloc,
+        &mut clients,
+        1,
+        &mut service,
+        &with_page(alloc)?,
+    )?;
+    let mut bytes = Vec::new(alloc);
+    let _ = client.read_to_end(&mut bytes);
+    Ok(bytes.len())
+}
+
+/// An answer has 30 seconds, and one more for each 100 KiB that are taken.
+#[test]
+fn slow_answers(rt: HostRuntime) -> Result<(), Fail> {
+    assert!(rt; taken_at(&rt, 3_000)? > 400_000);
+    assert!(rt; taken_at(&rt, 6_000)? < 400_000);
     Ok(())
 }

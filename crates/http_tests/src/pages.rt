@@ -18,7 +18,7 @@ const CSV: &str = "text/csv; charset=utf-8";
 
 /// The page, byte for byte.
 const SHOWN: &str =
-    "HTTP/1.1 200 OK\r\nContent-Type: text/html; charset=utf-8\r\nContent-Length: 34\r\nReferrer-Policy: same-origin\r\nCross-Origin-Opener-Policy: same-origin\r\nContent-Security-Policy: default-src 'none'; connect-src 'self'\r\nX-Content-Type-Options: nosniff\r\nCache-Control: no-store\r\nCross-Origin-Resource-Policy: same-origin\r\nConnection: close\r\n\r\n<!DOCTYPE html>\n<title>\u{e9}</title>\n";
+    "HTTP/1.1 200 OK\r\nContent-Type: text/html; charset=utf-8\r\nContent-Length: 34\r\nReferrer-Policy: same-origin\r\nCross-Origin-Opener-Policy: same-origin\r\nClear-Site-Data: \"cache\"\r\nContent-Security-Policy: default-src 'none'; connect-src 'self'\r\nX-Content-Type-Options: nosniff\r\nCache-Control: no-store\r\nCross-Origin-Resource-Policy: same-origin\r\nConnection: close\r\n\r\n<!DOCTYPE html>\n<title>\u{e9}</title>\n";
 
 /// That nothing has changed, byte for byte.
 const UNCHANGED: &str =
@@ -424,14 +424,16 @@ fn may_ask(rt: HostRuntime) -> Result<(), Fail> {
         ("Sec-Fetch-Site: cross-site\r\n", (200, 403)),
         ("Sec-Fetch-Site: same-origin\r\n", (200, 401)),
         ("Authorization: Bearer wrong\r\n", (200, 401)),
-        ("Host: localhost:8080\r\n", (200, 401)),
+        ("Host: 127.0.0.1:8080\r\n", (200, 401)),
+        ("Host: localhost:8080\r\n", (421, 421)),
         ("Host: evil.example\r\n", (421, 421)),
         (
-            "Host: localhost:8080\r\nHost: localhost:8080\r\n",
+            "Host: 127.0.0.1:8080\r\nHost: 127.0.0.1:8080\r\n",
             (421, 421),
         ),
         ("Origin: null\r\n", (403, 403)),
-        ("Origin: http://localhost:8080\r\n", (200, 401)),
+        ("Origin: http://127.0.0.1:8080\r\n", (200, 401)),
+        ("Origin: http://localhost:8080\r\n", (403, 403)),
     ] {
         let statuses = statuses(alloc, &site, fields)?;
         assert!(rt; statuses == wanted, "at {fields}");

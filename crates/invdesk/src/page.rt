@@ -457,7 +457,31 @@ day.addEventListener('input', () => { isByHand = true; });
 day.addEventListener('change', keepDay);
 
 
-let token = '', turn = Promise.resolve();
+let token = '', turn = Promise.resolve(), provenAt = null;
+const setToken = text => { [token, provenAt] = [text, null]; };
+const hexOf = bytes => [...new Uint8Array(bytes)].map(it => it.toString(16).padStart(2, '0')).join('');
+const bytesOf = text => new TextEncoder().encode(text);
+const fetchNow = (path, options) => fetch(path, { ...options, cache: 'no-store', signal: AbortSignal.timeout(120000) });
+
+const PROOF_HOLDS = 5000;
+const isProven = () => provenAt !== null && Math.abs(Date.now() - provenAt) < PROOF_HOLDS;
+const unproven = why => Object.assign(new Error(`${why} Nothing was sent`), { isUnproven: true });
+async function prove() {
+  await dismissWorkers();
+  const nonce = hexOf(crypto.getRandomValues(new Uint8Array(16)));
+  const reply = await fetchNow(`/prove/${nonce}`), told = await reply.text();
+  const key = await crypto.subtle.importKey('raw', bytesOf(token), { name: 'HMAC', hash: 'SHA-256' }, false, ['sign']);
+  const right = await crypto.subtle.sign('HMAC', key, bytesOf(`${location.port || 80}:${nonce}`));
+  if (reply.status !== 200 || told !== hexOf(right))
+    throw unproven("What listens at this port doesn't know the token: it is another program, or the token is wrong.");
+  provenAt = Date.now();
+}
+async function dismissWorkers() {
+  const workers = await navigator.serviceWorker?.getRegistrations() ?? [];
+  await Promise.all(workers.map(it => it.unregister()));
+  if (navigator.serviceWorker?.controller)
+    throw unproven('Another program at this port had left a worker in the browser. Load the page again.');
+}
 
 function ask(path, options) {
   const answer = turn.then(() => askNow(path, options));
@@ -465,10 +489,16 @@ function ask(path, options) {
   return answer;
 }
 async function askNow(path, { headers, ...options } = {}) {
+  if (token && !isProven()) await prove();
   const all = { ...headers, ...token && { Authorization: `Bearer ${token}` } };
-  const reply = await fetch(path, { ...options, headers: all, cache: 'no-store', signal: AbortSignal.timeout(120000) });
-  if (reply.status === 401) askForToken();
-  return { status: reply.status, tag: reply.headers.get('ETag'), text: await reply.text() };
+  try {
+    const reply = await fetchNow(path, { ...options, headers: all }), text = await reply.text();
+    if (reply.status === 401) askForToken();
+    return { status: reply.status, tag: reply.headers.get('ETag'), text };
+  } catch (fault) {
+    provenAt = null;
+    throw fault;
+  }
 }
 const statusWords = status => `The program answered ${status}${status === 500 ? ': its file failed' : ''}.`;
 async function get(path, headers) {
@@ -480,9 +510,8 @@ const report = async (which, id) =>
   (await get(`/report/${which}/${id}`)).text.split('\n').filter(Boolean).map(line => line.split('\t'));
 
 function newKey() {
-  const bytes = [...crypto.getRandomValues(new Uint8Array(12))].map(it => it.toString(16).padStart(2, '0'));
   keepDay();
-  return `${day.value}/page-${bytes.join('')}`;
+  return `${day.value}/page-${hexOf(crypto.getRandomValues(new Uint8Array(12)))}`;
 }
 function lineOf(command, fields, key = newKey()) {
   keepDay();
@@ -848,7 +877,8 @@ function effects({ sums, rows }) {
 const PAST = Object.fromEntries(`found Found,add Added,remove Took out,count Counted,transfer Moved,
 install Put in,uninstall Took out,disassemble Took apart,reinstate Brought back,order New:,order_line Added,
 issue_order Issued,receive Received,
-allocate_sale Allocated,ship Shipped,return_item Took back,close_order Closed,cancel_order Cancelled,build New build:,
+"#,
+    r#"allocate_sale Allocated,ship Shipped,return_item Took back,close_order Closed,cancel_order Cancelled,build New build:,
 issue_build Issued,hold_build Put on hold:,cancel_build Cancelled,outputs Began,complete_output Completed,
 cancel_output Cancelled,scrap_output Scrapped,allocate_build Allocated,complete_build Completed,consume Used up,
 release Gave back`.split(/,\s?/).map(it => [it.split(' ')[0], it.replace(/^\w+ /, '')]));
@@ -869,8 +899,7 @@ const doneWords = (sentence, told, ...more) => says('good', node('b', 'Done. '),
 
 const STATES = { order_line: [0, 1], issue_order: [0], cancel_order: [0, 1], issue_build: [0, 2], hold_build: [0, 1],
   cancel_build: [0, 1, 2], auto_allocate: [0, 1], allocate_build: [0, 1] };
-"#,
-    r#"const AWAY = { uninstall: IN, reinstate: OFF, return_item: SENT };
+const AWAY = { uninstall: IN, reinstate: OFF, return_item: SENT };
 const isFree = item => freeOf(item) > 0, isPlain = item => isAt(item) && !item.serial;
 const live = flag => part => has(part, flag) && !part.retired, maySet = line => !find.fixed.has(line.assembly);
 const isOpenLine = side => line => leftOf(line) > 0 && orderOf(line).side === side && orderOf(line).state === PROGRESS;
@@ -1648,7 +1677,8 @@ function buildView(build, query) {
     node('p', 'All is made. What is allocated is used up then.'),
   acts(quick('Complete this build', 'complete_build', { build: id }, leftOf(build) ? '' : 'main'))),
   needs.length > 0 && listed('What it needs', [parts('Component', 'component'), numbers('Required', 'required'),
-    numbers('Allocated', 'allocated'), numbers('Missing', 'missing'), numbers('Free', it => freeIn(it.component)),
+"#,
+    r#"    numbers('Allocated', 'allocated'), numbers('Missing', 'missing'), numbers('Free', it => freeIn(it.component)),
     cell('Kind', kindOf, 'late')], needs),
   listed('Outputs', itemColumns(), outputs), allocationTable(find.allocationsFor(`1 ${id}`)),
   listed('Used up', itemColumns(partColumn), find.usedBy(id)), buildOrigins(build),
@@ -1669,8 +1699,7 @@ function completeWork(build, outputs) {
   const rows = outputs.map(item => ({ item, quantity: item.quantity, called: itemName(item),
     isOff: lacks(item) !== '' }));
   const near = find.allocationsFor(`1 ${build.id}`).map(it => rowOf('item', it.item).ref)[0];
-"#,
-    r#"  return section('Complete outputs', batch({ verb: 'Complete', past: 'Completed', rows, command: 'complete_output',
+  return section('Complete outputs', batch({ verb: 'Complete', past: 'Completed', rows, command: 'complete_output',
     fieldsOf: row => ({ output: row.item.id, ...placeIn(row) }), about: ['build', build.id],
     columns: [cell('Output', it => itemLink(it.item), 'head'), cell('Quantity', it => digits(it.quantity), 'n'),
       cell('Lacks', it => node(it.isOff ? 'span.bad' : 'span.good', name(lacks(it.item) || 'nothing'))),
@@ -2458,7 +2487,8 @@ function listsView() {
     if (isEarly(stop) || busy) return;
     stop.disabled = true;
     told.replaceChildren(...[await stopProgram()].filter(Boolean));
-    stop.disabled = false;
+"#,
+    r#"    stop.disabled = false;
   }, 'main');
   const open = () => store.keys(OPEN).length;
   return ['Lists', [...LISTS].map(([it, { does }]) => node('p', link('list/' + it, capital(it)), ' ', soft(does))),
@@ -2490,8 +2520,7 @@ async function stopProgram() {
 
 
 const VIEWS = { stock: stockView, low: lowView, shopping: shoppingView, locations: locationsView, builds: buildsView,
-"#,
-    r#"  orders: ordersView, recent: recentView, do: doView, files: filesView, lists: listsView, list: listView,
+  orders: ordersView, recent: recentView, do: doView, files: filesView, lists: listsView, list: listView,
   location: locationsView, sheet: sheetView,
   part: partView, line: lineView, item: itemView, build: buildView, order: orderView, batch: batchView,
   find: findView };
@@ -2557,19 +2586,22 @@ function comeBack(from, to, made, form) {
   (again?.checkVisibility() ? again : made).focus({ preventScroll: true });
 }
 const tell = text => { byId('status').textContent = text; };
-function askForToken() {
+function askForToken(why) {
   const box = node('input', { id: 'token', type: 'password', required: true });
   const submit = event => {
     event.preventDefault();
-    token = box.value.trim();
+    setToken(box.value.trim());
     start();
   };
-  main.replaceChildren(node('h1', 'The token'), node('form.card', { submit, 'aria-label': 'Token' },
-    node('label', 'The token of the program', box), node('button.main', 'Go on')));
+  main.replaceChildren(node('h1', 'The token'), ...why ? [node('p.bad', { role: 'alert' }, `${why}.`)] : [],
+    node('form.card', { submit, 'aria-label': 'Token' }, node('label', 'The token of the program', box),
+      node('button.main', 'Go on')));
 }
 function failed(fault) {
   tag = null;   // what is read next is shown
-  if (!byId('token')) main.replaceChildren(node('h1', "The program doesn't answer"),
+  if (byId('token')) return;
+  if (fault.isUnproven) askForToken(fault.message);
+  else main.replaceChildren(node('h1', "The program doesn't answer"),
     node('p.bad', { role: 'alert' }, fault.message), button('Try again', start));
 }
 async function start() {
@@ -2581,7 +2613,10 @@ async function start() {
     tell(`Read in ${Math.round(performance.now() - begun)} ms.`);
     warmUp();
     await named();
-  } catch (fault) { if (!find) failed(fault); }
+  } catch (fault) {
+    if (fault.isUnproven) askForToken(fault.message);
+    else if (!find) failed(fault);
+  }
 }
 async function named() {
   if (!await readNames(ownersShown())) return;
@@ -2656,7 +2691,7 @@ function news() {
 function takeToken() {
   const told = location.hash.match(/^#token=(.+)$/);
   if (!told) return false;
-  token = told[1];
+  setToken(told[1]);
   history.replaceState(null, '', '#/stock');
   return true;
 }
@@ -2699,4 +2734,4 @@ start();
 
 /// What a browser may do for the page: run its one script, use its one style, and ask this service.
 pub const POLICY: &str =
-    "default-src 'none'; script-src 'sha256-bU94L1G9XuL62Sr83WCL2fAypzvhmGkL6BLt0Z19eJA='; style-src 'sha256-H/RH2zxl1jPpzQh/MiuMidWBHtQ8tXiKS5i1xLCOEYs='; connect-src 'self'; img-src data:; base-uri 'none'; form-action 'none'; frame-ancestors 'none'; require-trusted-types-for 'script'; trusted-types 'none'";
+    "default-src 'none'; script-src 'sha256-fY/WBO3Y5LMEwYBTEdqeFfFb4NSe5tI59SkQiRZM280='; style-src 'sha256-H/RH2zxl1jPpzQh/MiuMidWBHtQ8tXiKS5i1xLCOEYs='; connect-src 'self'; img-src data:; base-uri 'none'; form-action 'none'; frame-ancestors 'none'; require-trusted-types-for 'script'; trusted-types 'none'";

@@ -1,44 +1,12 @@
-use Rattle.std.proofs.Common.{◌∙◌, arith, refl, sym}
 use Rattle.desk_http.specs.Services.{Performs}
-use Rattle.desk_http.specs.Serving.{IsOneStep, IsTaken}
-use Rattle.desk_http.proofs.Connections.{one_more, operations}
+use Rattle.desk_http.proofs.Connections.{operations}
 use Rattle.desk_http.proofs.loopback.serve_connections.Goals as goal
 
-pub loop-done-init : goal.loop-done-init
-loop-done-init g c = record { kept = c.requires.kept; steps = refl; accepted = omega arith }
-
-pub loop-done-preserved : goal.loop-done-preserved
-loop-done-preserved g c = record {
-  kept = c.answer.ensures.kept;
-  steps =
-      one_more
-      (IsTaken g.S.Service.over
-      (IsOneStep (Performs g.S.Service.state g.S.Service.machine g.S.Service.left g.S.Service.relates)
-      c.args.site.now)) c.loop-done.done c.args.service.now c.loop-done.service c.answer.new.service
-      c.loop-done.invariant.steps (sym c.is_over.ensures ∙ c.if-is_over.false, c.answer.ensures.step);
-  accepted = grind arith;
-}
-
-pub returns-in_err-stream-clause-operations : goal.returns-in_err-stream-clause-operations
-returns-in_err-stream-clause-operations g c = (
-  c.loop-done.done,
-  omega arith,
-  operations (Performs g.S.Service.state g.S.Service.machine g.S.Service.left g.S.Service.relates) c.args.site.now
-      g.S.Service.over c.loop-done.done c.args.service.now c.loop-done.service c.loop-done.invariant.steps,
-)
-
-pub returns-then-is_over-clause-operations : goal.returns-then-is_over-clause-operations
-returns-then-is_over-clause-operations g c = (
-  c.loop-done.done,
-  omega arith,
-  operations (Performs g.S.Service.state g.S.Service.machine g.S.Service.left g.S.Service.relates) c.args.site.now
-      g.S.Service.over c.loop-done.done c.args.service.now c.loop-done.service c.loop-done.invariant.steps,
-)
-
 pub returns-clause-operations : goal.returns-clause-operations
-returns-clause-operations g c = (
-  c.loop-done.done,
-  omega arith,
-  operations (Performs g.S.Service.state g.S.Service.machine g.S.Service.left g.S.Service.relates) c.args.site.now
-      g.S.Service.over c.loop-done.done c.args.service.now c.loop-done.service c.loop-done.invariant.steps,
-)
+returns-clause-operations g c =
+    let steps = c.serve_clients.ensures.steps in (
+      steps.0,
+      steps.1,
+      operations (Performs g.S.Service.state g.S.Service.machine g.S.Service.left g.S.Service.relates) c.args.site.now
+          g.S.Service.over steps.0 c.args.service.now c.serve_clients.new.service steps.2,
+    )

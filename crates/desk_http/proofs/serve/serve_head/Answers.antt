@@ -2,12 +2,14 @@ use Rattle.std.proofs.Common.{◌≡◌, ◌∙◌, ap, sym, subst, take, drop, 
 use Rattle.std.specs.Prelude.{Ok, nat_lt, ◌&&◌}
 use Rattle.desk_http.specs.Plans.{expects_continue, plan, plan_of}
 use Rattle.desk_http.specs.Services.{Performs}
-use Rattle.desk_http.specs.Responses.{rejection_response}
+use Rattle.desk_http.specs.Proofs.{proof_of}
+use Rattle.desk_http.specs.Responses.{proof_response, rejection_response}
 use Rattle.desk_http.specs.Serving.{Sends}
 use Rattle.desk_http.specs.Sites.{page_view}
 use Rattle.desk_http.specs.Spans.{class_of}
 use Rattle.desk_http.specs.Targets.{resource, some_text}
-use Rattle.desk_http.proofs.Waiting.{rejected_one, shown_one, ended_one, performed_one, stopped_one}
+use Rattle.desk_http.proofs.Waiting.{rejected_one, shown_one, proved_one, ended_one, performed_one}
+use Rattle.desk_http.proofs.Waiting.{stopped_one}
 use Rattle.desk_http.proofs.serve.serve_head.Goals as goal
 
 pub returns-in-Err-clause-serves : goal.returns-in-Err-clause-serves
@@ -38,6 +40,22 @@ returns-in-ShowPage-clause-serves g c =
     ∙ ap (λ v. plan_of c.args.site.now (class_of v c.read_head-class.new.spans c.read_head-class.result))
     (c.deref-3.ensures.value ∙ sym c.deref-2.ensures.value))
     c.show_page.ensures
+
+pub returns-in-Prove-clause-serves : goal.returns-in-Prove-clause-serves
+returns-in-Prove-clause-serves g c =
+    proved_one (Performs g.S.Service.state g.S.Service.machine g.S.Service.left g.S.Service.relates) c.args.site.now
+    (g.R.Read.remaining c.args.reader.now) c.args.input.now.bytes.items c.deref-2.result.now c.args.n
+    (class_of c.deref-2.result.now c.read_head-class.new.spans c.read_head-class.result) c.requires.inside c.requires.head
+    (c.deref-2.ensures.value ∙ c.in_ok-head.ensures ∙ ap (take c.args.n) c.deref.ensures.value)
+    c.read_head-class.ensures.head c.in-Prove.nonce.now c.args.service.now (g.W.Write.contents c.args.writer.now)
+    (g.W.Write.contents c.prove.new.writer) c.prove.result
+    (sym (ap plan (c.in-Ok.is ∙ ap Ok c.in-Prove.is))
+    ∙ c.make_plan.ensures.value
+    ∙ ap (λ v. plan_of c.args.site.now (class_of v c.read_head-class.new.spans c.read_head-class.result))
+    (c.deref-3.ensures.value ∙ sym c.deref-2.ensures.value))
+    (subst (λ site. Sends (proof_response site.page (proof_of site.access c.in-Prove.nonce.now))
+    (g.W.Write.contents c.args.writer.now) (g.W.Write.contents c.prove.new.writer) c.prove.result) c.site.view_is
+    c.prove.ensures)
 
 pub returns-in_err-receive_body-in-Ask-clause-serves : goal.returns-in_err-receive_body-in-Ask-clause-serves
 returns-in_err-receive_body-in-Ask-clause-serves g c =
