@@ -126,12 +126,6 @@ next_free answers day n n' k k' here next steps =
     ∙ ap (λ b. cond b (free_from answers day (n + 1) k') n) here
     ∙ ap (λ m. free_from answers day m k') (sym next)
 
--- or none is, and it is free
-pub free_here : (answers : Table Kept) (day : CivilDay) (n k : ℕ)
-    → is_some (table.get answers (journal_key day n)) ≡ false → free_from answers day n k ≡ n
-free_here answers day n zero none = refl
-free_here answers day n (suc k) none = ap (λ b. cond b (free_from answers day (n + 1) k) n) none
-
 none_of : {X : Type 0} (o : Option X) → is_some o ≡ false → o ≡ None
 none_of None e = refl
 none_of (Some x) e = absurd (cc)

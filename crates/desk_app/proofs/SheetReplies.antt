@@ -61,10 +61,6 @@ left_by_group options stop text w w' s s' leaves trees h there = record {
 
 -- ---- lines that have no fault
 
-pub all_to_run : (options : LineOptions) (lines : List (List ℕ)) → are_readable options.names lines ≡ true
-    → lines ≡ lines_to_run options lines
-all_to_run options lines e = rw e refl
-
 pub answers_told : (options : LineOptions) (stop : Bool) (kind : Outcome) (s s' : State) (lines : List (List ℕ)) (out : List ℕ)
     → s' ≡ run_after options s 1 (taken options stop s lines) → out ≡ run_out options s 1 (taken options stop s lines)
     → (s', (kind, out)) ≡ by_run options stop kind s lines

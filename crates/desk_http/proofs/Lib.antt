@@ -15,6 +15,5 @@ pub mod Routing
 pub mod Plain
 pub mod Readings
 pub mod Queries
-pub mod Dumping
 pub mod Asking
 pub mod Answering

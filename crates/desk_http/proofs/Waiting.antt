@@ -21,7 +21,7 @@ use Rattle.desk_http.specs.HeadEnds.{arrival, all_of, EndsWithHead}
 use Rattle.desk_http.specs.Services.{Operation, operation, ReplyView}
 use Rattle.desk_http.specs.Responses.{rejection_response, page_response, proof_response, interim_bytes}
 use Rattle.desk_http.specs.Serving.{Received, Incomplete, Rejected, ForPage, ForProof, AreReceived, IsReceivedFrom}
-use Rattle.desk_http.specs.Serving.{IsReadWithHead, PerformsAndSends, Sends, Serves, ServesOne, Waits, WaitsAt}
+use Rattle.desk_http.specs.Serving.{PerformsAndSends, Sends, Serves, ServesOne, Waits, WaitsAt}
 use Rattle.desk_http.proofs.Arriving.{head_stays}
 use Rattle.desk_http.proofs.Serving.{are_settled, are_incomplete, are_complete, moved, rejected, shown, proved}
 use Rattle.desk_http.proofs.Serving.{ended, performed, stopped}

@@ -1,5 +1,5 @@
 -- What a connection is answered, and what becomes of the service.
-use Rattle.std.specs.Prelude.{◌≡◌, ◌+◌, ◌≤◌, ◌⊎◌, nat_lt, ℕ, zero, suc, Bool, true, false, List, length, take, drop}
+use Rattle.std.specs.Prelude.{◌≡◌, ◌≤◌, ◌⊎◌, nat_lt, ℕ, zero, suc, Bool, true, false, List, length, take, drop}
 use Rattle.std.specs.Prelude.{Option, Some, None, Result, Ok, Err, if◌then◌else◌}
 use Rattle.std.specs.Io.{StartsWith}
 use Rattle.std.specs.Io.KnownBytes.{Appends, Keeps}

@@ -319,6 +319,7 @@ fn serve_clients<C: Clock, L: OpenListener<Stream = TcpStream> + Drop, S: Servic
         × AreSteps (IsTaken S.over
         (IsOneStep (Performs S.state S.machine S.left S.relates) site.now)) n
         service.old service.new }
+    ensures most { clients.new.accepted ≤ clients.old.accepted + count }
     ensures accepted { OnOk result ((clients.new.accepted ≡ clients.old.accepted + count)
         ⊎ (S.over service.new ≡ true)) }
 {
@@ -358,6 +359,7 @@ pub fn serve_connections<C: Clock, L: OpenListener<Stream = TcpStream> + Drop, S
         × AreSteps (IsTaken S.over
         (IsOneOperation (Performs S.state S.machine S.left S.relates))) n
         service.old service.new }
+    ensures most { clients.new.accepted ≤ clients.old.accepted + count }
     ensures accepted { OnOk result ((clients.new.accepted ≡ clients.old.accepted + count)
         ⊎ (S.over service.new ≡ true)) }
 {

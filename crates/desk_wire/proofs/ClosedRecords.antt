@@ -126,21 +126,6 @@ open-first config text first rest e is = elim (cases_Bool (ends_in_quotes config
     none [] h = refl
     none (r ∷ rs) h = absurd (omega (arith, h))
 
--- one under it
-pub open-later : (config : Config) (text : List ℕ) (unclosed : Option ℕ) (first : Fields) (rest : List Fields)
-    → unclosed ≡ open_record config text → records config text ≡ first ∷ rest → (unclosed ≡ Some 1 → ⊥) → IsLast unclosed 2 rest
-open-later config text unclosed first rest e is other = elim (cases_Bool (ends_in_quotes config text)) [
-  | inl t ↦
-      let there : unclosed ≡ Some (length rest + 1) =
-      e ∙ rw t (ap Some (ap length is ∙ (let n : length (first ∷ rest) ≡ length rest + 1 = omega arith in n))) in
-      rw there (under rest (λ one. other (there ∙ one)), omega arith)
-  | inr f ↦ let there : unclosed ≡ None = e ∙ rw f refl in rw there tt
-]
-  where
-    under : (rs : List Fields) → (Some (length rs + 1) ≡ Some 1 → ⊥) → 2 ≤ length rs + 1
-    under [] h = absurd (h refl)
-    under (r ∷ rs) h = omega arith
-
 -- ---- how wide the first record under the header is
 
 pub no_first : (rs : List Fields) → begin_text rs ≡ false → first_width rs ≡ None

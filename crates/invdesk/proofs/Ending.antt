@@ -31,20 +31,6 @@ pub of_telling : {F : Type 0} (ends : Bool) (failure : Option F) (end : RunEnd) 
 of_telling ends failure end (inl e) = subst (IsOfServing ends failure) (sym e) tt
 of_telling ends failure end (inr e) = subst (IsOfServing ends failure) (sym e) tt
 
--- it is fine where it doesn't end by a fault
-pub no_fault : {F : Type 0} (ends : Bool) (failure : Option F) → (ends && is_some failure) ≡ false
-    → IsOfServing ends failure (Done true)
-no_fault true None e = (refl, λ _. refl)
-no_fault true (Some f) e = absurd (cc)
-no_fault false failure e = (refl, λ is. absurd (cc))
-
--- and failed where it does
-pub by_fault : {F : Type 0} (ends : Bool) (failure : Option F) → (ends && is_some failure) ≡ true
-    → IsOfServing ends failure Store
-by_fault true (Some f) e = (refl, refl)
-by_fault true None e = absurd (cc)
-by_fault false failure e = absurd (cc)
-
 -- a text that may be a token
 abbrev plain_token : List ℕ
 plain_token = replicate 32 33
