@@ -19,10 +19,13 @@ import json
 import os
 import pathlib
 import pty
+import random
 import shutil
 import subprocess
 import tempfile
+import unicodedata
 
+from machine.notes import DRAWN, IGNORABLE, note_of, what_counts
 from shared import expect, reader_of_words, run
 
 DAY = "2030-01-02"
@@ -189,11 +192,16 @@ NEAR = [
     (naming("part", "LM 317"), "NameTaken: name LM 317, flags none. Another part has the name, "),
     (naming("part", "L.M.317", key="K"), 'note: "L.M.317" is new beside "LM 317"'),
     (naming("part", "L.M.317", key="K"), None),
+    (naming("part", "LM\ufff9317"), 'note: "LM\u25a1317" is new beside "LM 317"'),
+    (naming("part", "\u0600LM 317"), None),
+    (naming("part", "a"), None),
+    (naming("part", "A\ufffb"), 'note: "A\u25a1" is new beside "a"'),
     (naming("part", " \u2003"), 'note: the name " \u25a1" is blank'),
+    (naming("part", "\ufffa\u00ad"), 'note: the name "\u25a1\u25a1" is blank'),
     (naming("part", "\u2605"), None),
     (naming("location", "REGAL \u00c4"), None),
     (naming("location", "Regal: \u00e4"), 'note: "Regal: \u00e4" is new beside "REGAL \u00c4"'),
-    (naming("location", "regal \u00e4", 16), None),
+    (naming("location", "regal \u00e4", 21), None),
     (naming("location", "Capacitors"), None),
 ]
 
@@ -254,6 +262,33 @@ def try_near_names(program, top):
     expect(told == 'line 1: note: "capa citors" is new beside "Capacitors"\n', f"names of a file: {told!r}")
     expect(at_terminal(program, text_of("l") + json.dumps(naming("location", "a")) + "\n")[-1]
            == 'line 2: note: "a" is new beside "A"', "names at a terminal")
+
+
+def made_names():
+    """Names of parts: with each character of which nothing is seen, or that one may take for such; and short ones by
+    chance."""
+    unseen = [chr(it) for pair in IGNORABLE + DRAWN for it in pair]
+    unseen += [it for it in map(chr, range(0x20000)) if unicodedata.category(it) in ("Cf", "Zl", "Zp", "Zs")]
+    for number, it in enumerate(dict.fromkeys(unseen)):
+        yield from (f"Lm {number}", f"lM{it}{number}", f"L.M{it}{number}{it}", it, f"{it} {it}")
+    chance = random.Random(7)
+    letters = "aA1-_ +\u00df\u1e9e\u00b5\u03bc\u0130\u200b\ufff9\u0600"
+    for _ in range(400):
+        yield "".join(chance.choices(letters, k=chance.randint(1, 4)))
+
+
+def try_made_names(program):
+    """Many names are told as tools/machine reads the rule. How many names."""
+    names, counts, wanted = [*dict.fromkeys(made_names())], {}, []
+    for number, name in enumerate(names, 1):
+        note = note_of(name, counts.setdefault(what_counts(name), []))
+        counts[what_counts(name)].append(name)
+        wanted += [f"line {number}: note: {note}"] if note else []
+    done = run(program, "run", "--explain", lines="".join(json.dumps(naming("part", it)) + "\n" for it in names))
+    expect(done.stdout.count("ids") == len(names), f"made names: {done.stdout!r}")
+    for told, line in itertools.zip_longest(done.stderr.split("\n")[:-1], wanted):
+        expect(told == line, f"made names: {told!r} is told, and not {line!r}")
+    return len(names)
 
 
 def kept(program, path):
@@ -475,13 +510,14 @@ def main():
         try_long(program, top)
         try_reasons(program, top)
         try_near_names(program, top)
+        names = try_made_names(program)
         try_journal(program, top)
         try_loose(program, top)
         sheets = try_sheet(program, top)
         try_changed(program, top)
     count, reasons = len(texts) + len(texts + named), len(REASONS) + len(REFUSED)
     print(f"check_people: {count} texts, each with --stop, with --check and with both, {reasons} reasons, "
-          f"{len(LOOSE)} deliveries that are read loosely, {sheets} sheets: all as it should be")
+          f"{names} names, {len(LOOSE)} deliveries that are read loosely, {sheets} sheets: all as it should be")
 
 
 if __name__ == "__main__":

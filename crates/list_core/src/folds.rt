@@ -2,19 +2,38 @@
 ghost use Rattle.std.specs.Prelude.{◌≡◌, ◌++◌, IfOk, OnOk};
 ghost use Rattle.std.specs.Str.{chars};
 ghost use Rattle.std.specs.String.{string_bytes};
-ghost use Rattle.list_core.specs.Folds.{case_fold, counts, fold, folded_char, is_blank, is_unseen};
-ghost use Rattle.list_core.specs.Folds.{shown, shown_char};
+ghost use Rattle.list_core.specs.Folds.{case_fold, counts, fold, folded_char, has_no_width, is_blank};
+ghost use Rattle.list_core.specs.Folds.{is_format, is_unseen, shown, shown_char};
 
 use std::alloc::{AllocError, Global};
 use ucd_case::simple_fold;
 use ucd_category::{GeneralCategory, GeneralCategoryGroup};
 use ucd_derived::is_default_ignorable_code_point;
+use ucd_props::is_prepended_concatenation_mark;
+
+/// Whether the category is that of characters of format.
+fn is_format(category: GeneralCategory) -> bool
+    ensures { result ≡ is_format category }
+{
+    match category {
+        GeneralCategory::Format => true,
+        _ => false,
+    }
+}
+
+/// Whether the character has no width. A mark of format that is drawn before a number has one.
+fn has_no_width(c: char) -> bool
+    ensures { result ≡ has_no_width c }
+{
+    is_default_ignorable_code_point(c)
+        || (is_format(GeneralCategory::for_char(c)) && !is_prepended_concatenation_mark(c))
+}
 
 /// Whether nothing is seen of the character.
 fn is_unseen(c: char) -> bool
     ensures { result ≡ is_unseen c }
 {
-    c.is_whitespace() || is_default_ignorable_code_point(c) || c.is_control()
+    c.is_whitespace() || has_no_width(c) || c.is_control()
 }
 
 /// Whether the character counts.

@@ -51,6 +51,25 @@ const ESCAPED: [&str; 2] = [
     "line 5: NoSuch: of 1 (no such row). A number",
 ];
 
+/// Names of parts, most of which differ from the first in blanks, in the case of letters or in characters of no width, or
+/// are blank. One has a mark that is drawn before a number, and one is another name.
+const NEAR: &str = "{\"day\":\"2030-01-02\",\"do\":\"add_part\",\"flags\":[],\"name\":\"M 3\"}
+{\"day\":\"2030-01-02\",\"do\":\"add_part\",\"flags\":[],\"name\":\"m\u{a0}3\"}
+{\"day\":\"2030-01-02\",\"do\":\"add_part\",\"flags\":[],\"name\":\"M\u{200b}3\"}
+{\"day\":\"2030-01-02\",\"do\":\"add_part\",\"flags\":[],\"name\":\"M\u{fff9}3\"}
+{\"day\":\"2030-01-02\",\"do\":\"add_part\",\"flags\":[],\"name\":\"M\u{600}3\"}
+{\"day\":\"2030-01-02\",\"do\":\"add_part\",\"flags\":[],\"name\":\"M 4\"}
+{\"day\":\"2030-01-02\",\"do\":\"add_part\",\"flags\":[],\"name\":\" \u{fffb}\u{ad}\"}
+";
+
+/// What is told of them.
+const NOTED: [&str; 4] = [
+    "line 2: note: \"m\u{25a1}3\" is new beside \"M 3\"",
+    "line 3: note: \"M\u{25a1}3\" is new beside \"M 3\"",
+    "line 4: note: \"M\u{25a1}3\" is new beside \"M 3\"",
+    "line 7: note: the name \" \u{25a1}\u{25a1}\" is blank",
+];
+
 /// The rows of a stocktake, of which one is refused, with columns in another order, and a row that wasn't counted.
 const SHEET: &str = "quantity;item;part;number\n41;3;Screw;1\n;3;Screw;2\n1;9;Nut;3\n";
 
@@ -115,6 +134,16 @@ fn escapes_what_a_terminal_acts_on(rt: HostRuntime) -> Result<(), Fail> {
     let end = explains_lines(alloc, shop, HIDDEN, 4096, &mut told);
     holds(end == RunEnd::Done(false), "another end")?;
     begin_so(&told, ESCAPED.as_slice())
+}
+
+#[test]
+fn tells_of_names_that_are_near_or_blank(rt: HostRuntime) -> Result<(), Fail> {
+    let alloc = rt.alloc();
+    let mut told = Sink::new(alloc, 4096);
+    let shop = Shop::new(alloc, Limits::LARGEST);
+    let end = explains_lines(alloc, shop, NEAR, 4096, &mut told);
+    holds(end == RunEnd::Done(true), "another end")?;
+    begin_so(&told, NOTED.as_slice())
 }
 
 #[test]
