@@ -6,9 +6,10 @@ after the first example byte for byte what they should be; that a first start th
 starts again; that a file is refused, with its name and the reason, that isn't a workshop's, or whose rows were
 changed, one change for each clause of what a sound state is; and that files of an earlier version of the program are
 recognised, and brought along with all that they have. That a look at a file that can't be opened makes nothing, and
-says what lies there; that words that only look, or bring along, leave no file, an empty file and a text as they find
-them; that a fault of the disk is reported once, with the file and the reason, and nothing is told of a line that it
-undid; that control characters are escaped; and what is said of wrong words.
+says what lies there; that a new file and its log are their owner's alone, and a log of another user is left alone;
+that words that only look, or bring along, leave no file, an empty file and a text as they find them; that a fault of
+the disk is reported once, with the file and the reason, and nothing is told of a line that it undid; that control
+characters are escaped; and what is said of wrong words.
 
 usage: tools/check_file.py PROGRAM"""
 import contextlib
@@ -520,6 +521,56 @@ def looked_at(program, folder, path):
         expect(not (room / "new.db").exists(), "a file of another user's folder")
 
 
+def mode_of(path):
+    return os.stat(path).st_mode & 0o777
+
+
+def private(program, folder, path):
+    """A new file and its log are their owner's alone, whatever the umask leaves. A file that is there keeps its mode, and
+    its log gets it."""
+    room = folder / "private"
+    room.mkdir()
+    new, shared = str(room / "new.db"), str(room / "shared.db")
+    shutil.copy(path, shared)
+    os.chmod(shared, 0o664)
+    for file, wanted in ((new, 0o600), (shared, 0o664)):
+        ended = run(program, "run", "--db", file, umask=0)
+        expect(ended.returncode == 0, f"{file} isn't opened: {ended.stderr!r}")
+        for it in (file, f"{file}-wal"):
+            expect(mode_of(it) == wanted, f"{it} has the mode {mode_of(it):o} and not {wanted:o}")
+
+
+def foreign_logs(program, folder, path):
+    """A log that belongs neither to the owner of its file nor to the user is left alone, where the file is there and
+    where it isn't."""
+    if os.geteuid() != 0:
+        return
+    reason = "another user owns its log"
+    for there in (True, False):
+        room = folder / f"foreign-{there}"
+        room.mkdir()
+        file, log = room / "w.db", room / "w.db-wal"
+        if there:
+            shutil.copy(path, file)
+            (room / "way").symlink_to("w.db")
+        log.touch()
+        os.chown(log, NOBODY, NOBODY)
+        before = listing(room)
+        for name in ("w.db", "way")[:1 + there]:
+            for word in ("report", "run", "migrate"):
+                told(program, str(room / name), reason, f"{word} of {name} beside another's log", word)
+                expect(listing(room) == before, f"{word} of {name} changes what lies beside another's log")
+                expect(log.stat().st_uid == NOBODY, f"{word} of {name} takes another's log")
+    file, log = folder / "foreign-True" / "w.db", folder / "foreign-True" / "w.db-wal"
+    for owner, of_log in ((NOBODY, NOBODY), (NOBODY, 0)):
+        os.chown(file, owner, owner)
+        os.chown(log, of_log, of_log)
+        ended = run(program, "run", "--db", str(file))
+        expect(ended.returncode == 0, f"a file of {owner} with a log of {of_log} isn't opened: {ended.stderr!r}")
+    os.chmod(folder, 0o755)
+    told(program, str(file), reason, "a log of root's beside one's file", user=NOBODY)
+
+
 def absent(_path):
     """No file."""
 
@@ -709,6 +760,8 @@ def main():
             brought(program, folder, old)
         not_brought(program, folder)
         looked_at(program, folder, path)
+        private(program, folder, path)
+        foreign_logs(program, folder, path)
         left_alone(program, folder)
         escaped(program, folder)
         words(program, folder)

@@ -20,7 +20,7 @@ use Rattle.desk_cli.specs.declared.database.FileFault.TheVariants.{Memory, Missi
 use Rattle.desk_cli.specs.declared.database.FileFault.TheVariants.{Device, InUse, NoDatabase, Database}
 use Rattle.desk_cli.specs.declared.database.FileFault.TheVariants.{OtherTables, OtherVersion, Old, Desk}
 use Rattle.desk_cli.specs.declared.database.FileFault.TheVariants.{KeptName, DanglingLink, SecondName, HotJournal}
-use Rattle.desk_cli.specs.declared.database.FileFault.TheVariants.{LinkedLog, NoLog, SecondLog, NotMade}
+use Rattle.desk_cli.specs.declared.database.FileFault.TheVariants.{LinkedLog, NoLog, SecondLog, ForeignLog, NotMade}
 use Rattle.desk_cli.specs.declared.database.FaultyFile.{FaultyFile}
 use Rattle.desk_ends.specs.Empty.{IsEmpty}
 
@@ -110,6 +110,7 @@ file_fault_text HotJournal = Some (codes
 file_fault_text LinkedLog = Some (codes "a link lies where its log is to be")
 file_fault_text NoLog = Some (codes "a folder or a device lies where its log is to be")
 file_fault_text SecondLog = Some (codes "its log has a second name")
+file_fault_text ForeignLog = Some (codes "another user owns its log, which has the file's name and -wal behind it")
 file_fault_text NotMade = Some (codes "it, or its log, can't be made in its folder")
 file_fault_text (Device error) = None
 file_fault_text InUse = Some (codes

@@ -1,5 +1,5 @@
 -- What is wrong with what lies at a file's name, and at its log's; and what a file has, by its first bytes.
-use Rattle.std.specs.Prelude.{ℕ, List, [], ◌∷◌, ◌++◌, Bool, ◌||◌, codes, if◌then◌else◌, nat_eq, Option, Some, None}
+use Rattle.std.specs.Prelude.{ℕ, List, [], ◌∷◌, ◌++◌, Bool, false, not, ◌==◌, ◌||◌, codes, if◌then◌else◌, nat_eq, Option, Some, None}
 use Rattle.std.specs.List.{starts_with}
 use Rattle.std.specs.Str.{bytes_eq}
 use Rattle.desk_cli.specs.declared.look.Content.{Content}
@@ -29,6 +29,11 @@ fault_of_log File = None
 fault_of_log Link = Some LinkedLog
 fault_of_log SharedFile = Some SecondLog
 fault_of_log Other = Some NoLog
+
+-- a log that belongs neither to its file's owner nor to the user that the program acts as
+abbrev pub is_foreign : Option ℕ → ℕ → ℕ → Bool
+is_foreign None owner user = false
+is_foreign (Some log) owner user = not (log == owner || log == user)
 
 -- what each database begins with
 abbrev pub database_front : List ℕ

@@ -6,7 +6,12 @@ use crate::look::{look_at, look_closer};
 use desk_store::OpenFault;
 use sqlite::{Connection, Error, ErrorCode, File, FileStore};
 use std::alloc::AllocError;
+use std::fs::{self, OpenOptions};
+use std::os::unix::fs::OpenOptionsExt;
 use std::{fmt, io};
+
+/// What the mode of a file that is made gives: to read and to write, to its owner alone.
+const PRIVATE: u32 = 0o600;
 
 /// Why there is no desk. As text it is the reason alone, for a person.
 #[derive(Debug, Drop)]
@@ -35,6 +40,8 @@ pub enum FileFault {
     NoLog,
     /// The file's log has a second name.
     SecondLog,
+    /// The file's log belongs neither to the file's owner nor to the user that the program acts as.
+    ForeignLog,
     /// The file, or its log, isn't there and can't be made in its folder.
     NotMade,
     /// The file can't be looked at.
@@ -144,6 +151,9 @@ impl fmt::Display for FileFault {
             FileFault::LinkedLog => f.write_str("a link lies where its log is to be"),
             FileFault::NoLog => f.write_str("a folder or a device lies where its log is to be"),
             FileFault::SecondLog => f.write_str("its log has a second name"),
+            FileFault::ForeignLog => f.write_str(
+                "another user owns its log, which has the file's name and -wal behind it",
+            ),
             FileFault::NotMade => f.write_str("it, or its log, can't be made in its folder"),
             FileFault::Device(error) => write!(f, "{error}"),
             FileFault::InUse => f.write_str(
@@ -181,13 +191,38 @@ impl fmt::Display for FaultyFile<'_> {
     }
 }
 
-/// Opens the file, which is made where there is none. A file that can't be opened is told by what lies at its path and
-/// beside it; nothing is made then.
+/// Makes the file where there is none, with access for its owner alone. The database, which else would make one that all may
+/// read, gives the log the access of the file. A file that is there stays as it is, its mode too.
+fn make_private(rt: &HostRuntime, path: &str) -> Result<(), FileFault>
+    ensures { IfErr result IsOfOpening }
+{
+    if fs::exists(rt, path)? {
+        return Ok(());
+    }
+    match OpenOptions::new()
+        .write(true)
+        .create_new(true)
+        .mode(PRIVATE)
+        .open(rt, path)
+    {
+        Ok(_) => Ok(()),
+        // Another program has made it meanwhile.
+        Err(error) if error.kind() == io::ErrorKind::AlreadyExists => Ok(()),
+        Err(error) => {
+            look_closer(rt, path)?;
+            Err(FileFault::from(error))
+        }
+    }
+}
+
+/// Opens the file, which is made where there is none, for its owner alone. A file that can't be opened is told by what lies
+/// at its path and beside it; nothing is made then.
 pub fn connect(rt: &HostRuntime, path: &str) -> Result<Connection<FileStore<File>>, FileFault>
     ensures free { IfOk result (λ conn. conn.in_transaction ≡ false) }
     ensures why { IfErr result IsOfOpening }
 {
     look_at(rt, path)?;
+    make_private(rt, path)?;
     match Connection::open(rt, path) {
         Ok(conn) => Ok(conn),
         Err(Error::SqliteFailure(ErrorCode::CannotOpen)) => {

@@ -17,7 +17,7 @@ mod words;
 pub use at_words::Asked;
 pub use database::{FaultyFile, FileFault, connect};
 pub use file::{migrate_desk, print_dump, print_export, print_migrated, print_report, take_desk};
-pub use look::{Content, has_log, look_into, remove_log};
+pub use look::{Content, acting_user, has_log, look_into, remove_log};
 pub use low_list::{NoLevels, levels_of, print_fault};
 pub use show::{listing_of, print_list, says_item_too};
 pub use status::{DEVICE, MEMORY, NOT_ALL, WRONG_WORDS, early_status, status_of, status_of_fault};

@@ -3,7 +3,7 @@
 //! nothing.
 ghost use Rattle.std.specs.Prelude.{◌≡◌, IfErr, Some};
 ghost use Rattle.desk_cli.specs.FileFaults.{IsOfOpening};
-ghost use Rattle.desk_cli.specs.Looks.{content_of, fault_of_file, fault_of_log, is_kept_name};
+ghost use Rattle.desk_cli.specs.Looks.{content_of, fault_of_file, fault_of_log, is_foreign, is_kept_name};
 
 use crate::database::FileFault;
 use std::alloc::AllocError;
@@ -77,6 +77,17 @@ fn fault_of_log(found: Found) -> Option<FileFault>
     }
 }
 
+/// Whether the log, which this user owns if there is one, belongs neither to the owner of its file nor to the user that the
+/// program acts as.
+fn is_foreign(log: Option<u32>, owner: u32, user: u32) -> bool
+    ensures { result ≡ is_foreign log owner user }
+{
+    match log {
+        Some(log) => !(log == owner || log == user),
+        None => false,
+    }
+}
+
 /// What a file has that begins so: these are its first sixteen bytes, or all.
 fn content_of(front: &[u8]) -> Content
     ensures { result ≡ content_of front.now }
@@ -106,6 +117,20 @@ fn find(rt: &HostRuntime, path: &str) -> io::Result<Found> {
     } else {
         Found::File
     })
+}
+
+/// The user that the program acts as, to whom the files belong that it makes. Which one that is no clause says.
+pub fn acting_user() -> u32 {
+    libc::geteuid()
+}
+
+/// The owner of what lies at the name itself, if anything does.
+fn owner_at(rt: &HostRuntime, path: &str) -> io::Result<Option<u32>> {
+    match fs::symlink_metadata(rt, path) {
+        Ok(found) => Ok(Some(found.uid())),
+        Err(error) if error.kind() == ErrorKind::NotFound => Ok(None),
+        Err(error) => Err(error),
+    }
 }
 
 /// The path, or what the links at it lead to. Where that isn't there it is the path.
@@ -159,6 +184,21 @@ fn fail_with(fault: Option<FileFault>) -> Result<(), FileFault>
     }
 }
 
+/// Why the file at the place will not be opened, as far as what lies at its log's name tells. Whoever writes a log writes
+/// the books, as the database plays back what it finds there: so it has to be the file's owner's or the user's own.
+fn look_at_log(rt: &HostRuntime, place: &str, log: &str) -> Result<(), FileFault>
+    ensures { IfErr result IsOfOpening }
+{
+    fail_with(fault_of_log(find(rt, log)?))?;
+    let user = acting_user();
+    // A file that isn't there is to be this user's.
+    let owner = owner_at(rt, place)?.unwrap_or(user);
+    if is_foreign(owner_at(rt, log)?, owner, user) {
+        return Err(FileFault::ForeignLog);
+    }
+    Ok(())
+}
+
 /// Why the file will not be opened, as far as the names at its path and beside it tell. Another program may have it open.
 pub fn look_at(rt: &HostRuntime, path: &str) -> Result<(), FileFault>
     ensures { IfErr result IsOfOpening }
@@ -172,7 +212,7 @@ pub fn look_at(rt: &HostRuntime, path: &str) -> Result<(), FileFault>
     // The folder is opened with the database, to be sure of what is written.
     let _folder = fs::open(rt, folder_of(place.as_str()))?;
     let (log, journal) = names_beside(rt, place.as_str())?;
-    fail_with(fault_of_log(find(rt, log.as_str())?))?;
+    look_at_log(rt, place.as_str(), log.as_str())?;
     if found == Found::Nothing && is_hot(rt, journal.as_str())? {
         return Err(FileFault::HotJournal);
     }
