@@ -4,7 +4,8 @@ is there, and with bare sockets: each route and each error; rows that are said b
 request that is sent in pieces, cut off at a byte, or sent again under its key after its connection was dropped; clients
 that wait to be told that their body may come; made-up bytes; many connections one after another, of which no descriptor
 and no memory may stay; and a server that is killed, whose file has to be the books before or after each request. What a
-web page sends is refused, and who doesn't show the token; clients that are silent keep nobody waiting, also where there
+web page sends is refused, and who doesn't show the token; a token is taken of no pipe and no other user's file; clients
+that are silent keep nobody waiting, also where there
 are many that come again and again, and they and slow ones are left; descriptors are waited for; and a server that goes
 on is stopped by a signal, and its books are copied. With a page many lines come in
 one body, lists are those that are printed, the books are dumped, and it is asked to stop. It takes about a minute.
@@ -38,6 +39,7 @@ RECEIPTS = "number,line,location,quantity,batch,serials\n1,4,1,100,L1,\n2,4,1,50
 CONNECTIONS = 10_000
 MADE_UP = 1_000
 TOKEN = "0123456789abcdefghijklmnopqrstuvwxyz~!"
+NOBODY = 65534
 
 
 class Server:
@@ -432,12 +434,24 @@ def tokens(program, folder):
         path.write_text(text)
         path.chmod(mode)
 
-    def refused(what):
-        done = run(program, "serve", "--port", str(free_port()), "--count", "1", "--token", str(path))
+    def refused(what, reason=""):
+        words = ["serve", "--port", str(free_port()), "--count", "1", "--token", str(path)]
+        done = run(program, *words, timeout=20)
         expect(done.returncode == 3 and not done.stdout, f"{what} ends with {done.returncode}")
-        expect(str(path) in done.stderr, f"of {what} is told {done.stderr!r}")
+        expect(str(path) in done.stderr and reason in done.stderr, f"of {what} is told {done.stderr!r}")
 
     refused("no file")
+    os.mkfifo(path, 0o600)
+    refused("a pipe", "it is no file")
+    path.unlink()
+    path.mkdir(0o700)
+    refused("a folder", "it is no file")
+    path.rmdir()
+    if os.geteuid() == 0:
+        kept(TOKEN, 0o600)
+        os.chown(path, NOBODY, NOBODY)
+        refused("another user's file", "another user's")
+        path.unlink()
     for text, mode in ((TOKEN, 0o640), (TOKEN, 0o604), (TOKEN, 0o620), (TOKEN[:31], 0o600), (TOKEN * 4, 0o600),
                        (TOKEN + " \n", 0o600), ("\n" + TOKEN, 0o600), (TOKEN + "\r\n", 0o600), ("", 0o600)):
         kept(text, mode)

@@ -1,5 +1,5 @@
 -- Clients of the loopback that are served.
-use Rattle.std.specs.Prelude.{◌≡◌, ◌≤◌, ◌^◌, ◌-◌, ◌==◌, ◌&&◌, ℕ, Bool, true, List, Option, Some, None, Result, IfSome, IsSome}
+use Rattle.std.specs.Prelude.{◌≡◌, ◌≤◌, ◌^◌, ◌-◌, ◌==◌, ◌&&◌, ℕ, Bool, true, false, List, Option, Some, None, Result, IfSome, IsSome}
 use Rattle.std.specs.Prelude.{is_none, is_some, if◌then◌else◌}
 use Rattle.std.specs.List.{before_first}
 use Rattle.sqlite.specs.Tree.{Trees}
@@ -14,6 +14,16 @@ use Rattle.desk_app.specs.declared.options.LineOptions.{LineOptions}
 use Rattle.desk_app.specs.declared.service.BooksService.{BooksService}
 use Rattle.desk_ends.specs.declared.end.RunEnd.{RunEnd}
 use Rattle.desk_ends.specs.declared.end.RunEnd.TheVariants.{Done, ReadFailed, WriteFailed, Memory, Store}
+use Rattle.invdesk.specs.declared.token.TokenFault.{TokenFault}
+use Rattle.invdesk.specs.declared.token.TokenFault.TheVariants.{NoFile, Foreign, Shared}
+
+-- why a file gives no token: it has to be a regular one, to be the user's own that the program acts as, and to give nothing
+-- to others
+abbrev pub fault_of_token_file : Bool → Bool → Bool → Option TokenFault
+fault_of_token_file false is_own is_shared = Some NoFile
+fault_of_token_file true false is_shared = Some Foreign
+fault_of_token_file true true true = Some Shared
+fault_of_token_file true true false = None
 
 -- a text, if it may be a token
 abbrev pub fit_token : List ℕ → Option (List ℕ)
