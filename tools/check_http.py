@@ -4,8 +4,8 @@ is there, and with bare sockets: each route and each error; rows that are said b
 request that is sent in pieces, cut off at a byte, or sent again under its key after its connection was dropped; clients
 that wait to be told that their body may come; made-up bytes; many connections one after another, of which no descriptor
 and no memory may stay; and a server that is killed, whose file has to be the books before or after each request. What a
-web page sends is refused, and who doesn't show the token; a token is taken of no pipe and no other user's file; clients
-that are silent keep nobody waiting, also where there
+web page sends is refused, and who doesn't show the token; a token is taken of no pipe and no other user's file; where
+standard streams are closed no client gets their place; clients that are silent keep nobody waiting, also where there
 are many that come again and again, and they and slow ones are left; descriptors are waited for; and a server that goes
 on is stopped by a signal, and its books are copied. With a page many lines come in
 one body, lists are those that are printed, the books are dumped, and it is asked to stop. It takes about a minute.
@@ -473,6 +473,30 @@ def tokens(program, folder):
         expect(server.ended() == 0, "it doesn't end well")
 
 
+def closed_streams(program):
+    """Where standard streams are closed as it starts, the null device stands in their place and no client; where it can't
+    tell that it listens it ends with 3."""
+    def words(port, closed):
+        called = [program, "serve", "--port", str(port), "--count", "1"]
+        return ["sh", "-c", f'exec "$@" {closed}', "sh", *called]
+
+    done = subprocess.run(words(free_port(), "<&- >&- 2>&-"), timeout=20, check=False)
+    expect(done.returncode == 3, f"with no stream it ends with {done.returncode}")
+    port = free_port()
+    with subprocess.Popen(words(port, "<&- 2>&-"), stdout=subprocess.PIPE) as process:
+        said = process.stdout.readline()
+        expect(said == f"listening on 127.0.0.1:{port}\n".encode(), f"with closed streams it says {said!r}")
+        with contextlib.closing(socket.create_connection(("127.0.0.1", port), timeout=20)) as stream:
+            stream.sendall(b"GET /x ")
+            time.sleep(0.5)
+            places = {number: os.readlink(f"/proc/{process.pid}/fd/{number}") for number in (0, 2)}
+            expect(set(places.values()) == {"/dev/null"}, f"in the place of closed streams stand {places}")
+            stream.sendall(b"HTTP/1.1\r\n\r\n")
+            stream.shutdown(socket.SHUT_WR)
+            expect(stream.recv(65536).startswith(b"HTTP/1.1 404 "), "with closed streams it doesn't answer")
+        expect(process.wait(timeout=20) == 0, "with closed streams it doesn't end well")
+
+
 def silent(program):
     """Clients that say nothing keep nobody waiting, and are left after a second; so are those that send on after an
     answer. One that asks late is answered."""
@@ -791,6 +815,7 @@ def main():
         expecting(program)
         pages(program)
         tokens(program, folder)
+        closed_streams(program)
         silent(program)
         crowd(program)
         crowded(program)

@@ -8,6 +8,7 @@ mod low;
 mod page;
 mod pipe;
 mod serve;
+mod streams;
 mod token;
 
 ghost use Rattle.std.specs.Prelude.{◌≡◌, ◌⊎◌, false, IfOk, IfErr, IfSome, None, is_some};
@@ -38,6 +39,7 @@ use crate::at::ask_at;
 use crate::low::print_low;
 use crate::pipe::{Output, end_of_print, is_of_a_reader};
 use crate::serve::{began, ends_at_fault, serve};
+use crate::streams::keep_streams;
 use desk_app::{
     Books, BooksService, CountedBooks, ExplainedBooks, LineOptions, WatchedDesk, end_of_work,
     explain_faults, import_file, import_sheet, let_go, print_sheet, read_file, run_checked,
@@ -1159,9 +1161,13 @@ fn run(rt: &HostRuntime) -> u8
     status
 }
 
-/// The program. It ends with the status that `run` gives; a clause can't stand here.
+/// The program. It ends with the status that `run` gives, or with that of a device that failed, where a standard stream is
+/// closed and nothing can be opened in its place; a clause can't stand here.
 fn main(rt: HostRuntime) -> ExitCode {
-    let status = run(&rt);
+    let status = match keep_streams(&rt) {
+        Ok(()) => run(&rt),
+        Err(_) => DEVICE,
+    };
     tell(&rt, status);
     ExitCode::from(status)
 }
