@@ -1,5 +1,5 @@
 -- Names change how a line is read only where a value is of a wrong type.
-use Rattle.std.proofs.Common.{◌≡◌, ◌⊎◌, inl, inr, ℕ, List, [], ◌∷◌, ◌++◌, Bool, true, false, refl, ap, ◌∙◌, sym, subst}
+use Rattle.std.proofs.Common.{◌≡◌, inl, inr, ℕ, List, [], ◌∷◌, ◌++◌, Bool, true, false, refl, ap, sym, subst}
 use Rattle.std.specs.Prelude.{Option, Some, None, Result, Ok, Err, codes, if◌then◌else◌}
 use Rattle.serde_json.specs.Data.{Data, null, boolean, number, string, array, object, Items, no_items, item}
 use Rattle.serde_json.specs.Find.{as_array}
@@ -19,7 +19,7 @@ use Rattle.desk_wire.specs.Steps.{◌>>=◌, or_fault, maybe, must}
 use Rattle.desk_wire.specs.Values.{given, member_in, number_of}
 use Rattle.desk_wire.specs.RowNames.{one_row, row_of}
 use Rattle.desk_wire.specs.Fields.{as_field, field_in, fields_from, row_in, maybe_row_in, with_rows, rows_in}
-use Rattle.desk_wire.specs.Reading.{AreAlike, NamesChangeLittle, command_in, is_report, line, object_of, of_in}
+use Rattle.desk_wire.specs.Reading.{AreAlike, NamesChangeLittle, command_in, is_report, object_of, of_in}
 use Rattle.desk_wire.specs.Reading.{form_in, report_of, report_table, request, request_of, wish_of}
 use Rattle.desk_wire.specs.Fields.{key_in, day_in}
 use Rattle.desk_wire.specs.Members.{knows_all}

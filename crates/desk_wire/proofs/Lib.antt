@@ -15,6 +15,7 @@ pub mod AlikeFiles
 pub mod LineFaults
 pub mod Layouts
 pub mod FirstLayouts
+pub mod LevelReads
 pub mod ColumnFacts
 pub mod RowFaults
 pub mod LooseFiles

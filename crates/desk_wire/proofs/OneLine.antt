@@ -1,8 +1,6 @@
 -- The text of a value has no line end.
 use Rattle.std.proofs.Common.{◌≡◌, ◌∙◌, ◌++◌, ◌+◌, ◌/◌, ◌%◌, ◌^◌, ◌<◌, ◌==◌, ◌&&◌, ◌||◌, ℕ, suc, pos, negsuc, List, [], ◌∷◌, Bool, true, false, cond, not, refl, ap, sym, subst, arith, nat_lt, decimal}
-use Rattle.std.specs.List.{list_all}
 use Rattle.std.specs.Char.{digit_char, digit_value}
-use Rattle.std.specs.Fmt.{signed_decimal}
 use Rattle.std.specs.Str.Parse.{AllDigits}
 use Rattle.std.proofs.lemmas.Bool.{and_from}
 use Rattle.std.proofs.lemmas.Bool.Decides.{nat_tests}

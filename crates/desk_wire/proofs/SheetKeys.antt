@@ -1,17 +1,17 @@
 -- The keys of records.
-use Rattle.std.proofs.Common.{◌≡◌, ◌≢◌, ◌∙◌, ℕ, ◌<◌, ◌^◌, ◌++◌, ◌||◌, true, false, List, [], ◌∷◌, map, codes, refl, sym, ap, inl, inr}
-use Rattle.std.specs.Prelude.{decimal, Some}
+use Rattle.std.proofs.Common.{◌≡◌, ◌≢◌, ◌∙◌, ℕ, ◌<◌, ◌^◌, ◌++◌, false, List, [], ◌∷◌, map, codes, refl, sym, inl, inr}
+use Rattle.std.specs.Prelude.{decimal}
 use Rattle.std.specs.Str.{bytes_eq}
 use Rattle.std.proofs.lemmas.Bool.{cases_Bool, or_parts, false≢true, true≢false}
 use Rattle.std.proofs.lemmas.Fmt.{decimal_injective}
 use Rattle.std.proofs.lemmas.List.{append_cancel_left}
 use Rattle.std.proofs.lemmas.Slice.Eq.{bytes_eq-Decides}
-use Rattle.serde_json.specs.Data.{Data, Members, no_members, object, put, string}
-use Rattle.serde_json.specs.Find.{get, get_member}
+use Rattle.serde_json.specs.Data.{Members, no_members, put, string}
+use Rattle.serde_json.specs.Find.{get_member}
 use Rattle.serde_json.proofs.Views.{get_member-put, get_member-put_other}
 use Rattle.part_core.specs.Forms.{is_among}
 use Rattle.desk_wire.specs.Records.{Fields}
-use Rattle.desk_wire.specs.Sheets.{FieldPlace, SheetColumns, cell, is_given, key_of, line_data, number_told, or_else}
+use Rattle.desk_wire.specs.Sheets.{FieldPlace, cell, is_given, key_of, line_data, number_told, or_else}
 use Rattle.desk_wire.specs.Sheets.{value_of, with_cells}
 use Rattle.desk_wire.specs.SheetLaws.{KeysTellRecords, RecordsHaveKeys, begins_as_place}
 

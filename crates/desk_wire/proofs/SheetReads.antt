@@ -1,15 +1,14 @@
 -- A line of a sheet that is read.
-use Rattle.std.proofs.Common.{◌≡◌, ◌≢◌, ◌∙◌, ◌&&◌, ◌||◌, inl, inr, ℕ, ◌≤◌, ◌<◌, ◌^◌, List, [], ◌∷◌, Bool, true, false, cond, map, codes, refl, sym, ap, subst, arith, length}
-use Rattle.std.specs.Prelude.{Option, Some, None, Result, Ok, Err, is_none, is_some, nat_le}
+use Rattle.std.proofs.Common.{◌≡◌, ◌∙◌, ◌||◌, inl, inr, ℕ, List, [], ◌∷◌, Bool, true, false, cond, map, codes, refl, sym, ap, subst, length}
+use Rattle.std.specs.Prelude.{Option, Some, None, Result, Ok, Err, nat_le}
 use Rattle.std.specs.Str.{bytes_eq, is_utf8}
-use Rattle.std.specs.Str.Parse.{digits_value}
 use Rattle.std.proofs.lemmas.Bool.{cases_Bool, or_parts}
-use Rattle.serde_json.specs.Data.{Data, Items, Members, array, item, no_items, no_members, object, put, string}
+use Rattle.serde_json.specs.Data.{Data, Members, no_members, object, put, string}
 use Rattle.serde_json.specs.Find.{as_object, get, get_member}
 use Rattle.serde_json.specs.Read.{read}
 use Rattle.serde_json.specs.View.{items_of}
 use Rattle.serde_json.specs.Written.{compact_text, has_float}
-use Rattle.serde_json.proofs.Views.{get_member-put, get_member-put_other}
+use Rattle.serde_json.proofs.Views.{get_member-put}
 use Rattle.part_core.specs.Day.{CivilDay}
 use Rattle.part_core.specs.Forms.{is_among}
 use Rattle.part_core.specs.declared.field.FieldKind.{FieldKind}
@@ -21,7 +20,7 @@ use Rattle.desk_core.specs.declared.command.Request.{Request as Req}
 use Rattle.desk_wire.specs.declared.fault.What.{What}
 use Rattle.desk_wire.specs.declared.fault.What.TheVariants.{BadKey, NotJson, NotObject, TooLong, WrongType}
 use Rattle.desk_wire.specs.declared.read.Wish.{Wish}
-use Rattle.desk_wire.specs.declared.read.Wish.TheVariants.{Request, Report}
+use Rattle.desk_wire.specs.declared.read.Wish.TheVariants.{Request}
 use Rattle.desk_wire.specs.Fields.{key_in}
 use Rattle.desk_wire.specs.Numbers.{is_number, number_in}
 use Rattle.desk_wire.specs.Reading.{is_report, line, object_of, report_of, request_of, wish_of}
@@ -36,8 +35,7 @@ use Rattle.desk_wire.specs.Values.{key_of as read_key}
 use Rattle.desk_wire.proofs.Numbers.{digits_value-small, number_digits}
 use Rattle.desk_wire.proofs.ReadBack.{IsAlways, always-put, text_found}
 use Rattle.desk_wire.proofs.SheetKeys.{beside-cells, other_name}
-use Rattle.desk_wire.proofs.SheetLines.{line_is_whole}
-use Rattle.desk_wire.proofs.WholeValues.{ItemsFit, MembersFit, NumbersFit, has_numbers, put-fits, whole_fits}
+use Rattle.desk_wire.proofs.WholeValues.{ItemsFit, NumbersFit, has_numbers, put-fits, whole_fits}
 
 -- ---- steps that went well
 

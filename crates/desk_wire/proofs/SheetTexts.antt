@@ -1,7 +1,7 @@
 -- The text that a sheet is, line by line.
 use Rattle.std.proofs.Common.{◌≡◌, ◌∙◌, ◌⊎◌, ◌++◌, ◌+◌, ℕ, List, [], ◌∷◌, Bool, true, false, cond, map, codes, refl, sym, ap, subst, inl, inr}
 use Rattle.std.proofs.Common.{append_assoc, append-nil, length, drop}
-use Rattle.std.specs.Prelude.{Option, Some, None, Result, Ok, Err, IsSome, is_some, nat_le, option_map, option_and_then, not}
+use Rattle.std.specs.Prelude.{Option, Some, None, Result, Ok, Err, IsSome, nat_le, option_map, option_and_then, not}
 use Rattle.std.specs.List.{list_all}
 use Rattle.std.specs.Str.{bytes_eq}
 use Rattle.std.proofs.lemmas.Bool.{and_from, and_parts}
@@ -13,8 +13,7 @@ use Rattle.part_core.specs.FormTables.{forms_by}
 use Rattle.desk_core.specs.CommandForms.{command_forms, command_distinct}
 use Rattle.desk_core.specs.Naming.{Naming}
 use Rattle.desk_wire.specs.declared.fault.What.{What}
-use Rattle.desk_wire.specs.declared.fault.What.TheVariants.{Csv, Header, TooLong}
-use Rattle.desk_wire.specs.declared.fault.WireFault.{WireFault}
+use Rattle.desk_wire.specs.declared.fault.What.TheVariants.{Csv, TooLong}
 use Rattle.desk_wire.specs.declared.read.Wish.{Wish}
 use Rattle.desk_wire.specs.declared.read.Wish.TheVariants.{Request, Report}
 use Rattle.desk_wire.specs.Imports.{separators}
@@ -26,7 +25,7 @@ use Rattle.desk_wire.specs.SheetLaws.{AreKeyed, AreLinesOf, AsksUnder, IsKeyed, 
 use Rattle.desk_wire.specs.SheetLaws.{ended, is_one_line}
 use Rattle.desk_wire.specs.Sheets.{FieldPlace, Place, Sayings, Sheet, SheetColumns, columns_with, field_places, first_columns, has_column}
 use Rattle.desk_wire.specs.Sheets.{is_closed, is_left_out, key_of, layout_by, line_data, line_of, may_lack, place_of, said_of}
-use Rattle.desk_wire.specs.Sheets.{sheet_columns, sheet_text, text_below, text_by, text_from, with_column}
+use Rattle.desk_wire.specs.Sheets.{sheet_columns, text_by, text_from, with_column}
 use Rattle.desk_wire.specs.Steps.{◌>>=◌, at, must}
 use Rattle.desk_wire.proofs.OneLine.{one_line}
 use Rattle.desk_wire.proofs.FirstLayouts.{layout-first}

@@ -1,13 +1,13 @@
 -- A text that is cut at its first ` / `.
-use Rattle.std.proofs.Common.{◌≡◌, ◌∙◌, ◌≢◌, ℕ, zero, suc, ◌<◌, ◌≤◌, ◌==◌, ◌&&◌, List, [], ◌∷◌, ◌++◌}
+use Rattle.std.proofs.Common.{◌≡◌, ◌∙◌, ◌≢◌, ℕ, suc, ◌<◌, ◌≤◌, ◌==◌, ◌&&◌, List, [], ◌∷◌, ◌++◌}
 use Rattle.std.proofs.Common.{Some, None, ap, sym, refl, subst, codes, length, arith}
 use Rattle.std.proofs.Common.{inl, inr}
 use Rattle.std.proofs.lemmas.Bool.{and_parts, cases_Bool, eqb-true}
 use Rattle.std.proofs.lemmas.List.{take-append-drop}
-use Rattle.std.specs.Str.Pattern.{FindsText, HasTextAt, LacksTextAt, SplitsAroundMatch}
+use Rattle.std.specs.Str.Pattern.{FindsText, LacksTextAt, SplitsAroundMatch}
 use Rattle.std.specs.Prelude.{Option}
 use Rattle.part_core.specs.declared.found.Found.TheVariants.{One}
-use Rattle.desk_wire.specs.TextWays.{Tree, behind_stroke, cut_at_stroke, cut_before, led_by}
+use Rattle.desk_wire.specs.TextWays.{Tree, behind_stroke, cut_at_stroke, led_by}
 
 -- no ` / ` stands at the front
 behind_none : (bs : List ℕ) → ((rest : List ℕ) → bs ≢ codes " / " ++ rest) → behind_stroke bs ≡ None

@@ -1,5 +1,5 @@
 -- Values whose numbers are written as such: what was read of a text is one, where it has no float.
-use Rattle.std.proofs.Common.{◌≡◌, refl, ℕ, zero, suc, ◌<◌, ◌≤◌, ◌^◌, ◌&&◌, ◌==◌, List, Bool, true, false, cond, sym, subst, arith, pos, negsuc}
+use Rattle.std.proofs.Common.{◌≡◌, refl, ℕ, zero, suc, ◌<◌, ◌≤◌, ◌^◌, ◌&&◌, ◌==◌, List, Bool, true, false, cond, sym, subst, arith, pos}
 use Rattle.std.proofs.Common.{Ordering, Less, Equal, Greater, nat_cmp, nat_lt, nat_le, neg_ℤ}
 use Rattle.std.specs.Prelude.{Option, Some, None, option_and_then, option_map, drop, slice_index}
 use Rattle.std.specs.Cmp.Lexicographic.{slice_cmp}
@@ -10,7 +10,6 @@ use Rattle.fast_float.specs.Text.{Parts, digits_of, minus, nearest, scan, with_s
 use lib.Signed.{mag}
 use Rattle.json.specs.Json as json
 use Rattle.json.specs.Lex.{tokens}
-use Rattle.json.specs.Print.{IsNumber}
 use Rattle.json.specs.Tree.{HasNumbers, ItemsHaveNumbers, MembersHaveNumbers}
 use Rattle.json.proofs.Printed.Decimals.{IsNumber-decimal, IsNumber-signed_decimal}
 use Rattle.serde_json.specs.Data.{Data, Items, Members, Num, array, boolean, float, item, member, negative, no_items, no_members, null, number, object, put, string, unsigned}

@@ -1,7 +1,6 @@
 -- Words without names.
-use Rattle.std.proofs.Common.{◌≡◌, ℕ, List, refl}
+use Rattle.std.proofs.Common.{◌≡◌, ℕ, refl}
 use Rattle.std.specs.Prelude.{Option, Some, None}
-use Rattle.part_core.specs.declared.field.RowKind.{RowKind}
 use Rattle.desk_wire.specs.Numbers.{number_in}
 use Rattle.desk_wire.specs.RowWords.{WordsAreNumbers, number_of, row_at_word}
 

@@ -66,6 +66,13 @@ level_row names n part level = do
   amount ← of_field n (codes "level") level (number_of level)
   Ok (record { part = number; amount = amount })
 
+-- the level that two fields say, if there is one: nothing where the second is empty
+abbrev pub maybe_level : Naming → ℕ → List ℕ → List ℕ → Result (Option LevelRow) Fault
+maybe_level names n part [] = Ok None
+maybe_level names n part (b ∷ bs) = do
+  level ← level_row names n part (b ∷ bs)
+  Ok (Some level)
+
 -- What the record of that number says. `Csv` is one that isn't text, in which a quote is open where the file ends, or that
 -- has more fields than the header. Of the others one without a level is left out, and so is an empty one.
 abbrev pub level_of : Naming → LevelColumns → Option ℕ → ℕ → Fields → Result (Option LevelRow) Fault
@@ -73,13 +80,7 @@ level_of names columns unclosed n fields = do
   texts ← of_record n (must Csv (are_texts fields))
   closed ← of_record n (must Csv (is_closed unclosed n))
   fits ← of_record n (must Csv (nat_le (length fields) columns.width))
-  by_level (field columns.level fields)
-  where
-    by_level : List ℕ → Result (Option LevelRow) Fault
-    by_level [] = Ok None
-    by_level (b ∷ bs) = do
-      level ← level_row names n (field columns.part fields) (b ∷ bs)
-      Ok (Some level)
+  maybe_level names n (field columns.part fields) (field columns.level fields)
 
 -- ---- all records
 

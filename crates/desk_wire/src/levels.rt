@@ -8,7 +8,7 @@ ghost use Rattle.desk_wire.specs.Faults.{shown_field};
 ghost use Rattle.desk_wire.specs.Imports.{separators};
 ghost use Rattle.desk_wire.specs.Levels.{FailsAs, ReadsAs, ReadsNext, first_columns, layout_by};
 ghost use Rattle.desk_wire.specs.Levels.{level_columns, file_levels, level_of, level_row, levels_from, of_field};
-ghost use Rattle.desk_wire.specs.Levels.{one_column};
+ghost use Rattle.desk_wire.specs.Levels.{maybe_level, one_column};
 ghost use Rattle.desk_wire.specs.Records.{IsReading, are_texts, config_by, left};
 ghost use Rattle.desk_wire.specs.RowWords.{number_of, row_at_word};
 
@@ -156,6 +156,26 @@ fn level_row<N: Names>(
     Ok(LevelRow { part, amount })
 }
 
+/// A part with its level, as two fields of the record of that number say them: nothing where the second is empty.
+#[tactic(auto, using(crate::proofs::LevelReads::fails_so))]
+fn maybe_level<N: Names>(
+    alloc: Global,
+    names: &N,
+    number: u64,
+    part: &str,
+    level: &str,
+) -> Result<Option<LevelRow>, FileError>
+    ensures { ReadsAs (maybe_level (N.naming_of names.now) number part.now level.now) result }
+{
+    if level.is_empty() {
+        return Ok(None);
+    }
+    match level_row(alloc, names, number, part, level) {
+        Ok(row) => Ok(Some(row)),
+        Err(error) => Err(error),
+    }
+}
+
 /// What the record of texts says that has that number: nothing where it has no level. In one record a quote may be open where
 /// the file ends.
 fn level_of<N: Names>(
@@ -173,12 +193,9 @@ fn level_of<N: Names>(
     if !is_closed(unclosed, number) || fields.len() > columns.width {
         return Err(bad_record(number));
     }
+    let part = field(fields, columns.part);
     let level = field(fields, columns.level);
-    if level.is_empty() {
-        return Ok(None);
-    }
-    let row = level_row(alloc, names, number, field(fields, columns.part), level)?;
-    Ok(Some(row))
+    maybe_level(alloc, names, number, part, level)
 }
 
 /// Reads the next record, of that number, where there is one: as a level, or as one that is left out.

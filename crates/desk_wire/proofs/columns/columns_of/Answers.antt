@@ -1,7 +1,7 @@
-use Rattle.std.proofs.Common.{◌≡◌, ◌<◌, ◌+◌, ◌++◌, ◌∷◌, ◌∙◌, None, Some, List, [], ℕ, length, drop, get_or, sym, ap, rules}
+use Rattle.std.proofs.Common.{◌≡◌, ◌<◌, ◌+◌, ◌++◌, ◌∷◌, ◌∙◌, None, List, [], ℕ, length, drop, sym, ap, rules}
 use Rattle.std.specs.Borrow.{Bor}
 use Rattle.csv.specs.Records.{fields_of}
-use Rattle.desk_wire.specs.Imports.{column_by, names_of, places_from, places_of}
+use Rattle.desk_wire.specs.Imports.{names_of, places_of}
 use Rattle.desk_wire.proofs.ColumnFacts.{after, columns-lack, columns-next, columns-none}
 use Rattle.desk_wire.proofs.columns.columns_of.Goals as goal
 
