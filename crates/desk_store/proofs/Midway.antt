@@ -225,6 +225,7 @@ keeps_stopped a b (cause.Database error) h = keeps_undone a b h.3
 keeps_stopped a b (cause.NoTable table) h = absurd h
 keeps_stopped a b (cause.BadRow table) h = absurd h
 keeps_stopped a b cause.NoMemory h = absurd h
+keeps_stopped a b cause.Displaced h = absurd h
 
 pub keeps_failed : (a b : sqlite.State) (fault : TableFault) → Stops a b fault → KeepsCommit a b
 keeps_failed a b Memory h = absurd h

@@ -18,6 +18,8 @@ enum Cause {
     BadRow(TableName),
     /// There was no memory for a row, within a transaction that had others.
     NoMemory,
+    /// Another file lies at the path of the one that was opened, or none.
+    Displaced,
 }
 
 /// What is known of a fault. As text it is one line, for a person.
@@ -54,6 +56,15 @@ impl Failed {
         }
     }
 
+    /// Of a file that doesn't lie any more where it was opened.
+    pub fn displaced() -> Failed
+        ensures { result.cause ≡ Cause.Displaced }
+    {
+        Failed {
+            cause: Cause::Displaced,
+        }
+    }
+
     /// Of a row that isn't one of the table.
     pub(crate) fn bad_row(table: TableName) -> Failed
         ensures { result.cause ≡ Cause.BadRow table }
@@ -75,6 +86,9 @@ impl fmt::Display for Failed {
             Cause::NoTable(table) => write!(f, "the table {} is not as it should be", table.name()),
             Cause::BadRow(table) => write!(f, "a row of the table {} makes no sense", table.name()),
             Cause::NoMemory => f.write_str("there was no memory for a row"),
+            Cause::Displaced => f.write_str(
+                "another file lies at its path now, or none, so nothing more is kept in the one that lay there",
+            ),
         }
     }
 }
