@@ -188,3 +188,12 @@ pub(crate) fn finish<S: Alter>(
         }
     }
 }
+
+/// Undoes a group: no transaction is open then, and a crash leaves the tables of the last commit.
+pub(crate) fn undo<S: Alter>(conn: &mut Connection<S>)
+    ensures free { HasCleanDisk (state S.Store conn.new)
+        → (state S.Store conn.new).in_transaction ≡ false }
+    ensures crash { Survives (state S.Store conn.old) (state S.Store conn.new) (λ _. ⊥) }
+{
+    let _undone = rollback(conn);
+}

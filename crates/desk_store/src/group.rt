@@ -14,7 +14,7 @@ ghost use Rattle.desk_store.specs.Desks.{IsDesk};
 ghost use Rattle.desk_store.specs.Groups.{IsGrouping};
 ghost use Rattle.desk_store.specs.Outcomes.{Tells};
 
-use crate::add::{add, finish};
+use crate::add::{add, finish, undo};
 use crate::desk::Desk;
 use crate::fault::Fault;
 use desk_core::{Accepted, Request};
@@ -94,5 +94,55 @@ impl<S: Alter> Desk<S> {
             return Err(Fault::Store);
         }
         Ok(())
+    }
+
+    /// Ends the group where nothing of it may be kept: it is undone, and this fault closes the desk, so a crash leaves the
+    /// tables of the last commit.
+    ///
+    /// The answer is `Store`, and that of a desk that was closed before, to which nothing is done, `Closed`.
+    pub fn give_up(&mut self, why: Failed) -> Fault
+        requires { IsGrouping S.Store self.old }
+        ensures desk { IsDesk S.Store self.new }
+        ensures shop { self.new.shop ≡ self.old.shop }
+        ensures answer { (result ≡ Fault.Store) ⊎ (result ≡ Fault.Closed) }
+        ensures closed { (result ≡ Fault.Closed) ↔ IsSome self.old.failed }
+        ensures stops { IsSome self.new.failed }
+        ensures crash { Survives (state S.Store self.old.conn) (state S.Store self.new.conn)
+            (λ _. ⊥) }
+        ensures idle { IsSome self.old.failed → self.new ≡ self.old }
+    {
+        if self.failed.is_some() {
+            return Fault::Closed;
+        }
+        undo(&mut self.conn);
+        self.failed = Some(why);
+        Fault::Store
+    }
+
+    /// Runs one request where nothing may be kept: a refusal and a repeat, which change nothing, are told, and at any other
+    /// request this fault closes the desk. No call of the database is made.
+    ///
+    /// A closed desk answers `Closed`. After `Refused` and `Memory` nothing has changed.
+    pub fn run_unkept(&mut self, request: &Request, why: Failed) -> Result<Answer, Fault>
+        requires { IsDesk S.Store self.old }
+        ensures desk { IsDesk S.Store self.new }
+        ensures tells { Tells (state_of self.old.shop) request.now result (state_of self.new.shop) }
+        ensures closed { (result ≡ Err Fault.Closed) ↔ IsSome self.old.failed }
+        ensures store { IsSome self.new.failed
+            ↔ ((result ≡ Err Fault.Store) ⊎ IsSome self.old.failed) }
+        ensures conn { self.new.conn ≡ self.old.conn }
+        ensures idle { IsSome self.old.failed → self.new ≡ self.old }
+    {
+        if self.failed.is_some() {
+            return Err(Fault::Closed);
+        }
+        match self.shop.accept(request)? {
+            Accepted::Again(answer) => Ok(answer),
+            Accepted::Anew(_answer) => {
+                self.shop.back();
+                self.failed = Some(why);
+                Err(Fault::Store)
+            }
+        }
     }
 }
