@@ -17,6 +17,7 @@ use Rattle.desk_cli.specs.declared.words.Task.TheVariants as task
 use Rattle.invdesk.specs.Checks.{ChecksInput}
 use Rattle.invdesk.specs.Clients.{ServesClients, ends_at_fault}
 use Rattle.invdesk.specs.Lines.{AreTakenBy, RunsLines}
+use Rattle.invdesk.specs.declared.held.OpenedFile.{OpenedFile}
 use Rattle.invdesk.specs.Prints.{PrintsOut}
 use Rattle.invdesk.specs.Rows.{ImportsFile, ImportsSheet}
 
@@ -43,8 +44,8 @@ module _ {S : Type 0} (g : Ghosts S) where
   -- clients were served with it, while its faults were told on the standard error
   pub record ServesDesk (options : LineOptions) (port : ℕ) (has_token has_page : Bool) (count : Option ℕ) (old new : Desk S)
       (end : RunEnd) : Type 0 where
-    pub before : BooksService (WatchedDesk S Stderr)
-    pub after : BooksService (WatchedDesk S Stderr)
+    pub before : BooksService (WatchedDesk S OpenedFile Stderr)
+    pub after : BooksService (WatchedDesk S OpenedFile Stderr)
     pub was : before.books.desk ≡ old
     pub until : before.ends_at_fault ≡ ends_at_fault has_page count
     pub is : after.books.desk ≡ new

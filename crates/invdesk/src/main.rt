@@ -4,6 +4,7 @@
 #![tactic(auto)]
 
 mod at;
+mod held;
 mod low;
 mod page;
 mod pipe;
@@ -36,14 +37,15 @@ ghost use Rattle.invdesk.specs.Works.{AnswersOnDesk, ChecksOnDesk, Does, RunsOnD
 ghost use Rattle.invdesk.specs.Works.{may_leave};
 
 use crate::at::ask_at;
+use crate::held::OpenedFile;
 use crate::low::print_low;
 use crate::pipe::{Output, end_of_print, is_of_a_reader};
 use crate::serve::{began, ends_at_fault, serve};
 use crate::streams::keep_streams;
 use desk_app::{
-    Books, BooksService, CountedBooks, ExplainedBooks, LineOptions, WatchedDesk, end_of_work,
-    explain_faults, import_file, import_sheet, let_go, print_sheet, read_file, run_checked,
-    run_in_memory, run_lines,
+    Advice, Books, BooksService, CountedBooks, ExplainedBooks, HeldFile, LineOptions, WatchedDesk,
+    end_of_work, explain_faults, import_file, import_sheet, let_go, print_sheet, read_file,
+    run_checked, run_in_memory, run_lines,
 };
 use desk_cli::{
     Content, DEVICE, FaultyFile, FileFault, MEMORY, NoRow, ReportOf, Task, TypedLines, connect,
@@ -271,12 +273,6 @@ fn reasons(rt: &HostRuntime, explain: bool) -> Option<Stderr> {
     (explain || stderr.is_terminal()).then_some(stderr)
 }
 
-/// What a line ends with that tells of a fault of the database, while clients are served.
-const SERVED: &str = "; all requests fail until the service is started again";
-
-/// The same where the service ends by it.
-const ENDS: &str = "; the service ends, and what was answered is kept";
-
 /// Tells why a word says no row, and of a serial that several items have which they are.
 fn tell_of_word<S: Alter>(rt: &HostRuntime, desk: &Desk<S>, word: &str, what: &What) {
     let why = no_row_text(what);
@@ -493,21 +489,21 @@ fn options_of(rt: &HostRuntime, names: bool, journal: bool) -> LineOptions
     }
 }
 
-/// Answers the lines of the standard input with the desk, whose file is told by that name. They are taken in this way,
-/// and the first that is refused or faulty may be the last. It may be told why a line isn't done.
+/// Answers the lines of the standard input with the desk of this file. They are taken in this way, and the first that is
+/// refused or faulty may be the last. It may be told why a line isn't done.
 fn run_on<S: Alter + Drop>(
     rt: &HostRuntime,
     options: LineOptions,
     stop: bool,
     explain: bool,
     desk: Desk<S>,
-    name: String,
+    file: OpenedFile,
 ) -> Worked<S>
     requires { IsDesk S.Store desk }
     ensures desk { IsDesk S.Store result.0 }
     ensures runs { RunsOnDesk S.Store options stop desk result.0 result.1 }
 {
-    let watched = WatchedDesk::new(desk, name, "", rt.stderr());
+    let watched = WatchedDesk::new(desk, file, Advice::Nothing, rt.stderr());
     let mut explained = ExplainedBooks::new(rt.alloc(), watched, reasons(rt, explain));
     let (mut lines, mut writer) = (lines_in(rt), io::writer(rt));
     let end = run_lines(
@@ -554,27 +550,27 @@ fn check<B: Books>(
     }
 }
 
-/// Answers the lines of the standard input with the desk, once all have been looked at.
+/// Answers the lines of the standard input with the desk of this file, once all have been looked at.
 fn check_on<S: Alter + Drop>(
     rt: &HostRuntime,
     options: LineOptions,
     stop: bool,
     explain: bool,
     desk: Desk<S>,
-    name: String,
+    file: OpenedFile,
 ) -> Worked<S>
     requires { IsDesk S.Store desk }
     ensures desk { IsDesk S.Store result.0 }
     ensures checks { ChecksOnDesk S.Store options stop desk result.0 result.1 }
 {
-    let watched = WatchedDesk::new(desk, name, "", rt.stderr());
+    let watched = WatchedDesk::new(desk, file, Advice::Nothing, rt.stderr());
     let mut explained = ExplainedBooks::new(rt.alloc(), watched, reasons(rt, explain));
     let end = check(rt, options, stop, explain, &mut explained);
     let desk = explained.into_books().into_desk();
     (desk, end)
 }
 
-/// Answers the lines of the standard input with the desk, each as it comes or once all have been looked at.
+/// Answers the lines of the standard input with the desk of this file, each as it comes or once all have been looked at.
 fn answer_on<S: Alter + Drop>(
     rt: &HostRuntime,
     options: LineOptions,
@@ -582,25 +578,30 @@ fn answer_on<S: Alter + Drop>(
     check: bool,
     explain: bool,
     desk: Desk<S>,
-    name: String,
+    file: OpenedFile,
 ) -> Worked<S>
     requires { IsDesk S.Store desk }
     ensures desk { IsDesk S.Store result.0 }
     ensures answers { AnswersOnDesk S.Store options stop check desk result.0 result.1 }
 {
-    greet_at(rt, &desk, name.as_str());
+    greet_at(rt, &desk, file.name());
     if check {
-        return check_on(rt, options, stop, explain, desk, name);
+        return check_on(rt, options, stop, explain, desk, file);
     }
-    run_on(rt, options, stop, explain, desk, name)
+    run_on(rt, options, stop, explain, desk, file)
 }
 
-/// What a line ends with that tells of a fault of the database, while clients are served until one.
-fn advice(ends_at_fault: bool) -> &'static str {
-    if ends_at_fault { ENDS } else { SERVED }
+/// What is said beside a fault of the database, while clients are served until one.
+fn advice_to_clients(ends_at_fault: bool) -> Advice {
+    if ends_at_fault {
+        Advice::Ends
+    } else {
+        Advice::StartAgain
+    }
 }
 
-/// Serves clients, so many or until it is stopped, or, with a page and without a count, until a fault closes the desk.
+/// Serves clients with the desk of this file, so many or until it is stopped, or, with a page and without a count, until a
+/// fault closes the desk.
 fn serve_on(
     rt: &HostRuntime,
     port: u16,
@@ -609,7 +610,7 @@ fn serve_on(
     options: LineOptions,
     page: bool,
     desk: Desk<FileStore<File>>,
-    name: String,
+    file: OpenedFile,
 ) -> Worked<FileStore<File>>
     requires { IsDesk over_files desk }
     ensures desk { IsDesk over_files result.0 }
@@ -617,7 +618,7 @@ fn serve_on(
         result.0 result.1 }
 {
     let ends = ends_at_fault(page, count);
-    let watched = WatchedDesk::new(desk, name, advice(ends), rt.stderr());
+    let watched = WatchedDesk::new(desk, file, advice_to_clients(ends), rt.stderr());
     let mut service = BooksService::ending_at_fault(watched, options, began(rt), ends);
     let end = serve(rt, port, count, token, page, &mut service);
     (service.books.into_desk(), end)
@@ -630,7 +631,7 @@ fn tell_if_empty(rt: &HostRuntime, path: &str, loose: bool, end: RunEnd, rows: u
     }
 }
 
-/// Runs the rows of the file at the path. It may be told why a row isn't done.
+/// Runs the rows of the file at the path on the desk, whose own file the other is. It may be told why a row isn't done.
 fn import_on<S: Alter + Drop>(
     rt: &HostRuntime,
     path: &str,
@@ -641,14 +642,14 @@ fn import_on<S: Alter + Drop>(
     names: bool,
     explain: bool,
     desk: Desk<S>,
-    name: String,
+    file: OpenedFile,
 ) -> Worked<S>
     requires { IsDesk S.Store desk }
     ensures desk { IsDesk S.Store result.0 }
     ensures imports { ImportsFile reading names kind document.now day desk.failed result.0.failed
         (may_leave S.Store result.0) (state_of desk.shop) (state_of result.0.shop) result.1 }
 {
-    let watched = WatchedDesk::new(desk, name, "", rt.stderr());
+    let watched = WatchedDesk::new(desk, file, Advice::Nothing, rt.stderr());
     let explained = ExplainedBooks::new(rt.alloc(), watched, reasons(rt, explain));
     let mut counted = CountedBooks::new(explained, terminal(rt));
     let end = import(rt, path, kind, document, day, reading, names, &mut counted);
@@ -657,16 +658,8 @@ fn import_on<S: Alter + Drop>(
     (counted.into_books().into_books().into_desk(), end)
 }
 
-/// Tells the fault that has closed the desk, if one has, whose file is told by that name.
-fn tell_closed<S: Alter>(rt: &HostRuntime, desk: &Desk<S>, name: &str) {
-    if let Some(failed) = desk.failed() {
-        tell_line(rt, format_args!("{name}: {failed}"));
-    }
-}
-
-/// Runs the lines that the file at the path is, by what is told beside it. It may be told why one isn't done. A fault of the
-/// file is told once all has ended, and not by a `WatchedDesk`: no call of a type that has a static text in it is covered
-/// by the borrow checker beside a sheet, which has one, too.
+/// Runs the lines that the file at the path is, by what is told beside it, on the desk, whose own file the other is. It may
+/// be told why one isn't done.
 fn sheet_on<S: Alter + Drop>(
     rt: &HostRuntime,
     path: &str,
@@ -674,27 +667,26 @@ fn sheet_on<S: Alter + Drop>(
     stop: bool,
     explain: bool,
     desk: Desk<S>,
-    name: String,
+    file: OpenedFile,
 ) -> Worked<S>
     requires { IsDesk S.Store desk }
     ensures desk { IsDesk S.Store result.0 }
     ensures imports { ImportsSheet (shown_sheet sheet.now) stop desk.failed result.0.failed
         (may_leave S.Store result.0) (state_of desk.shop) (state_of result.0.shop) result.1 }
 {
-    let explained = ExplainedBooks::new(rt.alloc(), desk, reasons(rt, explain));
+    let watched = WatchedDesk::new(desk, file, Advice::Nothing, rt.stderr());
+    let explained = ExplainedBooks::new(rt.alloc(), watched, reasons(rt, explain));
     let mut counted = CountedBooks::new(explained, terminal(rt));
     let end = run_sheet(rt, path, sheet, stop, explain, &mut counted);
-    let left = counted.into_books().into_books();
-    tell_closed(rt, &left, name.as_str());
-    (left, end)
+    (counted.into_books().into_books().into_desk(), end)
 }
 
-/// Does what the words ask for with the desk, whose file is told by that name.
+/// Does what the words ask for with the desk of this file.
 fn done(
     rt: &HostRuntime,
     task: &Task<'_>,
     desk: Desk<FileStore<File>>,
-    name: String,
+    file: OpenedFile,
 ) -> Worked<FileStore<File>>
     requires { IsDesk over_files desk }
     ensures desk { IsDesk over_files result.0 }
@@ -710,7 +702,7 @@ fn done(
             ..
         } => {
             let options = options_of(rt, *names, *journal);
-            answer_on(rt, options, *stop, *check, *explain, desk, name)
+            answer_on(rt, options, *stop, *check, *explain, desk, file)
         }
         Task::Serve {
             port,
@@ -723,7 +715,7 @@ fn done(
         } => {
             let (names, journal) = (*names, *journal);
             let options = LineOptions { names, journal };
-            serve_on(rt, *port, *count, *token, options, *page, desk, name)
+            serve_on(rt, *port, *count, *token, options, *page, desk, file)
         }
         Task::Import {
             kind,
@@ -736,7 +728,7 @@ fn done(
             ..
         } => {
             import_on(
-                rt, path, *kind, document, *day, *reading, *names, *explain, desk, name,
+                rt, path, *kind, document, *day, *reading, *names, *explain, desk, file,
             )
         }
         Task::Sheet {
@@ -745,7 +737,7 @@ fn done(
             stop,
             explain,
             ..
-        } => sheet_on(rt, path, sheet, *stop, *explain, desk, name),
+        } => sheet_on(rt, path, sheet, *stop, *explain, desk, file),
         _ => {
             let end = print_out(rt, task, &desk);
             (desk, end)
@@ -892,20 +884,21 @@ fn tell_of_long(rt: &HostRuntime, path: &str, name: &str) {
     }
 }
 
-/// Does what the words ask for, with the desk of the file, which is told by that name, and closes the file. Where a database
-/// has no desk it is left with what it had. Where it had nothing, or was to be brought along, and failed as that was done,
-/// a crash may leave the new tables. Nothing is said of the file where the fault may come before a database is opened.
+/// Does what the words ask for, with the desk of the file, and closes the file. Where a database has no desk it is left with
+/// what it had. Where it had nothing, or was to be brought along, and failed as that was done, a crash may leave the new
+/// tables. Nothing is said of the file where the fault may come before a database is opened.
 fn act_on_file(
     rt: &HostRuntime,
     path: &str,
-    name: String,
+    mut file: OpenedFile,
     task: &Task<'_>,
 ) -> Result<Ended, FileFault>
     ensures acts { IfOk result (λ ended. ActsOnFile task.now ended.0 ended.1) }
     ensures none { IfErr result (NoneComes ⟦<File as Disk>⟧ task.now) }
 {
     let desk = desk_of(rt, path, task)?;
-    let (desk, end) = done(rt, task, desk, name);
+    file.note_if_made();
+    let (desk, end) = done(rt, task, desk, file);
     Ok(closed(rt, path, desk, end))
 }
 
@@ -986,12 +979,12 @@ fn is_look(task: &Task<'_>) -> bool {
     )
 }
 
-/// Does what the words ask for with the file in which this was found, which is told by that name, and tells how it ended, or
-/// why there is no desk. After a look that made the file's log, which has nothing then, it is taken away.
+/// Does what the words ask for with the file in which this was found, and tells how it ended, or why there is no desk. After
+/// a look that made the file's log, which has nothing then, it is taken away.
 fn end_by_found(
     rt: &HostRuntime,
     path: &str,
-    name: String,
+    file: OpenedFile,
     task: &Task<'_>,
     found: Content,
 ) -> Result<RunEnd, FileFault>
@@ -1002,7 +995,7 @@ fn end_by_found(
         return look_at_none(rt, task);
     }
     let had_log = has_log(rt, path)?;
-    let ended = act_on_file(rt, path, name, task)?;
+    let ended = act_on_file(rt, path, file, task)?;
     let (end, left) = ended;
     if !had_log && left.is_ok() && is_look(task) {
         let _ = remove_log(rt, path);
@@ -1015,10 +1008,10 @@ fn end_by_found(
 fn end_on_file(rt: &HostRuntime, path: &str, task: &Task<'_>) -> Result<RunEnd, FileFault>
     ensures { EndsOnFile ⟦<File as Disk>⟧ task.now result }
 {
-    let name = escaped(rt.alloc(), path)?;
-    tell_of_long(rt, path, name.as_str());
+    let file = OpenedFile::at(rt, path)?;
+    tell_of_long(rt, path, file.name());
     let found = found_at(rt, path, task)?;
-    end_by_found(rt, path, name, task, found)
+    end_by_found(rt, path, file, task, found)
 }
 
 /// The status of work on the file that ended so. Where the file is the reason that there was none, it is told.

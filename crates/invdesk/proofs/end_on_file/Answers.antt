@@ -6,8 +6,8 @@ use Rattle.invdesk.proofs.end_on_file.Goals as goal
 pub returns : goal.returns
 returns c = (c.in_ok-found.found, c.end_by_found.ensures)
 
-pub returns-in_err-name : goal.returns-in_err-name
-returns-in_err-name c =
+pub returns-in_err-file : goal.returns-in_err-file
+returns-in_err-file c =
     let p = err_from_is_err_and c.from_residual.result c.from_residual.ensures.1 in
     rw (p.1, p.2) (Absent, inr (inl tt))
 
