@@ -1,11 +1,13 @@
-//! Tests of the whole desk: lines through readers, writers and disks that fail, files that are damaged, shops of rows that
-//! were read, and tables as text.
+//! Tests of the whole desk: lines through readers, writers and disks that fail, files that are damaged or taken away, shops
+//! of rows that were read, and tables as text.
 #![tactic(auto)]
 
 #[cfg(test)]
 mod assembled;
 #[cfg(test)]
 mod damaged;
+#[cfg(test)]
+mod displaced;
 #[cfg(test)]
 mod dumps;
 #[cfg(test)]

@@ -3,6 +3,8 @@
 #![tactic(auto)]
 
 #[cfg(test)]
+mod displaced;
+#[cfg(test)]
 mod ends;
 #[cfg(test)]
 mod imports;
