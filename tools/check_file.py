@@ -8,8 +8,9 @@ changed, one change for each clause of what a sound state is; and that files of 
 recognised, and brought along with all that they have. That a look at a file that can't be opened makes nothing, and
 says what lies there; that a new file and its log are their owner's alone, and a log of another user is left alone;
 that words that only look, or bring along, leave no file, an empty file and a text as they find them; that a fault of
-the disk is reported once, with the file and the reason, and nothing is told of a line that it undid; that control
-characters are escaped; and what is said of wrong words.
+the disk is reported once, with the file and the reason, and nothing is told of a line that it undid; that of a file
+that is replaced, removed or moved while it is open nothing more is answered, and what was answered is in it; that
+control characters are escaped; and what is said of wrong words.
 
 usage: tools/check_file.py PROGRAM"""
 import contextlib
@@ -28,7 +29,7 @@ import subprocess
 import tempfile
 import time
 
-from shared import COLUMNS, TOP, expect, expect_whole, reader_of_words, rows_of, run, serve
+from shared import COLUMNS, TOP, ask, expect, expect_whole, reader_of_words, rows_of, run, serve
 
 # Files that the program as it was before version 2 made: one with nothing, one of a workshop that keeps the answer of
 # each request, and one with rows in each table.
@@ -739,6 +740,104 @@ def faults(program, folder, path):
     expect(b"the database answered" not in rest, f"serve tells it again: {rest!r}")
 
 
+# What becomes of a file at its path while it is open.
+TAKEN = {
+    "replaced": lambda path, other: os.replace(other, path),
+    "removed": lambda path, _other: os.remove(path),
+    "moved": lambda path, _other: os.rename(path, f"{path}.aside"),
+}
+GONE = "another file lies at its path now, or none, so nothing more is kept in the one that lay there"
+
+
+def located(name, key=""):
+    """A line that adds a location, under a key where one is given."""
+    return json.dumps({"day": "2030-01-03", "do": "add_location", "name": name} | ({"key": key} if key else {})) + "\n"
+
+
+def room_to_take(program, folder, path, name):
+    """A copy of the file in a folder of its own, and another workshop's file beside it."""
+    room = folder / name
+    room.mkdir()
+    other = str(room / "other.db")
+    run(program, "run", "--db", other, lines=located("Elsewhere"))
+    for rest in room.glob("other.db-*"):
+        rest.unlink()
+    return shutil.copy(path, room / "w.db"), other
+
+
+def expect_apart(program, path, way, kept, was):
+    """What was answered is in the file that was open, and nothing else. What was put in its place is as it was."""
+    names = [row[1] for row in look(kept)["locations"]]
+    expect("Answered" in names and "Lost" not in names, f"the file that was {way} has the locations {names}")
+    if way == "replaced":
+        expect(pathlib.Path(path).read_bytes() == was, "the file that was put in its place is changed")
+        again = run(program, "export", "--db", path, "locations").stdout
+        expect("Elsewhere" in again and "Answered" not in again, f"the file in its place has {again!r}")
+    else:
+        expect(not pathlib.Path(path).exists(), f"where a file was {way} there is one again")
+
+
+def taken_from_run(program, folder, path, way):
+    """A file that is taken away amid a run, which waits for its next line."""
+    at, other = room_to_take(program, folder, path, f"run-{way}")
+    words = [program, "run", "--db", at]
+    child = subprocess.Popen(words, stdin=subprocess.PIPE, stdout=subprocess.PIPE, stderr=subprocess.PIPE, text=True)
+    child.stdin.write(located("Answered"))
+    child.stdin.flush()
+    answer = child.stdout.readline()
+    expect(answer.startswith('{"entries":0,"ids":['), f"a line is answered {answer!r}")
+    kept, was = f"{at}.kept", pathlib.Path(other).read_bytes()
+    os.link(at, kept)
+    TAKEN[way](at, other)
+    out, told = child.communicate(located("Lost") + located("Later"), timeout=60)
+    expect((child.returncode, out) == (3, ""), f"where its file was {way} a run ends {child.returncode} with {out!r}")
+    expect(told == f"invdesk: {at}: {GONE}\ninvdesk: store or device failed\n", f"it is told {told!r}")
+    expect_apart(program, at, way, kept, was)
+
+
+def taken_from_service(program, folder, path, way):
+    """The same amid a service, which still tells what changes nothing, and ends by the first request that would."""
+    at, other = room_to_take(program, folder, path, f"served-{way}")
+    served, port = serve(program, "--db", at, "--page")
+    first = located("Answered", "k/1")
+    status, _, answer = ask(port, "POST", "/run", first)
+    expect(status == 200, f"a line is answered {status}")
+    kept, was = f"{at}.kept", pathlib.Path(other).read_bytes()
+    os.link(at, kept)
+    TAKEN[way](at, other)
+    status, _, again = ask(port, "POST", "/run", first)
+    expect((status, again) == (200, answer), f"where its file was {way} a repeat is answered {status} {again!r}")
+    status, _, lost = ask(port, "POST", "/run", located("Lost"))
+    expect(status == 500, f"where its file was {way} a line is answered {status} {lost!r}")
+    told = served.communicate(timeout=60)[1].decode()
+    expect(served.returncode == 3, f"where its file was {way} a service ends with {served.returncode}")
+    first, *rest = told.splitlines()
+    expect(first.startswith(f"invdesk: {at}: {GONE}; the service ends"), f"it is told {first!r}")
+    expect(not any(GONE in line for line in rest), f"it is told again: {rest!r}")
+    expect_apart(program, at, way, kept, was)
+
+
+def written_over(program, folder, path):
+    """What is copied onto the file goes into the very file that is open: it is no other, so that isn't told."""
+    at, other = room_to_take(program, folder, path, "over")
+    words = [program, "run", "--db", at]
+    child = subprocess.Popen(words, stdin=subprocess.PIPE, stdout=subprocess.PIPE, stderr=subprocess.PIPE, text=True)
+    child.stdin.write(located("Answered"))
+    child.stdin.flush()
+    child.stdout.readline()
+    shutil.copyfile(other, at)
+    _, told = child.communicate(located("Later"), timeout=60)
+    expect(child.returncode in (0, 3) and GONE not in told, f"a run over which is copied is told {told!r}")
+
+
+def taken(program, folder, path):
+    """Files that don't lie any more where they were opened."""
+    for way in TAKEN:
+        taken_from_run(program, folder, path, way)
+        taken_from_service(program, folder, path, way)
+    written_over(program, folder, path)
+
+
 def main():
     program = reader_of_words(__doc__).parse_args().program
     with tempfile.TemporaryDirectory() as name:
@@ -766,6 +865,7 @@ def main():
         escaped(program, folder)
         words(program, folder)
         faults(program, folder, path)
+        taken(program, folder, path)
         started_again(program, folder)
     print("check_file: all as it should be")
 
