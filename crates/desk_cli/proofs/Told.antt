@@ -8,7 +8,7 @@ use Rattle.desk_cli.specs.declared.words.Task.TheVariants.{Run, Report, Export, 
 use Rattle.desk_cli.specs.declared.words.Task.TheVariants.{Low, Serve, Guide, At, Help, Wrong, Unreadable, Memory}
 use Rattle.desk_cli.specs.Words.{Places, DeskTask, guide, run, report, export, dump, show, migrate, import, sheet, lines}
 use Rattle.desk_cli.specs.AtWords.{asking_of}
-use Rattle.desk_cli.specs.Words.{at, low, serve}
+use Rattle.desk_cli.specs.Words.{at, low_list, serve}
 use Rattle.desk_ends.specs.Lists.{listed_of}
 use Rattle.desk_cli.specs.Words.{desk_task, faults, subject_of, Tells, AnswersAt, Runs, RunsOn}
 
@@ -56,7 +56,7 @@ told_runs w (Dump file) e t = let f : Some (plain_run None) ≡ Some (dump file.
 told_runs w (Show file list csv) e t =
     let f : Some (plain_run None) ≡ Some (show file.now (listed_of list) csv) = sym e ∙ t in absurd (cc)
 told_runs w (Low file levels csv) e t =
-    let f : Some (plain_run None) ≡ Some (low file.now levels.now csv) = sym e ∙ t in absurd (cc)
+    let f : Some (plain_run None) ≡ Some (low_list file.now levels.now csv) = sym e ∙ t in absurd (cc)
 told_runs w (Migrate file) e t = let f : Some (plain_run None) ≡ Some (migrate file.now) = sym e ∙ t in absurd (cc)
 told_runs w (Import file kind document day path names reading explain) e t =
     let f : Some (plain_run None) ≡ Some (import file.now kind document day path.now names reading explain) = sym e
@@ -97,7 +97,7 @@ told_runs_on path w (Dump file) e t =
 told_runs_on path w (Show file list csv) e t =
     let f : Some (plain_run (Some path)) ≡ Some (show file.now (listed_of list) csv) = sym e ∙ t in absurd (cc)
 told_runs_on path w (Low file levels csv) e t =
-    let f : Some (plain_run (Some path)) ≡ Some (low file.now levels.now csv) = sym e ∙ t in absurd (cc)
+    let f : Some (plain_run (Some path)) ≡ Some (low_list file.now levels.now csv) = sym e ∙ t in absurd (cc)
 told_runs_on path w (Migrate file) e t =
     let f : Some (plain_run (Some path)) ≡ Some (migrate file.now) = sym e ∙ t in absurd (cc)
 told_runs_on path w (Import file kind document day from names reading explain) e t =

@@ -339,7 +339,7 @@ pub data DeskTask : Type 0 where
   export : Text → TableName → DeskTask
   dump : Text → DeskTask
   show : Text → Listed → Bool → DeskTask
-  low : Text → Text → Bool → DeskTask
+  low_list : Text → Text → Bool → DeskTask
   migrate : Text → DeskTask
   import : Text → ImportKind → Text → CivilDay → Text → Bool → FileReading → Bool → DeskTask
   sheet : Text → sheets.Sheet → Text → Bool → Bool → DeskTask
@@ -485,7 +485,7 @@ low_list_in rows = do
   file ← first_of (codes "db") rows
   name ← first_of (codes "list") rows
   levels ← first_of (codes "levels") rows
-  if not (bytes_eq name (codes "low")) || has_list_words rows then None else Some (low file levels (csv_in rows))
+  if not (bytes_eq name (codes "low")) || has_list_words rows then None else Some (low_list file levels (csv_in rows))
 
 -- a list, by whether a file of levels is named
 abbrev pub shown_in : List Row → Option DeskTask
@@ -651,7 +651,7 @@ desk_task_of (Report file name of) = Some (report file.now name (subject_of of))
 desk_task_of (Export file table) = Some (export file.now table)
 desk_task_of (Dump file) = Some (dump file.now)
 desk_task_of (Show file list csv) = Some (show file.now (listed_of list) csv)
-desk_task_of (Low file levels csv) = Some (low file.now levels.now csv)
+desk_task_of (Low file levels csv) = Some (low_list file.now levels.now csv)
 desk_task_of (Migrate file) = Some (migrate file.now)
 desk_task_of (Import file kind document day path names reading explain) =
     Some (import file.now kind document day path.now names reading explain)

@@ -538,7 +538,7 @@ fn with_place<'a>(
     command: Command<'a>,
     help: &'a str,
 ) -> Result<Command<'a>, AllocError>
-    ensures { IfOk result (λ placed. app_of placed ≡ with_place (app_of command)) }
+    ensures { IfOk result (λ placed. app_of placed ≡ with_place (app_of command.entry)) }
 {
     command
         .arg(file(alloc, help))?
