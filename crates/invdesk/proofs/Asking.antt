@@ -38,14 +38,14 @@ asked_same wanted question r same h = subst (λ q. AsksOnce q r) same h
 -- what isn't sent as it comes is asked once
 pub once_asked : (it : Asked) (r : Result Bool Trouble) → ((stop : Bool) → it ≡ asked.Lines stop false → ⊥)
     → AsksOnce (question_of it) r → IsAskedSo it r
-once_asked (asked.Lines stop true) r no h = h
-once_asked (asked.Lines stop false) r no h = absurd (no stop refl)
-once_asked (asked.Report name number) r no h = h
-once_asked (asked.Table name) r no h = h
-once_asked asked.Dump r no h = h
-once_asked (asked.Show list of low only_open csv) r no h = h
-once_asked (asked.File loose kind document day path) r no h = h
-once_asked asked.Stop r no h = h
+once_asked (asked.Lines stop true) r other h = h
+once_asked (asked.Lines stop false) r other h = absurd (other stop refl)
+once_asked (asked.Report name number) r other h = h
+once_asked (asked.Table name) r other h = h
+once_asked asked.Dump r other h = h
+once_asked (asked.Show list of low only_open csv) r other h = h
+once_asked (asked.File loose kind document day path) r other h = h
+once_asked asked.Stop r other h = h
 
 -- ---- how the program ends
 

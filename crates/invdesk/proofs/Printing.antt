@@ -14,11 +14,10 @@ use Rattle.list_core.specs.declared.listing.Listing.{Listing}
 use Rattle.list_core.specs.declared.low_list.Level.{Level}
 use Rattle.report_core.specs.declared.name.ReportName.{ReportName}
 use Rattle.report_core.specs.declared.name.ReportName.TheVariants.{Ledger, Stock, WhereUsed, History, Content, Shortage}
-use Rattle.desk_wire.specs.Imports.{Wrong}
-use Rattle.desk_wire.specs.Levels.{Fault}
-use Rattle.desk_wire.specs.Writing.{fault_text}
+use Rattle.desk_wire.specs.Levels.{FailsAs, Fault}
+use Rattle.desk_wire.specs.declared.fault.FileError.{FileError}
+use Rattle.desk_wire.specs.declared.fault.FileError.TheVariants as error
 use Rattle.desk_wire.specs.declared.fault.What.{What}
-use Rattle.desk_wire.specs.declared.fault.WireFault.{WireFault}
 use Rattle.desk_ends.specs.Printed.{IsPrinted, migrated_text, printed}
 use Rattle.desk_ends.specs.Lists.{told_list}
 use Rattle.desk_ends.specs.LowLevels.{low_by}
@@ -29,7 +28,7 @@ use Rattle.desk_cli.specs.LowLists.{told_low}
 use Rattle.desk_cli.specs.declared.words.ReportOf.{ReportOf}
 use Rattle.desk_cli.specs.declared.words.Task.{Task}
 use Rattle.desk_cli.specs.declared.words.Task.TheVariants as task
-use Rattle.invdesk.specs.Prints.{Prints, PrintsLines, PrintsList, PrintsOfRow, PrintsReport, PrintsText}
+use Rattle.invdesk.specs.Prints.{Prints, PrintsFault, PrintsLines, PrintsList, PrintsOfRow, PrintsReport, PrintsText}
 
 pub prints_text : (told : List ℕ × Bool) (w w' : Option (List ℕ)) (end : RunEnd)
     → ((fine : Bool) → end ≡ Done fine → (fine ≡ told.1) × Appends w w' told.0)
@@ -179,18 +178,14 @@ pub low_found : (csv person : Bool) (most : Option ℕ) (read : Result (List Lev
 low_found csv person most read levels s w w' end found h =
     subst (λ r. PrintsText (told_low csv person most (low_by r s)) w w' end) (sym found) h
 
--- ... or it has this fault, whose line was printed
-pub low_faulty : (csv person : Bool) (most : Option ℕ) (read : Result (List Level) Fault) (what : WireFault)
-    (field : Option Wrong) (s : State) (w w' : Option (List ℕ)) (end : RunEnd) → read ≡ Err (what, field)
-    → ((fine : Bool) → end ≡ Done fine → (fine ≡ false) × Appends w w' (fault_text what))
-    → (end ≡ WriteFailed → AppendsFront w w' (fault_text what))
-    → (end ≡ Memory → Keeps w w')
-    → end ≢ ReadFailed → end ≢ Store
+-- ... or it has this fault, of which the line was printed
+pub low_failed : (csv person : Bool) (most : Option ℕ) (read : Result (List Level) Fault) (e : FileError) (s : State)
+    (w w' : Option (List ℕ)) (end : RunEnd) → FailsAs read e → PrintsFault e w w' end
     → PrintsText (told_low csv person most (low_by read s)) w w' end
-low_faulty csv person most read what field s w w' end found whole front nothing never_read never_stored =
-    subst (λ r. PrintsText (told_low csv person most (low_by r s)) w w' end) (sym found)
-    (prints_text (fault_text what, false) w w' end whole front
-    (λ h. elim h [ inl e ↦ nothing e | inr e ↦ absurd (never_stored e) ]) never_read)
+low_failed csv person most read error.Memory s w w' end found (is, kept) =
+    subst (PrintsText (told_low csv person most (low_by read s)) w w') (sym is) kept
+low_failed csv person most read (error.Wrong what field) s w w' end found h =
+    subst (λ r. PrintsText (told_low csv person most (low_by r s)) w w' end) (sym found) h
 
 -- of a task that isn't one of the six nothing is printed
 pub prints_nothing : (it : Task) (s : State) (w : Option (List ℕ))

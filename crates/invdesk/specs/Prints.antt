@@ -11,6 +11,9 @@ use Rattle.list_core.specs.declared.listing.Listing.{Listing}
 use Rattle.report_core.specs.declared.name.ReportName.{ReportName}
 use Rattle.report_core.specs.declared.name.ReportName.TheVariants.{History}
 use Rattle.desk_wire.specs.Levels.{Fault}
+use Rattle.desk_wire.specs.Writing.{fault_text}
+use Rattle.desk_wire.specs.declared.fault.FileError.{FileError}
+use Rattle.desk_wire.specs.declared.fault.FileError.TheVariants as error
 use Rattle.desk_wire.specs.declared.fault.What.{What}
 use Rattle.desk_ends.specs.Printed.{migrated_text, printed}
 use Rattle.desk_ends.specs.Lists.{listing_by, told_list}
@@ -63,6 +66,11 @@ PrintsList csv person most (Err what) s w w' end = PrintsNone w w' end
 -- it was printed on the standard output: whether that is a person's terminal, and how wide, is known to no clause
 abbrev pub PrintsListOut : Bool → Result Listing What → State → Option (List ℕ) → Option (List ℕ) → RunEnd → Type 0
 PrintsListOut csv listing s w w' end = (person : Bool) × (most : Option ℕ) × PrintsList csv person most listing s w w' end
+
+-- of a file's fault the line was printed, and for want of memory nothing
+abbrev pub PrintsFault : FileError → Option (List ℕ) → Option (List ℕ) → RunEnd → Type 0
+PrintsFault error.Memory w w' end = (end ≡ Memory) × Keeps w w'
+PrintsFault (error.Wrong what field) w w' end = PrintsText (fault_text what, false) w w' end
 
 -- the list of what has less free than a file of levels says was printed, or the file's fault; or the file couldn't be read.
 -- Which bytes it has is known to no clause, so some bytes

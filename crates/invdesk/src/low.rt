@@ -3,7 +3,7 @@ ghost use Rattle.desk_core.specs.ShopView.{state_of};
 ghost use Rattle.desk_store.specs.Desks.{IsDesk};
 ghost use Rattle.desk_cli.specs.LowLists.{told_low};
 ghost use Rattle.desk_ends.specs.LowLevels.{low_lines};
-ghost use Rattle.invdesk.specs.Prints.{PrintsLow, PrintsText};
+ghost use Rattle.invdesk.specs.Prints.{PrintsFault, PrintsLow, PrintsText};
 
 use crate::{bytes_at, tell_line, told_columns};
 use desk_cli::{NoLevels, levels_of, print_fault, print_list};
@@ -40,6 +40,24 @@ fn tell_fault(rt: &HostRuntime, path: &str, fault: &WireFault, field: Option<&Wr
     }
 }
 
+/// Prints the line of the file's fault, and tells it.
+fn print_file_fault<W: Write>(
+    rt: &HostRuntime,
+    path: &str,
+    error: FileError,
+    writer: &mut W,
+) -> RunEnd
+    ensures { PrintsFault error (W.contents writer.old) (W.contents writer.new) result }
+{
+    match error {
+        FileError::Wrong(fault, field) => {
+            tell_fault(rt, path, &fault, field.as_ref());
+            print_fault(rt.alloc(), fault, writer)
+        }
+        FileError::Memory => RunEnd::Memory,
+    }
+}
+
 /// Prints the list by the bytes of the file at the path, for a person's terminal, which has so many columns, if that is known,
 /// or not for one. A fault of the file is told, too.
 fn print_levels<S: Alter, W: Write>(
@@ -61,11 +79,7 @@ fn print_levels<S: Alter, W: Write>(
             let listing = Listing::Low(levels.as_slice());
             print_list(rt.alloc(), desk, listing, csv, person, most, writer)
         }
-        Err(NoLevels::Wrong(FileError::Wrong(fault, field))) => {
-            tell_fault(rt, path, &fault, field.as_ref());
-            print_fault(rt.alloc(), fault, writer)
-        }
-        Err(NoLevels::Wrong(FileError::Memory)) => RunEnd::Memory,
+        Err(NoLevels::Wrong(error)) => print_file_fault(rt, path, error, writer),
         Err(NoLevels::Closed) => RunEnd::Store,
     }
 }
