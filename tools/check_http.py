@@ -535,6 +535,8 @@ class Crowd:
         self.poll = select.poll()
         for _ in range(count):
             self.come()
+            # A listener's queue holds 128: of more that come at once the system lets some ask again after a second.
+            time.sleep(0.002)
         self.thread = threading.Thread(target=self.stay)
         self.thread.start()
 

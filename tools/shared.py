@@ -52,13 +52,18 @@ def free_port():
 
 def serve(program, *words, stderr=subprocess.PIPE, port=None, **more):
     """Starts the program as a server, at a free port or that one, and waits until it can be asked: the process and its
-    port."""
-    port = port or free_port()
-    words = [program, "serve", *words, "--port", str(port)]
-    process = subprocess.Popen(words, stdout=subprocess.PIPE, stderr=stderr, **more)
-    said = process.stdout.readline()
-    expect(said == f"listening on 127.0.0.1:{port}\n".encode(), f"a server says {said!r}")
-    return process, port
+    port. A port that was free may be taken before the program listens there: then it is another one, a few times."""
+    for left in reversed(range(5)):
+        at = port or free_port()
+        command = [program, "serve", *words, "--port", str(at)]
+        process = subprocess.Popen(command, stdout=subprocess.PIPE, stderr=stderr, **more)
+        said = process.stdout.readline()
+        if said == f"listening on 127.0.0.1:{at}\n".encode():
+            return process, at
+        told = process.stderr.read() if process.stderr else b""
+        expect(left and not port and b"Address already in use" in told, f"a server says {said!r}, and tells {told!r}")
+        process.wait()
+    return None
 
 
 def ask(port, method, path, body=None, timeout=20, **fields):
