@@ -109,7 +109,7 @@ def words_of_sections():
     files = [("desk_cli/src/database.rt", "FileFault"), ("desk_store/src/fault.rt", "OpenFault")]
     files += [("table_store/src/fault.rt", "Cause")]
     return {
-        "Refusals": texts("part_core/src/refusal.rt", "Refusal"),
+        "Refusals": texts("word_core/src/refusal.rt", "Refusal"),
         "Faults of lines and of files that are imported": texts("desk_wire/src/fault.rt", "What"),
         "Words of a report": set(re.findall(r'=> "([^"]*)"', source("desk_cli/src/subject.rt"))),
         "Workshop files": set().union(*(texts(path, enum) for path, enum in files)),

@@ -1,7 +1,7 @@
 #!/usr/bin/env python3
 """Writes what `help` tells into the program: each command of `docs/MACHINE.md` with its fields, its refusals, what it
 does and a line of it, the flags of a part, each refusal and each fault of `docs/REFUSALS.md`, and what mends what by
-`docs/MISTAKES.md`. It is one text in `crates/desk_ends/src/guide_text.rt`, in which an empty line stands between two
+`docs/MISTAKES.md`. It is one text in `crates/desk_app/src/guide_text.rt`, in which an empty line stands between two
 entries, and each entry begins with a line of its name. Beside it stand the words that a line may have, for whoever
 misspells one. The word `help` of the program takes these names and no others: it is looked that its source and the
 definitions of its clauses list them so.
@@ -16,7 +16,7 @@ from machine.lines import FIELDS, FLAGS, REPORTS, SIDES, STATUSES
 from make_page import section
 from shared import TOP, expect
 
-SOURCE = TOP / "crates" / "desk_ends" / "src" / "guide_text.rt"
+SOURCE = TOP / "crates" / "desk_app" / "src" / "guide_text.rt"
 WORDS, DEFINITIONS = (TOP / "crates" / "desk_cli" / it for it in ("src/words.rt", "specs/Words.antt"))
 HEAD = """\
 //! What `help` tells. This file is written by `tools/make_guide.py` from `docs/MACHINE.md`, `docs/REFUSALS.md` and

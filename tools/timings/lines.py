@@ -5,6 +5,8 @@ import subprocess
 import tempfile
 import time
 
+from timings import chosen
+
 DAY = '"day":"2030-01-02"'
 COUNTS = (20_000, 40_000)
 BUILDS = (500, 1_000)
@@ -62,6 +64,61 @@ def keyed_found(count):
     yield PART
     for i in range(count - 2):
         yield f'{{{DAY},{FOUND}:1,"key":"k{i}"}}'
+
+
+def chosen_serials(count):
+    """One piece at a time, whose serials have one hash in an earlier program."""
+    yield LOCATION
+    yield PART
+    for serial in chosen.serials(count - 2):
+        yield f'{{{DAY},{FOUND}:1,"serials":"{serial}"}}'
+
+
+def chosen_names(count):
+    """Parts whose names have one hash in an earlier program."""
+    for name in chosen.part_names(count):
+        yield f'{{{DAY},"do":"add_part","flags":["component"],"name":"{name}"}}'
+
+
+def chosen_keys(count):
+    """Finds whose keys have one hash in an earlier program."""
+    yield LOCATION
+    yield PART
+    for key in chosen.keys(count - 2):
+        yield f'{{{DAY},{FOUND}:1,"key":"{key}"}}'
+
+
+def one_serial(count):
+    """Parts, and a piece of each, all of one serial."""
+    yield LOCATION
+    for i in range(count // 2):
+        yield f'{{{DAY},"do":"add_part","flags":["component","trackable"],"name":"Part {i}"}}'
+    for i in range(count // 2):
+        yield f'{{{DAY},"do":"found","location":1,"part":{i + 2},"quantity":1,"serials":"1"}}'
+
+
+def one_serial_of_variants(count):
+    """Templates with a variant each, and a piece of each variant, all of one serial."""
+    yield LOCATION
+    for i in range(count // 3):
+        yield f'{{{DAY},"do":"add_part","flags":["component","template","trackable"],"name":"Part {i}"}}'
+        yield f'{{{DAY},"do":"add_part","flags":["component","trackable"],"name":"Variant {i}","template":{2 * i + 2}}}'
+    for i in range(count // 3):
+        yield f'{{{DAY},"do":"found","location":1,"part":{2 * i + 3},"quantity":1,"serials":"1"}}'
+
+
+def serials_of_variants(count):
+    """A template with many variants, a piece of each with a serial of its own, and as many other parts with a piece of the
+    same serials."""
+    yield LOCATION
+    yield f'{{{DAY},"do":"add_part","flags":["component","template","trackable"],"name":"Part"}}'
+    parts = count // 4
+    for i in range(parts):
+        yield f'{{{DAY},"do":"add_part","flags":["component","trackable"],"name":"Variant {i}","template":2}}'
+        yield f'{{{DAY},"do":"add_part","flags":["component","trackable"],"name":"Other {i}"}}'
+    for i in range(parts):
+        yield f'{{{DAY},"do":"found","location":1,"part":{2 * i + 4},"quantity":1,"serials":"{i % 100}"}}'
+        yield f'{{{DAY},"do":"found","location":1,"part":{2 * i + 3},"quantity":1,"serials":"{i}"}}'
 
 
 def order(side, flag):
@@ -291,7 +348,8 @@ def writing_alone(count):
 
 LINES = (
     found_and_remove, transfer, found_with_serial, add_part, add_line, keyed_found, receipts, allocated_pieces,
-    allocated_items, shipped_lines, reading_alone, writing_alone,
+    allocated_items, shipped_lines, reading_alone, writing_alone, one_serial, one_serial_of_variants,
+    serials_of_variants, chosen_serials, chosen_names, chosen_keys,
 )
 AMONG = (
     (loose_items, transfers, ROWS), (allocations, refused_removals, ROWS), (robot_with_motors, installs, ROWS),

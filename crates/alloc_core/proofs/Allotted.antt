@@ -3,11 +3,11 @@ use Rattle.std.proofs.Common.{◌≡◌, inl, inr, ℕ, ◌+◌, ◌-◌, ◌≤
 use Rattle.std.proofs.Common.{◌∷◌, map, min, refl, sym, ap, ◌∙◌, subst, arith, eqb-true}
 use Rattle.std.specs.Prelude.{◌==◌, if◌then◌else◌}
 use Rattle.std.proofs.lemmas.Bool.{eqb-false}
-use Rattle.part_core.specs.Quantity.{largest}
-use Rattle.part_core.specs.Rows.{EachRow, StandRight}
-use Rattle.part_core.proofs.Conditions.{or_none}
-use Rattle.part_core.proofs.RowLemmas.{each-insert, right-new, right-none}
-use Rattle.part_core.proofs.Standing.{Stands}
+use Rattle.word_core.specs.Quantity.{largest}
+use Rattle.sheet_core.specs.Rows.{EachRow, StandRight}
+use Rattle.sheet_core.proofs.Conditions.{or_none, turned}
+use Rattle.sheet_core.proofs.RowLemmas.{each-insert, right-new, right-none}
+use Rattle.sheet_core.proofs.Standing.{Stands}
 use Rattle.forest.specs.Forest.{is_at}
 use Rattle.yard_core.specs.StockBooks.{StockBooks}
 use Rattle.yard_core.specs.Stock.{Stock, item_at}
@@ -53,18 +53,11 @@ module _ (purpose : Purpose) (s : Stock) where
       let both = or_none _ _ none in
       let more = allocated-some purpose n quantity b (new-drawn b drawn) k in
       ap (λ x. ((item_at k s).quantity - x) ∷ map (λ k. free k (allocate_some purpose n quantity b).allocations s) ks)
-      (more ∙ ap (λ c. (if c then quantity else 0) + allocated k b.allocations) (turned both.0))
+      (more ∙ ap (λ c. (if c then quantity else 0) + allocated k b.allocations) (turned k n both.0))
       ∙ ap (λ l. ((item_at k s).quantity - (0 + allocated k b.allocations)) ∷ l)
       (free-same n quantity b drawn ks both.1)
       ∙ ap (λ x. ((item_at k s).quantity - x) ∷ map (λ k. free k b.allocations s) ks)
       (let e : 0 + allocated k b.allocations ≡ allocated k b.allocations = omega arith in e)
-    where
-      turned : (k == n) ≡ false → (n == k) ≡ false
-      turned e = go (n == k) refl
-        where
-          go : (c : Bool) → (n == k) ≡ c → c ≡ false
-          go true f = absurd (eqb-false k n e (sym (eqb-true n k f)))
-          go false f = refl
 
   -- with no item twice, each gives by the closed form
   pub allotted-each : (ns : List ℕ) (missing : ℕ) (b : Allotments) → AreDrawn b → StandOnce ns

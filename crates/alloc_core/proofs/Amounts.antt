@@ -2,7 +2,7 @@
 use Rattle.std.proofs.Common.{◌≡◌, ℕ, ◌+◌, Bool, true, false, [], ◌∷◌, None, refl, arith, eqb-true}
 use Rattle.std.specs.Prelude.{◌==◌, if◌then◌else◌}
 use Rattle.std.specs.FinMap as table
-use Rattle.part_core.proofs.Totals.{sum-insert_new}
+use Rattle.sheet_core.proofs.Totals.{sum-insert_new}
 use Rattle.alloc_core.specs.Allocations.{allocated, allocated_where, amount_where, is_of_item}
 use Rattle.alloc_core.specs.Allotting.{Allotments, allocate, allocate_some, new_allocation}
 use Rattle.alloc_core.specs.declared.allocation.Allocation.{Allocation}

@@ -5,8 +5,8 @@ use Rattle.std.specs.Prelude.{◌==◌, filter, nat_lt}
 use Rattle.std.proofs.lemmas.Bool.{ltb-false, ltb-true}
 use Rattle.forest.specs.Forest.{is_at}
 use Rattle.std.specs.FinMap as table
-use Rattle.part_core.specs.Sheet.{Table}
-use Rattle.part_core.proofs.Standing.{Stands, each-value}
+use Rattle.sheet_core.specs.Sheet.{Table}
+use Rattle.sheet_core.proofs.Standing.{Stands, each-value}
 use Rattle.yard_core.specs.StockBooks.{StockBooks}
 use Rattle.yard_core.specs.Stock.{Stock, item_at}
 use Rattle.alloc_core.specs.Allocations.{amount_where, is_of_item, sum_where}

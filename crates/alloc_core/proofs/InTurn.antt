@@ -3,11 +3,11 @@ use Rattle.std.proofs.Common.{◌≡◌, inl, inr, ℕ, ◌≤◌, Bool, true, f
 use Rattle.std.specs.Prelude.{◌==◌, ◌&&◌, flat_map, if◌then◌else◌}
 use Rattle.std.specs.FinMap as table
 use Rattle.part_core.specs.Catalogue.{Parts}
-use Rattle.part_core.specs.Quantity.{largest}
-use Rattle.part_core.specs.Rows.{StandRight}
-use Rattle.part_core.specs.Status.{is_allocatable}
-use Rattle.part_core.proofs.Conditions.{and_parts}
-use Rattle.part_core.proofs.Standing.{Stands, Stands-get}
+use Rattle.word_core.specs.Quantity.{largest}
+use Rattle.sheet_core.specs.Rows.{StandRight}
+use Rattle.word_core.specs.Status.{is_allocatable}
+use Rattle.sheet_core.proofs.Conditions.{and_parts}
+use Rattle.sheet_core.proofs.Standing.{Stands, Stands-get}
 use Rattle.forest.specs.declared.item.Item.{Item}
 use Rattle.forest.specs.Forest.{is_at}
 use Rattle.bom_core.specs.Bills.{Bills}

@@ -4,11 +4,11 @@ use Rattle.std.proofs.Common.{get_or, map, Option, Some, None, refl, sym, ap, �
 use Rattle.std.specs.Prelude.{◌-◌, ◌==◌}
 use Rattle.std.specs.FinMap as table
 use Rattle.std.proofs.lemmas.Bool.{eqb-true, eq-eqb}
-use Rattle.part_core.specs.Numbered.{is_same_number}
-use Rattle.part_core.specs.Sheet.{Table, key_cmp}
-use Rattle.part_core.proofs.Conditions.{and_both, and_parts}
-use Rattle.part_core.proofs.Keys.{key_eq, key_eq_is, keys_total}
-use Rattle.part_core.proofs.Totals.{entries-empty, of_option, sum-insert, sum-remove}
+use Rattle.word_core.specs.Numbered.{is_same_number}
+use Rattle.sheet_core.specs.Sheet.{Table, key_cmp}
+use Rattle.sheet_core.proofs.Conditions.{and_both, and_parts}
+use Rattle.sheet_core.proofs.Keys.{key_eq, key_eq_is, keys_total}
+use Rattle.sheet_core.proofs.Totals.{entries-empty, of_option, sum-insert, sum-remove}
 use Rattle.alloc_core.specs.Allocations.{amount_where, is_for_line, is_for_sale_line, sum_where}
 use Rattle.alloc_core.specs.ShareSums.{AreSums, adds_to, amount_of, counted_in, counts_in, is_same_share, share_digits}
 use Rattle.alloc_core.specs.ShareSums.{share_in, share_of, sum_at}

@@ -3,12 +3,12 @@ use Rattle.std.proofs.Common.{◌≡◌, inl, inr, ℕ, ◌≤◌, Bool, true, f
 use Rattle.std.proofs.Common.{[], ◌∷◌, None, refl, sym, ap, ◌∙◌, subst, arith}
 use Rattle.std.specs.Prelude.{◌==◌, if◌then◌else◌, map}
 use Rattle.std.specs.FinMap as table
-use Rattle.part_core.specs.Rows.{StandRight}
-use Rattle.part_core.specs.Sheet.{Table}
-use Rattle.part_core.specs.TableRows.{without_rows}
-use Rattle.part_core.proofs.RowLemmas.{get-insert_cases, get-insert_other, same_digit}
-use Rattle.part_core.proofs.TableRows.{get-without, values-without}
-use Rattle.part_core.proofs.Totals.{sum-insert_new}
+use Rattle.sheet_core.specs.Rows.{StandRight}
+use Rattle.sheet_core.specs.Sheet.{Table}
+use Rattle.sheet_core.specs.TableRows.{without_rows}
+use Rattle.sheet_core.proofs.RowLemmas.{get-insert_cases, get-insert_other, same_digit}
+use Rattle.sheet_core.proofs.TableRows.{get-without, values-without}
+use Rattle.sheet_core.proofs.Totals.{sum-insert_new}
 use Rattle.alloc_core.specs.AllocMachine as alloc
 use Rattle.alloc_core.specs.Allocations.{amount_where, sum_where}
 use Rattle.alloc_core.specs.Allotting.{Allotments, Need, allocate, allocate_each}

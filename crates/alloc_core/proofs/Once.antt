@@ -1,18 +1,18 @@
 -- Rows of a table stand once, by their numbers, and so do those that pass a test.
 use Rattle.std.proofs.Common.{◌≡◌, ◌⊎◌, inl, inr, ℕ, Bool, true, false, cond, ◌||◌, List}
 use Rattle.std.proofs.Common.{[], ◌∷◌, ◌++◌, map, refl, sym, ap, ◌∙◌, subst, eqb-true}
-use Rattle.std.specs.Prelude.{◌==◌, filter, T}
+use Rattle.std.specs.Prelude.{◌==◌, filter}
 use Rattle.std.specs.List.{list_any}
 use Rattle.std.specs.FinMap as table
 use Rattle.std.specs.declared.cmp.Ordering.TheVariants.{Less}
 use Rattle.std.proofs.lemmas.Bool.{eq-eqb}
-use Rattle.part_core.specs.Filled.{StandUnderKeys}
-use Rattle.part_core.specs.Sheet.{Table, key_cmp}
-use Rattle.part_core.specs.Twice.{stands_twice}
-use Rattle.part_core.proofs.Conditions.{not_true, or_none}
-use Rattle.part_core.proofs.Keys.{key_eq-self}
-use Rattle.part_core.proofs.Selects.{AreAbove, Rises, Rises-from}
-use Rattle.part_core.proofs.Standing.{Stands}
+use Rattle.sheet_core.specs.Filled.{StandUnderKeys}
+use Rattle.sheet_core.specs.Sheet.{Table, key_cmp}
+use Rattle.word_core.specs.Twice.{stands_twice}
+use Rattle.sheet_core.proofs.Conditions.{is_true, not_true, or_none}
+use Rattle.sheet_core.proofs.Keys.{key_eq-self}
+use Rattle.sheet_core.proofs.Selects.{AreAbove, Rises, Rises-from}
+use Rattle.sheet_core.proofs.Standing.{Stands}
 use Rattle.yard_core.specs.Stock.{keyed}
 use Rattle.yard_core.proofs.OwnKeys.{own-keyed}
 
@@ -45,6 +45,17 @@ module _ {X : Type 0} where
       go true e (inl i) ih = (inl i, sym (ap p i) ∙ e)
       go true e (inr r) ih = let h = ih r in (inr h.0, h.1)
       go false e r ih = let h = ih r in (inr h.0, h.1)
+
+  pub Stands-filter : (p : X → Bool) (xs : List X) (x : X) → Stands x xs → p x ≡ true → Stands x (filter p xs)
+  Stands-filter p [] x h e = absurd h
+  Stands-filter p (y ∷ ys) x h e = elim h [
+    | inl same ↦ subst (λ b. Stands x (cond b (y ∷ filter p ys) (filter p ys))) (sym (ap p same ∙ e)) (inl same)
+    | inr later ↦ go (p y) (Stands-filter p ys x later e)
+  ]
+    where
+      go : (b : Bool) → Stands x (filter p ys) → Stands x (cond b (y ∷ filter p ys) (filter p ys))
+      go true r = inr r
+      go false r = r
 
   module _ (number : X → ℕ) where
     -- a number of the list is that of a row
@@ -81,11 +92,7 @@ module _ {X : Type 0} where
     rows-once t own =
         rising (table.values t)
         (subst (Rises (λ x. true)) (own-keyed number t own)
-        (Rises-from (λ x. true) (table.entries t) (sorted_is _ (table.entries_sorted t))))
-      where
-        sorted_is : (b : Bool) → T b → b ≡ true
-        sorted_is true h = refl
-        sorted_is false h = absurd h
+        (Rises-from (λ x. true) (table.entries t) (is_true _ (table.entries_sorted t))))
 
     -- ---- rows that pass
 

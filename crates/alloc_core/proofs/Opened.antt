@@ -5,13 +5,13 @@ use Rattle.std.specs.Prelude.{◌==◌, nat_lt, unwrap_or}
 use Rattle.std.specs.FinMap as table
 use Rattle.std.proofs.lemmas.Bool.{eqb-false, ltb-true, ltb-false}
 use Rattle.std.proofs.lemmas.Bool.Decides.{nat_tests}
-use Rattle.part_core.specs.Filled.{StandUnderKeys}
-use Rattle.part_core.specs.Quantity.{is_bad_quantity, largest}
-use Rattle.part_core.specs.Rows.{EachRow}
-use Rattle.part_core.specs.Sheet.{Table}
-use Rattle.part_core.proofs.Conditions.{and_both, and_parts}
-use Rattle.part_core.proofs.RowLemmas.{same_digit}
-use Rattle.part_core.proofs.Standing.{each-value}
+use Rattle.sheet_core.specs.Filled.{StandUnderKeys}
+use Rattle.word_core.specs.Quantity.{is_bad_quantity, largest}
+use Rattle.sheet_core.specs.Rows.{EachRow}
+use Rattle.sheet_core.specs.Sheet.{Table}
+use Rattle.sheet_core.proofs.Conditions.{and_both, and_parts}
+use Rattle.sheet_core.proofs.RowLemmas.{same_digit}
+use Rattle.sheet_core.proofs.Standing.{each-value}
 use Rattle.forest.specs.Forest.{is_at}
 use Rattle.forest.specs.declared.item.Item.{Item}
 use Rattle.yard_core.specs.Stock.{Stock, item_at, no_item}

@@ -2,10 +2,10 @@
 use Rattle.std.proofs.Common.{◌≡◌, ℕ, Bool, true, false, List, Some, None, refl, sym, ap, ◌∙◌}
 use Rattle.std.specs.Prelude.{slice_get, ◌==◌, if◌then◌else◌}
 use Rattle.std.proofs.lemmas.Bool.{eqb-true}
-use Rattle.part_core.specs.Columns.{◌>>=◌, has, must, number_at}
-use Rattle.part_core.specs.declared.column.Column.{Column}
-use Rattle.part_core.specs.declared.column.Column.TheVariants.{Whole}
-use Rattle.part_core.proofs.ColumnLemmas.{bound, found, has-is, number_at-is, same_columns}
+use Rattle.sheet_core.specs.Columns.{◌>>=◌, has, must, number_at}
+use Rattle.sheet_core.specs.declared.column.Column.{Column}
+use Rattle.sheet_core.specs.declared.column.Column.TheVariants.{Whole}
+use Rattle.sheet_core.proofs.ColumnLemmas.{bound, found, has-is, number_at-is, same_columns}
 use Rattle.alloc_core.specs.AllocationColumns.{allocation_columns, allocation_from, output_number}
 use Rattle.alloc_core.specs.AllocationColumns.{output_of, purpose_at, purpose_line, purpose_of}
 use Rattle.alloc_core.specs.AllocationColumns.{purpose_output, purpose_owner, purpose_side, sale_of}

@@ -1,7 +1,7 @@
 -- Numbers that may be absent are the same exactly where they are equal.
 use Rattle.std.proofs.Common.{◌≡◌, ℕ, true, Option, Some, None, refl, ap}
 use Rattle.std.proofs.lemmas.Bool.{eqb-true, eq-eqb}
-use Rattle.part_core.specs.Numbered.{is_same_number}
+use Rattle.word_core.specs.Numbered.{is_same_number}
 
 pub same-number : (a b : Option ℕ) → is_same_number a b ≡ true → a ≡ b
 same-number None None e = refl

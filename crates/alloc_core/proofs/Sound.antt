@@ -4,20 +4,20 @@ use Rattle.std.proofs.Common.{Some, None, refl, sym, ap, ◌∙◌, subst, arith
 use Rattle.std.specs.Prelude.{◌==◌, filter, map, unwrap_or}
 use Rattle.std.specs.FinMap as table
 use Rattle.std.proofs.lemmas.Bool.{eqb-false, ltb-false}
-use Rattle.part_core.specs.Counter.{Numbering}
-use Rattle.part_core.specs.Quantity.{largest}
-use Rattle.part_core.specs.Rows.{StandRight}
-use Rattle.part_core.specs.Sheet.{Table}
-use Rattle.part_core.proofs.Keys.{key_eq-other, keys_exact, keys_total}
-use Rattle.part_core.proofs.RowLemmas.{each-empty, each-insert, get-remove_cases, right-empty}
-use Rattle.part_core.proofs.RowLemmas.{right-later, right-new, right-none, same_digit}
-use Rattle.part_core.proofs.Standing.{get-Stands}
-use Rattle.part_core.proofs.Totals.{entries-empty, sum-insert_new}
+use Rattle.word_core.specs.Counter.{Numbering}
+use Rattle.word_core.specs.Quantity.{largest}
+use Rattle.sheet_core.specs.Rows.{StandRight}
+use Rattle.sheet_core.specs.Sheet.{Table}
+use Rattle.sheet_core.proofs.Keys.{key_eq-other, keys_exact, keys_total}
+use Rattle.sheet_core.proofs.RowLemmas.{each-empty, each-insert, get-remove_cases, right-empty}
+use Rattle.sheet_core.proofs.RowLemmas.{right-later, right-new, right-none, same_digit}
+use Rattle.sheet_core.proofs.Standing.{get-Stands}
+use Rattle.sheet_core.proofs.Totals.{entries-empty, sum-insert_new}
 use Rattle.forest.specs.Forest.{is_at}
 use Rattle.yard_core.specs.StockBooks.{StockBooks}
 use Rattle.yard_core.specs.Stock.{Stock, item_at, no_item}
 use Rattle.alloc_core.specs.AllocMachine.{EffectsAreSound}
-use Rattle.part_core.specs.TableRows.{without_rows}
+use Rattle.sheet_core.specs.TableRows.{without_rows}
 use Rattle.alloc_core.specs.Allocations.{allocated, amount_where, free, has_allocations}
 use Rattle.alloc_core.specs.Allocations.{is_above_free, is_of_item, is_owned, released_for, sum_where}
 use Rattle.alloc_core.specs.Release.{release}
@@ -27,7 +27,7 @@ use Rattle.alloc_core.specs.declared.allocation.Allocation.{Allocation}
 use Rattle.alloc_core.specs.declared.purpose.Owner.{Owner}
 use Rattle.alloc_core.proofs.Covers.{AreSound, IsCovered, covered-moved, covered-of, stands-sound}
 use Rattle.alloc_core.proofs.Sums.{amount-in, amount-out, sum-no_one, sum-split, sum-stands}
-use Rattle.part_core.proofs.TableRows.{get-kept, get-without, values-without}
+use Rattle.sheet_core.proofs.TableRows.{get-kept, get-without, values-without}
 
 module _ (t : Table Allocation) (b : StockBooks) (sound : AreSoundAllocations t b) where
   -- ---- some go

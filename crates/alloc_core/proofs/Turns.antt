@@ -6,8 +6,8 @@ use Rattle.std.specs.Prelude.{◌==◌, if◌then◌else◌, map}
 use Rattle.std.proofs.lemmas.Bool.{lt-ltb, ltb-true}
 use Rattle.std.proofs.lemmas.List.{at_drop_all, at_drop_more}
 use Rattle.part_core.specs.Catalogue.{Parts}
-use Rattle.part_core.specs.Counter.{passes_limit}
-use Rattle.part_core.specs.declared.limits.Limits.{Limits}
+use Rattle.word_core.specs.Counter.{passes_limit}
+use Rattle.word_core.specs.declared.limits.Limits.{Limits}
 use Rattle.bom_core.specs.Bills.{Bills}
 use Rattle.yard_core.specs.Stock.{Stock}
 use Rattle.alloc_core.specs.Allocations.{free}

@@ -1,7 +1,7 @@
 -- What allocations are looked up by in an index.
 use Rattle.std.specs.Prelude.{ℕ, List, [], ◌∷◌, ◌++◌, Option, Some, None, pos}
 use Rattle.std.specs.Hash as fed
-use Rattle.part_core.specs.Indexed.{index_key_of}
+use Rattle.sheet_core.specs.Indexed.{index_key_of}
 use Rattle.alloc_core.specs.declared.allocation.Allocation.{Allocation}
 use Rattle.alloc_core.specs.declared.purpose.Purpose.{Purpose}
 use Rattle.alloc_core.specs.declared.purpose.Purpose.TheVariants.{Sale, Build}

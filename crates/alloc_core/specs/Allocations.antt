@@ -4,9 +4,9 @@ use Rattle.std.specs.Prelude.{if◌then◌else◌, List, [], ◌∷◌, filter, 
 use Rattle.std.specs.FinMap as table
 use Rattle.std.specs.List.{list_any}
 use Rattle.part_core.specs.Catalogue.{is_number}
-use Rattle.part_core.specs.Numbered.{is_same_number}
-use Rattle.part_core.specs.Sheet.{Table}
-use Rattle.part_core.specs.TableRows.{without_rows}
+use Rattle.word_core.specs.Numbered.{is_same_number}
+use Rattle.sheet_core.specs.Sheet.{Table}
+use Rattle.sheet_core.specs.TableRows.{without_rows}
 use Rattle.yard_core.specs.Stock.{Stock, item_at}
 use Rattle.alloc_core.specs.declared.allocation.Allocation.{Allocation}
 use Rattle.alloc_core.specs.declared.purpose.Owner.{Owner}

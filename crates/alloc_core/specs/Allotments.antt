@@ -1,6 +1,6 @@
 -- What the stores hold that an allotment changes.
 use Rattle.std.specs.Prelude.{ℕ, None}
-use Rattle.part_core.specs.Counter.{Counting, numbering_of, resumed}
+use Rattle.word_core.specs.Counter.{Counting, numbering_of, resumed}
 use Rattle.alloc_core.specs.AllocationsView.{allocations_now}
 use Rattle.alloc_core.specs.Allotting.{Allotments}
 use Rattle.alloc_core.specs.declared.allocations.Allocations.{Allocations}

@@ -2,8 +2,8 @@
 use Rattle.std.specs.Prelude.{ℕ, Bool, ◌==◌, ◌-◌, if◌then◌else◌, List, [], ◌∷◌, map, min, None}
 use Rattle.std.specs.FinMap as table
 use Rattle.part_core.specs.Catalogue.{Parts}
-use Rattle.part_core.specs.Counter.{Numbering, drawn}
-use Rattle.part_core.specs.Sheet.{Table}
+use Rattle.word_core.specs.Counter.{Numbering, drawn}
+use Rattle.sheet_core.specs.Sheet.{Table}
 use Rattle.bom_core.specs.Bills.{Bills}
 use Rattle.bom_core.specs.declared.line.Line.{Line}
 use Rattle.yard_core.specs.Stock.{Stock}

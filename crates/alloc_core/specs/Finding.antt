@@ -1,7 +1,7 @@
 -- The numbers of the candidates for a line, as they are found part by part.
 use Rattle.std.specs.Prelude.{ℕ, Bool, ◌==◌, ◌&&◌, if◌then◌else◌, List, [], flat_map, map}
 use Rattle.std.specs.List.{list_any}
-use Rattle.part_core.specs.Status.{is_allocatable}
+use Rattle.word_core.specs.Status.{is_allocatable}
 use Rattle.forest.specs.declared.item.Item.{Item}
 use Rattle.forest.specs.Forest.{is_at}
 use Rattle.bom_core.specs.Bills.{Bills}

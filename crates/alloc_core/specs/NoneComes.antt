@@ -1,7 +1,7 @@
 -- What is asked of a change of allocations, where those for something else are to stay sound.
 use Rattle.std.specs.Prelude.{◌≡◌, ℕ, ◌≤◌, Bool, true, List, Some}
 use Rattle.std.specs.FinMap as table
-use Rattle.part_core.specs.Sheet.{Table}
+use Rattle.sheet_core.specs.Sheet.{Table}
 use Rattle.alloc_core.specs.Allocations.{allocated_where}
 use Rattle.alloc_core.specs.declared.allocation.Allocation.{Allocation}
 use Rattle.alloc_core.specs.declared.purpose.Purpose.{Purpose}

@@ -1,7 +1,7 @@
 -- What is asked of each row, to tell whether allocations are sound.
 use Rattle.std.specs.Prelude.{Bool, not, ◌&&◌, nat_le}
-use Rattle.part_core.specs.Quantity.{is_bad_quantity}
-use Rattle.part_core.specs.Sheet.{Table}
+use Rattle.word_core.specs.Quantity.{is_bad_quantity}
+use Rattle.sheet_core.specs.Sheet.{Table}
 use Rattle.forest.specs.Forest.{is_at}
 use Rattle.forest.specs.declared.item.Item.{Item}
 use Rattle.yard_core.specs.Stock.{Stock, item_at}

@@ -2,7 +2,7 @@
 use Rattle.std.specs.Prelude.{◌≡◌, ◌↔◌, ◌==◌, ◌&&◌, ℕ, Bool, true, false, List, [], ◌∷◌, Some, None, IsTrue, length}
 use Rattle.std.proofs.Common.{◌∙◌, refl, sym, ap, drop, get_or}
 use Rattle.std.proofs.lemmas.Bool.{eqb-true, eq-eqb, true≢false, false≢true}
-use Rattle.part_core.proofs.Conditions.{and_both, and_parts}
+use Rattle.sheet_core.proofs.Conditions.{and_both, and_parts}
 use Rattle.alloc_core.specs.contracts.share.SharePartialEq.TheImpl as equality
 use Rattle.alloc_core.specs.ShareSums.{share_digits}
 use Rattle.alloc_core.specs.declared.share.Share.{Share}

@@ -2,7 +2,7 @@
 use Rattle.std.specs.Prelude.{◌≡◌, ℕ, Bool, false, List, [], ◌∷◌, if◌then◌else◌, Option, Some, None}
 use Rattle.std.specs.FinMap as table
 use Rattle.std.specs.Ordering.{eq_by_cmp}
-use Rattle.part_core.specs.Sheet.{Table, key_cmp}
+use Rattle.sheet_core.specs.Sheet.{Table, key_cmp}
 use Rattle.alloc_core.specs.Allocations.{amount_where, is_for_line, is_for_sale_line, is_of_item, sum_where}
 use Rattle.alloc_core.specs.declared.allocation.Allocation.{Allocation}
 use Rattle.alloc_core.specs.declared.purpose.Purpose.{Purpose}

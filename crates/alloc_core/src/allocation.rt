@@ -1,13 +1,14 @@
 //! The rows of allocations.
 ghost use Rattle.std.specs.Prelude.{◌≡◌, ◌∷◌, []};
+ghost use Rattle.sheet_core.specs.Indexed.{index_key_of};
 ghost use Rattle.alloc_core.specs.AllocationColumns.{allocation_columns, allocation_from};
 ghost use Rattle.alloc_core.specs.AllocationKeys.{allocation_keys, item_key};
-ghost use Rattle.alloc_core.specs.Allocations.{is_owned};
 
-use crate::purpose::{AllocationLookup, Owner, Purpose, purpose_at};
+use crate::purpose::{AllocationLookup, Purpose, purpose_at};
 use part_core::column::{has, number_at};
-use part_core::{Column, ColumnFault, Id, Indexed, Quantity, Row, Stored, index_key_of};
+use part_core::{Column, ColumnFault, Id, Indexed, Quantity, Row, Seed, Stored};
 use std::alloc::{AllocError, Global};
+use std::hash::Hash;
 
 /// An amount of an item that is meant for an order or a build.
 #[derive(Drop, Debug)]
@@ -17,19 +18,6 @@ pub struct Allocation {
     /// 1 to 1,000,000,000.
     pub quantity: Quantity,
     pub purpose: Purpose,
-}
-
-impl Allocation {
-    /// Whether it is the owner's.
-    pub fn is_owned(&self, owner: Owner) -> bool
-        ensures { result ≡ is_owned owner self.now }
-    {
-        match owner {
-            Owner::Order(number) => self.purpose.is_for_order(number),
-            Owner::Build(number) => self.purpose.is_for_build(number),
-            Owner::Output(number) => self.purpose.is_for_output(number),
-        }
-    }
 }
 
 impl Row for Allocation {
@@ -64,21 +52,21 @@ impl Row for Allocation {
     }
 }
 
-/// The index key of the item's allocations.
-pub fn item_key(number: Id) -> u64
-    ensures { result ≡ item_key number }
+/// The look-up of the item's allocations.
+pub fn item_key(number: Id) -> AllocationLookup
+    ensures { index_key_of (⟦<AllocationLookup as Hash>⟧.hash_input result) ≡ item_key number }
 {
-    index_key_of(AllocationLookup::Item(number))
+    AllocationLookup::Item(number)
 }
 
 impl Indexed for Allocation {
     ghost index_keys = { allocation_keys };
 
-    fn index_key(&self, place: usize) -> Option<u64> {
+    fn index_key(&self, seed: &Seed, place: usize) -> Option<u64> {
         if place == 0 {
-            return Some(item_key(self.item));
+            return Some(seed.hash_of(item_key(self.item)));
         }
-        self.purpose.index_key(place - 1)
+        self.purpose.index_key(seed, place - 1)
     }
 }
 

@@ -5,8 +5,8 @@
 //! brings those of before.
 ghost use Rattle.std.specs.Prelude.{◌≡◌, ◌∷◌, [], filter, IfOk, IfSome, map, OnErr, OnOk, option_copied};
 ghost use Rattle.std.specs.FinMap as table;
-ghost use Rattle.part_core.specs.Filled.{StandUnderKeys};
-ghost use Rattle.part_core.specs.Sheet.{now_of};
+ghost use Rattle.sheet_core.specs.Filled.{StandUnderKeys};
+ghost use Rattle.sheet_core.specs.Sheet.{now_of};
 ghost use Rattle.alloc_core.specs.Allocations.{amount_where, is_for_line, is_for_sale_line, is_of_item};
 ghost use Rattle.alloc_core.specs.AllocationsView.{allocations_from};
 ghost use Rattle.alloc_core.specs.ShareSums.{share_in};
@@ -15,7 +15,7 @@ use crate::allocation::{Allocation, item_key};
 use crate::purpose::{build_line_key, output_key, sale_line_key};
 use crate::share::Share;
 use crate::share_sums::{Sum, count_in, count_out, sum_at};
-use part_core::{Id, IndexedSheet, Sheet};
+use part_core::{Id, IndexedSheet, Seed, Sheet};
 use std::alloc::{AllocError, Global};
 use std::marker::Model;
 
@@ -78,7 +78,7 @@ impl Model for AllocationRows {
     ghost use Rattle.alloc_core.specs.ShareSums.{AreKept};
     ghost use Rattle.alloc_core.specs.contracts.allocation.Allocation as allocation;
     ghost use Rattle.alloc_core.specs.declared.allocation.Allocation.{Allocation};
-    ghost use Rattle.part_core.specs.Sheet.{Rows, rows_code};
+    ghost use Rattle.sheet_core.specs.Sheet.{Rows, rows_code};
 
     ghost Value = { Rows Allocation };
 
@@ -92,24 +92,28 @@ impl Model for AllocationRows {
 
 impl AllocationRows {
     /// No allocation.
-    pub(crate) fn new(alloc: Global) -> Self
+    pub(crate) fn new(alloc: Global, seed: Seed) -> Self
         ensures rows { now_of result ≡ table.empty }
         ensures before { result.before ≡ table.empty }
     {
         AllocationRows {
-            rows: IndexedSheet::new(alloc),
-            sums: Sheet::new(alloc),
+            rows: IndexedSheet::new(alloc, seed),
+            sums: Sheet::new(alloc, seed),
             stale: false,
             stale_before: false,
         }
     }
 
     /// These rows, now and before. An error is one of memory.
-    pub(crate) fn filled(alloc: Global, rows: Vec<Allocation>) -> Result<Self, AllocError>
+    pub(crate) fn filled(
+        alloc: Global,
+        seed: Seed,
+        rows: Vec<Allocation>,
+    ) -> Result<Self, AllocError>
         ensures rows { IfOk result (λ all. now_of all ≡ allocations_from rows.items) }
         ensures before { IfOk result (λ all. all.before ≡ allocations_from rows.items) }
     {
-        let mut all = AllocationRows::new(alloc);
+        let mut all = AllocationRows::new(alloc, seed);
         for row in rows {
             all.put(row)?;
         }

@@ -2,8 +2,8 @@
 ghost use Rattle.std.specs.Prelude.{◌≡◌, ◌∷◌, [], filter, IfOk, map, OnErr, OnOk, option_copied};
 ghost use Rattle.std.specs.FinMap as table;
 ghost use Rattle.bom_core.specs.Lines.{removed_all};
-ghost use Rattle.part_core.specs.Filled.{StandUnderKeys};
-ghost use Rattle.part_core.specs.Sheet.{now_of};
+ghost use Rattle.sheet_core.specs.Filled.{StandUnderKeys};
+ghost use Rattle.sheet_core.specs.Sheet.{now_of};
 ghost use Rattle.yard_core.specs.YardView.{stock_of};
 ghost use Rattle.alloc_core.specs.Allocations.{amount_where, is_for_build_line};
 
@@ -11,7 +11,7 @@ use crate::allocation::{Allocation, item_key};
 use crate::allocation_rows::AllocationRows;
 use crate::purpose::{Owner, build_key, build_line_key, order_key, output_key};
 use crate::share::Share;
-use part_core::{Id, Quantity, Sheet};
+use part_core::{Id, Quantity, Seed, Sheet};
 use std::alloc::{AllocError, Global};
 use yard_core::Yard;
 
@@ -66,22 +66,22 @@ impl Allocations {
     ghost use Rattle.alloc_core.specs.Release.{release};
 
     /// No allocation.
-    pub fn new(alloc: Global) -> Self
+    pub fn new(alloc: Global, seed: Seed) -> Self
         ensures now { allocations_now result ≡ table.empty }
         ensures before { allocations_before result ≡ table.empty }
     {
         Allocations {
-            rows: AllocationRows::new(alloc),
+            rows: AllocationRows::new(alloc, seed),
             alloc,
         }
     }
 
     /// The allocations of these rows, now and before. An error is one of memory.
-    pub fn assemble(alloc: Global, rows: Vec<Allocation>) -> Result<Self, AllocError>
+    pub fn assemble(alloc: Global, seed: Seed, rows: Vec<Allocation>) -> Result<Self, AllocError>
         ensures now { IfOk result (λ all. allocations_now all ≡ allocations_from rows.items) }
         ensures before { IfOk result (λ all. allocations_before all ≡ allocations_from rows.items) }
     {
-        let rows = AllocationRows::filled(alloc, rows)?;
+        let rows = AllocationRows::filled(alloc, seed, rows)?;
         Ok(Allocations { rows, alloc })
     }
 

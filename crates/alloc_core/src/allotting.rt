@@ -1,6 +1,6 @@
 //! What is missing for a line of a build is taken from what is free of items, one after another.
 ghost use Rattle.std.specs.Prelude.{◌≡◌, ◌≤◌, ◌+◌, ◌-◌, Err, IfOk, OnErr, OnOk, min, true};
-ghost use Rattle.part_core.specs.Counter.{numbering_before, numbering_of, passes_limit};
+ghost use Rattle.word_core.specs.Counter.{numbering_before, numbering_of, passes_limit};
 ghost use Rattle.yard_core.specs.YardView.{stock_of};
 ghost use Rattle.alloc_core.specs.AllocationsView.{allocations_before, allocations_now};
 ghost use Rattle.alloc_core.specs.Allocations.{free};

@@ -1,6 +1,6 @@
 //! Numbers that are drawn once the rows that have them are made, so that none is where memory runs out before.
 ghost use Rattle.std.specs.Prelude.{◌≡◌, ◌≤◌, ◌+◌};
-ghost use Rattle.part_core.specs.Counter.{numbering_before, numbering_of, resumed};
+ghost use Rattle.word_core.specs.Counter.{numbering_before, numbering_of, resumed};
 
 use part_core::{Counter, Id};
 

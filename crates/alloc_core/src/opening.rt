@@ -5,8 +5,8 @@ ghost use Rattle.alloc_core.specs.Allocations.{allocated};
 ghost use Rattle.alloc_core.specs.AllocationsView.{allocations_now};
 ghost use Rattle.alloc_core.specs.RowTests.{is_covered, is_sound_row};
 ghost use Rattle.alloc_core.specs.Sound.{AreSoundAllocations, IsSoundAllocation};
-ghost use Rattle.part_core.specs.Filled.{StandUnderKeys};
-ghost use Rattle.part_core.specs.Rows.{EachRow, StandRight};
+ghost use Rattle.sheet_core.specs.Filled.{StandUnderKeys};
+ghost use Rattle.sheet_core.specs.Rows.{EachRow, StandRight};
 ghost use Rattle.yard_core.specs.StockBooks.{stock_books_of};
 ghost use Rattle.yard_core.specs.YardView.{stock_of};
 

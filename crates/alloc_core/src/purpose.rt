@@ -1,16 +1,18 @@
 //! What allocations are for, and whose they are.
-ghost use Rattle.std.specs.Prelude.{◌≡◌, ◌≤◌, ◌↔◌, IsTrue, Some, slice_get};
-ghost use Rattle.part_core.specs.Columns.{Finds};
+ghost use Rattle.std.specs.Prelude.{◌≡◌, ◌≤◌, ◌↔◌, IsTrue, Some, map, slice_get};
+ghost use Rattle.sheet_core.specs.Indexed.{hash_of, index_key_of};
+ghost use Rattle.sheet_core.specs.Columns.{Finds};
 ghost use Rattle.alloc_core.specs.AllocationColumns.{output_number, output_of, purpose_at, purpose_line};
 ghost use Rattle.alloc_core.specs.AllocationColumns.{purpose_of, purpose_output, purpose_owner, purpose_side};
 ghost use Rattle.alloc_core.specs.AllocationKeys.{build_key, build_line_key, order_key};
 ghost use Rattle.alloc_core.specs.AllocationKeys.{output_key, purpose_keys, sale_line_key};
 ghost use Rattle.alloc_core.specs.Allocations.{is_for_build, is_for_build_line, is_for_line};
 ghost use Rattle.alloc_core.specs.Allocations.{is_for_order, is_for_output, is_for_sale_line};
-ghost use Rattle.part_core.specs.Numbered.{is_same_number};
+ghost use Rattle.word_core.specs.Numbered.{is_same_number};
 
 use part_core::column::number_at;
-use part_core::{Column, ColumnFault, Id, index_key_of};
+use part_core::{Column, ColumnFault, Id, Seed};
+use std::hash::Hash;
 use std::marker::Model;
 
 /// The number of an item that is an output of a build. It is never 0, so a file has 0 where there is none.
@@ -90,39 +92,40 @@ pub enum AllocationLookup {
     BuildLine(Id, Id),
 }
 
-/// The index key of the order's allocations.
-pub fn order_key(number: Id) -> u64
-    ensures { result ≡ order_key number }
+/// The look-up of the order's allocations.
+pub fn order_key(number: Id) -> AllocationLookup
+    ensures { index_key_of (⟦<AllocationLookup as Hash>⟧.hash_input result) ≡ order_key number }
 {
-    index_key_of(AllocationLookup::Order(number))
+    AllocationLookup::Order(number)
 }
 
-/// The index key of the allocations for a line of a sale.
-pub fn sale_line_key(number: Id) -> u64
-    ensures { result ≡ sale_line_key number }
+/// The look-up of the allocations for a line of a sale.
+pub fn sale_line_key(number: Id) -> AllocationLookup
+    ensures { index_key_of (⟦<AllocationLookup as Hash>⟧.hash_input result) ≡ sale_line_key number }
 {
-    index_key_of(AllocationLookup::SaleLine(number))
+    AllocationLookup::SaleLine(number)
 }
 
-/// The index key of the build's allocations, those for its outputs too.
-pub fn build_key(number: Id) -> u64
-    ensures { result ≡ build_key number }
+/// The look-up of the build's allocations, those for its outputs too.
+pub fn build_key(number: Id) -> AllocationLookup
+    ensures { index_key_of (⟦<AllocationLookup as Hash>⟧.hash_input result) ≡ build_key number }
 {
-    index_key_of(AllocationLookup::Build(number))
+    AllocationLookup::Build(number)
 }
 
-/// The index key of the allocations for a line of the build, whatever the output.
-pub fn build_line_key(number: Id, line: Id) -> u64
-    ensures { result ≡ build_line_key number line }
+/// The look-up of the allocations for a line of the build, whatever the output.
+pub fn build_line_key(number: Id, line: Id) -> AllocationLookup
+    ensures { index_key_of (⟦<AllocationLookup as Hash>⟧.hash_input result)
+        ≡ build_line_key number line }
 {
-    index_key_of(AllocationLookup::BuildLine(number, line))
+    AllocationLookup::BuildLine(number, line)
 }
 
-/// The index key of the output's allocations.
-pub fn output_key(number: Id) -> u64
-    ensures { result ≡ output_key number }
+/// The look-up of the output's allocations.
+pub fn output_key(number: Id) -> AllocationLookup
+    ensures { index_key_of (⟦<AllocationLookup as Hash>⟧.hash_input result) ≡ output_key number }
 {
-    index_key_of(AllocationLookup::Output(number))
+    AllocationLookup::Output(number)
 }
 
 /// The number that a file has for an output: 0 where there is none.
@@ -253,13 +256,13 @@ impl Purpose {
     }
 
     /// The index key at that place, behind the one of the item.
-    pub(crate) fn index_key(&self, place: usize) -> Option<u64>
-        ensures { result ≡ slice_get (purpose_keys self.now) place }
+    pub(crate) fn index_key(&self, seed: &Seed, place: usize) -> Option<u64>
+        ensures { result ≡ slice_get (map (hash_of seed.now) (purpose_keys self.now)) place }
     {
         match self {
             Purpose::Sale { order, line } => match place {
-                0 => Some(order_key(*order)),
-                1 => Some(sale_line_key(*line)),
+                0 => Some(seed.hash_of(order_key(*order))),
+                1 => Some(seed.hash_of(sale_line_key(*line))),
                 _ => None,
             },
             Purpose::Build {
@@ -267,10 +270,10 @@ impl Purpose {
                 line,
                 output,
             } => match place {
-                0 => Some(build_key(*build)),
-                1 => Some(build_line_key(*build, *line)),
+                0 => Some(seed.hash_of(build_key(*build))),
+                1 => Some(seed.hash_of(build_line_key(*build, *line))),
                 2 => match output {
-                    Some(output) => Some(output_key(output.number())),
+                    Some(output) => Some(seed.hash_of(output_key(output.number()))),
                     None => None,
                 },
                 _ => None,

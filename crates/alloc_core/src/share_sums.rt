@@ -3,7 +3,7 @@
 //! Each sum stands in a row of its own, so that it is found by one look-up, however many allocations it has. A sum of
 //! nothing has no row. An allocation counts in two of them: that of its item, and that of what it is for.
 ghost use Rattle.std.specs.Prelude.{◌≡◌, ◌+◌, ◌-◌, OnOk, if◌then◌else◌, option_copied};
-ghost use Rattle.part_core.specs.Sheet.{now_of};
+ghost use Rattle.sheet_core.specs.Sheet.{now_of};
 ghost use Rattle.alloc_core.specs.Allocations.{amount_where};
 ghost use Rattle.alloc_core.specs.ShareSums.{adds_to, counted_in, counts_in, is_same_share, share_digits};
 ghost use Rattle.alloc_core.specs.ShareSums.{share_of, sum_at};

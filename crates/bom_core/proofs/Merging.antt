@@ -1,16 +1,16 @@
 -- Two lists of lines in order of number, as one.
 use Rattle.std.proofs.Common.{◌≡◌, ◌<◌, ◌≤◌, ◌+◌, ℕ, Bool, true, false, cond, ◌||◌, List, [], ◌∷◌, ◌++◌}
 use Rattle.std.proofs.Common.{drop, get_or, length, map, Some, None, refl, sym, ap, ◌∙◌, Bor, arith}
-use Rattle.std.specs.Prelude.{◌==◌, ◌&&◌, filter, T, nat_lt}
+use Rattle.std.specs.Prelude.{◌==◌, ◌&&◌, filter, nat_lt}
 use Rattle.std.specs.FinMap as table
 use Rattle.std.specs.FinMap.Entries.{below_all, is_sorted}
 use Rattle.std.specs.Ordering.{is_eq, is_lt, ordering_then}
 use Rattle.std.specs.declared.cmp.Ordering.TheVariants.{Less, Equal, Greater}
 use Rattle.std.proofs.lemmas.Bool.{lt-ltb, le-ltb, ltb-true}
 use Rattle.std.proofs.lemmas.List.{append-nil, at_drop_all, at_drop_more}
-use Rattle.part_core.specs.Sheet.{key_cmp, Table}
-use Rattle.part_core.proofs.Conditions.{and_parts}
-use Rattle.part_core.proofs.Keys.{key_eq, key_eq-self, key_eq-true}
+use Rattle.sheet_core.specs.Sheet.{key_cmp, Table}
+use Rattle.sheet_core.proofs.Conditions.{and_parts, is_true}
+use Rattle.sheet_core.proofs.Keys.{key_eq, key_eq-self, key_eq-true}
 use Rattle.bom_core.specs.declared.line.Line.{Line}
 use Rattle.bom_core.specs.Roles.{AreNumbered, merged, placed}
 
@@ -224,8 +224,4 @@ rise-entries (e ∷ es) s own =
 
 pub lines-rise : (m : Table Line) → AreNumbered m → Rise (table.values m)
 lines-rise m own =
-    rise-entries (table.entries m) (sorted_is _ (table.entries_sorted m)) (λ k l h. own k l (table.get-entries m k ∙ h))
-  where
-    sorted_is : (b : Bool) → T b → b ≡ true
-    sorted_is true h = refl
-    sorted_is false h = absurd h
+    rise-entries (table.entries m) (is_true _ (table.entries_sorted m)) (λ k l h. own k l (table.get-entries m k ∙ h))

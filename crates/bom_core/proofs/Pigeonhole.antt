@@ -4,10 +4,10 @@ use Rattle.std.proofs.Common.{◌≡◌, ◌↔◌, ◌+◌, ◌<◌, ◌≤◌,
 use Rattle.std.proofs.Common.{◌⊎◌, inl, inr, List, [], ◌∷◌, length, refl, sym, ap, ◌∙◌, arith}
 use Rattle.std.specs.Prelude.{◌&&◌}
 use Rattle.std.specs.List.{list_any}
+use Rattle.std.proofs.lemmas.Bool.{or_left, or_right}
 use Rattle.bom_core.specs.Walks.{StepsFrom, leads}
-use Rattle.part_core.proofs.Conditions.{or_cases, and_parts, and_both}
-use Rattle.part_core.proofs.Standing.{Stands}
-use Rattle.bom_core.proofs.Member.{or_left, or_right, any-found, any-from}
+use Rattle.sheet_core.proofs.Conditions.{or_cases, and_parts, and_both}
+use Rattle.sheet_core.proofs.Standing.{Stands, any-found, any-from}
 
 -- how many pass
 held : (ℕ → Bool) → List ℕ → ℕ

@@ -3,9 +3,11 @@ use Rattle.std.proofs.Common.{◌≡◌, ◌≤◌, ℕ, false, List, None, refl
 use Rattle.std.specs.Prelude.{◌==◌, nat_lt}
 use Rattle.std.proofs.lemmas.Grind.{common_steps}
 use Rattle.part_core.specs.Catalogue.{Parts}
-use Rattle.part_core.specs.Checks.{first}
-use Rattle.part_core.specs.Quantity.{is_bad_quantity, largest}
-use Rattle.part_core.proofs.Conditions.{none-holds, or_none}
+use Rattle.word_core.specs.Checks.{first}
+use Rattle.word_core.specs.Quantity.{is_bad_quantity, largest}
+use Rattle.word_core.specs.declared.refusal.Refusal.TheVariants.{NoSuch, BadNumber, InUse, Cycle}
+use Rattle.word_core.proofs.CheckLemmas.{none-holds}
+use Rattle.sheet_core.proofs.Conditions.{or_none}
 use Rattle.bom_core.specs.BomMachine.{checks, effect}
 use Rattle.bom_core.specs.Changes.{BillBooks, is_line_open}
 use Rattle.bom_core.specs.Lines.{add_line_checks, new_line}
@@ -25,21 +27,21 @@ pub sound-effect : (c : BomCommand) (open_parts : List ℕ) (parts : Parts) (b :
     → IsSoundBill parts b.bills b.counter.next → first (checks c open_parts parts b) ≡ None
     → IsSoundBill parts (effect c b).bills (effect c b).counter.next × (b.counter.next ≤ (effect c b).counter.next)
 sound-effect (AddLine new) open_parts parts b sound e =
-    let holds = none-holds (add_line_checks new open_parts parts b) e in
-    let known = both_there parts.parts parts.parts new.assembly new.component holds.0 in (
+    let passed = none-holds (add_line_checks new open_parts parts b) e in
+    let known = both_there parts.parts parts.parts new.assembly new.component (passed NoSuch) in (
       sound-with_line parts b.bills (new_line b.counter.next new) sound known.0 known.1
-          (good_quantity new.quantity holds.1.0) holds.1.1.1.1.1.0,
+          (good_quantity new.quantity (passed BadNumber)) (passed Cycle),
       omega arith,
     )
 sound-effect (DropLine line) open_parts parts b sound e =
     (sound-without_line parts b.bills line b.counter.next sound, omega arith)
 sound-effect (AddSubstitute line part) open_parts parts b sound e =
-    let holds = none-holds (add_substitute_checks line part open_parts parts b) e in
-    let known = both_there b.bills.lines parts.parts line part holds.0 in
+    let passed = none-holds (add_substitute_checks line part open_parts parts b) e in
+    let known = both_there b.bills.lines parts.parts line part (passed NoSuch) in
     let unfit =
-    (or_none (is_line_open parts b.bills open_parts line) (is_fitting parts b.bills line part) holds.1.1.1.0).1 in (
+    (or_none (is_line_open parts b.bills open_parts line) (is_fitting parts b.bills line part) (passed InUse)).1 in (
       sound-with_substitute parts b.bills (new_substitute b.counter.next line part) sound known.0 known.1 unfit
-          holds.1.1.1.1.0,
+          (passed Cycle),
       omega arith,
     )
 sound-effect (DropSubstitute substitute) open_parts parts b sound e =

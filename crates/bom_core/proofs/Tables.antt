@@ -1,11 +1,11 @@
 -- Rows of a table after one is put or goes.
 use Rattle.std.proofs.Common.{◌≡◌, ◌≢◌, ℕ, Bool, true, cond, List, [], ◌∷◌, Some, None, refl, sym, ap, ◌∙◌}
 use Rattle.std.specs.FinMap as table
-use Rattle.part_core.specs.Sheet.{Table}
-use Rattle.part_core.proofs.Keys.{keys_total, key_eq-other}
+use Rattle.sheet_core.specs.Sheet.{Table}
+use Rattle.sheet_core.proofs.Keys.{keys_total, key_eq-other}
 use Rattle.bom_core.specs.Changes.{passes, row_is}
 use Rattle.bom_core.specs.Lines.{removed_all}
-use Rattle.part_core.proofs.RowLemmas.{get-remove_cases}
+use Rattle.sheet_core.proofs.RowLemmas.{get-remove_cases}
 
 module _ {X : Type 0} where
   pub get-insert_old : (m : Table X) (q : List ℕ) (v : X) (k : List ℕ) (x : X) → table.get m q ≡ None

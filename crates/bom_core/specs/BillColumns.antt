@@ -1,8 +1,8 @@
 -- Lines and substitutes as rows of a file: id, assembly, component, quantity, flags; and id, line, part.
 use Rattle.std.specs.Prelude.{ℕ, ◌+◌, ◌*◌, nat_lt, List, [], ◌∷◌, Option, Some, None, if◌then◌else◌}
-use Rattle.part_core.specs.declared.column.Column.{Column}
-use Rattle.part_core.specs.declared.column.Column.TheVariants.{Whole}
-use Rattle.part_core.specs.Columns.{◌>>=◌, has, is_bit, number_at, yes_number}
+use Rattle.sheet_core.specs.declared.column.Column.{Column}
+use Rattle.sheet_core.specs.declared.column.Column.TheVariants.{Whole}
+use Rattle.sheet_core.specs.Columns.{◌>>=◌, has, is_bit, number_at, yes_number}
 use Rattle.bom_core.specs.declared.line.Line.{Line}
 use Rattle.bom_core.specs.declared.line.LineFlags.{LineFlags}
 use Rattle.bom_core.specs.declared.substitute.Substitute.{Substitute}

@@ -1,7 +1,7 @@
 -- What lines and substitutes are looked up by in an index.
 use Rattle.std.specs.Prelude.{ℕ, List, [], ◌∷◌, ◌++◌, pos}
 use Rattle.std.specs.Hash as fed
-use Rattle.part_core.specs.Indexed.{index_key_of}
+use Rattle.sheet_core.specs.Indexed.{index_key_of}
 use Rattle.bom_core.specs.declared.line.Line.{Line}
 use Rattle.bom_core.specs.declared.line.Role.{Role}
 use Rattle.bom_core.specs.declared.line.Role.TheVariants.{Assembly, Component}

@@ -1,9 +1,9 @@
 -- The commands on bills as a machine: checks, effect, and what stays sound.
 use Rattle.std.specs.Prelude.{◌≡◌, ◌≤◌, ℕ, List, None}
 use Rattle.part_core.specs.Catalogue.{Parts}
-use Rattle.part_core.specs.Checks.{AreInOrder, Check, first}
-use Rattle.part_core.specs.Counter.{numbers_between}
-use Rattle.part_core.specs.declared.answer.Answer.{Answer}
+use Rattle.word_core.specs.Checks.{AreInOrder, Check, first}
+use Rattle.word_core.specs.Counter.{numbers_between}
+use Rattle.word_core.specs.declared.answer.Answer.{Answer}
 use Rattle.bom_core.specs.Changes.{BillBooks}
 use Rattle.bom_core.specs.Lines.{add_line, add_line_checks, drop_line_checks, without_line}
 use Rattle.bom_core.specs.Sound.{IsSoundBill}

@@ -1,8 +1,8 @@
 -- What a contract sees of the bills: what they hold now, and what they held before the request.
 use Rattle.std.specs.Prelude.{List, [], ◌∷◌}
-use Rattle.part_core.specs.Counter.{Counting, numbering_before, numbering_of}
-use Rattle.part_core.specs.Filled.{filled}
-use Rattle.part_core.specs.Sheet.{now_of}
+use Rattle.word_core.specs.Counter.{Counting, numbering_before, numbering_of}
+use Rattle.sheet_core.specs.Filled.{filled}
+use Rattle.sheet_core.specs.Sheet.{now_of}
 use Rattle.bom_core.specs.Bills.{Bills}
 use Rattle.bom_core.specs.Changes.{BillBooks}
 use Rattle.bom_core.specs.declared.boms.Boms.{Boms}

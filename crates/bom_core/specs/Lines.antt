@@ -1,13 +1,13 @@
 -- Lines come into bills and go: add_line and drop_line.
 use Rattle.std.specs.Prelude.{ℕ, ◌==◌, ◌&&◌, ◌||◌, not, List, [], ◌∷◌, ◌++◌, map, filter}
 use Rattle.std.specs.FinMap as table
-use Rattle.part_core.specs.Sheet.{Table}
+use Rattle.sheet_core.specs.Sheet.{Table}
 use Rattle.part_core.specs.Catalogue.{Parts, is_retired, part_in}
-use Rattle.part_core.specs.Checks.{Check}
-use Rattle.part_core.specs.Counter.{drawn, passes_limit}
-use Rattle.part_core.specs.Quantity.{is_bad_quantity}
-use Rattle.part_core.specs.declared.refusal.Refusal.TheVariants.{NoSuch, BadNumber, WrongFlag}
-use Rattle.part_core.specs.declared.refusal.Refusal.TheVariants.{Retired, InUse, Cycle, Full}
+use Rattle.word_core.specs.Checks.{Check}
+use Rattle.word_core.specs.Counter.{drawn, passes_limit}
+use Rattle.word_core.specs.Quantity.{is_bad_quantity}
+use Rattle.word_core.specs.declared.refusal.Refusal.TheVariants.{NoSuch, BadNumber, WrongFlag}
+use Rattle.word_core.specs.declared.refusal.Refusal.TheVariants.{Retired, InUse, Cycle, Full}
 use Rattle.bom_core.specs.Bills.{Bills, substitute_rows}
 use Rattle.bom_core.specs.Changes.{BillBooks, has_row, is_assembly, is_component, is_line_open, is_open, is_virtual}
 use Rattle.bom_core.specs.Walks.{contains_itself}

@@ -2,9 +2,9 @@
 use Rattle.std.specs.Prelude.{ℕ, Bool, ◌&&◌, ◌||◌, not, List, [], ◌∷◌, ◌++◌}
 use Rattle.std.specs.FinMap as table
 use Rattle.part_core.specs.Catalogue.{Parts, is_retired, part_in}
-use Rattle.part_core.specs.Checks.{Check}
-use Rattle.part_core.specs.Counter.{drawn, passes_limit}
-use Rattle.part_core.specs.declared.refusal.Refusal.TheVariants.{NoSuch, WrongFlag, Retired, InUse, Cycle, Full}
+use Rattle.word_core.specs.Checks.{Check}
+use Rattle.word_core.specs.Counter.{drawn, passes_limit}
+use Rattle.word_core.specs.declared.refusal.Refusal.TheVariants.{NoSuch, WrongFlag, Retired, InUse, Cycle, Full}
 use Rattle.bom_core.specs.Bills.{Bills, fits}
 use Rattle.bom_core.specs.Changes.{BillBooks, has_row, is_component, is_line_open, is_virtual, row_is}
 use Rattle.bom_core.specs.Walks.{contains_itself}

@@ -1,6 +1,6 @@
 //! The commands on bills, as a machine: one call that does any of them, and its laws.
 ghost use Rattle.std.specs.Prelude.{◌≡◌};
-ghost use Rattle.part_core.specs.Acts.{Acts};
+ghost use Rattle.word_core.specs.Acts.{Acts};
 ghost use Rattle.part_core.specs.CatalogueView.{parts_of};
 ghost use Rattle.bom_core.specs.BomMachine.{ChecksAreInOrder, EffectsAreSound, answer_of, checks, effect};
 ghost use Rattle.bom_core.specs.BomsView.{bill_books, bill_books_before, bills_of};

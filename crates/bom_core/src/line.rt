@@ -1,12 +1,14 @@
 //! Lines of bills.
 ghost use Rattle.std.specs.Prelude.{◌≡◌, ◌↔◌, ◌∷◌, [], IsTrue};
+ghost use Rattle.sheet_core.specs.Indexed.{index_key_of};
 ghost use Rattle.bom_core.specs.BillColumns.{line_columns, line_flags_at, line_flags_number, line_flags_of, line_from};
-ghost use Rattle.part_core.specs.Columns.{Finds};
+ghost use Rattle.sheet_core.specs.Columns.{Finds};
 ghost use Rattle.bom_core.specs.BillKeys.{line_key, line_keys};
 
 use part_core::column::{has, is_bit, number_at};
-use part_core::{Column, ColumnFault, Id, Indexed, Quantity, Row, Stored, index_key_of};
+use part_core::{Column, ColumnFault, Id, Indexed, Quantity, Row, Seed, Stored};
 use std::alloc::{AllocError, Global};
+use std::hash::Hash;
 
 /// What a line asks for.
 #[derive(Clone, Copy, Debug, Default, PartialEq, Eq)]
@@ -184,23 +186,23 @@ impl Row for Line {
     }
 }
 
-/// The index key of the lines that name the part in that role.
-pub fn line_key(role: Role, number: Id) -> u64
-    ensures { result ≡ line_key role number }
+/// The look-up of the lines that name the part in that role.
+pub fn line_key(role: Role, number: Id) -> LineLookup
+    ensures { index_key_of (⟦<LineLookup as Hash>⟧.hash_input result) ≡ line_key role number }
 {
     match role {
-        Role::Assembly => index_key_of(LineLookup::Assembly(number)),
-        Role::Component => index_key_of(LineLookup::Component(number)),
+        Role::Assembly => LineLookup::Assembly(number),
+        Role::Component => LineLookup::Component(number),
     }
 }
 
 impl Indexed for Line {
     ghost index_keys = { line_keys };
 
-    fn index_key(&self, place: usize) -> Option<u64> {
+    fn index_key(&self, seed: &Seed, place: usize) -> Option<u64> {
         match place {
-            0 => Some(line_key(Role::Assembly, self.assembly)),
-            1 => Some(line_key(Role::Component, self.component)),
+            0 => Some(seed.hash_of(line_key(Role::Assembly, self.assembly))),
+            1 => Some(seed.hash_of(line_key(Role::Component, self.component))),
             _ => None,
         }
     }

@@ -1,11 +1,13 @@
 //! Substitutes on lines of bills.
 ghost use Rattle.std.specs.Prelude.{◌≡◌, ◌∷◌, []};
+ghost use Rattle.sheet_core.specs.Indexed.{index_key_of};
 ghost use Rattle.bom_core.specs.BillColumns.{substitute_columns, substitute_from};
 ghost use Rattle.bom_core.specs.BillKeys.{of_part_key, on_line_key, substitute_keys};
 
 use part_core::column::{has, number_at};
-use part_core::{Column, ColumnFault, Id, Indexed, Row, Stored, index_key_of};
+use part_core::{Column, ColumnFault, Id, Indexed, Row, Seed, Stored};
 use std::alloc::{AllocError, Global};
+use std::hash::Hash;
 
 /// A part that may go in for a line's component.
 #[derive(Drop, Debug)]
@@ -51,27 +53,27 @@ impl Row for Substitute {
     }
 }
 
-/// The index key of the substitutes on that line.
-pub fn on_line_key(number: Id) -> u64
-    ensures { result ≡ on_line_key number }
+/// The look-up of the substitutes on that line.
+pub fn on_line_key(number: Id) -> SubstituteLookup
+    ensures { index_key_of (⟦<SubstituteLookup as Hash>⟧.hash_input result) ≡ on_line_key number }
 {
-    index_key_of(SubstituteLookup::Line(number))
+    SubstituteLookup::Line(number)
 }
 
-/// The index key of the substitutes that are that part.
-pub fn of_part_key(number: Id) -> u64
-    ensures { result ≡ of_part_key number }
+/// The look-up of the substitutes that are that part.
+pub fn of_part_key(number: Id) -> SubstituteLookup
+    ensures { index_key_of (⟦<SubstituteLookup as Hash>⟧.hash_input result) ≡ of_part_key number }
 {
-    index_key_of(SubstituteLookup::Part(number))
+    SubstituteLookup::Part(number)
 }
 
 impl Indexed for Substitute {
     ghost index_keys = { substitute_keys };
 
-    fn index_key(&self, place: usize) -> Option<u64> {
+    fn index_key(&self, seed: &Seed, place: usize) -> Option<u64> {
         match place {
-            0 => Some(on_line_key(self.line)),
-            1 => Some(of_part_key(self.part)),
+            0 => Some(seed.hash_of(on_line_key(self.line))),
+            1 => Some(seed.hash_of(of_part_key(self.part))),
             _ => None,
         }
     }

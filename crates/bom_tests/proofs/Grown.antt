@@ -1,10 +1,10 @@
 -- What a catalogue and bills are after a part or a line came and was made final.
 use Rattle.std.proofs.Common.{◌≡◌, ℕ, List, ap, subst}
 use Rattle.std.specs.Prelude.{Ok}
-use Rattle.part_core.specs.Acts.{Acts}
+use Rattle.word_core.specs.Acts.{Acts}
 use Rattle.part_core.specs.AddPart.{add_part, add_part_checks}
 use Rattle.part_core.specs.Catalogue.{Parts, Register}
-use Rattle.part_core.specs.Counter.{Numbering}
+use Rattle.word_core.specs.Counter.{Numbering}
 use Rattle.part_core.specs.declared.part.NewPart.{NewPart}
 use Rattle.part_core.specs.declared.part_command.PartCommand.TheVariants.{AddPart}
 use Rattle.bom_core.specs.Bills.{Bills}

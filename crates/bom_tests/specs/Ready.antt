@@ -1,7 +1,7 @@
 -- A catalogue and bills to which a part or a line can come.
 use Rattle.std.specs.Prelude.{◌≡◌}
 use Rattle.part_core.specs.CatalogueView.{parts_of, register_before, register_of}
-use Rattle.part_core.specs.Counter.{Counting}
+use Rattle.word_core.specs.Counter.{Counting}
 use Rattle.part_core.specs.declared.catalogue.Catalogue.{Catalogue}
 use Rattle.bom_core.specs.BomsView.{bill_books, bill_books_before, bills_of}
 use Rattle.bom_core.specs.Sound.{IsSoundBill}

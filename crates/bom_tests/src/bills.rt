@@ -1,6 +1,6 @@
 //! Bills that rows make: some that are sound, and some for each way not to be.
 use bom_core::{Boms, Line, LineFlags, Substitute};
-use part_core::{Catalogue, Flags, Id, Name, Part};
+use part_core::{Catalogue, Flags, Id, Name, Part, Seed};
 use std::alloc::Global;
 use std::test::Fail;
 
@@ -30,7 +30,7 @@ fn catalogue(alloc: Global) -> Result<Catalogue, Fail> {
         let template = if number == 3 { Some(TEMPLATE) } else { None };
         parts.push(part(alloc, number, template)?)?;
     }
-    Ok(Catalogue::assemble(alloc, Vec::new(alloc), parts)?)
+    Ok(Catalogue::assemble(alloc, Seed::new(0), Vec::new(alloc), parts)?)
 }
 
 // An inherited line that allows variants.
@@ -57,7 +57,7 @@ fn is_sound_line(alloc: Global, line_beside: Line) -> Result<bool, Fail> {
     let catalogue = catalogue(alloc)?;
     let lines = vec![in alloc; line(11, 1, 2), line(12, 2, 5), line_beside]?;
     let substitutes = vec![in alloc; substitute(21, 11, 4)]?;
-    let boms = Boms::assemble(alloc, lines, substitutes)?;
+    let boms = Boms::assemble(alloc, Seed::new(0), lines, substitutes)?;
     Ok(boms.is_sound(&catalogue, 100)?)
 }
 
@@ -66,7 +66,7 @@ fn is_sound_substitute(alloc: Global, substitute_beside: Substitute) -> Result<b
     let catalogue = catalogue(alloc)?;
     let lines = vec![in alloc; line(11, 1, 2), line(12, 2, 5)]?;
     let substitutes = vec![in alloc; substitute(21, 11, 4), substitute_beside]?;
-    let boms = Boms::assemble(alloc, lines, substitutes)?;
+    let boms = Boms::assemble(alloc, Seed::new(0), lines, substitutes)?;
     Ok(boms.is_sound(&catalogue, 100)?)
 }
 
@@ -80,7 +80,7 @@ fn takes_sound_rows(rt: HostRuntime) -> Result<(), Fail> {
 #[test]
 fn refuses_an_unsound_catalogue(rt: HostRuntime) -> Result<(), Fail> {
     let alloc = rt.alloc();
-    let boms = Boms::new(alloc);
+    let boms = Boms::new(alloc, Seed::new(0));
     assert!(rt; boms.is_sound(&catalogue(alloc)?, 6)?);
     assert!(rt; !boms.is_sound(&catalogue(alloc)?, 5)?);
     Ok(())
@@ -143,8 +143,8 @@ fn is_sound_chain(alloc: Global, is_closed: bool) -> Result<bool, Fail> {
     if is_closed {
         lines.push(line(2 * LENGTH, LENGTH / 2, LENGTH - 1))?;
     }
-    let catalogue = Catalogue::assemble(alloc, Vec::new(alloc), parts)?;
-    let boms = Boms::assemble(alloc, lines, Vec::new(alloc))?;
+    let catalogue = Catalogue::assemble(alloc, Seed::new(0), Vec::new(alloc), parts)?;
+    let boms = Boms::assemble(alloc, Seed::new(0), lines, Vec::new(alloc))?;
     Ok(boms.is_sound(&catalogue, 3 * LENGTH)?)
 }
 

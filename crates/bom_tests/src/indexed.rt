@@ -1,5 +1,5 @@
 //! Rows that are found by what stands in them, also after changes, and after `keep` and `back`.
-use part_core::{Indexed, IndexedSheet, Row};
+use part_core::{Indexed, IndexedSheet, Row, Seed};
 use std::alloc::{AllocError, Global};
 use std::process::Abort;
 use std::test::Fail;
@@ -39,13 +39,16 @@ impl Row for Tool {
 
 impl Indexed for Tool {
     ghost use Rattle.std.specs.Prelude.{◌∷◌, []};
+    ghost use Rattle.std.specs.Hash as fed;
+    ghost use Rattle.sheet_core.specs.Indexed.{index_key_of};
 
-    ghost index_keys = { λ row. row.drawer ∷ row.maker ∷ [] };
+    ghost index_keys = { λ row.
+        index_key_of (fed.u64 row.drawer) ∷ index_key_of (fed.u64 row.maker) ∷ [] };
 
-    fn index_key(&self, place: usize) -> Option<u64> {
+    fn index_key(&self, seed: &Seed, place: usize) -> Option<u64> {
         match place {
-            0 => Some(self.drawer),
-            1 => Some(self.maker),
+            0 => Some(seed.hash_of(self.drawer)),
+            1 => Some(seed.hash_of(self.maker)),
             _ => None,
         }
     }
@@ -96,7 +99,7 @@ fn expect_maker(
 
 // Tools 20 and 3 in drawer 1 and tool 5 in drawer 2, all of maker 1 but tool 3, now and before.
 fn sheet_before(alloc: Global) -> Result<IndexedSheet<Tool>, AllocError> {
-    let mut sheet = IndexedSheet::new(alloc);
+    let mut sheet = IndexedSheet::new(alloc, Seed::new(0));
     put_tool(&mut sheet, 20, 1, 1)?;
     put_tool(&mut sheet, 3, 1, 2)?;
     put_tool(&mut sheet, 5, 2, 1)?;

@@ -1,5 +1,5 @@
 //! Rows that are put and changed, also after `keep` and `back`.
-use part_core::{Row, Sheet};
+use part_core::{Row, Seed, Sheet};
 use std::alloc::{AllocError, Global};
 use std::process::Abort;
 use std::test::Fail;
@@ -56,7 +56,7 @@ fn count_of(sheet: &Sheet<Stock>, number: u64) -> Option<u64> {
 
 // A sheet with two of part 1 and three of part 2, now and before.
 fn sheet_before(alloc: Global) -> Result<Sheet<Stock>, AllocError> {
-    let mut sheet = Sheet::new(alloc);
+    let mut sheet = Sheet::new(alloc, Seed::new(0));
     put_count(&mut sheet, 1, 2)?;
     put_count(&mut sheet, 2, 3)?;
     sheet.keep();
@@ -102,7 +102,7 @@ fn lists_no_row_that_is_as_before(rt: HostRuntime) -> Result<(), Fail> {
 
 #[test]
 fn selects_in_order_of_key(rt: HostRuntime) -> Result<(), Fail> {
-    let mut sheet = Sheet::new(rt.alloc());
+    let mut sheet = Sheet::new(rt.alloc(), Seed::new(0));
     assert!(rt; sheet.is_empty());
     for number in [30, 4, 200, 1, 5] {
         put_count(&mut sheet, number, number * 2)?;

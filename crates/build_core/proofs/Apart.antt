@@ -3,11 +3,12 @@ use Rattle.std.proofs.Common.{◌≡◌, ◌⊎◌, inl, inr, ℕ, ◌+◌, ◌-
 use Rattle.std.proofs.Common.{◌∷◌, Option, Some, None, refl, sym, ap, ◌∙◌, arith, eqb-true}
 use Rattle.std.specs.Prelude.{◌==◌, if◌then◌else◌}
 use Rattle.std.specs.FinMap as table
-use Rattle.std.proofs.lemmas.Bool.{eqb-false, ltb-true}
+use Rattle.std.proofs.lemmas.Bool.{ltb-true}
 use Rattle.part_core.specs.Catalogue.{Parts}
-use Rattle.part_core.specs.Day.{CivilDay}
-use Rattle.part_core.specs.Sheet.{Table}
-use Rattle.part_core.proofs.RowLemmas.{right-none, right-number}
+use Rattle.word_core.specs.Day.{CivilDay}
+use Rattle.sheet_core.specs.Sheet.{Table}
+use Rattle.sheet_core.proofs.RowLemmas.{right-none, right-number}
+use Rattle.sheet_core.proofs.Conditions.{turned}
 use Rattle.forest.specs.declared.item.Item.{Item}
 use Rattle.forest.specs.Forest.{height, is_at}
 use Rattle.yard_core.specs.StockBooks.{StockBooks}
@@ -26,13 +27,6 @@ use Rattle.stock_core.proofs.Steps.{can-cut, serial-one}
 use Rattle.stock_core.proofs.Taking.{there-loose}
 use Rattle.stock_core.proofs.Upright.{Upright}
 use Rattle.build_core.proofs.Roots.{same-height, tree-cut}
-
-pub turned : (n m : ℕ) → (n == m) ≡ false → (m == n) ≡ false
-turned n m e = go (m == n) refl
-  where
-    go : (d : Bool) → (m == n) ≡ d → d ≡ false
-    go true u = absurd (eqb-false n m e (sym (eqb-true m n u)))
-    go false u = refl
 
 pub record IsApart (n q : ℕ) (b : StockBooks) (t : StockBooks × ℕ) : Type 0 where
   -- the rows of other items are as they were

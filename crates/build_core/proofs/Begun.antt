@@ -1,6 +1,6 @@
 -- What new outputs use: a number each, and no entry.
 use Rattle.std.proofs.Common.{ℕ, ◌+◌, List, [], ◌∷◌, length, Option, Some, None, refl, arith}
-use Rattle.part_core.specs.Day.{CivilDay}
+use Rattle.word_core.specs.Day.{CivilDay}
 use Rattle.forest.specs.declared.entry.Kind.TheVariants as kind
 use Rattle.forest.specs.declared.place.Place.TheVariants.{Output}
 use Rattle.forest.specs.Moves.{make_change}

@@ -1,10 +1,10 @@
 -- Builds are read back from their columns, and no other columns are read as them.
 use Rattle.std.proofs.Common.{◌≡◌, ℕ, List, Some, refl, ap, ◌∙◌}
 use Rattle.std.specs.Prelude.{slice_get}
-use Rattle.part_core.specs.Columns.{has, number_at}
-use Rattle.part_core.specs.declared.column.Column.{Column}
-use Rattle.part_core.specs.declared.column.Column.TheVariants.{Whole}
-use Rattle.part_core.proofs.ColumnLemmas.{bound, code-found, has-is, number_at-is, same_columns}
+use Rattle.sheet_core.specs.Columns.{has, number_at}
+use Rattle.sheet_core.specs.declared.column.Column.{Column}
+use Rattle.sheet_core.specs.declared.column.Column.TheVariants.{Whole}
+use Rattle.sheet_core.proofs.ColumnLemmas.{bound, code-found, has-is, number_at-is, same_columns}
 use Rattle.build_core.specs.BuildColumns.{all_states, build_columns, build_from, state_at, state_code, state_of}
 use Rattle.build_core.specs.declared.build.Build.{Build}
 use Rattle.build_core.specs.declared.state.BuildState.{BuildState}

@@ -5,17 +5,20 @@ use Rattle.std.specs.Prelude.{◌*◌, ◌++◌, ◌==◌, ◌&&◌, if◌then�
 use Rattle.std.specs.FinMap as table
 use Rattle.std.specs.List.{find}
 use Rattle.std.proofs.lemmas.Nat.{mul-lt}
+use mathlib.Core.Bool.{and-true}
 use Rattle.part_core.specs.Catalogue.{Parts, is_trackable, part_in}
-use Rattle.part_core.specs.Checks.{first}
-use Rattle.part_core.specs.Counter.{Numbering, drawn, lacks}
-use Rattle.part_core.specs.Day.{CivilDay}
-use Rattle.part_core.specs.Rows.{EachRow, StandRight}
-use Rattle.part_core.specs.Sheet.{Table}
-use Rattle.part_core.proofs.Conditions.{and_both, and_parts, none-holds, not_false}
-use Rattle.part_core.proofs.RowLemmas.{each-insert, get-insert_cases, get-remove_cases, right-changed, right-later}
-use Rattle.part_core.proofs.RowLemmas.{right-new, right-none, right-number}
-use Rattle.part_core.proofs.Standing.{Stands, Stands-get, get-Stands}
-use Rattle.part_core.proofs.Totals.{of_option, sum-insert, sum-insert_new, sum-remove}
+use Rattle.word_core.specs.Checks.{first}
+use Rattle.word_core.specs.Counter.{Numbering, drawn, lacks}
+use Rattle.word_core.specs.Day.{CivilDay}
+use Rattle.sheet_core.specs.Rows.{EachRow, StandRight}
+use Rattle.sheet_core.specs.Sheet.{Table}
+use Rattle.word_core.specs.declared.refusal.Refusal.TheVariants.{NoSuch, Mismatch, Full}
+use Rattle.sheet_core.proofs.Conditions.{and_both, and_parts, not_false}
+use Rattle.word_core.proofs.CheckLemmas.{none-holds}
+use Rattle.sheet_core.proofs.RowLemmas.{each-insert, get-insert_cases, get-remove_cases, right-changed, right-later}
+use Rattle.sheet_core.proofs.RowLemmas.{right-new, right-none, right-number}
+use Rattle.sheet_core.proofs.Standing.{Stands, Stands-get, get-Stands}
+use Rattle.sheet_core.proofs.Totals.{of_option, sum-insert, sum-insert_new, sum-remove}
 use Rattle.bom_core.specs.Bills.{Bills, fits, is_effective}
 use Rattle.bom_core.specs.Sound.{IsSoundBill}
 use Rattle.bom_core.specs.declared.line.Line.{Line}
@@ -95,10 +98,6 @@ find-none {X} p (y ∷ ys) e x h = go (p y) refl (λ k. find-none p ys k x) e
 amount-more : (c : Bool) (r q : ℕ) → (if c then r + q else 0) ≡ (if c then q else 0) + (if c then r else 0)
 amount-more true r q = omega arith
 amount-more false r q = refl
-
-and_true : (c : Bool) → (c && true) ≡ c
-and_true true = refl
-and_true false = refl
 
 -- counted and not tracked is untracked
 untracked-of : (t c : Bool) → c ≡ true → not (t && c) ≡ true → (not t && c) ≡ true
@@ -218,7 +217,7 @@ module _ (n : ℕ) (day : CivilDay) (is_order : ℕ → Bool) (parts : Parts) (b
       ≡ (if (build == m) && (line == k) then a.quantity else 0)
   amount-is m k =
       ap (λ p. if is_for_line m k None p then a.quantity else 0) is-for
-      ∙ ap (λ c. if c then a.quantity else 0) (and_true ((build == m) && (line == k)))
+      ∙ ap (λ c. if c then a.quantity else 0) (and-true ((build == m) && (line == k)))
 
   same-line : (build == build) && (line == line) ≡ true
   same-line = and_both (build == build) (line == line) (eq-eqb build build refl) (eq-eqb line line refl)
@@ -573,6 +572,6 @@ pub sound-consume : (n : ℕ) (day : CivilDay) (is_order : ℕ → Bool) (parts 
     → first (consume_checks n day b) ≡ None
     → AreSoundBooks is_order parts bills (consume n day b) × Grows b.books (consume n day b).books
 sound-consume n day is_order parts bills b bill sound e =
-    let holds = none-holds (consume_checks n day b) e in
-    sound-consumed n day is_order parts bills b bill sound holds.0
-    (not_false (is_for_whole (allocation_at n b).purpose) holds.1.1.0) holds.1.1.1.0
+    let passed = none-holds (consume_checks n day b) e in
+    sound-consumed n day is_order parts bills b bill sound (passed NoSuch)
+    (not_false (is_for_whole (allocation_at n b).purpose) (passed Mismatch)) (passed Full)

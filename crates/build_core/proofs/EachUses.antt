@@ -1,6 +1,6 @@
 -- What goes into an output uses, and what outputs use that are done or written off.
 use Rattle.std.proofs.Common.{ℕ, length}
-use Rattle.part_core.specs.Day.{CivilDay}
+use Rattle.word_core.specs.Day.{CivilDay}
 use Rattle.forest.specs.declared.place.Place.TheVariants.{At, Off}
 use Rattle.forest.specs.declared.place.Reason.TheVariants.{Scrapped}
 use Rattle.forest.specs.Moves.{lift_change}

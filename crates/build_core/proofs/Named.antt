@@ -2,8 +2,8 @@
 use Rattle.std.proofs.Common.{◌≡◌, ℕ, ◌≤◌, false, [], ◌∷◌, Option, Some, None, refl, arith, is_none}
 use Rattle.std.specs.Prelude.{IfSome}
 use Rattle.std.specs.FinMap as table
-use Rattle.part_core.specs.Rows.{StandRight}
-use Rattle.part_core.proofs.RowLemmas.{same_digit}
+use Rattle.sheet_core.specs.Rows.{StandRight}
+use Rattle.sheet_core.proofs.RowLemmas.{same_digit}
 use Rattle.forest.specs.declared.item.Item.{Item}
 use Rattle.yard_core.specs.Stock.{Stock}
 use Rattle.build_core.specs.AllocateBuild.{is_no_named}

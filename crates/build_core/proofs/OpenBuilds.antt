@@ -2,7 +2,7 @@
 use Rattle.std.proofs.Common.{◌≡◌, ℕ, true, [], ◌∷◌, Option, Some, None, refl}
 use Rattle.std.specs.FinMap as table
 use Rattle.part_core.specs.Catalogue.{Parts}
-use Rattle.part_core.specs.Rows.{IsThere}
+use Rattle.sheet_core.specs.Rows.{IsThere}
 use Rattle.bom_core.specs.Bills.{Bills}
 use Rattle.build_core.specs.Builds.{BuildBooks, build_at, is_open}
 use Rattle.build_core.specs.Sound.{AreSoundBuilds}

@@ -1,9 +1,9 @@
 -- What untracked lines of a build lack is taken from what is free, in order.
 use Rattle.std.specs.Prelude.{ℕ, not, Bool, List, [], ◌∷◌, ◌++◌}
 use Rattle.part_core.specs.Catalogue.{Parts}
-use Rattle.part_core.specs.Checks.{Check}
-use Rattle.part_core.specs.Counter.{passes_limit}
-use Rattle.part_core.specs.declared.refusal.Refusal.TheVariants.{NoSuch, WrongState, Full}
+use Rattle.word_core.specs.Checks.{Check}
+use Rattle.word_core.specs.Counter.{passes_limit}
+use Rattle.word_core.specs.declared.refusal.Refusal.TheVariants.{NoSuch, WrongState, Full}
 use Rattle.bom_core.specs.Bills.{Bills}
 use Rattle.alloc_core.specs.Allotting.{allot_lines}
 use Rattle.build_core.specs.AllocateBuild.{allotments_in, with_allotments}

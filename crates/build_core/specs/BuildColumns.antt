@@ -1,9 +1,9 @@
 -- A build as a row of a file: id, part, quantity, state, done.
 use Rattle.std.specs.Prelude.{ℕ, ◌==◌, List, [], ◌∷◌, Option, Some}
 use Rattle.std.specs.List.{find}
-use Rattle.part_core.specs.declared.column.Column.{Column}
-use Rattle.part_core.specs.declared.column.Column.TheVariants.{Whole}
-use Rattle.part_core.specs.Columns.{◌>>=◌, has, number_at}
+use Rattle.sheet_core.specs.declared.column.Column.{Column}
+use Rattle.sheet_core.specs.declared.column.Column.TheVariants.{Whole}
+use Rattle.sheet_core.specs.Columns.{◌>>=◌, has, number_at}
 use Rattle.build_core.specs.declared.build.Build.{Build}
 use Rattle.build_core.specs.declared.state.BuildState.{BuildState}
 use Rattle.build_core.specs.declared.state.BuildState.TheVariants.{Pending, Production, OnHold, Cancelled, Complete}

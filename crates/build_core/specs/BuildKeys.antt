@@ -1,6 +1,6 @@
 -- What builds are looked up by in an index.
 use Rattle.std.specs.Prelude.{ℕ, List, [], ◌∷◌, if◌then◌else◌}
-use Rattle.part_core.specs.Indexed.{index_key_of}
+use Rattle.sheet_core.specs.Indexed.{index_key_of}
 use Rattle.build_core.specs.Builds.{is_open}
 use Rattle.build_core.specs.declared.build.Build.{Build}
 

@@ -1,7 +1,7 @@
 -- Work on a build begins, or goes on.
 use Rattle.std.specs.Prelude.{ℕ, not, List, [], ◌∷◌}
-use Rattle.part_core.specs.Checks.{Check}
-use Rattle.part_core.specs.declared.refusal.Refusal.TheVariants.{NoSuch, WrongState}
+use Rattle.word_core.specs.Checks.{Check}
+use Rattle.word_core.specs.declared.refusal.Refusal.TheVariants.{NoSuch, WrongState}
 use Rattle.build_core.specs.Builds.{BuildBooks, build_at, is_no_build, may_start, set_state}
 use Rattle.build_core.specs.declared.state.BuildState.TheVariants.{Production}
 

@@ -1,12 +1,12 @@
 -- Items that a build makes are begun.
 use Rattle.std.specs.Prelude.{ℕ, ◌+◌, ◌&&◌, ◌||◌, is_none, not, nat_lt, List, [], ◌∷◌}
 use Rattle.part_core.specs.Catalogue.{Parts, is_trackable, part_in}
-use Rattle.part_core.specs.Checks.{Check}
-use Rattle.part_core.specs.Day.{CivilDay}
-use Rattle.part_core.specs.Quantity.{is_bad_quantity}
-use Rattle.part_core.specs.declared.refusal.Refusal.TheVariants.{NoSuch, BadNumber, WrongFlag}
-use Rattle.part_core.specs.declared.refusal.Refusal.TheVariants.{WrongState, NotSerialised, OverNeed}
-use Rattle.part_core.specs.declared.refusal.Refusal.TheVariants.{SerialCount, SerialTaken, Full}
+use Rattle.word_core.specs.Checks.{Check}
+use Rattle.word_core.specs.Day.{CivilDay}
+use Rattle.word_core.specs.Quantity.{is_bad_quantity}
+use Rattle.word_core.specs.declared.refusal.Refusal.TheVariants.{NoSuch, BadNumber, WrongFlag}
+use Rattle.word_core.specs.declared.refusal.Refusal.TheVariants.{WrongState, NotSerialised, OverNeed}
+use Rattle.word_core.specs.declared.refusal.Refusal.TheVariants.{SerialCount, SerialTaken, Full}
 use Rattle.bom_core.specs.Bills.{Bills}
 use Rattle.forest.specs.declared.entry.Kind.TheVariants as kind
 use Rattle.forest.specs.declared.place.Place.TheVariants.{Output}

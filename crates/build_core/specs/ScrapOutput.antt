@@ -1,8 +1,8 @@
 -- An output is done, and written off.
 use Rattle.std.specs.Prelude.{ℕ, List, [], ◌∷◌}
-use Rattle.part_core.specs.Checks.{Check}
-use Rattle.part_core.specs.Day.{CivilDay}
-use Rattle.part_core.specs.declared.refusal.Refusal.TheVariants.{NoSuch, WrongState, Full}
+use Rattle.word_core.specs.Checks.{Check}
+use Rattle.word_core.specs.Day.{CivilDay}
+use Rattle.word_core.specs.declared.refusal.Refusal.TheVariants.{NoSuch, WrongState, Full}
 use Rattle.forest.specs.declared.place.Place.TheVariants.{Off}
 use Rattle.forest.specs.declared.place.Reason.TheVariants.{Scrapped}
 use Rattle.alloc_core.specs.declared.purpose.Owner.TheVariants as owner

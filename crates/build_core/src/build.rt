@@ -1,13 +1,15 @@
 //! The rows of builds.
 ghost use Rattle.std.specs.Prelude.{◌≡◌, ◌∷◌, []};
-ghost use Rattle.part_core.specs.Columns.{Finds};
+ghost use Rattle.sheet_core.specs.Indexed.{index_key_of};
+ghost use Rattle.sheet_core.specs.Columns.{Finds};
 ghost use Rattle.build_core.specs.BuildColumns.{build_columns, build_from, state_at};
 ghost use Rattle.build_core.specs.BuildKeys.{build_keys, open_key};
 
 use crate::state::BuildState;
 use part_core::column::{has, number_at};
-use part_core::{Column, ColumnFault, Id, Indexed, Quantity, Row, Stored, index_key_of};
+use part_core::{Column, ColumnFault, Id, Indexed, Quantity, Row, Seed, Stored};
 use std::alloc::{AllocError, Global};
+use std::hash::Hash;
 
 /// So many of an assembly that are to be built.
 #[derive(Drop, Debug)]
@@ -26,11 +28,11 @@ pub struct Build {
 #[derive(Clone, Copy, Debug, PartialEq, Eq, Hash)]
 pub struct OpenBuilds;
 
-/// The index key of the open builds.
-pub fn open_key() -> u64
-    ensures { result ≡ open_key }
+/// The look-up of the open builds.
+pub fn open_key() -> OpenBuilds
+    ensures { index_key_of (⟦<OpenBuilds as Hash>⟧.hash_input result) ≡ open_key }
 {
-    index_key_of(OpenBuilds)
+    OpenBuilds
 }
 
 /// The state in the column.
@@ -80,12 +82,12 @@ impl Row for Build {
 impl Indexed for Build {
     ghost index_keys = { build_keys };
 
-    fn index_key(&self, place: usize) -> Option<u64> {
+    fn index_key(&self, seed: &Seed, place: usize) -> Option<u64> {
         if !self.state.is_open() {
             return None;
         }
         match place {
-            0 => Some(open_key()),
+            0 => Some(seed.hash_of(open_key())),
             _ => None,
         }
     }

@@ -1,8 +1,8 @@
 //! The forms of the commands on builds. Of each command there are its form, the function that makes it of
 //! its fields, and its arms in the trait's calls.
 ghost use Rattle.std.specs.Prelude.{◌≡◌, codes};
-ghost use Rattle.part_core.specs.FormLaws.{rows_fill, rows_made};
-ghost use Rattle.part_core.specs.FormTables.{command_by, forms_by};
+ghost use Rattle.word_core.specs.FormLaws.{rows_fill, rows_made};
+ghost use Rattle.word_core.specs.FormTables.{command_by, forms_by};
 ghost use Rattle.build_core.specs.BuildForms.{build_back, build_distinct, build_fields};
 ghost use Rattle.build_core.specs.BuildForms.{build_forms, build_told, build_verb};
 

@@ -2,17 +2,17 @@
 ghost use Rattle.std.specs.Prelude.{◌≡◌, ◌==◌, ◌+◌, ◌<◌, ◌^◌, ◌∷◌, [], filter, IfOk};
 ghost use Rattle.std.specs.Prelude.{is_some, map, OnErr, OnOk, option_copied};
 ghost use Rattle.bom_core.specs.Lines.{removed_all};
-ghost use Rattle.part_core.specs.Sheet.{now_of};
+ghost use Rattle.sheet_core.specs.Sheet.{now_of};
 ghost use Rattle.std.specs.FinMap as table;
 ghost use Rattle.std.specs.List.{list_any};
-ghost use Rattle.part_core.specs.Filled.{StandUnderKeys};
-ghost use Rattle.part_core.specs.Rows.{IsThere};
+ghost use Rattle.sheet_core.specs.Filled.{StandUnderKeys};
+ghost use Rattle.sheet_core.specs.Rows.{IsThere};
 ghost use Rattle.build_core.specs.Builds.{build_in, in_state, is_open, open_parts, put_build, with_done};
 
 use crate::build::{Build, open_key};
 use crate::spent::{Spent, amount_on, is_spent_on, spent_build_key, spent_key};
 use crate::state::BuildState;
-use part_core::{Id, IndexedSheet, Quantity, Row, Sheet};
+use part_core::{Id, IndexedSheet, Quantity, Row, Seed, Sheet};
 use std::alloc::{AllocError, Global};
 
 /// The rows of builds, the open ones found as such, and what was spent on their lines, found by build and by
@@ -66,28 +66,33 @@ impl Builds {
     ghost use Rattle.build_core.specs.Spent.{is_spent_on, put_spent, spent_on, spent_row, unspent};
 
     /// No build.
-    pub fn new(alloc: Global) -> Self
+    pub fn new(alloc: Global, seed: Seed) -> Self
         ensures now { builds_now result ≡ table.empty }
         ensures before { builds_before result ≡ table.empty }
         ensures spent { spent_now result ≡ table.empty }
         ensures spent_before { spent_before result ≡ table.empty }
     {
         Builds {
-            rows: IndexedSheet::new(alloc),
-            spent: IndexedSheet::new(alloc),
+            rows: IndexedSheet::new(alloc, seed),
+            spent: IndexedSheet::new(alloc, seed),
             alloc,
         }
     }
 
     /// The builds of these rows, and what was spent by the others, now and before. An error is one of memory.
-    pub fn assemble(alloc: Global, rows: Vec<Build>, spent: Vec<Spent>) -> Result<Self, AllocError>
+    pub fn assemble(
+        alloc: Global,
+        seed: Seed,
+        rows: Vec<Build>,
+        spent: Vec<Spent>,
+    ) -> Result<Self, AllocError>
         ensures now { IfOk result (λ all. builds_now all ≡ builds_from rows.items) }
         ensures before { IfOk result (λ all. builds_before all ≡ builds_from rows.items) }
         ensures spent { IfOk result (λ all. spent_now all ≡ spendings_from spent.items) }
         ensures spent_before { IfOk result (λ all. spent_before all ≡ spendings_from spent.items) }
     {
-        let rows = IndexedSheet::filled(alloc, rows)?;
-        let spent = IndexedSheet::filled(alloc, spent)?;
+        let rows = IndexedSheet::filled(alloc, seed, rows)?;
+        let spent = IndexedSheet::filled(alloc, seed, spent)?;
         Ok(Builds { rows, spent, alloc })
     }
 

@@ -4,7 +4,7 @@
 ghost use Rattle.std.specs.Prelude.{◌≡◌, ◌↔◌, IfOk, IsTrue, map, not, true};
 ghost use Rattle.std.specs.List.{All};
 ghost use Rattle.part_core.specs.CatalogueView.{parts_of};
-ghost use Rattle.part_core.specs.Rows.{EachRow, StandRight};
+ghost use Rattle.sheet_core.specs.Rows.{EachRow, StandRight};
 ghost use Rattle.bom_core.specs.BomsView.{bills_of};
 ghost use Rattle.alloc_core.specs.AllocationsView.{allocations_now};
 ghost use Rattle.yard_core.specs.YardView.{stock_of};

@@ -4,7 +4,7 @@ ghost use Rattle.desk_store.specs.Desks.{IsDesk};
 
 use desk_core::{Request, Shop};
 use desk_store::{Desk, Fault};
-use part_core::{Answer, CoreFault, Limits};
+use part_core::{Answer, CoreFault, Limits, Seed};
 use sqlite::{Alter, Connection};
 use std::alloc::Global;
 use std::test::Fail;
@@ -44,7 +44,7 @@ pub fn run_alike(
     alloc: Global,
     requests: &[Request],
 ) -> Result<Vec<Result<Answer, CoreFault>>, Fail> {
-    let mut shop = Shop::new(alloc, Limits::LARGEST);
+    let mut shop = Shop::new(alloc, Seed::new(0), Limits::LARGEST);
     let outcomes = shop.run_list(alloc, requests)?;
     let mut desk = created(alloc, Connection::open_in_memory(alloc)?)?;
     runs_on(&mut desk, requests, &outcomes)?;

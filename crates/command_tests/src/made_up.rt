@@ -7,7 +7,7 @@ use crate::alike::run_alike;
 use crate::maker::{Maker, OFTEN};
 use crate::requests::request_of;
 use desk_core::{Request, Shop};
-use part_core::{Answer, CoreFault, Formed, Limits};
+use part_core::{Answer, CoreFault, Formed, Limits, Seed};
 use std::alloc::Global;
 use std::test::Fail;
 
@@ -60,7 +60,7 @@ fn likely(alloc: Global, maker: &mut Maker, shop: &mut Shop) -> Result<Request, 
 /// The requests of the workshop, and so many that are made up.
 fn made_up(alloc: Global, count: u64) -> Result<Vec<Request>, Fail> {
     let mut maker = Maker::new(alloc);
-    let mut shop = Shop::new(alloc, Limits::LARGEST);
+    let mut shop = Shop::new(alloc, Seed::new(0), Limits::LARGEST);
     let mut requests = Vec::new(alloc);
     for line in WORKSHOP.lines() {
         let request = request_of(alloc, line)?;

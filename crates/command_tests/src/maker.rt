@@ -3,6 +3,7 @@
 use desk_core::{Command, Key, Request};
 use part_core::{
     Answer, Day, Field, FieldKind, Flags, Formed, Ids, Serial, Serials, Side, Status, Text,
+    flags_of,
 };
 use std::alloc::Global;
 use std::test::Fail;
@@ -254,7 +255,7 @@ impl Maker {
         } else {
             self.lots.below(60).saturating_add(4)
         };
-        Ok(Flags::from_number(number).ok_or("it is a number of flags")?)
+        Ok(flags_of(number).ok_or("it is a number of flags")?)
     }
 
     fn status(&mut self) -> Result<Status, Fail> {

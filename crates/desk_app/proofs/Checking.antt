@@ -10,15 +10,15 @@ use Rattle.desk_core.specs.Machine.{State}
 use Rattle.desk_store.specs.StateTables.{TablesAre}
 use Rattle.desk_wire.specs.declared.fault.What.TheVariants.{TooLong}
 use Rattle.desk_wire.specs.Writing.{fault_text}
-use Rattle.desk_ends.specs.declared.end.RunEnd.TheVariants as ends
-use Rattle.desk_ends.specs.declared.end.Stop.{Stop}
-use Rattle.desk_ends.specs.declared.end.Stop.TheVariants.{ReadFailed, WriteFailed, Memory, Store}
+use Rattle.desk_core.specs.declared.end.RunEnd.TheVariants as ends
+use Rattle.desk_core.specs.declared.end.Stop.{Stop}
+use Rattle.desk_core.specs.declared.end.Stop.TheVariants.{ReadFailed, WriteFailed, Memory, Store}
 use Rattle.desk_app.specs.Answered.{AnsweredIsKept}
 use Rattle.desk_app.specs.Checked.{are_readable, fault_of, faults_out, is_readable, is_short, text_faults}
 use Rattle.desk_app.specs.Checked.{told_of}
 use Rattle.desk_app.specs.Cuts.{first_of, rest_of}
-use Rattle.desk_ends.specs.Ends.{end_of}
-use Rattle.desk_app.specs.declared.options.LineOptions.{LineOptions}
+use Rattle.desk_core.specs.Ends.{end_of}
+use Rattle.desk_app.specs.declared.options.RunOptions.{RunOptions}
 use Rattle.desk_app.specs.Runs.{BeginWith, lines_of, Stopped}
 use Rattle.desk_app.proofs.Running.{lines_first, none_grouped}
 use Rattle.desk_app.proofs.Stopping.{none_taken}
@@ -148,52 +148,52 @@ none_first : (text : Option (List ℕ)) → BeginWith text []
 none_first None = tt
 none_first (Some text) = (lines_of text, refl)
 
-pub unanswered : (options : LineOptions) (stop : Bool) (text w : Option (List ℕ)) (s : State) (leaves : Trees → Type 0)
-    → ((trees : Trees) → leaves trees → TablesAre s trees) → AnsweredIsKept options stop text w w s leaves
-unanswered options stop text w s leaves tables = record {
+pub unanswered : (options : RunOptions) (text w : Option (List ℕ)) (s : State) (leaves : Trees → Type 0)
+    → ((trees : Trees) → leaves trees → TablesAre s trees) → AnsweredIsKept options text w w s leaves
+unanswered options text w s leaves tables = record {
   answered = [];
   front = [];
   more = [];
   first = none_first text;
-  all_taken = none_taken options stop s;
+  all_taken = none_taken options s;
   answers = refl;
   written = Appends-nil w;
   kept = λ trees may. record {
     further = [];
     first = none_first text;
-    all_taken = none_taken options stop s;
+    all_taken = none_taken options s;
     tables = tables trees may;
   };
 }
 
 -- as memory ran out
-pub unrun_for_memory : (options : LineOptions) (stop : Bool) (why : Stop) (text w : Option (List ℕ)) (s : State)
-    (leaves : Trees → Type 0) → ends.Memory ≡ end_of why → Stopped options stop why text w w s s leaves
-unrun_for_memory options stop ReadFailed text w s leaves e = absurd (cc)
-unrun_for_memory options stop WriteFailed text w s leaves e = absurd (cc)
-unrun_for_memory options stop Store text w s leaves e = absurd (cc)
-unrun_for_memory options stop Memory text w s leaves e = record {
+pub unrun_for_memory : (options : RunOptions) (why : Stop) (text w : Option (List ℕ)) (s : State)
+    (leaves : Trees → Type 0) → ends.Memory ≡ end_of why → Stopped options why text w w s s leaves
+unrun_for_memory options ReadFailed text w s leaves e = absurd (cc)
+unrun_for_memory options WriteFailed text w s leaves e = absurd (cc)
+unrun_for_memory options Store text w s leaves e = absurd (cc)
+unrun_for_memory options Memory text w s leaves e = record {
   told = [];
   untold = [];
   first = none_first text;
-  all_taken = none_taken options stop s;
+  all_taken = none_taken options s;
   one = omega arith;
   state = refl;
   written = Appends-nil w;
 }
 
 -- as the books were closed
-pub unrun_closed : (options : LineOptions) (stop : Bool) (why : Stop) (text w : Option (List ℕ)) (s : State) (leaves : Trees → Type 0)
-    → ends.Store ≡ end_of why → ((trees : Trees) → leaves trees → ⊥) → Stopped options stop why text w w s s leaves
-unrun_closed options stop ReadFailed text w s leaves e none = absurd (cc)
-unrun_closed options stop WriteFailed text w s leaves e none = absurd (cc)
-unrun_closed options stop Memory text w s leaves e none = absurd (cc)
-unrun_closed options stop Store text w s leaves e none = record {
+pub unrun_closed : (options : RunOptions) (why : Stop) (text w : Option (List ℕ)) (s : State) (leaves : Trees → Type 0)
+    → ends.Store ≡ end_of why → ((trees : Trees) → leaves trees → ⊥) → Stopped options why text w w s s leaves
+unrun_closed options ReadFailed text w s leaves e none = absurd (cc)
+unrun_closed options WriteFailed text w s leaves e none = absurd (cc)
+unrun_closed options Memory text w s leaves e none = absurd (cc)
+unrun_closed options Store text w s leaves e none = record {
   told = [];
   group = [];
   first = none_first text;
-  all_taken = none_taken options stop s;
-  size = none_grouped options s 1;
+  all_taken = none_taken options s;
+  size = none_grouped options.lines s 1;
   state = refl;
   written = Appends-nil w;
   left = λ trees may. absurd (none trees may);

@@ -1,7 +1,7 @@
 -- A file of which as much was read as shows that it is too long.
 use Rattle.std.proofs.Common.{◌≡◌, ℕ, Bool, true, false, List, length, nat_le, ap, sym, refl, ◌∙◌}
 use Rattle.std.specs.Prelude.{Option, Some, None, Err, IfSome}
-use Rattle.part_core.specs.Day.{CivilDay}
+use Rattle.word_core.specs.Day.{CivilDay}
 use Rattle.desk_core.specs.Machine.{State}
 use Rattle.desk_core.specs.Naming.{Naming}
 use Rattle.desk_wire.specs.Imports.{import_by}

@@ -12,13 +12,13 @@ use Rattle.std.proofs.lemmas.Fmt.{decimal_by_steps_wide, decimal_is_IsNumeral_wi
 use Rattle.std.proofs.lemmas.List.{append_cancel_left}
 use Rattle.std.proofs.lemmas.List.Folds.{list_all-append}
 use Rattle.jiff_core.proofs.CalendarLemmas.{days_in_month_bounds}
-use Rattle.part_core.specs.Checks.{first}
-use Rattle.part_core.specs.Day.{CivilDay, IsInUse, day_text, two_digits}
-use Rattle.part_core.specs.Sheet.{Table, key_cmp}
-use Rattle.part_core.specs.declared.answer.Answer.{Answer}
-use Rattle.part_core.specs.declared.refusal.Refusal.{Refusal}
-use Rattle.part_core.specs.declared.refusal.Refusal.TheVariants.{KeyTaken}
-use Rattle.part_core.proofs.Keys.{key_eq-other, keys_total}
+use Rattle.word_core.specs.Checks.{first}
+use Rattle.word_core.specs.Day.{CivilDay, IsInUse, day_text, two_digits}
+use Rattle.sheet_core.specs.Sheet.{Table, key_cmp}
+use Rattle.word_core.specs.declared.answer.Answer.{Answer}
+use Rattle.word_core.specs.declared.refusal.Refusal.{Refusal}
+use Rattle.word_core.specs.declared.refusal.Refusal.TheVariants.{KeyTaken}
+use Rattle.sheet_core.proofs.Keys.{key_eq-other, keys_total}
 use Rattle.desk_core.specs.CommandText.{command_text}
 use Rattle.desk_core.specs.Key.{is_key, is_visible}
 use Rattle.desk_core.specs.Machine.{State, Outcome, answer_of, answer_of_same, by_check, by_repeat, checks, effect}

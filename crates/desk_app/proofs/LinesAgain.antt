@@ -2,7 +2,7 @@
 use Rattle.std.proofs.Common.{◌≡◌, ◌+◌, ℕ, Bool, true, false, ◌&&◌, List, [], ◌∷◌, ◌++◌, length}
 use Rattle.std.proofs.Common.{ap, sym, refl, subst, ◌∙◌, true≢false, inl, inr}
 use Rattle.std.specs.Prelude.{IsSome, Ok, Err}
-use Rattle.part_core.specs.declared.answer.Answer.{Answer}
+use Rattle.word_core.specs.declared.answer.Answer.{Answer}
 use Rattle.desk_core.specs.Machine.{State, Outcome, run, step}
 use Rattle.desk_core.specs.Repeats.{LaterRepeatsChangeNothing}
 use Rattle.desk_core.specs.declared.command.Request.{Request as Req}

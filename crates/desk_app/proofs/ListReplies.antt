@@ -5,9 +5,9 @@ use Rattle.desk_core.specs.Machine.{State}
 use Rattle.list_core.specs.Listings.{listing_lines}
 use Rattle.list_core.specs.declared.listing.Listing.{Listing}
 use Rattle.desk_wire.specs.declared.fault.What.{What}
-use Rattle.desk_ends.specs.Lists.{lines_by, lines_of, listed_of, listing_by}
-use Rattle.desk_ends.specs.declared.list_of.ListOf.{ListOf}
-use Rattle.desk_ends.proofs.Listing.{same_lines}
+use Rattle.list_words.specs.Lists.{lines_by, lines_of, listed_of, listing_by}
+use Rattle.list_words.specs.declared.list_of.ListOf.{ListOf}
+use Rattle.list_words.proofs.WordedLists.{same_lines}
 
 pub found : (asked : ListOf) (s : State) (listing : Listing) → listing_by asked s ≡ Ok listing
     → lines_by (listed_of asked) s ≡ Ok (listing_lines listing s)

@@ -2,12 +2,11 @@
 use Rattle.std.proofs.Common.{◌≡◌, ◌∙◌, ℕ, Bool, List, [], ap, sym, refl, subst, ◌⊎◌, inl, inr, false}
 use Rattle.std.specs.Prelude.{Option, Some, None, Result, Ok, Err, IfErr, IfOk, OnErr}
 use Rattle.sqlite.specs.Tree.{Trees}
-use Rattle.part_core.specs.Day.{CivilDay}
+use Rattle.word_core.specs.Day.{CivilDay}
 use Rattle.desk_core.specs.Machine.{State, Outcome, step}
 use Rattle.desk_core.proofs.InOrder.{refusals_change_nothing}
 use Rattle.desk_core.specs.declared.command.Request.{Request}
 use Rattle.desk_store.specs.StateTables.{TablesAre}
-use Rattle.desk_wire.specs.Imports.{import}
 use Rattle.desk_wire.specs.Reading as reading
 use Rattle.desk_wire.specs.declared.fault.What.{What}
 use Rattle.desk_http.specs.Services.{RunLine, ImportFile, ImportSheet, RunLines, ReplyView, Stops, reply_view, why_none}
@@ -23,11 +22,11 @@ use Rattle.desk_app.specs.ImportRuns.{RanSome, Reading}
 use Rattle.desk_app.specs.Journal.{journalled}
 use Rattle.desk_app.specs.Runs.{naming}
 use Rattle.desk_app.specs.declared.options.LineOptions.{LineOptions}
-use Rattle.desk_app.specs.Services.{by_outcome, by_request, counted, desk_machine, import_kind, raised, tag_after}
+use Rattle.desk_app.specs.Services.{by_outcome, by_request, counted, desk_machine, raised, rows_sent, tag_after}
 use Rattle.desk_app.specs.Services.{IfStoreFailed, IsFailedFile, IsFailedLine, IsFailedRequest, StaysOpenBy}
 use Rattle.desk_app.specs.Services.{leaves, lines_to_run, run_line, sheet_lines, IsFailed, IsFailedSheet}
-use Rattle.desk_app.specs.SheetReplies.{RanFirst}
-use Rattle.desk_app.specs.SheetRuns.{sheet_options}
+use Rattle.desk_app.specs.SheetReplies.{said_run, RanFirst}
+use Rattle.desk_app.specs.SheetRuns.{sheet_run}
 use Rattle.desk_app.proofs.SheetReplies.{none_ran}
 
 outcome_state : (p : State × Outcome) → (by_outcome p).0 ≡ p.0
@@ -128,11 +127,11 @@ ran_none (Err fault) s s' is = is
 -- the same of a file
 pub counted_file : (why : NoReply) (options : LineOptions) (tag : Option Tag) (s s' : State) (loose : Bool) (kind : ImportKind)
     (document : List ℕ) (day : CivilDay) (rows : List ℕ)
-    → IsFailedFile why (import loose (naming options.names s) (import_kind kind) document day rows) s s'
+    → IsFailedFile why (rows_sent options.names s loose kind document day rows) s s'
     → Stops desk_machine leaves why (s, options, tag) (ImportFile loose kind document day rows) (s', options, raised tag)
 counted_file (Failed e) options tag s s' loose kind document day rows h = (h, refl, refl)
 counted_file Untold options tag s s' loose kind document day rows h =
-    inr (inr (ran_none (import loose (naming options.names s) (import_kind kind) document day rows) s s' h, refl, refl))
+    inr (inr (ran_none (rows_sent options.names s loose kind document day rows) s s' h, refl, refl))
 
 -- ---- what is replied, with the tag
 
@@ -154,7 +153,7 @@ unreplied_line (Err why) options tag tag' s s' line h t =
 
 pub unreplied_file : (r : Result Reply NoReply) (options : LineOptions) (tag tag' : Option Tag) (s s' : State)
     (loose : Bool) (kind : ImportKind) (document : List ℕ) (day : CivilDay) (rows : List ℕ)
-    → IfErr r (λ why. IsFailedFile why (import loose (naming options.names s) (import_kind kind) document day rows) s s')
+    → IfErr r (λ why. IsFailedFile why (rows_sent options.names s loose kind document day rows) s s')
     → OnErr r (tag' ≡ raised tag)
     → IfErr r (λ why. Stops desk_machine leaves why (s, options, tag) (ImportFile loose kind document day rows)
     (s', options, tag'))
@@ -170,7 +169,7 @@ counted_sheet : (why : NoReply) (options : LineOptions) (tag : Option Tag) (s s'
     → Stops desk_machine leaves why (s, options, tag) (ImportSheet command document day file) (s', options, raised tag)
 counted_sheet (Failed e) options tag s s' command document day file h = (h, refl, refl)
 counted_sheet Untold options tag s s' command document day file h =
-    inr (inr (none_ran sheet_options false (sheet_lines command document day file) s s' h, refl, refl))
+    inr (inr (none_ran (sheet_run false) (sheet_lines command document day file) s s' h, refl, refl))
 
 pub unreplied_sheet : (r : Result Reply NoReply) (options : LineOptions) (tag tag' : Option Tag) (s s' : State)
     (command document : List ℕ) (day : CivilDay) (file : List ℕ)
@@ -186,14 +185,14 @@ unreplied_sheet (Err why) options tag tag' s s' command document day file h t =
 -- ---- lines
 
 counted_lines : (why : NoReply) (options : LineOptions) (tag : Option Tag) (s s' : State) (said : LineWords) (text : List ℕ)
-    → IsFailed why × RanFirst options said.stop (lines_to_run options said text) s s'
+    → IsFailed why × RanFirst (said_run options said) (lines_to_run options said text) s s'
     → Stops desk_machine leaves why (s, options, tag) (RunLines said text) (s', options, raised tag)
 counted_lines (Failed e) options tag s s' said text h = (h.1, refl, refl)
 counted_lines Untold options tag s s' said text h = absurd h.0
 
 pub unreplied_lines : (r : Result Reply NoReply) (options : LineOptions) (tag tag' : Option Tag) (s s' : State)
     (said : LineWords) (text : List ℕ)
-    → IfErr r (λ why. IsFailed why × RanFirst options said.stop (lines_to_run options said text) s s')
+    → IfErr r (λ why. IsFailed why × RanFirst (said_run options said) (lines_to_run options said text) s s')
     → OnErr r (tag' ≡ raised tag)
     → IfErr r (λ why. Stops desk_machine leaves why (s, options, tag) (RunLines said text) (s', options, tag'))
 unreplied_lines (Ok reply) options tag tag' s s' said text h t = tt

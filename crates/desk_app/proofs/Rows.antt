@@ -10,11 +10,11 @@ use Rattle.desk_core.specs.Machine.{State, Outcome, step}
 use Rattle.desk_store.specs.StateTables.{TablesAre}
 use Rattle.desk_wire.specs.ImportReports.{outcome_text, report_line}
 use Rattle.desk_wire.specs.declared.row.ImportRow.{ImportRow}
-use Rattle.desk_ends.specs.Ends.{end_of}
-use Rattle.desk_ends.specs.declared.end.RunEnd.TheVariants as ends
-use Rattle.desk_ends.specs.declared.end.Stop.{Stop}
-use Rattle.desk_ends.specs.declared.end.Stop.TheVariants.{ReadFailed, WriteFailed, Memory, Store}
-use Rattle.desk_ends.specs.declared.told.Told.{Told}
+use Rattle.desk_core.specs.Ends.{end_of}
+use Rattle.desk_core.specs.declared.end.RunEnd.TheVariants as ends
+use Rattle.desk_core.specs.declared.end.Stop.{Stop}
+use Rattle.desk_core.specs.declared.end.Stop.TheVariants.{ReadFailed, WriteFailed, Memory, Store}
+use Rattle.desk_wire.specs.declared.told.Told.{Told}
 use Rattle.desk_app.specs.Runs.{by_outcome, CutRequest, IsOfBooks, StaysOpen}
 use Rattle.desk_app.specs.ImportRuns.{are_answers, import_told, rows_after, rows_out, rows_outcomes, rows_told}
 use Rattle.desk_app.specs.ImportRuns.{AreLeftByRows, ImportStopped, IsLeftByImport, RanFront, Reading}

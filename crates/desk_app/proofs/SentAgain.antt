@@ -5,8 +5,8 @@ use Rattle.std.specs.Prelude.{Option, Some, None, not, option_map, Result, Ok, E
 use Rattle.std.specs.Cmp.Lexicographic.{pointwise}
 use Rattle.std.specs.Str.{bytes_eq}
 use Rattle.csv.specs.Reading.{default_config, records, strip_bom}
-use Rattle.part_core.specs.Day.{CivilDay}
-use Rattle.part_core.specs.declared.answer.Answer.{Answer}
+use Rattle.word_core.specs.Day.{CivilDay}
+use Rattle.word_core.specs.declared.answer.Answer.{Answer}
 use Rattle.desk_core.specs.Machine.{State, Outcome, run, step}
 use Rattle.desk_core.specs.Naming.{Naming}
 use Rattle.desk_core.specs.Repeats.{LaterRepeatsChangeNothing}

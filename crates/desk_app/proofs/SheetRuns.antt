@@ -6,8 +6,8 @@ use Rattle.sqlite.specs.Tree.{Trees}
 use Rattle.desk_core.specs.Machine.{State}
 use Rattle.desk_wire.specs.Writing.{fault_text}
 use Rattle.desk_wire.specs.declared.fault.WireFault.{WireFault}
-use Rattle.desk_ends.specs.declared.end.RunEnd.{RunEnd}
-use Rattle.desk_ends.specs.declared.end.RunEnd.TheVariants.{Done, ReadFailed, WriteFailed, Memory, Store}
+use Rattle.desk_core.specs.declared.end.RunEnd.{RunEnd}
+use Rattle.desk_core.specs.declared.end.RunEnd.TheVariants.{Done, ReadFailed, WriteFailed, Memory, Store}
 use Rattle.desk_app.specs.Checked.{TellsFaults}
 use Rattle.desk_app.specs.SheetRuns.{PrintsText, RunsSheet, Unmade}
 

@@ -10,8 +10,8 @@ use Rattle.desk_wire.specs.declared.fault.What.TheVariants.{TooLong}
 use Rattle.desk_app.specs.Cuts.{held}
 use Rattle.desk_app.specs.Journal.{journalled}
 use Rattle.desk_wire.specs.Reading.{line}
-use Rattle.desk_ends.specs.declared.end.Stop.{Stop}
-use Rattle.desk_ends.specs.declared.end.Stop.TheVariants.{ReadFailed, WriteFailed, Memory, Store}
+use Rattle.desk_core.specs.declared.end.Stop.{Stop}
+use Rattle.desk_core.specs.declared.end.Stop.TheVariants.{ReadFailed, WriteFailed, Memory, Store}
 use Rattle.desk_app.specs.declared.options.LineOptions.{LineOptions}
 use Rattle.desk_app.specs.Runs.{by_outcome, is_blank, line_after, line_step, naming, CutLine, CutRequest}
 use Rattle.desk_app.proofs.Cutting.{held_short}

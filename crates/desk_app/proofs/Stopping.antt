@@ -3,6 +3,7 @@ use Rattle.std.proofs.Common.{◌≡◌, ◌+◌, ◌++◌, ◌∷◌, [], ℕ, 
 use Rattle.std.proofs.Common.{ap, refl, sym, ◌∙◌, append-nil}
 use Rattle.desk_core.specs.Machine.{State}
 use Rattle.desk_app.specs.declared.options.LineOptions.{LineOptions}
+use Rattle.desk_app.specs.declared.options.RunOptions.{RunOptions}
 use Rattle.desk_app.specs.Runs.{all_fine, is_fine, line_after, run_after, taken, up_to_first, AreTaken}
 
 first_true : (a b : Bool) → (a && b) ≡ true → a ≡ true
@@ -35,16 +36,23 @@ one_taken options s n l = either (is_fine options s n l)
     either false = refl
 
 -- behind lines that are fine one more is taken
-pub more_taken : (options : LineOptions) (stop : Bool) (s : State) (done : List (List ℕ)) (l : List ℕ)
-    → (stop ≡ true → all_fine options s 1 done ≡ true) → AreTaken options stop s (done ++ l ∷ [])
-more_taken options false s done l fine = refl
-more_taken options true s done l fine =
-    past_fine options s 1 done (l ∷ []) (fine refl)
-    ∙ ap (λ ks. done ++ ks) (one_taken options (run_after options s 1 done) (1 + length done) l)
+pub more_taken : (options : RunOptions) (s : State) (done : List (List ℕ)) (l : List ℕ)
+    → (options.stop ≡ true → all_fine options.lines s 1 done ≡ true) → AreTaken options s (done ++ l ∷ [])
+more_taken options s done l fine = either options.stop fine
+  where
+    either : (b : Bool) → (b ≡ true → all_fine options.lines s 1 done ≡ true)
+        → cond b (up_to_first options.lines s 1 (done ++ l ∷ [])) (done ++ l ∷ []) ≡ done ++ l ∷ []
+    either false fine = refl
+    either true fine =
+        past_fine options.lines s 1 done (l ∷ []) (fine refl)
+        ∙ ap (λ ks. done ++ ks) (one_taken options.lines (run_after options.lines s 1 done) (1 + length done) l)
 
-pub none_taken : (options : LineOptions) (stop : Bool) (s : State) → AreTaken options stop s []
-none_taken options false s = refl
-none_taken options true s = refl
+pub none_taken : (options : RunOptions) (s : State) → AreTaken options s []
+none_taken options s = either options.stop
+  where
+    either : (b : Bool) → cond b (up_to_first options.lines s 1 []) [] ≡ []
+    either false = refl
+    either true = refl
 
 alone : (l : List ℕ) (ls ks : List (List ℕ)) → l ∷ [] ≡ l ∷ (ls ++ ks) → l ∷ [] ≡ l ∷ ls
 alone l [] ks h = refl
@@ -62,10 +70,14 @@ first_taken options s n (l ∷ ls) ks h =
     either true step e = ap (λ ms. l ∷ ms) (step (cc))
     either false step e = alone l ls ks e
 
-pub taken_before : (options : LineOptions) (stop : Bool) (s : State) (ls ks : List (List ℕ)) → AreTaken options stop s (ls ++ ks)
-    → AreTaken options stop s ls
-taken_before options false s ls ks h = refl
-taken_before options true s ls ks h = first_taken options s 1 ls ks h
+pub taken_before : (options : RunOptions) (s : State) (ls ks : List (List ℕ)) → AreTaken options s (ls ++ ks)
+    → AreTaken options s ls
+taken_before options s ls ks h = either options.stop h
+  where
+    either : (b : Bool) → cond b (up_to_first options.lines s 1 (ls ++ ks)) (ls ++ ks) ≡ ls ++ ks
+        → cond b (up_to_first options.lines s 1 ls) ls ≡ ls
+    either false h = refl
+    either true h = first_taken options.lines s 1 ls ks h
 
 -- where one of them isn't fine, none behind them is taken
 none_past : (options : LineOptions) (s : State) (n : ℕ) (ls ks : List (List ℕ)) → up_to_first options s n ls ≡ ls
@@ -79,10 +91,14 @@ none_past options s n (l ∷ ls) ks h unfine =
     either true step e rest = ap (λ ms. l ∷ ms) (step (cc) rest)
     either false step e rest = e
 
-pub taken_to_stop : (options : LineOptions) (stop : Bool) (s : State) (ls ks : List (List ℕ)) → stop ≡ true
-    → AreTaken options stop s ls → all_fine options s 1 ls ≡ false → taken options stop s (ls ++ ks) ≡ ls
-taken_to_stop options false s ls ks stops h unfine = absurd (cc)
-taken_to_stop options true s ls ks stops h unfine = none_past options s 1 ls ks h unfine
+pub taken_to_stop : (options : RunOptions) (s : State) (ls ks : List (List ℕ)) → options.stop ≡ true
+    → AreTaken options s ls → all_fine options.lines s 1 ls ≡ false → taken options s (ls ++ ks) ≡ ls
+taken_to_stop options s ls ks stops h unfine = either options.stop stops h
+  where
+    either : (b : Bool) → b ≡ true → cond b (up_to_first options.lines s 1 ls) ls ≡ ls
+        → cond b (up_to_first options.lines s 1 (ls ++ ks)) (ls ++ ks) ≡ ls
+    either false stops h = absurd (cc)
+    either true stops h = none_past options.lines s 1 ls ks h unfine
 
 -- ---- those that are taken of lines
 
@@ -100,9 +116,13 @@ first_again options s n (l ∷ ls) =
         ∙ ap (λ ks. l ∷ ks) again
     either false fine {these} again = one_taken options s n l
 
-pub taken_again : (options : LineOptions) (stop : Bool) (s : State) (ls : List (List ℕ)) → AreTaken options stop s (taken options stop s ls)
-taken_again options false s ls = refl
-taken_again options true s ls = first_again options s 1 ls
+pub taken_again : (options : RunOptions) (s : State) (ls : List (List ℕ)) → AreTaken options s (taken options s ls)
+taken_again options s ls = either options.stop
+  where
+    either : (b : Bool) → cond b (up_to_first options.lines s 1 (cond b (up_to_first options.lines s 1 ls) ls))
+        (cond b (up_to_first options.lines s 1 ls) ls) ≡ cond b (up_to_first options.lines s 1 ls) ls
+    either false = refl
+    either true = first_again options.lines s 1 ls
 
 begins_with_first : (options : LineOptions) (s : State) (n : ℕ) (ls : List (List ℕ))
     → (rest : List (List ℕ)) × (ls ≡ up_to_first options s n ls ++ rest)
@@ -116,7 +136,10 @@ begins_with_first options s n (l ∷ ls) =
     either true these (rest, e) = (rest, ap (λ ks. l ∷ ks) e)
     either false these (rest, e) = (ls, refl)
 
-pub begins_with_taken : (options : LineOptions) (stop : Bool) (s : State) (ls : List (List ℕ))
-    → (rest : List (List ℕ)) × (ls ≡ taken options stop s ls ++ rest)
-begins_with_taken options false s ls = ([], sym (append-nil ls))
-begins_with_taken options true s ls = begins_with_first options s 1 ls
+pub begins_with_taken : (options : RunOptions) (s : State) (ls : List (List ℕ))
+    → (rest : List (List ℕ)) × (ls ≡ taken options s ls ++ rest)
+begins_with_taken options s ls = either options.stop
+  where
+    either : (b : Bool) → (rest : List (List ℕ)) × (ls ≡ cond b (up_to_first options.lines s 1 ls) ls ++ rest)
+    either false = ([], sym (append-nil ls))
+    either true = begins_with_first options.lines s 1 ls

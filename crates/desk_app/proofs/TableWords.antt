@@ -9,7 +9,7 @@ use Rattle.std.proofs.lemmas.Slice.Eq.{bytes_eq-Decides}
 use Rattle.std.proofs.lemmas.Str.{IsUtf8-from_ascii}
 use Rattle.table_store.specs.declared.name.TableName.{TableName}
 use Rattle.table_store.specs.declared.name.TableName.TheVariants as table
-use Rattle.desk_ends.specs.Named.{table_named}
+use Rattle.table_store.specs.Named.{table_named}
 
 ascii : (s : List ℕ) → list_all (λ b. nat_lt b 128) s ≡ true → IsAscii s
 ascii [] h i = omega arith

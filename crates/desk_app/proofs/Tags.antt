@@ -2,9 +2,8 @@
 use Rattle.std.proofs.Common.{◌≡◌, ◌∙◌, ◌⊎◌, inl, inr, ◌+◌, ◌^◌, ℕ, Bool, true, false, List, ap, sym, refl, subst}
 use Rattle.std.proofs.Common.{cond, arith}
 use Rattle.std.specs.Prelude.{Option, Some, None, Result, Ok, Err, nat_lt}
-use Rattle.part_core.specs.Day.{CivilDay}
+use Rattle.word_core.specs.Day.{CivilDay}
 use Rattle.desk_core.specs.Machine.{State}
-use Rattle.desk_wire.specs.Imports.{import}
 use Rattle.desk_http.specs.Services.{Operation, RunLine, ImportFile, ShowReport, ShowTable, ShowBooks, ShowHistory}
 use Rattle.desk_http.specs.Services.{ImportSheet, ShowList, RunLines, ShowDump, StopService, ReplyView, Stops, step}
 use Rattle.desk_http.specs.declared.service.NoReply.{NoReply}
@@ -14,10 +13,9 @@ use Rattle.desk_http.specs.declared.service.Outcome.TheVariants as outcomes
 use Rattle.desk_http.specs.declared.service.Outcome.TheVariants.{Answered, AnsweredLines, Reported}
 use Rattle.desk_http.specs.declared.target.ImportKind.{ImportKind}
 use Rattle.desk_http.specs.declared.service.Tag.{Tag}
-use Rattle.desk_app.specs.Runs.{naming}
 use Rattle.desk_app.specs.declared.options.LineOptions.{LineOptions}
 use Rattle.desk_app.specs.ImportRuns.{Reading}
-use Rattle.desk_app.specs.Services.{ServiceState, by_reading, counted, desk_machine, import_file, import_kind, leaves}
+use Rattle.desk_app.specs.Services.{ServiceState, by_reading, counted, desk_machine, import_file, leaves, rows_sent}
 use Rattle.desk_app.specs.Services.{import_sheet, raised, run_line, run_lines, tag_after, Follows, IsLater, TagsTellBooks, WasDone}
 use Rattle.desk_app.proofs.Replies.{line_told}
 use Rattle.desk_app.proofs.SheetReplies.{lines_told, sheet_told}
@@ -93,7 +91,7 @@ import_told : (names : Bool) (d : State) (loose : Bool) (kind : ImportKind) (doc
     ⊎ ((import_file names d loose kind document day rows).0 ≡ d)
 unfolding import_file
 import_told names d loose kind document day rows =
-    file_told d (import loose (naming names d) (import_kind kind) document day rows)
+    file_told d (rows_sent names d loose kind document day rows)
 
 -- what only reads leaves all as it was
 unread : (d d' : ServiceState) → d' ≡ d → Follows d d'

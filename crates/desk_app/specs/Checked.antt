@@ -10,8 +10,8 @@ use Rattle.desk_wire.specs.declared.fault.What.TheVariants.{TooLong}
 use Rattle.desk_wire.specs.declared.read.Wish.{Wish}
 use Rattle.desk_wire.specs.Reading as reading
 use Rattle.desk_wire.specs.Writing.{fault_text}
-use Rattle.desk_ends.specs.declared.end.RunEnd.{RunEnd}
-use Rattle.desk_ends.specs.declared.end.RunEnd.TheVariants.{Done, ReadFailed, WriteFailed, Memory, Store}
+use Rattle.desk_core.specs.declared.end.RunEnd.{RunEnd}
+use Rattle.desk_core.specs.declared.end.RunEnd.TheVariants.{Done, ReadFailed, WriteFailed, Memory, Store}
 use Rattle.desk_app.specs.Runs.{is_blank, lines_of}
 
 -- ---- one line

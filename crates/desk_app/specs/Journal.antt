@@ -2,10 +2,10 @@
 use Rattle.std.specs.Prelude.{◌≡◌, ◌<◌, ◌+◌, ◌^◌, ◌++◌, ◌∷◌, decimal, is_some, if◌then◌else◌, ℕ, zero, suc, Bool, true}
 use Rattle.std.specs.Prelude.{false, List, Option, Some, None, Ok, Err}
 use Rattle.std.specs.FinMap as table
-use Rattle.part_core.specs.Day.{CivilDay, IsInUse, day_text}
-use Rattle.part_core.specs.Sheet.{Table}
-use Rattle.part_core.specs.declared.answer.Answer.{Answer}
-use Rattle.part_core.specs.declared.refusal.Refusal.{Refusal}
+use Rattle.word_core.specs.Day.{CivilDay, IsInUse, day_text}
+use Rattle.sheet_core.specs.Sheet.{Table}
+use Rattle.word_core.specs.declared.answer.Answer.{Answer}
+use Rattle.word_core.specs.declared.refusal.Refusal.{Refusal}
 use Rattle.desk_core.specs.CommandText.{command_text}
 use Rattle.desk_core.specs.Key.{is_key}
 use Rattle.desk_core.specs.Machine.{State, step, with_answer}

@@ -1,8 +1,8 @@
 -- Why a line or a row wasn't done, in words, or what a name that it gave is near: what a person is told beside the answer.
 use Rattle.std.specs.Prelude.{◌≡◌, ℕ, List, [], ◌∷◌, ◌++◌, decimal, codes, Option, Some, None, option_map, string_bytes}
 use Rattle.std.specs.Prelude.{◌⊎◌, Bool, Result, Ok, Err}
-use Rattle.part_core.specs.Refusal.{refusal_name}
-use Rattle.part_core.specs.declared.refusal.Refusal.{Refusal}
+use Rattle.word_core.specs.Refusal.{refusal_name}
+use Rattle.word_core.specs.declared.refusal.Refusal.{Refusal}
 use Rattle.desk_core.specs.Machine.{Outcome, State, step}
 use Rattle.desk_core.specs.declared.command.Request.{Request as Req}
 use Rattle.list_core.specs.Facts.{row_fact}
@@ -21,7 +21,7 @@ use Rattle.desk_wire.specs.Faults.{fault_name, shown_field}
 use Rattle.desk_wire.specs.Imports.{Wrong}
 use Rattle.desk_wire.specs.Reading.{table_of}
 use Rattle.desk_wire.specs.WrongFields.{TellsField, wrong_in_line}
-use Rattle.desk_ends.specs.Escaped.{escaped}
+use Rattle.report_core.specs.Escaped.{escaped}
 use Rattle.desk_app.specs.Journal.{journalled}
 use Rattle.desk_app.specs.Runs.{naming}
 use Rattle.desk_app.specs.declared.options.LineOptions.{LineOptions}

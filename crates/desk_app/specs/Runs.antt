@@ -2,7 +2,7 @@
 use Rattle.std.specs.Prelude.{◌≡◌, ◌≤◌, ◌<◌, ℕ, length, ◌+◌, ◌==◌, ◌&&◌, Bool, true, false, List, [], ◌∷◌}
 use Rattle.std.specs.Prelude.{◌++◌, if◌then◌else◌, ◌⊎◌, Option, Some, None, IsSome, Result, Ok, Err}
 use Rattle.std.specs.Io.KnownBytes.{Appends, Keeps}
-use Rattle.part_core.specs.declared.refusal.Refusal.TheVariants.{NoSuch}
+use Rattle.word_core.specs.declared.refusal.Refusal.TheVariants.{NoSuch}
 use Rattle.desk_core.specs.Machine.{State, Outcome, step}
 use Rattle.desk_core.specs.Naming.{Naming, naming_in}
 use Rattle.desk_core.specs.declared.command.Request.{Request as Req}
@@ -15,10 +15,11 @@ use Rattle.desk_wire.specs.Reading as reading
 use Rattle.desk_wire.specs.Writing.{answer_text, refused_text, fault_text, report_text}
 use Rattle.sqlite.specs.Tree.{Trees}
 use Rattle.desk_store.specs.StateTables.{TablesAre}
-use Rattle.desk_ends.specs.declared.end.Stop.{Stop}
-use Rattle.desk_ends.specs.declared.end.Stop.TheVariants.{ReadFailed, WriteFailed, Memory, Store}
+use Rattle.desk_core.specs.declared.end.Stop.{Stop}
+use Rattle.desk_core.specs.declared.end.Stop.TheVariants.{ReadFailed, WriteFailed, Memory, Store}
 use Rattle.desk_app.specs.Journal.{journalled}
 use Rattle.desk_app.specs.declared.options.LineOptions.{LineOptions}
+use Rattle.desk_app.specs.declared.options.RunOptions.{RunOptions}
 
 -- ---- one line: the state after it, the text with LF that is answered, and whether nothing was
 -- refused or faulty
@@ -99,12 +100,12 @@ up_to_first options s number (l ∷ ls) =
     if is_fine options s number l then l ∷ up_to_first options (line_after options s number l) (number + 1) ls else l ∷ []
 
 -- the lines that a run takes of these: all, or, where it stops there, those up to the first that is refused or faulty
-abbrev pub taken : LineOptions → Bool → State → List (List ℕ) → List (List ℕ)
-taken options stop s lines = if stop then up_to_first options s 1 lines else lines
+abbrev pub taken : RunOptions → State → List (List ℕ) → List (List ℕ)
+taken options s lines = if options.stop then up_to_first options.lines s 1 lines else lines
 
 -- a run takes these lines all: where it stops at the first that is refused or faulty, none but the last is
-abbrev pub AreTaken : LineOptions → Bool → State → List (List ℕ) → Type 0
-AreTaken options stop s lines = taken options stop s lines ≡ lines
+abbrev pub AreTaken : RunOptions → State → List (List ℕ) → Type 0
+AreTaken options s lines = taken options s lines ≡ lines
 
 -- ---- the lines that are kept together
 
@@ -125,11 +126,11 @@ pub record RanLines (options : LineOptions) (lines : List (List ℕ)) (w w' : Op
   pub fine : all ≡ all_fine options s 1 lines
 
 -- all lines that the run takes of the text were; of unknown bytes, those of some lines
-abbrev pub Finished : LineOptions → Bool → Option (List ℕ) → Option (List ℕ) → Option (List ℕ) → State → State → Bool
+abbrev pub Finished : RunOptions → Option (List ℕ) → Option (List ℕ) → Option (List ℕ) → State → State → Bool
     → Type 0
-Finished options stop None w w' s s' all =
-    (lines : List (List ℕ)) × RanLines options (taken options stop s lines) w w' s s' all
-Finished options stop (Some text) w w' s s' all = RanLines options (taken options stop s (lines_of text)) w w' s s' all
+Finished options None w w' s s' all =
+    (lines : List (List ℕ)) × RanLines options.lines (taken options s lines) w w' s s' all
+Finished options (Some text) w w' s s' all = RanLines options.lines (taken options s (lines_of text)) w w' s s' all
 
 -- the lines of a text begin with these; those of unknown bytes may be any
 abbrev pub BeginWith : Option (List ℕ) → List (List ℕ) → Type 0
@@ -137,61 +138,61 @@ BeginWith None lines = Unit {0}
 BeginWith (Some text) lines = (rest : List (List ℕ)) × (lines_of text ≡ lines ++ rest)
 
 -- the first of the lines were run, and their answers written whole; the others were not run
-pub record StoppedBetween (options : LineOptions) (stop : Bool) (text w w' : Option (List ℕ)) (s s' : State) : Type 0 where
+pub record StoppedBetween (options : RunOptions) (text w w' : Option (List ℕ)) (s s' : State) : Type 0 where
   pub done : List (List ℕ)
   pub first : BeginWith text done
-  pub all_taken : AreTaken options stop s done
-  pub state : s' ≡ run_after options s 1 done
-  pub written : Appends w w' (run_out options s 1 done)
+  pub all_taken : AreTaken options s done
+  pub state : s' ≡ run_after options.lines s 1 done
+  pub written : Appends w w' (run_out options.lines s 1 done)
 
 -- Of the lines that were run the last were one group, of whose answers a front is written. There are such answers. The
 -- other lines have theirs whole.
-pub record StoppedWriting (options : LineOptions) (stop : Bool) (text w w' : Option (List ℕ)) (s s' : State) : Type 0 where
+pub record StoppedWriting (options : RunOptions) (text w w' : Option (List ℕ)) (s s' : State) : Type 0 where
   pub told : List (List ℕ)
   pub group : List (List ℕ)
   pub front : List ℕ
   pub more : List ℕ
   pub first : BeginWith text (told ++ group)
-  pub all_taken : AreTaken options stop s (told ++ group)
-  pub size : IsGroup options (run_after options s 1 told) (1 + length told) group
-  pub state : s' ≡ run_after options s 1 (told ++ group)
-  pub answers : run_out options (run_after options s 1 told) (1 + length told) group ≡ front ++ more
+  pub all_taken : AreTaken options s (told ++ group)
+  pub size : IsGroup options.lines (run_after options.lines s 1 told) (1 + length told) group
+  pub state : s' ≡ run_after options.lines s 1 (told ++ group)
+  pub answers : run_out options.lines (run_after options.lines s 1 told) (1 + length told) group ≡ front ++ more
   pub some : 0 < length (front ++ more)
-  pub written : Appends w w' (run_out options s 1 told ++ front)
+  pub written : Appends w w' (run_out options.lines s 1 told ++ front)
 
 -- of the lines that were run the last may have nothing of its answer written, the others have theirs
 -- whole
-pub record StoppedForMemory (options : LineOptions) (stop : Bool) (text w w' : Option (List ℕ)) (s s' : State) : Type 0 where
+pub record StoppedForMemory (options : RunOptions) (text w w' : Option (List ℕ)) (s s' : State) : Type 0 where
   pub told : List (List ℕ)
   pub untold : List (List ℕ)
   pub first : BeginWith text (told ++ untold)
-  pub all_taken : AreTaken options stop s (told ++ untold)
+  pub all_taken : AreTaken options s (told ++ untold)
   pub one : length untold ≤ 1
-  pub state : s' ≡ run_after options s 1 (told ++ untold)
-  pub written : Appends w w' (run_out options s 1 told)
+  pub state : s' ≡ run_after options.lines s 1 (told ++ untold)
+  pub written : Appends w w' (run_out options.lines s 1 told)
 
 -- The database failed in a group, or as it was committed, and the books are closed. The lines before the group have
 -- their answers written whole, and those of the group nothing of theirs. A crash leaves the tables before the group, or,
 -- where the commit failed, those after it.
-pub record StoppedInGroup (options : LineOptions) (stop : Bool) (text w w' : Option (List ℕ)) (s s' : State)
+pub record StoppedInGroup (options : RunOptions) (text w w' : Option (List ℕ)) (s s' : State)
     (leaves : Trees → Type 0) : Type 0 where
   pub told : List (List ℕ)
   pub group : List (List ℕ)
   pub first : BeginWith text (told ++ group)
-  pub all_taken : AreTaken options stop s (told ++ group)
-  pub size : IsGroup options (run_after options s 1 told) (1 + length told) group
-  pub state : s' ≡ run_after options s 1 (told ++ group)
-  pub written : Appends w w' (run_out options s 1 told)
+  pub all_taken : AreTaken options s (told ++ group)
+  pub size : IsGroup options.lines (run_after options.lines s 1 told) (1 + length told) group
+  pub state : s' ≡ run_after options.lines s 1 (told ++ group)
+  pub written : Appends w w' (run_out options.lines s 1 told)
   pub left : (trees : Trees) → leaves trees
-      → TablesAre (run_after options s 1 told) trees ⊎ TablesAre (run_after options s 1 (told ++ group)) trees
+      → TablesAre (run_after options.lines s 1 told) trees ⊎ TablesAre (run_after options.lines s 1 (told ++ group)) trees
 
 -- some of the lines were run, by what it was that failed; these tables a crash may leave of the books
-abbrev pub Stopped : LineOptions → Bool → Stop → Option (List ℕ) → Option (List ℕ) → Option (List ℕ) → State → State
+abbrev pub Stopped : RunOptions → Stop → Option (List ℕ) → Option (List ℕ) → Option (List ℕ) → State → State
     → (Trees → Type 0) → Type 0
-Stopped options stop ReadFailed text w w' s s' leaves = StoppedBetween options stop text w w' s s'
-Stopped options stop WriteFailed text w w' s s' leaves = StoppedWriting options stop text w w' s s'
-Stopped options stop Memory text w w' s s' leaves = StoppedForMemory options stop text w w' s s'
-Stopped options stop Store text w w' s s' leaves = StoppedInGroup options stop text w w' s s' leaves
+Stopped options ReadFailed text w w' s s' leaves = StoppedBetween options text w w' s s'
+Stopped options WriteFailed text w w' s s' leaves = StoppedWriting options text w w' s s'
+Stopped options Memory text w w' s s' leaves = StoppedForMemory options text w w' s s'
+Stopped options Store text w w' s s' leaves = StoppedInGroup options text w w' s s' leaves
 
 -- a request that the books did not answer, or whose answer was not told: where memory ran out it was run or not; where
 -- the database failed it was not
@@ -252,42 +253,42 @@ IsOfSettling _ = ⊥
 
 -- the first lines have their answers written, and those of the group wait with theirs; one line more may have been run,
 -- which has none and is of the group; these tables a crash may leave, and they are those before the group
-pub record Halting (options : LineOptions) (stop : Bool) (text w w' : Option (List ℕ)) (s s' : State) (waits : List ℕ)
+pub record Halting (options : RunOptions) (text w w' : Option (List ℕ)) (s s' : State) (waits : List ℕ)
     (leaves : Trees → Type 0) : Type 0 where
   pub told : List (List ℕ)
   pub group : List (List ℕ)
   pub untold : List (List ℕ)
   pub first : BeginWith text ((told ++ group) ++ untold)
-  pub all_taken : AreTaken options stop s ((told ++ group) ++ untold)
+  pub all_taken : AreTaken options s ((told ++ group) ++ untold)
   pub one : length untold ≤ 1
-  pub size : IsGroup options (run_after options s 1 told) (1 + length told) (group ++ untold)
-  pub state : s' ≡ run_after options s 1 ((told ++ group) ++ untold)
-  pub written : Appends w w' (run_out options s 1 told)
-  pub answers : waits ≡ run_out options (run_after options s 1 told) (1 + length told) group
-  pub left : (trees : Trees) → leaves trees → TablesAre (run_after options s 1 told) trees
+  pub size : IsGroup options.lines (run_after options.lines s 1 told) (1 + length told) (group ++ untold)
+  pub state : s' ≡ run_after options.lines s 1 ((told ++ group) ++ untold)
+  pub written : Appends w w' (run_out options.lines s 1 told)
+  pub answers : waits ≡ run_out options.lines (run_after options.lines s 1 told) (1 + length told) group
+  pub left : (trees : Trees) → leaves trees → TablesAre (run_after options.lines s 1 told) trees
 
 -- the group ends behind its last answer
-abbrev pub HaltsWhole : LineOptions → Bool → Option (List ℕ) → Option (List ℕ) → Option (List ℕ) → State → State → List ℕ
+abbrev pub HaltsWhole : RunOptions → Option (List ℕ) → Option (List ℕ) → Option (List ℕ) → State → State → List ℕ
     → (Trees → Type 0) → Type 0
-HaltsWhole options stop text w w' s s' waits leaves =
-    (h : Halting options stop text w w' s s' waits leaves) × (h.untold ≡ [])
+HaltsWhole options text w w' s s' waits leaves =
+    (h : Halting options text w w' s s' waits leaves) × (h.untold ≡ [])
 
 -- these are all lines that the run takes of the text
-abbrev pub AreAll : LineOptions → Bool → State → Option (List ℕ) → List (List ℕ) → Type 0
-AreAll options stop s None lines = Unit {0}
-AreAll options stop s (Some text) lines = taken options stop s (lines_of text) ≡ lines
+abbrev pub AreAll : RunOptions → State → Option (List ℕ) → List (List ℕ) → Type 0
+AreAll options s None lines = Unit {0}
+AreAll options s (Some text) lines = taken options s (lines_of text) ≡ lines
 
 -- all lines that the run takes were run, and the last of them wait
-abbrev pub Gathered : LineOptions → Bool → Option (List ℕ) → Option (List ℕ) → Option (List ℕ) → State → State → Bool
+abbrev pub Gathered : RunOptions → Option (List ℕ) → Option (List ℕ) → Option (List ℕ) → State → State → Bool
     → List ℕ → (Trees → Type 0) → Type 0
-Gathered options stop text w w' s s' all waits leaves =
-    (h : Halting options stop text w w' s s' waits leaves) × (h.untold ≡ [])
-    × AreAll options stop s text (h.told ++ h.group) × (all ≡ all_fine options s 1 (h.told ++ h.group))
+Gathered options text w w' s s' all waits leaves =
+    (h : Halting options text w w' s s' waits leaves) × (h.untold ≡ [])
+    × AreAll options s text (h.told ++ h.group) × (all ≡ all_fine options.lines s 1 (h.told ++ h.group))
 
 -- the lines stop before the last group is ended, or as a group was ended
-abbrev pub Halts : LineOptions → Bool → Stop → Option (List ℕ) → Option (List ℕ) → Option (List ℕ) → State → State
+abbrev pub Halts : RunOptions → Stop → Option (List ℕ) → Option (List ℕ) → Option (List ℕ) → State → State
     → List ℕ → (Trees → Type 0) → Type 0
-Halts options stop ReadFailed text w w' s s' waits leaves = HaltsWhole options stop text w w' s s' waits leaves
-Halts options stop Memory text w w' s s' waits leaves = Halting options stop text w w' s s' waits leaves
-Halts options stop WriteFailed text w w' s s' waits leaves = StoppedWriting options stop text w w' s s'
-Halts options stop Store text w w' s s' waits leaves = StoppedInGroup options stop text w w' s s' leaves
+Halts options ReadFailed text w w' s s' waits leaves = HaltsWhole options text w w' s s' waits leaves
+Halts options Memory text w w' s s' waits leaves = Halting options text w w' s s' waits leaves
+Halts options WriteFailed text w w' s s' waits leaves = StoppedWriting options text w w' s s'
+Halts options Store text w w' s s' waits leaves = StoppedInGroup options text w w' s s' leaves

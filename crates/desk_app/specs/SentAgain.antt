@@ -1,6 +1,6 @@
 -- What comes of sending a file again.
 use Rattle.std.specs.Prelude.{◌≡◌, ℕ, Bool, true, List, ◌++◌, Ok}
-use Rattle.part_core.specs.Day.{CivilDay}
+use Rattle.word_core.specs.Day.{CivilDay}
 use Rattle.desk_core.specs.Machine.{State, run}
 use Rattle.desk_core.specs.declared.command.Request.{Request}
 use Rattle.desk_wire.specs.Imports.{import}

@@ -2,7 +2,7 @@
 use Rattle.std.specs.Prelude.{◌≡◌, ◌⊎◌, ◌+◌, ◌^◌, ◌<◌, ◌&&◌, ◌||◌, nat_lt, ℕ, List, [], Bool, true, false, Option, Some, None}
 use Rattle.std.specs.Prelude.{IsSome, is_some, Result, Ok, Err, option_map, if◌then◌else◌}
 use Rattle.sqlite.specs.Tree.{Trees}
-use Rattle.part_core.specs.Day.{CivilDay}
+use Rattle.word_core.specs.Day.{CivilDay}
 use Rattle.desk_core.specs.Machine.{State, Outcome, step}
 use Rattle.desk_core.specs.declared.command.Request.{Request}
 use Rattle.report_core.specs.Lines.{Lines}
@@ -15,13 +15,10 @@ use Rattle.desk_store.specs.Exports.{table_text}
 use Rattle.desk_store.specs.Shown.{books_text, history_text}
 use Rattle.desk_store.specs.StateTables.{TablesAre}
 use Rattle.desk_wire.specs.declared.fault.What.{What}
+use Rattle.desk_wire.specs.declared.kind.FileReading.{FileReading}
+use Rattle.desk_wire.specs.declared.kind.FileReading.TheVariants.{Strict, Loose}
 use Rattle.desk_wire.specs.declared.kind.ImportKind as wire_kind
 use Rattle.desk_wire.specs.declared.kind.ImportKind.TheVariants as wire_kinds
-use Rattle.desk_wire.specs.declared.fault.FileError.{FileError}
-use Rattle.desk_wire.specs.declared.fault.FileError.TheVariants as file
-use Rattle.desk_wire.specs.declared.fault.ReadError.{ReadError}
-use Rattle.desk_wire.specs.declared.fault.ReadError.TheVariants as read
-use Rattle.desk_wire.specs.Imports.{import}
 use Rattle.desk_wire.specs.Reading as reading
 use Rattle.desk_wire.specs.SheetForms.{sheet_form}
 use Rattle.desk_wire.specs.Writing.{answer_text, refused_text, fault_text}
@@ -42,15 +39,15 @@ use Rattle.desk_http.specs.declared.service.Failure.{Failure}
 use Rattle.desk_http.specs.declared.service.Failure.TheVariants.{Store, Memory}
 use Rattle.desk_http.specs.declared.service.NoReply.{NoReply}
 use Rattle.desk_http.specs.declared.service.NoReply.TheVariants.{Failed, Untold}
-use Rattle.desk_app.specs.ImportRuns.{Reading, rows_after, rows_out, RanSome, IsLeftByImport}
-use Rattle.desk_ends.specs.Lists.{Listed, lines_by, list_by, shown_list}
-use Rattle.desk_ends.specs.Printed.{printed}
+use Rattle.desk_app.specs.ImportRuns.{Reading, file_rows, rows_after, rows_out, RanSome, IsLeftByImport}
+use Rattle.list_words.specs.Lists.{Listed, lines_by, list_by, shown_list}
+use Rattle.desk_wire.specs.Printed.{printed}
 use Rattle.desk_app.specs.Journal.{journalled}
 use Rattle.desk_app.specs.Runs.{lines_of, naming}
 use Rattle.desk_app.specs.declared.options.LineOptions.{LineOptions}
-use Rattle.desk_ends.specs.Named.{table_named}
-use Rattle.desk_app.specs.SheetReplies.{AreLeftByLines, RanFirst, by_form, by_said, form_lines, lines_by_said}
-use Rattle.desk_app.specs.SheetRuns.{sheet_options}
+use Rattle.table_store.specs.Named.{table_named}
+use Rattle.desk_app.specs.SheetReplies.{AreLeftByLines, RanFirst, by_form, by_said, form_lines, lines_by_said, said_run}
+use Rattle.desk_app.specs.SheetRuns.{sheet_options, sheet_run}
 
 -- a kind and a name, as the lines and the reports have them
 abbrev pub import_kind : ImportKind → wire_kind.ImportKind
@@ -84,9 +81,24 @@ abbrev pub by_reading : State → Reading → State × ReplyView
 by_reading s (Ok rows) = (rows_after s rows, (Reported, rows_out s rows))
 by_reading s (Err fault) = (s, (Faulty, fault_text fault))
 
+-- a file is read strictly or loosely
+abbrev pub reading_of : Bool → FileReading
+reading_of false = Strict
+reading_of true = Loose
+
+-- what a file of rows asks, that is sent so
+abbrev pub rows_sent : Bool → State → Bool → ImportKind → List ℕ → CivilDay → List ℕ → Reading
+rows_sent names s loose kind document day rows =
+    file_rows (record {
+      kind = import_kind kind;
+      document = document;
+      day = day;
+      reading = reading_of loose;
+      names = names;
+    }) s rows
+
 unfoldable pub import_file : Bool → State → Bool → ImportKind → List ℕ → CivilDay → List ℕ → State × ReplyView
-import_file names s loose kind document day rows =
-    by_reading s (import loose (naming names s) (import_kind kind) document day rows)
+import_file names s loose kind document day rows = by_reading s (rows_sent names s loose kind document day rows)
 
 abbrev pub by_printed : List ℕ × Bool → ReplyView
 by_printed (text, true) = (Reported, text)
@@ -187,16 +199,16 @@ desk_machine = record {
 abbrev pub leaves_of : LineOptions → State → Operation → State → Type 0
 leaves_of options s (RunLine line) s' = s' ≡ s
 leaves_of options s (ImportFile loose kind document day rows) s' =
-    RanSome (import loose (naming options.names s) (import_kind kind) document day rows) s s'
+    RanSome (rows_sent options.names s loose kind document day rows) s s'
 leaves_of options s (ShowReport name number) s' = s' ≡ s
 leaves_of options s (ShowTable name) s' = s' ≡ s
 leaves_of options s (ShowBooks known) s' = s' ≡ s
 leaves_of options s (ShowHistory from) s' = s' ≡ s
 leaves_of options s (ImportSheet command document day file) s' =
-    RanFirst sheet_options false (sheet_lines command document day file) s s'
+    RanFirst (sheet_run false) (sheet_lines command document day file) s s'
 leaves_of options s (ShowList list word said) s' = s' ≡ s
 leaves_of options s (RunLines said text) s' =
-    RanFirst options said.stop (lines_to_run options said text) s s'
+    RanFirst (said_run options said) (lines_to_run options said text) s s'
 leaves_of options s StopService s' = s' ≡ s
 leaves_of options s ShowDump s' = s' ≡ s
 
@@ -216,7 +228,7 @@ IsFailedFile Untold file s s' = s' ≡ s
 
 -- of a file of a command without a reply the first lines were run; where its reply was not told, none
 abbrev pub IsFailedSheet : NoReply → List (List ℕ) → State → State → Type 0
-IsFailedSheet (Failed e) lines s s' = RanFirst sheet_options false lines s s'
+IsFailedSheet (Failed e) lines s s' = RanFirst (sheet_run false) lines s s'
 IsFailedSheet Untold lines s s' = s' ≡ s
 
 -- a request that failed was not run; where its reply was not told, it was
@@ -269,8 +281,7 @@ IsLeftByOperation options (RunLine line) why s s' trees =
     IfStoreFailed why (TablesAre s' trees ⊎ TablesAre (run_line options s line).0 trees) (TablesAre s' trees)
 IsLeftByOperation options (ImportFile loose kind document day rows) why s s' trees =
     IfStoreFailed why
-    (IsLeftByImport (import loose (naming options.names s) (import_kind kind) document day rows) s s' trees)
-    (TablesAre s' trees)
+    (IsLeftByImport (rows_sent options.names s loose kind document day rows) s s' trees) (TablesAre s' trees)
 IsLeftByOperation options (ShowReport name number) why s s' trees = TablesAre s' trees
 IsLeftByOperation options (ShowTable name) why s s' trees = TablesAre s' trees
 IsLeftByOperation options (ShowBooks known) why s s' trees = TablesAre s' trees
@@ -326,9 +337,3 @@ pub record TagsTellBooks : Type 0 where
   pub none : (d : ServiceState) → Follows d d
   pub more : (d d' d'' : ServiceState) → Follows d d' → Follows d' d'' → Follows d d''
   pub same : (d d' : ServiceState) (tag : Tag) → Follows d d' → d.2 ≡ Some tag → d'.2 ≡ Some tag → d'.0 ≡ d.0
-
--- the same fault, of a file and of what was read of it
-abbrev pub FailsAlike : FileError → ReadError → Type 0
-FailsAlike file.Memory read.Memory = Unit {0}
-FailsAlike (file.Wrong fault field) (read.Wrong same) = same ≡ fault
-FailsAlike _ _ = ⊥

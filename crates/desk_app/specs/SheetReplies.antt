@@ -2,8 +2,8 @@
 use Rattle.std.specs.Prelude.{◌≡◌, ◌⊎◌, ◌+◌, ◌++◌, ◌==◌, nat_le, ℕ, Bool, List, [], length, count_by, false, Option, Some, None}
 use Rattle.std.specs.Prelude.{Result, Ok, Err, if◌then◌else◌}
 use Rattle.sqlite.specs.Tree.{Trees}
-use Rattle.part_core.specs.Day.{CivilDay}
-use Rattle.part_core.specs.Forms.{Form}
+use Rattle.word_core.specs.Day.{CivilDay}
+use Rattle.word_core.specs.Forms.{Form}
 use Rattle.desk_core.specs.Machine.{State}
 use Rattle.desk_store.specs.StateTables.{TablesAre}
 use Rattle.desk_wire.specs.declared.fault.WireFault.{WireFault}
@@ -15,8 +15,9 @@ use Rattle.desk_http.specs.declared.service.Outcome as kind
 use Rattle.desk_http.specs.declared.service.Outcome.TheVariants.{AnsweredLines, Faulty, FaultyLines, Reported, Unknown}
 use Rattle.desk_app.specs.Checked.{are_readable, faults_out}
 use Rattle.desk_app.specs.Runs.{lines_of, run_after, run_out, taken, AreTaken, IsGroup}
-use Rattle.desk_app.specs.SheetRuns.{sheet_options}
+use Rattle.desk_app.specs.SheetRuns.{sheet_options, sheet_run}
 use Rattle.desk_app.specs.declared.options.LineOptions.{LineOptions}
+use Rattle.desk_app.specs.declared.options.RunOptions.{RunOptions}
 
 -- ---- the lines of a text, as they are taken, of which the first that is refused or faulty may be the last
 
@@ -25,15 +26,15 @@ abbrev pub faults_reply : List ℕ → ReplyView
 faults_reply faults = (if nat_le (count_by (λ b. b == 10) faults) 1 then Faulty else FaultyLines, faults)
 
 -- the answers of all that are run, though some are refused, as a reply of that kind
-abbrev pub by_run : LineOptions → Bool → kind.Outcome → State → List (List ℕ) → State × ReplyView
-by_run options stop told s lines =
-    (run_after options s 1 (taken options stop s lines), (told, run_out options s 1 (taken options stop s lines)))
+abbrev pub by_run : RunOptions → kind.Outcome → State → List (List ℕ) → State × ReplyView
+by_run options told s lines =
+    (run_after options.lines s 1 (taken options s lines), (told, run_out options.lines s 1 (taken options s lines)))
 
 -- where one has a fault that shows before any is run, none is
-abbrev pub by_lines : LineOptions → Bool → kind.Outcome → State → List (List ℕ) → State × ReplyView
-by_lines options stop told s lines =
-    if are_readable options.names lines then by_run options stop told s lines
-    else (s, faults_reply (faults_out options.names 1 lines))
+abbrev pub by_lines : RunOptions → kind.Outcome → State → List (List ℕ) → State × ReplyView
+by_lines options told s lines =
+    if are_readable options.lines.names lines then by_run options told s lines
+    else (s, faults_reply (faults_out options.lines.names 1 lines))
 
 -- those that may be run: all, or none
 abbrev pub lines_to_run : LineOptions → List (List ℕ) → List (List ℕ)
@@ -41,11 +42,15 @@ lines_to_run options lines = if are_readable options.names lines then lines else
 
 -- ---- lines that are sent
 
+-- as they are taken here, up to the first that is refused or faulty where it is said so
+abbrev pub said_run : LineOptions → LineWords → RunOptions
+said_run options said = record { lines = options; stop = said.stop }
+
 -- they are looked at before, or aren't
 abbrev pub by_said : LineOptions → LineWords → State → List (List ℕ) → State × ReplyView
 by_said options said s lines =
-    if said.check then by_lines options said.stop AnsweredLines s lines
-    else by_run options said.stop AnsweredLines s lines
+    if said.check then by_lines (said_run options said) AnsweredLines s lines
+    else by_run (said_run options said) AnsweredLines s lines
 
 abbrev pub lines_by_said : LineOptions → LineWords → List (List ℕ) → List (List ℕ)
 lines_by_said options said lines = if said.check then lines_to_run options lines else lines
@@ -53,7 +58,7 @@ lines_by_said options said lines = if said.check then lines_to_run options lines
 -- ---- the text that a file is, or its fault: rows are said by what they are called
 
 abbrev pub by_text : State → Result (List ℕ) WireFault → State × ReplyView
-by_text s (Ok text) = by_lines sheet_options false Reported s (lines_of text)
+by_text s (Ok text) = by_lines (sheet_run false) Reported s (lines_of text)
 by_text s (Err fault) = (s, (Faulty, fault_text fault))
 
 abbrev pub text_lines : Result (List ℕ) WireFault → List (List ℕ)
@@ -77,12 +82,12 @@ form_lines (Some form) document day file = text_lines (text_of form document day
 -- ---- where there is no reply
 
 -- the first of the lines were run, of those that are taken, and no other
-pub record RanFirst (options : LineOptions) (stop : Bool) (lines : List (List ℕ)) (s s' : State) : Type 0 where
+pub record RanFirst (options : RunOptions) (lines : List (List ℕ)) (s s' : State) : Type 0 where
   pub done : List (List ℕ)
   pub rest : List (List ℕ)
   pub split : lines ≡ done ++ rest
-  pub all_taken : AreTaken options stop s done
-  pub state : s' ≡ run_after options s 1 done
+  pub all_taken : AreTaken options s done
+  pub state : s' ≡ run_after options.lines s 1 done
 
 -- The database failed in a group of the lines, or as it was committed. A crash leaves the tables before the group, or,
 -- where the commit failed, those after it.

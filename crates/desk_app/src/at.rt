@@ -6,7 +6,7 @@ ghost use Rattle.desk_app.specs.Cuts.{left};
 
 use crate::heard::{Shown, Trouble, shown_of};
 use crate::lines::Lines;
-use desk_ends::Stop;
+use desk_core::Stop;
 use desk_http::{Answer, LineWords, Question, Unheard};
 use desk_store::send;
 use std::alloc::Global;

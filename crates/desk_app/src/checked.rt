@@ -7,25 +7,24 @@ ghost use Rattle.std.specs.String.{string_bytes};
 ghost use Rattle.sqlite.specs.Tree.{Trees};
 ghost use Rattle.desk_core.specs.Books.{AreInOrder};
 ghost use Rattle.desk_store.specs.StateTables.{TablesAre};
-ghost use Rattle.desk_ends.specs.declared.end.Stop.{Stop};
+ghost use Rattle.desk_core.specs.declared.end.Stop.{Stop};
 ghost use Rattle.desk_app.specs.Answered.{AnsweredIsKept};
 ghost use Rattle.desk_app.specs.Checked.{anything, are_readable, fault_of, faults_out, is_readable};
 ghost use Rattle.desk_wire.specs.Writing.{fault_text};
 ghost use Rattle.desk_wire.specs.declared.fault.What.TheVariants.{TooLong};
 ghost use Rattle.desk_app.specs.Checked.{naming_ahead, text_faults, told_of, TellsFaults};
 ghost use Rattle.desk_app.specs.Cuts.{first_of};
-ghost use Rattle.desk_ends.specs.Ends.{end_of};
+ghost use Rattle.desk_core.specs.Ends.{end_of};
 ghost use Rattle.desk_app.specs.Runs.{lines_of, Finished, Stopped};
 
 use crate::books::Books;
-use crate::options::LineOptions;
+use crate::options::RunOptions;
 use crate::pieces::end_of;
 use crate::reasons::why_faulty_line;
 use crate::run::{is_blank, run_lines};
-use desk_core::{Key, Names};
-use desk_ends::{RunEnd, Stop, Told};
+use desk_core::{Key, Names, RunEnd, Stop};
 use desk_store::send;
-use desk_wire::{ReadError, What, WireFault, fault_text, read_line};
+use desk_wire::{ReadError, Told, What, WireFault, fault_text, read_line};
 use part_core::{Found, Id, Serial};
 use std::alloc::{AllocError, Global};
 use std::io::Write;
@@ -209,22 +208,21 @@ pub(crate) fn run_text<B: Books, W: Write>(
     bytes: &[u8],
     writer: &mut W,
     books: &mut B,
-    options: LineOptions,
-    stop: bool,
+    options: RunOptions,
 ) -> RunEnd
     requires { B.are_kept books.old }
-    ensures untouched { are_readable options.names (lines_of bytes.now) ≡ false
+    ensures untouched { are_readable options.lines.names (lines_of bytes.now) ≡ false
         → books.new ≡ books.old }
-    ensures faults { are_readable options.names (lines_of bytes.now) ≡ false
-        → TellsFaults (faults_out options.names 1 (lines_of bytes.now)) (W.contents writer.old)
+    ensures faults { are_readable options.lines.names (lines_of bytes.now) ≡ false
+        → TellsFaults (faults_out options.lines.names 1 (lines_of bytes.now)) (W.contents writer.old)
         (W.contents writer.new) result }
-    ensures done { are_readable options.names (lines_of bytes.now) ≡ true → (all : Bool)
+    ensures done { are_readable options.lines.names (lines_of bytes.now) ≡ true → (all : Bool)
         → result ≡ RunEnd.Done all
-        → Finished options stop (Some bytes.now) (W.contents writer.old)
+        → Finished options (Some bytes.now) (W.contents writer.old)
         (W.contents writer.new) (B.state_in books.old) (B.state_in books.new) all }
-    ensures stopped { are_readable options.names (lines_of bytes.now) ≡ true → (why : Stop)
+    ensures stopped { are_readable options.lines.names (lines_of bytes.now) ≡ true → (why : Stop)
         → result ≡ end_of why
-        → Stopped options stop why (Some bytes.now) (W.contents writer.old)
+        → Stopped options why (Some bytes.now) (W.contents writer.old)
         (W.contents writer.new) (B.state_in books.old) (B.state_in books.new)
         (λ trees. (B.failure_of books.old ≡ None) × B.may_leave books.new trees) }
     ensures kept { B.are_kept books.new }
@@ -234,8 +232,8 @@ pub(crate) fn run_text<B: Books, W: Write>(
     ensures closed { result ≡ RunEnd.Store → IsSome (B.failure_of books.new) }
     ensures left { result ≢ RunEnd.Store → (trees : Trees) → B.may_leave books.new trees
         → TablesAre (B.state_in books.new) trees }
-    ensures answered { are_readable options.names (lines_of bytes.now) ≡ true
-        → AnsweredIsKept options stop (Some bytes.now) (W.contents writer.old)
+    ensures answered { are_readable options.lines.names (lines_of bytes.now) ≡ true
+        → AnsweredIsKept options (Some bytes.now) (W.contents writer.old)
         (W.contents writer.new) (B.state_in books.old)
         (λ trees. (B.failure_of books.old ≡ None) × B.may_leave books.new trees) }
 {
@@ -243,7 +241,7 @@ pub(crate) fn run_text<B: Books, W: Write>(
         Ok(_) => {}
         Err(_) => return RunEnd::Store,
     }
-    let told = match faults_of_lines(alloc, bytes, options.names) {
+    let told = match faults_of_lines(alloc, bytes, options.lines.names) {
         Ok(told) => told,
         Err(_) => return RunEnd::Memory,
     };
@@ -251,7 +249,7 @@ pub(crate) fn run_text<B: Books, W: Write>(
         return tell_faults(writer, told.text.as_bytes());
     }
     let mut reader = bytes;
-    run_lines(alloc, &mut reader, writer, books, options, stop)
+    run_lines(alloc, &mut reader, writer, books, options)
 }
 
 /// Tells that a text is too long, unless the books are closed.
@@ -285,21 +283,20 @@ pub fn run_checked<B: Books, W: Write>(
     bytes: &[u8],
     writer: &mut W,
     books: &mut B,
-    options: LineOptions,
-    stop: bool,
+    options: RunOptions,
 ) -> RunEnd
     requires { B.are_kept books.old }
-    ensures untouched { is_readable options.names bytes.now ≡ false → books.new ≡ books.old }
-    ensures faults { is_readable options.names bytes.now ≡ false
-        → TellsFaults (text_faults options.names bytes.now) (W.contents writer.old)
+    ensures untouched { is_readable options.lines.names bytes.now ≡ false → books.new ≡ books.old }
+    ensures faults { is_readable options.lines.names bytes.now ≡ false
+        → TellsFaults (text_faults options.lines.names bytes.now) (W.contents writer.old)
         (W.contents writer.new) result }
-    ensures done { is_readable options.names bytes.now ≡ true → (all : Bool)
+    ensures done { is_readable options.lines.names bytes.now ≡ true → (all : Bool)
         → result ≡ RunEnd.Done all
-        → Finished options stop (Some bytes.now) (W.contents writer.old)
+        → Finished options (Some bytes.now) (W.contents writer.old)
         (W.contents writer.new) (B.state_in books.old) (B.state_in books.new) all }
-    ensures stopped { is_readable options.names bytes.now ≡ true → (why : Stop)
+    ensures stopped { is_readable options.lines.names bytes.now ≡ true → (why : Stop)
         → result ≡ end_of why
-        → Stopped options stop why (Some bytes.now) (W.contents writer.old)
+        → Stopped options why (Some bytes.now) (W.contents writer.old)
         (W.contents writer.new) (B.state_in books.old) (B.state_in books.new)
         (λ trees. (B.failure_of books.old ≡ None) × B.may_leave books.new trees) }
     ensures kept { B.are_kept books.new }
@@ -309,13 +306,13 @@ pub fn run_checked<B: Books, W: Write>(
     ensures closed { result ≡ RunEnd.Store → IsSome (B.failure_of books.new) }
     ensures left { result ≢ RunEnd.Store → (trees : Trees) → B.may_leave books.new trees
         → TablesAre (B.state_in books.new) trees }
-    ensures answered { is_readable options.names bytes.now ≡ true
-        → AnsweredIsKept options stop (Some bytes.now) (W.contents writer.old)
+    ensures answered { is_readable options.lines.names bytes.now ≡ true
+        → AnsweredIsKept options (Some bytes.now) (W.contents writer.old)
         (W.contents writer.new) (B.state_in books.old)
         (λ trees. (B.failure_of books.old ≡ None) × B.may_leave books.new trees) }
 {
     if bytes.len() > MOST_BYTES {
         return tell_too_long(alloc, writer, books);
     }
-    run_text(alloc, bytes, writer, books, options, stop)
+    run_text(alloc, bytes, writer, books, options)
 }

@@ -7,7 +7,7 @@ ghost use Rattle.desk_core.specs.ShopView.{state_of};
 ghost use Rattle.desk_store.specs.Desks.{IsDesk};
 ghost use Rattle.desk_app.specs.Closed.{KeepAlone};
 
-use desk_ends::RunEnd;
+use desk_core::RunEnd;
 use desk_store::Desk;
 use sqlite::{Error, FileStore, Files};
 use sqlite_disk::Disk;

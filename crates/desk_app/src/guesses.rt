@@ -1,6 +1,6 @@
 //! The word that was meant where one is misspelt.
 
-use desk_ends::guide_text::{COMMANDS, FIELDS, WORDS};
+use crate::guide_text::{COMMANDS, FIELDS, WORDS};
 use desk_wire::{What, WrongField};
 use std::alloc::{AllocError, Global};
 use strsim::levenshtein;

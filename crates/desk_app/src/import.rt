@@ -8,25 +8,25 @@ ghost use Rattle.std.specs.String.{string_bytes};
 ghost use Rattle.sqlite.specs.Tree.{Trees};
 ghost use Rattle.desk_core.specs.Books.{AreInOrder};
 ghost use Rattle.desk_store.specs.StateTables.{TablesAre};
-ghost use Rattle.desk_wire.specs.Imports.{import, import_by, import_unchanged, wrong_in_file, wrong_in_file_by};
-ghost use Rattle.desk_wire.specs.Imports.{wrong_in_unchanged, Tells};
-ghost use Rattle.desk_ends.specs.declared.end.Stop.{Stop};
-ghost use Rattle.desk_ends.specs.Ends.{end_of};
+ghost use Rattle.desk_wire.specs.Imports.{import, import_unchanged, wrong_in_file, wrong_in_unchanged, Tells};
+ghost use Rattle.desk_core.specs.declared.end.Stop.{Stop};
+ghost use Rattle.desk_core.specs.Ends.{end_of};
 ghost use Rattle.desk_app.specs.Reasons.{NotesFile};
 ghost use Rattle.desk_app.specs.Runs.{EndsOpen, IsOfBooks, StaysOpen, naming};
-ghost use Rattle.desk_app.specs.ImportRuns.{import_told, rows_told, AreLeftByRows, ImportStopped};
-ghost use Rattle.desk_app.specs.ImportRuns.{ImportedWhole, IsLeftByImport, RanFront, RanSome};
+ghost use Rattle.desk_app.specs.ImportRuns.{file_rows, file_wrong, import_told, rows_told, shown_import};
+ghost use Rattle.desk_app.specs.ImportRuns.{AreLeftByRows, ImportStopped, ImportedWhole, IsLeftByImport};
+ghost use Rattle.desk_app.specs.ImportRuns.{RanFront, RanSome};
 
 use crate::books::Books;
+use crate::options::ImportOf;
 use crate::run::{named_shop, tell_outcome};
 use crate::undone::{Place, Why};
-use desk_ends::{RunEnd, Stop, Told};
+use desk_core::{RunEnd, Stop};
 use desk_store::send;
 use desk_wire::{
-    Document, FileError, FileReading, ImportKind, ImportRow, fault_text, import_rows,
-    import_unchanged, push_report_line,
+    FileError, FileReading, ImportRow, Told, fault_text, import_rows, import_unchanged,
+    push_report_line,
 };
-use part_core::Day;
 use std::alloc::Global;
 use std::io::Write;
 
@@ -127,77 +127,80 @@ type Rows = Result<Vec<ImportRow>, FileError>;
 fn plain_rows<B: Books>(
     alloc: Global,
     bytes: &[u8],
-    kind: ImportKind,
-    document: &Document,
-    day: Day,
     loose: bool,
-    names: bool,
+    asked: &ImportOf<'_>,
     books: &B,
 ) -> Result<Rows, Stop>
     requires { B.are_grouping books.now }
-    ensures rows { let names = naming names (B.state_in books.now) in
-        let asked = import loose names kind document.now day bytes.now in
-        let wrong = wrong_in_file loose names kind document.now day bytes.now in
-        IfOk result (λ read. MatchResult read (λ rows. asked ≡ Ok rows.items) (Tells asked wrong)) }
+    ensures rows { let it = shown_import asked.now in
+        let names = naming it.names (B.state_in books.now) in
+        let file = import loose names it.kind it.document it.day bytes.now in
+        let wrong = wrong_in_file loose names it.kind it.document it.day bytes.now in
+        IfOk result (λ read. MatchResult read (λ rows. file ≡ Ok rows.items) (Tells file wrong)) }
     ensures store { IfErr result (λ stop. stop ≡ Stop.Store) }
     ensures closed { OnErr result (IsSome (B.failure_of books.now)) }
 {
-    let named = named_shop(books, names)?;
-    Ok(import_rows(alloc, loose, named, bytes, kind, document, day))
+    let named = named_shop(books, asked.names)?;
+    Ok(import_rows(
+        alloc,
+        loose,
+        named,
+        bytes,
+        asked.kind,
+        asked.document,
+        asked.day,
+    ))
 }
 
 /// The rows of a file that is read unless the books have changed, or why it isn't.
 fn unchanged_rows<B: Books>(
     alloc: Global,
     bytes: &[u8],
-    kind: ImportKind,
-    document: &Document,
-    day: Day,
-    names: bool,
+    asked: &ImportOf<'_>,
     books: &B,
 ) -> Result<Rows, Stop>
     requires { B.are_grouping books.now }
-    ensures rows { let s = B.state_in books.now in
-        let asked = import_unchanged s (naming names s) kind document.now day bytes.now in
-        let wrong = wrong_in_unchanged s (naming names s) kind document.now day bytes.now in
-        IfOk result (λ read. MatchResult read (λ rows. asked ≡ Ok rows.items) (Tells asked wrong)) }
+    ensures rows { let it = shown_import asked.now in
+        let s = B.state_in books.now in
+        let file = import_unchanged s (naming it.names s) it.kind it.document it.day bytes.now in
+        let wrong = wrong_in_unchanged s (naming it.names s) it.kind it.document it.day bytes.now in
+        IfOk result (λ read. MatchResult read (λ rows. file ≡ Ok rows.items) (Tells file wrong)) }
     ensures store { IfErr result (λ stop. stop ≡ Stop.Store) }
     ensures closed { OnErr result (IsSome (B.failure_of books.now)) }
 {
-    let named = named_shop(books, names)?;
+    let named = named_shop(books, asked.names)?;
     let Ok(shop) = books.shop() else {
         return Err(Stop::Store);
     };
-    Ok(import_unchanged(alloc, shop, named, bytes, kind, document, day))
+    Ok(import_unchanged(
+        alloc,
+        shop,
+        named,
+        bytes,
+        asked.kind,
+        asked.document,
+        asked.day,
+    ))
 }
 
 /// The rows of a file, or why it isn't read.
-fn rows_in<B: Books>(
+pub(crate) fn rows_in<B: Books>(
     alloc: Global,
     bytes: &[u8],
-    kind: ImportKind,
-    document: &Document,
-    day: Day,
-    reading: FileReading,
-    names: bool,
+    asked: &ImportOf<'_>,
     books: &B,
 ) -> Result<Rows, Stop>
     requires { B.are_grouping books.now }
-    ensures rows { let s = B.state_in books.now in
-        let asked = import_by reading s (naming names s) kind document.now day bytes.now in
-        let wrong = wrong_in_file_by reading s (naming names s) kind document.now day bytes.now in
-        IfOk result (λ read. MatchResult read (λ rows. asked ≡ Ok rows.items) (Tells asked wrong)) }
+    ensures rows { let file = file_rows (shown_import asked.now) (B.state_in books.now) bytes.now in
+        let wrong = file_wrong (shown_import asked.now) (B.state_in books.now) bytes.now in
+        IfOk result (λ read. MatchResult read (λ rows. file ≡ Ok rows.items) (Tells file wrong)) }
     ensures store { IfErr result (λ stop. stop ≡ Stop.Store) }
     ensures closed { OnErr result (IsSome (B.failure_of books.now)) }
 {
-    match reading {
-        FileReading::Strict => {
-            plain_rows(alloc, bytes, kind, document, day, false, names, books)
-        }
-        FileReading::Loose => plain_rows(alloc, bytes, kind, document, day, true, names, books),
-        FileReading::Unchanged => {
-            unchanged_rows(alloc, bytes, kind, document, day, names, books)
-        }
+    match asked.reading {
+        FileReading::Strict => plain_rows(alloc, bytes, false, asked, books),
+        FileReading::Loose => plain_rows(alloc, bytes, true, asked, books),
+        FileReading::Unchanged => unchanged_rows(alloc, bytes, asked, books),
     }
 }
 
@@ -206,41 +209,32 @@ fn rows_in<B: Books>(
 fn tell_import<B: Books>(
     alloc: Global,
     bytes: &[u8],
-    kind: ImportKind,
-    document: &Document,
-    day: Day,
-    reading: FileReading,
-    names: bool,
+    asked: &ImportOf<'_>,
     books: &mut B,
 ) -> Result<Told, Stop>
     requires { B.are_kept books.old }
-    ensures ok { IfOk result (λ told.
-        import_told (B.state_in books.old) (import_by reading (B.state_in books.old) (naming names (B.state_in books.old)) kind
-        document.now day bytes.now)
+    ensures ok { IfOk result (λ told. import_told (B.state_in books.old)
+        (file_rows (shown_import asked.now) (B.state_in books.old) bytes.now)
         ≡ (B.state_in books.new, string_bytes told.text, told.fine)) }
     ensures cut { IfErr result (λ stop. IsOfBooks stop
-        × RanSome (import_by reading (B.state_in books.old) (naming names (B.state_in books.old)) kind
-        document.now day bytes.now)
+        × RanSome (file_rows (shown_import asked.now) (B.state_in books.old) bytes.now)
         (B.state_in books.old) (B.state_in books.new)) }
     ensures kept { B.are_kept books.new }
     ensures stays_open { StaysOpen (B.failure_of books.old) (B.failure_of books.new) result }
     ensures left { B.failure_of books.old ≡ None → (trees : Trees)
         → B.may_leave books.new trees
-        → IsLeftByImport (import_by reading (B.state_in books.old) (naming names (B.state_in books.old)) kind
-        document.now day bytes.now)
+        → IsLeftByImport (file_rows (shown_import asked.now) (B.state_in books.old) bytes.now)
         (B.state_in books.old) (B.state_in books.new) trees }
     ensures reasons { OnOk result (NotesFile
-        (import_by reading (B.state_in books.old) (naming names (B.state_in books.old)) kind
-        document.now day bytes.now)
-        (wrong_in_file_by reading (B.state_in books.old) (naming names (B.state_in books.old)) kind
-        document.now day bytes.now)
+        (file_rows (shown_import asked.now) (B.state_in books.old) bytes.now)
+        (file_wrong (shown_import asked.now) (B.state_in books.old) bytes.now)
         (B.reasons_in books.old) (B.reasons_in books.new)) }
 {
-    match rows_in(alloc, bytes, kind, document, day, reading, names, books)? {
+    match rows_in(alloc, bytes, asked, books)? {
         Ok(rows) => tell_rows(alloc, &rows, books),
         Err(FileError::Wrong(fault, field)) => {
             let _ = books.explain(&Why::FaultyFile {
-                kind,
+                kind: asked.kind,
                 fault: &fault,
                 field: &field,
             });
@@ -257,33 +251,27 @@ fn tell_import<B: Books>(
 fn import_all<B: Books, W: Write>(
     alloc: Global,
     bytes: &[u8],
-    kind: ImportKind,
-    document: &Document,
-    day: Day,
-    reading: FileReading,
-    names: bool,
+    asked: &ImportOf<'_>,
     writer: &mut W,
     books: &mut B,
 ) -> Result<bool, Stop>
     requires { B.are_kept books.old }
-    ensures done { IfOk result (λ all. ImportedWhole (import_by reading (B.state_in books.old) (naming names (B.state_in books.old)) kind
-        document.now day bytes.now)
+    ensures done { IfOk result (λ all. ImportedWhole
+        (file_rows (shown_import asked.now) (B.state_in books.old) bytes.now)
         (W.contents writer.old) (W.contents writer.new)
         (B.state_in books.old) (B.state_in books.new) all) }
-    ensures stopped { IfErr result (λ stop.
-        ImportStopped stop (import_by reading (B.state_in books.old) (naming names (B.state_in books.old)) kind
-        document.now day bytes.now)
+    ensures stopped { IfErr result (λ stop. ImportStopped stop
+        (file_rows (shown_import asked.now) (B.state_in books.old) bytes.now)
         (W.contents writer.old) (W.contents writer.new)
         (B.state_in books.old) (B.state_in books.new)) }
     ensures kept { B.are_kept books.new }
     ensures stays_open { StaysOpen (B.failure_of books.old) (B.failure_of books.new) result }
     ensures left { B.failure_of books.old ≡ None → (trees : Trees)
         → B.may_leave books.new trees
-        → IsLeftByImport (import_by reading (B.state_in books.old) (naming names (B.state_in books.old)) kind
-        document.now day bytes.now)
+        → IsLeftByImport (file_rows (shown_import asked.now) (B.state_in books.old) bytes.now)
         (B.state_in books.old) (B.state_in books.new) trees }
 {
-    let told = tell_import(alloc, bytes, kind, document, day, reading, names, books)?;
+    let told = tell_import(alloc, bytes, asked, books)?;
     send(writer, told.text.as_bytes())?;
     Ok(told.fine)
 }
@@ -297,23 +285,17 @@ fn import_all<B: Books, W: Write>(
 pub fn import_file<B: Books, W: Write>(
     alloc: Global,
     bytes: &[u8],
-    kind: ImportKind,
-    document: &Document,
-    day: Day,
-    reading: FileReading,
-    names: bool,
+    asked: &ImportOf<'_>,
     writer: &mut W,
     books: &mut B,
 ) -> RunEnd
     requires { B.are_kept books.old }
-    ensures done { (all : Bool) → result ≡ RunEnd.Done all
-        → ImportedWhole (import_by reading (B.state_in books.old) (naming names (B.state_in books.old)) kind
-        document.now day bytes.now)
+    ensures done { (all : Bool) → result ≡ RunEnd.Done all → ImportedWhole
+        (file_rows (shown_import asked.now) (B.state_in books.old) bytes.now)
         (W.contents writer.old) (W.contents writer.new)
         (B.state_in books.old) (B.state_in books.new) all }
-    ensures stopped { (stop : Stop) → result ≡ end_of stop
-        → ImportStopped stop (import_by reading (B.state_in books.old) (naming names (B.state_in books.old)) kind
-        document.now day bytes.now)
+    ensures stopped { (stop : Stop) → result ≡ end_of stop → ImportStopped stop
+        (file_rows (shown_import asked.now) (B.state_in books.old) bytes.now)
         (W.contents writer.old) (W.contents writer.new)
         (B.state_in books.old) (B.state_in books.new) }
     ensures never { result ≢ RunEnd.ReadFailed }
@@ -326,13 +308,10 @@ pub fn import_file<B: Books, W: Write>(
         → B.may_leave books.new trees → TablesAre (B.state_in books.new) trees }
     ensures left_by_groups { B.failure_of books.old ≡ None → (trees : Trees)
         → B.may_leave books.new trees
-        → IsLeftByImport (import_by reading (B.state_in books.old) (naming names (B.state_in books.old)) kind
-        document.now day bytes.now)
+        → IsLeftByImport (file_rows (shown_import asked.now) (B.state_in books.old) bytes.now)
         (B.state_in books.old) (B.state_in books.new) trees }
 {
-    match import_all(
-        alloc, bytes, kind, document, day, reading, names, writer, books,
-    ) {
+    match import_all(alloc, bytes, asked, writer, books) {
         Ok(all) => RunEnd::Done(all),
         Err(stop) => stop.end(),
     }

@@ -4,7 +4,7 @@
 ghost use Rattle.std.specs.Prelude.{◌≡◌, ◌+◌, is_some, IfOk};
 ghost use Rattle.std.specs.FinMap as table;
 ghost use Rattle.std.specs.String.{string_bytes};
-ghost use Rattle.part_core.specs.Sheet.{now_of};
+ghost use Rattle.sheet_core.specs.Sheet.{now_of};
 ghost use Rattle.desk_core.specs.ShopView.{state_of};
 ghost use Rattle.desk_app.specs.Journal.{free_from, journal_key, journalled};
 ghost use Rattle.desk_app.specs.Journal.{JournalKeepsAnswersAlone, JournalKeysAreNew, JournalLeavesOthers};

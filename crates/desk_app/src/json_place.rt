@@ -1,7 +1,7 @@
 //! Where a line is no JSON any more, in words: the byte at which its reader stopped, and what stands before it.
 
-use desk_ends::escaped;
 use desk_wire::json_stop;
+use report_core::escaped;
 use std::alloc::{AllocError, Global};
 use std::str;
 

@@ -4,16 +4,16 @@ ghost use Rattle.desk_core.specs.Machine.{IsSoundState};
 ghost use Rattle.desk_core.specs.ShopView.{state_of};
 ghost use Rattle.list_core.specs.Listings.{listing_lines};
 ghost use Rattle.desk_wire.specs.Writing.{fault_text as text_of_fault};
-ghost use Rattle.desk_ends.specs.Lists.{lines_by, listed_of};
+ghost use Rattle.list_words.specs.Lists.{lines_by, listed_of};
 ghost use Rattle.desk_http.specs.Services.{reply_view};
 ghost use Rattle.desk_http.specs.Targets.{some_text};
 ghost use Rattle.desk_app.specs.Services.{by_listed, list_outcome, show_list};
 
 use desk_core::Shop;
-use desk_ends::{ListOf, ShownList, list_called, listing_in, show_listing};
 use desk_http::{Failure, ListWords, NoReply, Outcome, Reply};
 use desk_wire::{Unread, What, WireFault, fault_text};
 use list_core::Listing;
+use list_words::{ListOf, ShownList, list_called, listing_in, show_listing};
 use std::alloc::Global;
 
 /// Of what kind a list is replied.

@@ -4,7 +4,7 @@ ghost use Rattle.std.specs.Prelude.{◌≡◌, ◌++◌, ℕ, List, codes, decim
 ghost use Rattle.std.specs.String.{string_bytes};
 ghost use Rattle.desk_core.specs.Naming.{naming_in};
 ghost use Rattle.desk_core.specs.ShopView.{state_of};
-ghost use Rattle.desk_ends.specs.Escaped.{escaped};
+ghost use Rattle.report_core.specs.Escaped.{escaped};
 ghost use Rattle.desk_wire.specs.declared.fault.WrongField.{WrongField};
 ghost use Rattle.desk_wire.specs.WrongFields.{wrong_in_line, TellsField};
 ghost use Rattle.desk_app.specs.Reasons.{fault_words, no_report_words, place_text, refused_words};
@@ -12,14 +12,14 @@ ghost use Rattle.desk_app.specs.Reasons.{Begins, IsNewName, IsReason};
 ghost use Rattle.desk_app.specs.Runs.{naming};
 
 use crate::guesses::guess;
+use crate::guide::guide_to;
 use crate::json_place::json_place;
 use crate::undone::{Place, Why};
 use desk_core::{Names, Request, Shop};
-use desk_ends::{escaped, guide_to};
 use desk_wire::{ImportKind, What, WireFault, WrongField, table_of, wrong_field};
 use list_core::{NearNames, request_facts, row_fact};
 use part_core::{Id, Refusal};
-use report_core::ReportName;
+use report_core::{ReportName, escaped};
 use std::alloc::{AllocError, Global};
 
 /// What a line of the guide ends with that is of use only where rows may not be said by what they are called.

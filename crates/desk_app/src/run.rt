@@ -1,10 +1,28 @@
-//! A run over the lines of a reader. The lines that one read gave whole are run as a group: what they change is kept
-//! together, and their answers are written after it, in one write. No answer waits for a line that hasn't been read, so
-//! of a clerk who types, each line is a group of its own. A group ends, too, once its answers are long. No line is run
-//! after a failure, nor, where a run is to stop there, after a line that is refused or faulty. Where the writer fails
-//! the group is kept, and a front of its answers is written. Where a database has failed, the books are closed, nothing
-//! of the group's answers is written, and the tables are those before the group or, where the commit failed, maybe
-//! those after it.
+//! A run over the lines of a reader, in groups: the lines that one read gave whole are run together, what they change
+//! is kept together, and their answers are written after it, in one write.
+//!
+//! A line comes from `src/lines.rt`. `desk_wire` `src/read.rt` reads what it asks for, and a request goes to
+//! `Books::run_grouped`, which of a file is that of `desk_store` `src/group.rt`.
+//!
+//! What holds, each by the clauses of that name:
+//!
+//! 1. `ok`, `cut`: a line is answered, and changes the books, as its definition says (`Runs.line_step`). One that an
+//!    error leaves without its answer is done whole or not at all, and where the database failed, not at all.
+//! 2. `grouping`, `kept`: between two lines the books are in a group, and as it ends all that it changed is kept.
+//! 3. `waits`, `bounded`: no answer waits for a line that hasn't been read, so of a clerk who types each line is a
+//!    group of its own; and a group goes on only while its answers are short.
+//! 4. `answered`: nothing of an answer is written before what its group changed is kept. However a run ends, at
+//!    whichever of its calls, what was answered is kept.
+//! 5. `left`: within a group a crash leaves what it left before the group; as the group ends, that or the tables of the
+//!    books; and behind a run that doesn't end by `Store`, these alone.
+//! 6. `stays_open`, `ends_open`, `was_open`: what stops by `Store` has closed the books, nothing else closes them, and
+//!    closed ones aren't opened again.
+//! 7. `done`, `stopped`: a run ends behind its last line, or stops, and how it stops says which lines were run and
+//!    which of these answered. None is run behind a failure, nor, where it is to stop there, behind one that is refused
+//!    or faulty. Where the writer fails the group is kept, and a front of its answers is written. Where the database
+//!    fails nothing of the group's answers is written, and a crash leaves the tables from before it or, where the
+//!    commit failed, maybe those after it.
+//! 8. `reasons`, `quiet`: the books are told why a line isn't done, and of a blank line nothing.
 ghost use Rattle.std.specs.Prelude.{◌≡◌, ◌≢◌, ◌⊎◌, ◌<◌, ◌≤◌, ◌++◌, ℕ, List, [], Bool, None, false};
 ghost use Rattle.std.specs.Prelude.{length, true, IfOk, OnOk, IfErr, OnErr, Err, IsSome, option_map};
 ghost use Rattle.std.specs.String.{string_bytes};
@@ -15,11 +33,11 @@ ghost use Rattle.desk_core.specs.Machine.{IsSoundState, step};
 ghost use Rattle.desk_core.specs.Naming.{naming_in};
 ghost use Rattle.desk_core.specs.ShopView.{state_of};
 ghost use Rattle.desk_store.specs.StateTables.{TablesAre};
-ghost use Rattle.desk_ends.specs.declared.end.Stop.{Stop};
+ghost use Rattle.desk_core.specs.declared.end.Stop.{Stop};
 ghost use Rattle.desk_app.specs.Answered.{AnsweredIsKept};
 ghost use Rattle.desk_app.specs.Cuts.{has_end, unread};
 ghost use Rattle.desk_app.specs.Journal.{journalled};
-ghost use Rattle.desk_ends.specs.Ends.{end_of};
+ghost use Rattle.desk_core.specs.Ends.{end_of};
 ghost use Rattle.desk_app.specs.LineRequests.{LinesAloneAsk, LinesAreRequests};
 ghost use Rattle.report_core.specs.Reports.{report_lines};
 ghost use Rattle.desk_app.specs.Reasons.{NotesLine, NotesOutcome, NotesReport};
@@ -31,12 +49,13 @@ ghost use Rattle.desk_app.specs.Runs.{StaysOpen, Stopped, naming};
 use crate::books::Books;
 use crate::journal::journalled;
 use crate::lines::Lines;
-use crate::options::LineOptions;
+use crate::options::{LineOptions, RunOptions};
 use crate::undone::{Place, Why};
-use desk_core::{Request, Shop};
-use desk_ends::{RunEnd, Stop, Told};
+use desk_core::{Request, RunEnd, Shop, Stop};
 use desk_store::{Fault, send};
-use desk_wire::{ReadError, Wish, answer_text, fault_text, read_line, refused_text, report_text};
+use desk_wire::{
+    ReadError, Told, Wish, answer_text, fault_text, read_line, refused_text, report_text,
+};
 use part_core::CoreFault;
 use report_core::{ReportName, report};
 use std::alloc::Global;
@@ -188,7 +207,8 @@ pub(crate) fn named_shop<B: Books>(books: &B, names: bool) -> Result<Option<&Sho
     Ok(Some(shop))
 }
 
-/// The request as it is to be done on the books: where the journal is kept and it has no key, it gets one.
+/// The request as it is to be done on the books: where the journal is kept and it has no key, it gets one. The shop is
+/// borrowed anew, as `named_shop` did for the line's names: that borrow ended as the request was read.
 fn journalled_in<B: Books>(
     alloc: Global,
     books: &B,
@@ -362,17 +382,16 @@ fn gather<B: Books, R: Read, W: Write>(
     reader: &mut R,
     writer: &mut W,
     books: &mut B,
-    options: LineOptions,
-    stop: bool,
+    options: RunOptions,
     text: &mut Vec<u8>,
 ) -> Result<bool, Stop>
     requires kept { B.are_kept books.old }
     requires none { text.old.items ≡ [] }
-    ensures done { IfOk result (λ all. Gathered options stop (R.remaining reader.old)
+    ensures done { IfOk result (λ all. Gathered options (R.remaining reader.old)
         (W.contents writer.old) (W.contents writer.new) (B.state_in books.old)
         (B.state_in books.new) all text.new.items
         (λ trees. (B.failure_of books.old ≡ None) × B.may_leave books.new trees)) }
-    ensures stopped { IfErr result (λ why. Halts options stop why (R.remaining reader.old)
+    ensures stopped { IfErr result (λ why. Halts options why (R.remaining reader.old)
         (W.contents writer.old) (W.contents writer.new) (B.state_in books.old)
         (B.state_in books.new) text.new.items
         (λ trees. (B.failure_of books.old ≡ None) × B.may_leave books.new trees)) }
@@ -391,9 +410,9 @@ fn gather<B: Books, R: Read, W: Write>(
         if !lines.next_line(reader, &mut line)? {
             return Ok(all);
         }
-        let fine = add_line(alloc, books, number, &line, options, text)?;
+        let fine = add_line(alloc, books, number, &line, options.lines, text)?;
         all = all && fine;
-        if stop && !all {
+        if options.stop && !all {
             return Ok(false);
         }
     }
@@ -407,22 +426,21 @@ fn answer_all<B: Books, R: Read, W: Write>(
     reader: &mut R,
     writer: &mut W,
     books: &mut B,
-    options: LineOptions,
-    stop: bool,
+    options: RunOptions,
 ) -> Result<bool, Stop>
     requires { B.are_kept books.old }
-    ensures done { IfOk result (λ all. Finished options stop (R.remaining reader.old)
+    ensures done { IfOk result (λ all. Finished options (R.remaining reader.old)
         (W.contents writer.old) (W.contents writer.new) (B.state_in books.old)
         (B.state_in books.new) all) }
     ensures stopped { IfErr result (λ why.
-        Stopped options stop why (R.remaining reader.old) (W.contents writer.old)
+        Stopped options why (R.remaining reader.old) (W.contents writer.old)
         (W.contents writer.new) (B.state_in books.old) (B.state_in books.new)
         (λ trees. (B.failure_of books.old ≡ None) × B.may_leave books.new trees)) }
     ensures kept { B.are_kept books.new }
     ensures ends_open { EndsOpen (B.failure_of books.old) (B.failure_of books.new) result }
 {
     let mut text = Vec::new(alloc);
-    match gather(alloc, reader, writer, books, options, stop, &mut text) {
+    match gather(alloc, reader, writer, books, options, &mut text) {
         Ok(all) => {
             settle(writer, books, &mut text)?;
             Ok(all)
@@ -450,15 +468,14 @@ pub fn run_lines<B: Books, R: Read, W: Write>(
     reader: &mut R,
     writer: &mut W,
     books: &mut B,
-    options: LineOptions,
-    stop: bool,
+    options: RunOptions,
 ) -> RunEnd
     requires { B.are_kept books.old }
     ensures done { (all : Bool) → result ≡ RunEnd.Done all
-        → Finished options stop (R.remaining reader.old) (W.contents writer.old)
+        → Finished options (R.remaining reader.old) (W.contents writer.old)
         (W.contents writer.new) (B.state_in books.old) (B.state_in books.new) all }
     ensures stopped { (why : Stop) → result ≡ end_of why
-        → Stopped options stop why (R.remaining reader.old) (W.contents writer.old)
+        → Stopped options why (R.remaining reader.old) (W.contents writer.old)
         (W.contents writer.new) (B.state_in books.old) (B.state_in books.new)
         (λ trees. (B.failure_of books.old ≡ None) × B.may_leave books.new trees) }
     ensures kept { B.are_kept books.new }
@@ -468,11 +485,11 @@ pub fn run_lines<B: Books, R: Read, W: Write>(
     ensures closed { result ≡ RunEnd.Store → IsSome (B.failure_of books.new) }
     ensures left { result ≢ RunEnd.Store → (trees : Trees) → B.may_leave books.new trees
         → TablesAre (B.state_in books.new) trees }
-    ensures answered { AnsweredIsKept options stop (R.remaining reader.old) (W.contents writer.old)
+    ensures answered { AnsweredIsKept options (R.remaining reader.old) (W.contents writer.old)
         (W.contents writer.new) (B.state_in books.old)
         (λ trees. (B.failure_of books.old ≡ None) × B.may_leave books.new trees) }
 {
-    match answer_all(alloc, reader, writer, books, options, stop) {
+    match answer_all(alloc, reader, writer, books, options) {
         Ok(all) => RunEnd::Done(all),
         Err(why) => why.end(),
     }

@@ -3,7 +3,7 @@
 ghost use Rattle.std.specs.Prelude.{◌≡◌, ◌++◌, codes, decimal, false, IfOk, None};
 ghost use Rattle.std.specs.String.{string_bytes};
 ghost use Rattle.desk_core.specs.Books.{AreInOrder};
-ghost use Rattle.desk_ends.specs.Escaped.{escaped};
+ghost use Rattle.report_core.specs.Escaped.{escaped};
 ghost use Rattle.desk_wire.specs.Sheets.{sheet_text};
 ghost use Rattle.desk_wire.specs.SheetViews.{shown_sheet};
 ghost use Rattle.desk_wire.specs.Writing.{fault_text};
@@ -12,9 +12,9 @@ ghost use Rattle.desk_app.specs.SheetRuns.{PrintsSheet, PrintsText, RunsSheet};
 
 use crate::books::Books;
 use crate::checked::{explain_lines, run_text};
-use crate::options::LineOptions;
+use crate::options::{LineOptions, RunOptions};
 use crate::reasons::{followed, meaning, told_fault};
-use desk_ends::RunEnd;
+use desk_core::RunEnd;
 use desk_store::send;
 use desk_wire::{ReadError, Sheet, What, WireFault, fault_text, may_lack, sheet_text};
 use std::alloc::{AllocError, Global};
@@ -134,14 +134,11 @@ pub fn import_sheet<B: Books, W: Write, T: Write + Drop>(
 {
     match sheet_text(alloc, sheet, bytes) {
         Ok(text) => {
-            let end = run_text(
-                alloc,
-                text.as_bytes(),
-                writer,
-                books,
-                LineOptions::NAMED,
+            let options = RunOptions {
+                lines: LineOptions::NAMED,
                 stop,
-            );
+            };
+            let end = run_text(alloc, text.as_bytes(), writer, books, options);
             if let Some(mut told) = reasons {
                 explain_lines(alloc, text.as_bytes(), true, &mut told);
             }

@@ -4,7 +4,7 @@
 ghost use Rattle.std.specs.Prelude.{◌≡◌, ◌==◌, [], None, true, IfErr, IfOk, count_by};
 ghost use Rattle.std.specs.String.{string_bytes};
 ghost use Rattle.sqlite.specs.Tree.{Trees};
-ghost use Rattle.part_core.specs.Forms.{shown};
+ghost use Rattle.word_core.specs.Forms.{shown};
 ghost use Rattle.desk_store.specs.StateTables.{TablesAre};
 ghost use Rattle.desk_http.specs.Services.{reply_view, why_none};
 ghost use Rattle.desk_http.specs.Targets.{is_document};
@@ -15,15 +15,15 @@ ghost use Rattle.desk_app.specs.Services.{import_sheet, lines_to_run, run_lines,
 ghost use Rattle.desk_app.specs.Services.{IfStoreFailed, IsFailed, IsFailedSheet, StaysOpenBy};
 ghost use Rattle.desk_app.specs.SheetReplies.{by_lines, by_run, by_text, faults_reply};
 ghost use Rattle.desk_app.specs.SheetReplies.{lines_to_run as those_to_run};
-ghost use Rattle.desk_app.specs.SheetReplies.{text_lines, text_of, AreLeftByLines, RanFirst};
+ghost use Rattle.desk_app.specs.SheetReplies.{said_run, text_lines, text_of, AreLeftByLines, RanFirst};
 ghost use Rattle.desk_app.specs.SheetRuns.{sheet_options};
 
 use crate::books::Books;
 use crate::checked::faults_of_lines;
-use crate::options::LineOptions;
+use crate::options::{LineOptions, RunOptions};
 use crate::run::run_lines;
 use crate::service::{document_named, faulty, open_shop};
-use desk_ends::RunEnd;
+use desk_core::RunEnd;
 use desk_http::{Failure, LineWords, NoReply, Outcome, Reply};
 use desk_wire::{Document, ReadError, Sheet, sheet_form, sheet_text};
 use part_core::{Day, Form};
@@ -57,29 +57,28 @@ fn reply_to_lines<B: Books>(
     alloc: Global,
     books: &mut B,
     text: &[u8],
-    options: LineOptions,
-    stop: bool,
+    options: RunOptions,
     kind: Outcome,
 ) -> Result<Reply, NoReply>
     requires { B.are_kept books.old }
     ensures kept { B.are_kept books.new }
     ensures ok { IfOk result (λ reply. (B.state_in books.new, reply_view reply)
-        ≡ by_run options stop kind (B.state_in books.old) (lines_of text.now)) }
+        ≡ by_run options kind (B.state_in books.old) (lines_of text.now)) }
     ensures failed { IfErr result (λ why. IsFailed why
-        × RanFirst options stop (lines_of text.now) (B.state_in books.old)
+        × RanFirst options (lines_of text.now) (B.state_in books.old)
         (B.state_in books.new)) }
     ensures stays_open { StaysOpenBy (B.failure_of books.old) (B.failure_of books.new)
         (why_none result) }
     ensures left { B.failure_of books.old ≡ None → (trees : Trees)
         → B.may_leave books.new trees
         → IfStoreFailed (why_none result)
-        (AreLeftByLines options (lines_of text.now) (B.state_in books.old)
+        (AreLeftByLines options.lines (lines_of text.now) (B.state_in books.old)
         (B.state_in books.new) trees)
         (TablesAre (B.state_in books.new) trees) }
 {
     let mut answers = Vec::new(alloc);
     let mut reader = text;
-    match run_lines(alloc, &mut reader, &mut answers, books, options, stop) {
+    match run_lines(alloc, &mut reader, &mut answers, books, options) {
         RunEnd::Done(_) => Ok(Reply {
             outcome: kind,
             body: answers,
@@ -96,34 +95,33 @@ fn reply_to_text<B: Books>(
     alloc: Global,
     books: &mut B,
     text: &[u8],
-    options: LineOptions,
-    stop: bool,
+    options: RunOptions,
     kind: Outcome,
 ) -> Result<Reply, NoReply>
     requires { B.are_kept books.old }
     ensures kept { B.are_kept books.new }
     ensures ok { IfOk result (λ reply. (B.state_in books.new, reply_view reply)
-        ≡ by_lines options stop kind (B.state_in books.old) (lines_of text.now)) }
+        ≡ by_lines options kind (B.state_in books.old) (lines_of text.now)) }
     ensures failed { IfErr result (λ why. IsFailed why
-        × RanFirst options stop (those_to_run options (lines_of text.now))
+        × RanFirst options (those_to_run options.lines (lines_of text.now))
         (B.state_in books.old) (B.state_in books.new)) }
     ensures stays_open { StaysOpenBy (B.failure_of books.old) (B.failure_of books.new)
         (why_none result) }
     ensures left { B.failure_of books.old ≡ None → (trees : Trees)
         → B.may_leave books.new trees
         → IfStoreFailed (why_none result)
-        (AreLeftByLines options (those_to_run options (lines_of text.now)) (B.state_in books.old)
-        (B.state_in books.new) trees)
+        (AreLeftByLines options.lines (those_to_run options.lines (lines_of text.now))
+        (B.state_in books.old) (B.state_in books.new) trees)
         (TablesAre (B.state_in books.new) trees) }
 {
     if let Err(why) = open_shop(books) {
         return Err(why);
     }
-    let Ok(told) = faults_of_lines(alloc, text, options.names) else {
+    let Ok(told) = faults_of_lines(alloc, text, options.lines.names) else {
         return Err(NoReply::Failed(Failure::Memory));
     };
     if told.fine {
-        reply_to_lines(alloc, books, text, options, stop, kind)
+        reply_to_lines(alloc, books, text, options, kind)
     } else {
         Ok(faulty_lines(told.text))
     }
@@ -143,7 +141,7 @@ pub(crate) fn reply_to_said<B: Books>(
     ensures ok { IfOk result (λ reply. (B.state_in books.new, reply_view reply)
         ≡ run_lines options (B.state_in books.old) said text.now) }
     ensures failed { IfErr result (λ why. IsFailed why
-        × RanFirst options said.stop (lines_to_run options said text.now)
+        × RanFirst (said_run options said) (lines_to_run options said text.now)
         (B.state_in books.old) (B.state_in books.new)) }
     ensures stays_open { StaysOpenBy (B.failure_of books.old) (B.failure_of books.new)
         (why_none result) }
@@ -155,10 +153,14 @@ pub(crate) fn reply_to_said<B: Books>(
         (TablesAre (B.state_in books.new) trees) }
 {
     let kind = Outcome::AnsweredLines;
+    let run = RunOptions {
+        lines: options,
+        stop: said.stop,
+    };
     if said.check {
-        reply_to_text(alloc, books, text, options, said.stop, kind)
+        reply_to_text(alloc, books, text, run, kind)
     } else {
-        reply_to_lines(alloc, books, text, options, said.stop, kind)
+        reply_to_lines(alloc, books, text, run, kind)
     }
 }
 
@@ -187,8 +189,8 @@ fn reply_to_sheet<B: Books>(
 {
     match sheet_text(alloc, sheet, file) {
         Ok(text) => {
-            let (options, kind) = (LineOptions::NAMED, Outcome::Reported);
-            reply_to_text(alloc, books, text.as_bytes(), options, false, kind)
+            let (options, kind) = (RunOptions::NAMED, Outcome::Reported);
+            reply_to_text(alloc, books, text.as_bytes(), options, kind)
         }
         Err(ReadError::Wrong(fault)) => faulty(alloc, fault),
         Err(ReadError::Memory) => Err(NoReply::Untold),

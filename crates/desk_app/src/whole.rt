@@ -1,6 +1,6 @@
 //! A file, read as far as it is wanted.
 ghost use Rattle.std.specs.Prelude.{◌≡◌, ℕ, List, Option, IfOk, IfErr, IfSome};
-ghost use Rattle.part_core.specs.Day.{CivilDay};
+ghost use Rattle.word_core.specs.Day.{CivilDay};
 ghost use Rattle.desk_core.specs.Machine.{State};
 ghost use Rattle.desk_core.specs.Naming.{Naming};
 ghost use Rattle.desk_wire.specs.Imports.{import_by};
@@ -10,7 +10,7 @@ ghost use Rattle.desk_app.specs.Cuts.{ReadsFile};
 ghost use Rattle.desk_app.specs.Runs.{IsOfReading};
 
 use crate::lines::Lines;
-use desk_ends::Stop;
+use desk_core::Stop;
 use std::alloc::Global;
 use std::io::Read;
 

@@ -9,7 +9,7 @@ use Rattle.clap.specs.declared.error.kind.ErrorKind.{ErrorKind}
 use Rattle.clap.specs.declared.error.kind.ErrorKind.TheVariants.{DisplayHelp, DisplayVersion, OutOfMemory}
 use Rattle.clap.proofs.OnLiterals.{clap_on_literals}
 use Rattle.desk_cli.specs.Words.{asks_run, asks_help, asks_version, IsShown}
-use Rattle.desk_cli.specs.Words.{faults, command_line, Places, run, desk_task}
+use Rattle.desk_cli.specs.Words.{faults, command_line, Places, plain_run, desk_task}
 
 nothing_more : (places : Places) (name : Text) → faults places (name ∷ []) ≡ []
 unfolding faults clap_on_literals
@@ -35,11 +35,11 @@ short_version : (places : Places) (name : Text) → faults places (name ∷ code
 unfolding faults clap_on_literals
 short_version places name = refl
 
-nothing_task : (places : Places) (name : Text) → desk_task places (name ∷ []) ≡ Some (run None false false false false false)
+nothing_task : (places : Places) (name : Text) → desk_task places (name ∷ []) ≡ Some (plain_run None)
 unfolding desk_task clap_on_literals
 nothing_task places name = refl
 
-run_task : (places : Places) (name : Text) → desk_task places (name ∷ codes "run" ∷ []) ≡ Some (run None false false false false false)
+run_task : (places : Places) (name : Text) → desk_task places (name ∷ codes "run" ∷ []) ≡ Some (plain_run None)
 unfolding desk_task clap_on_literals
 run_task places name = refl
 
@@ -64,11 +64,11 @@ run_is_free places (name ∷ word ∷ []) h =
 run_is_free places (name ∷ word ∷ more ∷ words) h = absurd (cc)
 
 pub run_is_task : (places : Places) (words : List Text) → asks_run words ≡ true
-    → desk_task places words ≡ Some (run None false false false false false)
+    → desk_task places words ≡ Some (plain_run None)
 run_is_task places [] h = absurd (cc)
 run_is_task places (name ∷ []) h = nothing_task places name
 run_is_task places (name ∷ word ∷ []) h =
-    subst (λ (w : List ℕ). desk_task places (name ∷ w ∷ []) ≡ Some (run None false false false false false))
+    subst (λ (w : List ℕ). desk_task places (name ∷ w ∷ []) ≡ Some (plain_run None))
     (sym ((bytes_eq-Decides word (codes "run")).0 h)) (run_task places name)
 run_is_task places (name ∷ word ∷ more ∷ words) h = absurd (cc)
 

@@ -9,7 +9,7 @@ use Rattle.clap.specs.Walk.{Held, Walk, finished, nothing_held, option, rows_aft
 use Rattle.clap.specs.Words.{IsAmong, Row, Rule, Text, subcommand_of}
 use Rattle.clap.specs.declared.error.kind.ErrorKind.{ErrorKind}
 use Rattle.clap.proofs.OnLiterals.{clap_on_literals}
-use Rattle.desk_cli.specs.Words.{faults, Places, run, run_on, run_with, is_path, desk_task}
+use Rattle.desk_cli.specs.Words.{faults, Places, plain_run, run_on, run_with, is_path, desk_task}
 use Rattle.desk_cli.specs.Words.{command_line, desk_task_met, run_line, top_line}
 use Rattle.desk_cli.proofs.Faulty.{nothing_among}
 
@@ -17,12 +17,12 @@ named_free : (places : Places) (name file : Text) → faults places (run_on name
 unfolding faults clap_on_literals
 named_free places name file = refl
 
-named_task : (places : Places) (name file : Text) → desk_task places (run_on name file) ≡ Some (run (Some file) false false false false false)
+named_task : (places : Places) (name file : Text) → desk_task places (run_on name file) ≡ Some (plain_run (Some file))
 unfolding desk_task clap_on_literals
 named_task places name file = refl
 
 pub run_on_task : (places : Places) (words : List Text) (name file : Text) → words ≡ run_on name file
-    → desk_task places words ≡ Some (run (Some file) false false false false false)
+    → desk_task places words ≡ Some (plain_run (Some file))
 run_on_task places words name file e = ap (desk_task places) e ∙ named_task places name file
 
 pub no_run_on : (places : Places) (words : List Text) (k : ErrorKind) → IsAmong k (faults places words)
@@ -60,7 +60,7 @@ file_told first rest h = simp h
 
 -- what is told of the flags that aren't given is the default
 rows_told : (file : Text) → desk_task_met (Some (codes "run", finished run_rules (told file)))
-    ≡ Some (run (Some file) false false false false false)
+    ≡ Some (plain_run (Some file))
 unfolding told clap_on_literals
 rows_told file = refl
 
@@ -130,7 +130,7 @@ begun_free places name first rest h =
     ∙ ap (λ (k : Kinds). or_else k []) (level_free first rest h)
 
 begun_task : (places : Places) (name : Text) (first : ℕ) (rest : Text) → (first == 45) ≡ false
-    → desk_task places (run_with name (first ∷ rest)) ≡ Some (run (Some (first ∷ rest)) false false false false false)
+    → desk_task places (run_with name (first ∷ rest)) ≡ Some (plain_run (Some (first ∷ rest)))
 unfolding desk_task
 begun_task places name first rest h =
     ap desk_task_met (run_met places name (codes "--db") (first ∷ rest))
@@ -146,12 +146,12 @@ path_free places name [] h = absurd (cc)
 path_free places name (first ∷ rest) h = begun_free places name first rest (no_hyphen (first == 45) h)
 
 path_task : (places : Places) (name file : Text) → is_path file ≡ true
-    → desk_task places (run_with name file) ≡ Some (run (Some file) false false false false false)
+    → desk_task places (run_with name file) ≡ Some (plain_run (Some file))
 path_task places name [] h = absurd (cc)
 path_task places name (first ∷ rest) h = begun_task places name first rest (no_hyphen (first == 45) h)
 
 pub run_with_task : (places : Places) (words : List Text) (name file : Text) → is_path file ≡ true
-    → words ≡ run_with name file → desk_task places words ≡ Some (run (Some file) false false false false false)
+    → words ≡ run_with name file → desk_task places words ≡ Some (plain_run (Some file))
 run_with_task places words name file h e = ap (desk_task places) e ∙ path_task places name file h
 
 pub no_run_with : (places : Places) (words : List Text) (k : ErrorKind) → IsAmong k (faults places words)

@@ -7,9 +7,9 @@ use Rattle.desk_store.specs.declared.fault.OpenFault.TheVariants.{Memory, Store,
 use Rattle.sqlite.specs.State.{State}
 use Rattle.sqlite.specs.Tree.{Trees}
 use Rattle.table_store.specs.Schema.{IsOwn}
-use Rattle.part_core.specs.declared.limits.Limits.{Limits}
+use Rattle.word_core.specs.declared.limits.Limits.{Limits}
 use Rattle.desk_core.specs.Machine.{start}
-use Rattle.desk_ends.specs.Empty.{AreLargest}
+use Rattle.desk_core.specs.Empty.{AreLargest}
 use Rattle.desk_cli.specs.FileFaults.{MayBeNew, TellsUnmoved, TellsWhy, file_fault_of}
 use Rattle.desk_cli.specs.declared.database.FileFault.{FileFault}
 

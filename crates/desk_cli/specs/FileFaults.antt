@@ -22,7 +22,7 @@ use Rattle.desk_cli.specs.declared.database.FileFault.TheVariants.{OtherTables, 
 use Rattle.desk_cli.specs.declared.database.FileFault.TheVariants.{KeptName, DanglingLink, SecondName, HotJournal}
 use Rattle.desk_cli.specs.declared.database.FileFault.TheVariants.{LinkedLog, NoLog, SecondLog, ForeignLog, NotMade}
 use Rattle.desk_cli.specs.declared.database.FaultyFile.{FaultyFile}
-use Rattle.desk_ends.specs.Empty.{IsEmpty}
+use Rattle.desk_core.specs.Empty.{IsEmpty}
 
 -- the database has nothing in it: no table, no index and no view
 abbrev pub IsBare : State → Type 0

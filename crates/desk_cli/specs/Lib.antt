@@ -5,4 +5,7 @@ pub mod Looks
 pub mod Subjects
 pub mod SheetWords
 pub mod AtWords
+pub mod Layouts
 pub mod LowLists
+pub mod LowLevels
+pub mod Printed

@@ -3,11 +3,11 @@ use Rattle.std.specs.Prelude.{◌==◌, ◌&&◌, ◌++◌, ◌∷◌, [], ℕ, 
 use Rattle.std.specs.Prelude.{Option, Some, None, is_none, option_and_then, unwrap_or}
 use Rattle.std.specs.List.{after_first, before_first, position_or_len}
 use Rattle.clap.specs.Words.{Row, Text, all_of, first_of}
-use Rattle.part_core.specs.Day.{day_of}
-use Rattle.part_core.specs.Forms.{Form, is_among, names_of}
+use Rattle.word_core.specs.Day.{day_of}
+use Rattle.word_core.specs.Forms.{Form, is_among, names_of}
 use Rattle.desk_wire.specs.SheetForms.{sheet_form}
 use Rattle.desk_wire.specs.Sheets.{Said, Sayings, Sheet, always, headed, said_of}
-use Rattle.desk_ends.specs.Named.{document_named}
+use Rattle.desk_wire.specs.Documents.{document_named}
 
 -- all values of an option
 abbrev pub values_in : Text → List Row → List Text

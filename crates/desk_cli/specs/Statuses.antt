@@ -1,11 +1,11 @@
 -- The status that the program ends with.
 use Rattle.std.specs.Prelude.{ℕ, true, false, Option, Some, None}
-use Rattle.desk_ends.specs.declared.end.RunEnd.{RunEnd}
-use Rattle.desk_ends.specs.declared.end.RunEnd.TheVariants.{Done, ReadFailed, WriteFailed, Memory, Store}
+use Rattle.desk_core.specs.declared.end.RunEnd.{RunEnd}
+use Rattle.desk_core.specs.declared.end.RunEnd.TheVariants.{Done, ReadFailed, WriteFailed, Memory, Store}
 use Rattle.desk_cli.specs.declared.database.FileFault.{FileFault}
 use Rattle.desk_cli.specs.declared.database.FileFault.TheVariants as file
-use Rattle.desk_cli.specs.declared.words.Task.{Task}
-use Rattle.desk_cli.specs.declared.words.Task.TheVariants as task
+use Rattle.desk_cli.specs.declared.task.Task.{Task}
+use Rattle.desk_cli.specs.declared.task.Task.TheVariants as task
 
 -- after a run that ended so
 abbrev pub status_of : RunEnd → ℕ
@@ -23,17 +23,13 @@ status_of_fault _ = 3
 
 -- at once, unless the words ask for a desk
 abbrev pub early_status : Task → Option ℕ
-early_status (task.Run file names stop check explain journal) = None
-early_status (task.Report file name of) = None
-early_status (task.Export file table) = None
-early_status (task.Dump file) = None
-early_status (task.Show file list csv) = None
-early_status (task.Low file levels csv) = None
+early_status (task.Run file how) = None
+early_status (task.Look file shown) = None
 early_status (task.Migrate file) = None
-early_status (task.Import file kind document day path names reading explain) = None
-early_status (task.Sheet file told path stop explain) = None
+early_status (task.Import file rows) = None
+early_status (task.Sheet file told) = None
 early_status (task.Lines told path) = None
-early_status (task.Serve file port count token names page journal) = None
+early_status (task.Serve file how) = None
 early_status (task.At port token asked) = None
 early_status (task.Guide topic) = Some 0
 early_status (task.Help e) = Some 0

@@ -6,11 +6,11 @@ use Rattle.report_core.specs.declared.name.ReportName.{ReportName}
 use Rattle.desk_wire.specs.Reading.{table_of}
 use Rattle.desk_wire.specs.declared.fault.What.{What}
 use Rattle.desk_wire.specs.declared.fault.What.TheVariants.{NoName, Ambiguous}
-use Rattle.desk_ends.specs.WordRows.{row_at}
+use Rattle.list_words.specs.WordRows.{row_at}
 use Rattle.desk_cli.specs.declared.subject.NoRow.{NoRow}
 use Rattle.desk_cli.specs.declared.subject.NoRow.TheVariants.{Wrong, Memory, Closed}
-use Rattle.desk_cli.specs.declared.words.ReportOf.{ReportOf}
-use Rattle.desk_cli.specs.declared.words.ReportOf.TheVariants.{Number, Word}
+use Rattle.desk_cli.specs.declared.task.ReportOf.{ReportOf}
+use Rattle.desk_cli.specs.declared.task.ReportOf.TheVariants.{Number, Word}
 
 -- the word that says its row, if a word does
 abbrev pub said_word : ReportOf → Option (Bor (List ℕ))

@@ -15,8 +15,8 @@ use Rattle.clap.specs.declared.error.kind.ErrorKind.TheVariants.{DisplayHelp, Di
 use Rattle.clap.specs.declared.error.kind.ErrorKind.TheVariants.{OutOfMemory, ValueValidation}
 use Rattle.clap.specs.declared.error.kind.ErrorKind.{ErrorKind}
 use Rattle.clap.specs.declared.parser.matches.ArgMatches.{ArgMatches}
-use Rattle.part_core.specs.Day.{CivilDay, day_of}
-use Rattle.part_core.specs.Forms.{Form}
+use Rattle.word_core.specs.Day.{CivilDay, day_of}
+use Rattle.word_core.specs.Forms.{Form}
 use Rattle.report_core.specs.Names.{report_named}
 use Rattle.report_core.specs.declared.name.ReportName.{ReportName}
 use Rattle.list_core.specs.HistoryList.{Span}
@@ -29,16 +29,23 @@ use Rattle.desk_wire.specs.SheetViews.{shown_sheet}
 use Rattle.desk_wire.specs.declared.kind.FileReading.{FileReading}
 use Rattle.desk_wire.specs.declared.kind.FileReading.TheVariants.{Strict, Loose, Unchanged}
 use Rattle.desk_wire.specs.declared.kind.ImportKind.{ImportKind}
-use Rattle.desk_ends.specs.Lists.{Listed, history, list_by, listed_of, named}
-use Rattle.desk_ends.specs.Named.{document_named, table_named}
+use Rattle.list_words.specs.Lists.{Listed, history, list_by, listed_of, named}
+use Rattle.desk_wire.specs.Documents.{document_named}
+use Rattle.table_store.specs.Named.{table_named}
 use Rattle.desk_cli.specs.AtWords as ats
 use Rattle.desk_cli.specs.AtWords.{Asking, asking_of}
 use Rattle.desk_cli.specs.SheetWords.{form_in, sheet_in}
-use Rattle.desk_cli.specs.declared.words.ReportOf.{ReportOf}
-use Rattle.desk_cli.specs.declared.words.ReportOf.TheVariants.{Number, Word}
-use Rattle.desk_cli.specs.declared.words.Task.{Task}
-use Rattle.desk_cli.specs.declared.words.Task.TheVariants.{Run, Report, Export, Dump, Show, Migrate, Import, Sheet, Lines}
-use Rattle.desk_cli.specs.declared.words.Task.TheVariants.{Low, Serve, Guide, At, Help, Wrong, Unreadable, Memory}
+use Rattle.desk_cli.specs.declared.task.LookAt.{LookAt}
+use Rattle.desk_cli.specs.declared.task.LookAt.TheVariants as look
+use Rattle.desk_cli.specs.declared.task.ReportOf.{ReportOf}
+use Rattle.desk_cli.specs.declared.task.ReportOf.TheVariants.{Number, Word}
+use Rattle.desk_cli.specs.declared.task.RowsFile.{RowsFile}
+use Rattle.desk_cli.specs.declared.task.RunWords.{RunWords}
+use Rattle.desk_cli.specs.declared.task.ServeWords.{ServeWords}
+use Rattle.desk_cli.specs.declared.task.SheetFile.{SheetFile}
+use Rattle.desk_cli.specs.declared.task.Task.{Task}
+use Rattle.desk_cli.specs.declared.task.Task.TheVariants.{Run, Look, Migrate, Import, Sheet, Lines, Serve, Guide, At}
+use Rattle.desk_cli.specs.declared.task.Task.TheVariants.{Help, Wrong, Unreadable, Memory}
 
 -- no more words, or `run`
 abbrev pub asks_run : List (List ℕ) → Bool
@@ -323,28 +330,51 @@ abbrev pub subject_of : ReportOf → Subject
 subject_of (Number number) = numbered number
 subject_of (Word word) = worded word.now
 
+-- the rows of a file of receipts or counts: what they are, the document and the day, where the file lies, whether rows may be
+-- named, how the file is read, and whether a person is told why a row isn't done
+pub record RowsImport : Type 0 where
+  pub kind : ImportKind
+  pub document : Text
+  pub day : CivilDay
+  pub path : Text
+  pub names : Bool
+  pub reading : FileReading
+  pub explain : Bool
+
+-- the lines that a file of a command is: what is told beside it, where it lies, whether it ends at the first line that is
+-- refused or faulty, and whether a person is told why a line isn't done
+pub record SheetImport : Type 0 where
+  pub told : sheets.Sheet
+  pub path : Text
+  pub stop : Bool
+  pub explain : Bool
+
+-- a serving: so many connections to a port, or any number, with the file of a token if one is named; whether rows may be
+-- named, whether the page is served, and whether requests get keys
+pub record Serving : Type 0 where
+  pub port : ℕ
+  pub count : Option ℕ
+  pub token : Option Text
+  pub names : Bool
+  pub page : Bool
+  pub journal : Bool
+
 -- a task of a desk: a run, with the file if one is named; a report of a row; a table; all tables; a list; the list of what has
--- less free than the file at a path says; that a file is brought along; the rows at a path; the lines that a file of a command at a path is, or that these be printed, which
--- needs no desk; so many connections to a port, or any number, with the file of a token if one is named; help on a
--- topic, which needs none either. The last words of an import are whether rows may be named, how the file is read,
--- and whether a person is told why a row isn't done; those of a file of a command whether it ends at the first
--- line that is refused or faulty, and whether a person is told why a line isn't done; those of a serving whether rows
--- may be named, whether the page is served, and whether requests get keys. The words of a run are whether rows may be
--- named, whether it ends at the first line that is refused or faulty, whether all lines are read before any is run,
--- whether a person is told why a line isn't done, and whether requests get keys. At last, what a service at a port is asked,
--- with the file of a token if one is named
+-- less free than the file at a path says; that a file is brought along; the rows of a file; the lines that a file of a
+-- command is, or that these be printed, which needs no desk; a serving, with the file if one is named; help on a topic, which
+-- needs none either. At last, what a service at a port is asked, with the file of a token if one is named
 pub data DeskTask : Type 0 where
-  run : Option Text → Bool → Bool → Bool → Bool → Bool → DeskTask
+  run : Option Text → RunWords → DeskTask
   report : Text → ReportName → Subject → DeskTask
   export : Text → TableName → DeskTask
   dump : Text → DeskTask
   show : Text → Listed → Bool → DeskTask
   low_list : Text → Text → Bool → DeskTask
   migrate : Text → DeskTask
-  import : Text → ImportKind → Text → CivilDay → Text → Bool → FileReading → Bool → DeskTask
-  sheet : Text → sheets.Sheet → Text → Bool → Bool → DeskTask
+  import : Text → RowsImport → DeskTask
+  sheet : Text → SheetImport → DeskTask
   lines : sheets.Sheet → Text → DeskTask
-  serve : Option Text → ℕ → Option ℕ → Option Text → Bool → Bool → Bool → DeskTask
+  serve : Option Text → Serving → DeskTask
   guide : Text → DeskTask
   at : ℕ → Option Text → Asking → DeskTask
 
@@ -429,9 +459,17 @@ subject_by false (Some text) = option_map numbered (number_in text)
 subject_by true (Some text) = Some (worded text)
 
 -- by the matches of the subcommand
+abbrev pub run_words_in : List Row → RunWords
+run_words_in rows = record {
+  names = names_in rows;
+  stop = stop_in rows;
+  check = check_in rows;
+  explain = explain_in rows;
+  journal = journal_in rows;
+}
+
 abbrev pub run_in : List Row → DeskTask
-run_in rows =
-    run (first_of (codes "db") rows) (names_in rows) (stop_in rows) (check_in rows) (explain_in rows) (journal_in rows)
+run_in rows = run (first_of (codes "db") rows) (run_words_in rows)
 
 unfoldable pub export_in : List Row → Option DeskTask
 export_in rows = export_with (first_of (codes "db") rows) (option_and_then table_named (first_of (codes "table") rows))
@@ -512,7 +550,15 @@ rows_import_in rows = do
   path ← first_of (codes "path") rows
   reading ← reading_by (loose_in rows) (unchanged_in rows)
   if has_sheet_words rows then None
-      else Some (import file kind document day path (names_in rows) reading (explain_in rows))
+      else Some (import file (record {
+        kind = kind;
+        document = document;
+        day = day;
+        path = path;
+        names = names_in rows;
+        reading = reading;
+        explain = explain_in rows;
+      }))
 
 -- a file of records of that form's command
 unfoldable pub sheet_import_in : Form → List Row → Option DeskTask
@@ -520,7 +566,8 @@ sheet_import_in form rows = do
   told ← sheet_in form rows
   file ← first_of (codes "db") rows
   path ← first_of (codes "path") rows
-  if unchanged_in rows then None else Some (sheet file told path (stop_in rows) (explain_in rows))
+  if unchanged_in rows then None
+      else Some (sheet file (record { told = told; path = path; stop = stop_in rows; explain = explain_in rows }))
 
 abbrev pub import_by : Option Form → List Row → Option DeskTask
 import_by None rows = rows_import_in rows
@@ -546,8 +593,14 @@ serve_in rows = do
   port ← option_and_then (number_up_to 65535) (first_of (codes "port") rows)
   count ← count_in (first_of (codes "count") rows)
   Some
-      (serve (first_of (codes "db") rows) port count (first_of (codes "token") rows) (names_in rows) (page_in rows)
-      (journal_in rows))
+      (serve (first_of (codes "db") rows) (record {
+        port = port;
+        count = count;
+        token = first_of (codes "token") rows;
+        names = names_in rows;
+        page = page_in rows;
+        journal = journal_in rows;
+      }))
 
 -- the topic of help, or, where none is named, what a line can ask for
 abbrev pub topic_by : Option Text → Text
@@ -578,7 +631,7 @@ abbrev pub placed : List Row → Option DeskTask → Option Asking → Option De
 placed rows local asking = if is_at rows then served rows asking else local
 
 abbrev pub lines_asked : List Row → Option Asking
-lines_asked rows = Some (ats.lines (stop_in rows) (check_in rows))
+lines_asked rows = Some (ats.lines (record { stop = stop_in rows; check = check_in rows }))
 
 -- not in its second form
 unfoldable pub report_asked : List Row → Option Asking
@@ -602,7 +655,8 @@ show_asked rows = do
   if not (is_some (list_by name (first_of (codes "of") rows) low (open_in rows)))
       || (is_some (first_of (codes "from") rows) || is_some (first_of (codes "to") rows) || has_levels rows)
       || is_empty_word (first_of (codes "of") rows) then None
-      else Some (ats.show name (first_of (codes "of") rows) low (open_in rows) (csv_in rows))
+      else Some (ats.show name (first_of (codes "of") rows)
+      (record { low = low; only_open = open_in rows; csv = csv_in rows }))
 
 -- a file as it stands
 unfoldable pub file_asked : List Row → Option Asking
@@ -623,9 +677,16 @@ rows_in m = rows_of (found_of m)
 abbrev pub given_in : Text → ArgMatches → Option Text
 given_in id m = first_of id (rows_in m)
 
+-- a run of each line as it comes, in which no row may be named and no request gets a key
+abbrev pub plain_words : RunWords
+plain_words = record { names = false; stop = false; check = false; explain = false; journal = false }
+
+abbrev pub plain_run : Option Text → DeskTask
+plain_run file = run file plain_words
+
 -- by the subcommand and its matches: no subcommand is a run in memory
 abbrev pub desk_task_met : Option (Text × List Row) → Option DeskTask
-desk_task_met None = Some (run None false false false false false)
+desk_task_met None = Some (plain_run None)
 desk_task_met (Some met) =
     if bytes_eq met.0 (codes "report") then placed met.1 (report_in met.1) (report_asked met.1)
     else if bytes_eq met.0 (codes "export") then placed met.1 (export_in met.1) (table_asked met.1)
@@ -643,22 +704,48 @@ desk_task_met (Some met) =
 unfoldable pub desk_task : Places → List Text → Option DeskTask
 desk_task places words = desk_task_met (subcommand_of (command_line places) words)
 
+-- what is looked at of the desk in a file
+abbrev pub look_task : Text → LookAt → DeskTask
+look_task file (look.Report name of) = report file name (subject_of of)
+look_task file (look.Export table) = export file table
+look_task file look.Dump = dump file
+look_task file (look.Show list csv) = show file (listed_of list) csv
+look_task file (look.Low levels csv) = low_list file levels.now csv
+
+abbrev pub rows_import : RowsFile → RowsImport
+rows_import rows = record {
+  kind = rows.kind;
+  document = rows.document;
+  day = rows.day;
+  path = rows.path.now;
+  names = rows.names;
+  reading = rows.reading;
+  explain = rows.explain;
+}
+
+abbrev pub sheet_import : SheetFile → SheetImport
+sheet_import file =
+    record { told = shown_sheet file.sheet; path = file.path.now; stop = file.stop; explain = file.explain }
+
+abbrev pub serving : ServeWords → Serving
+serving how = record {
+  port = how.port;
+  count = how.count;
+  token = option_map (λ path. path.now) how.token;
+  names = how.names;
+  page = how.page;
+  journal = how.journal;
+}
+
 -- the task of a desk, if it is one
 abbrev pub desk_task_of : Task → Option DeskTask
-desk_task_of (Run file names stop check explain journal) =
-    Some (run (option_map (λ path. path.now) file) names stop check explain journal)
-desk_task_of (Report file name of) = Some (report file.now name (subject_of of))
-desk_task_of (Export file table) = Some (export file.now table)
-desk_task_of (Dump file) = Some (dump file.now)
-desk_task_of (Show file list csv) = Some (show file.now (listed_of list) csv)
-desk_task_of (Low file levels csv) = Some (low_list file.now levels.now csv)
+desk_task_of (Run file how) = Some (run (option_map (λ path. path.now) file) how)
+desk_task_of (Look file shown) = Some (look_task file.now shown)
 desk_task_of (Migrate file) = Some (migrate file.now)
-desk_task_of (Import file kind document day path names reading explain) =
-    Some (import file.now kind document day path.now names reading explain)
-desk_task_of (Sheet file told path stop explain) = Some (sheet file.now (shown_sheet told) path.now stop explain)
+desk_task_of (Import file rows) = Some (import file.now (rows_import rows))
+desk_task_of (Sheet file told) = Some (sheet file.now (sheet_import told))
 desk_task_of (Lines told path) = Some (lines (shown_sheet told) path.now)
-desk_task_of (Serve file port count token names page journal) =
-    Some (serve (option_map (λ path. path.now) file) port count (option_map (λ path. path.now) token) names page journal)
+desk_task_of (Serve file how) = Some (serve (option_map (λ path. path.now) file) (serving how))
 desk_task_of (Guide topic) = Some (guide topic.now)
 desk_task_of (At port token asked) = Some (at port (option_map (λ path. path.now) token) (asking_of asked))
 desk_task_of (Help e) = None
@@ -671,17 +758,13 @@ AsksFor desk_task task = option_map desk_task_of task ≡ option_map (λ w. Some
 
 -- the file of the desk that is asked for
 abbrev pub file_of : Task → Option (Bor Text)
-file_of (Run file names stop check explain journal) = file
-file_of (Report file name of) = Some file
-file_of (Export file table) = Some file
-file_of (Dump file) = Some file
-file_of (Show file list csv) = Some file
-file_of (Low file levels csv) = Some file
+file_of (Run file how) = file
+file_of (Look file shown) = Some file
 file_of (Migrate file) = Some file
-file_of (Import file kind document day path names reading explain) = Some file
-file_of (Sheet file told path stop explain) = Some file
+file_of (Import file rows) = Some file
+file_of (Sheet file told) = Some file
 file_of (Lines told path) = None
-file_of (Serve file port count token names page journal) = file
+file_of (Serve file how) = file
 file_of (Guide topic) = None
 file_of (At port token asked) = None
 file_of (Help e) = None
@@ -691,19 +774,13 @@ file_of Memory = None
 
 -- the task of a desk is told as it is; where there is none, a value is wrong; unless memory ran out
 abbrev pub Tells : Option DeskTask → Task → Type 0
-Tells desk_task (Run file names stop check explain journal) = desk_task ≡ desk_task_of (Run file names stop check explain journal)
-Tells desk_task (Report file name of) = desk_task ≡ desk_task_of (Report file name of)
-Tells desk_task (Export file table) = desk_task ≡ desk_task_of (Export file table)
-Tells desk_task (Dump file) = desk_task ≡ desk_task_of (Dump file)
-Tells desk_task (Show file list csv) = desk_task ≡ desk_task_of (Show file list csv)
-Tells desk_task (Low file levels csv) = desk_task ≡ desk_task_of (Low file levels csv)
+Tells desk_task (Run file how) = desk_task ≡ desk_task_of (Run file how)
+Tells desk_task (Look file shown) = desk_task ≡ desk_task_of (Look file shown)
 Tells desk_task (Migrate file) = desk_task ≡ desk_task_of (Migrate file)
-Tells desk_task (Import file kind document day path names reading explain) = desk_task ≡ desk_task_of
-    (Import file kind document day path names reading explain)
-Tells desk_task (Sheet file told path stop explain) = desk_task ≡ desk_task_of (Sheet file told path stop explain)
+Tells desk_task (Import file rows) = desk_task ≡ desk_task_of (Import file rows)
+Tells desk_task (Sheet file told) = desk_task ≡ desk_task_of (Sheet file told)
 Tells desk_task (Lines told path) = desk_task ≡ desk_task_of (Lines told path)
-Tells desk_task (Serve file port count token names page journal) =
-    desk_task ≡ desk_task_of (Serve file port count token names page journal)
+Tells desk_task (Serve file how) = desk_task ≡ desk_task_of (Serve file how)
 Tells desk_task (Guide topic) = desk_task ≡ desk_task_of (Guide topic)
 Tells desk_task (At port token asked) = desk_task ≡ desk_task_of (At port token asked)
 Tells desk_task (Help e) = ⊥
@@ -722,28 +799,20 @@ abbrev pub IsShown : ErrorKind → Type 0
 IsShown kind = (kind ≡ DisplayHelp) ⊎ (kind ≡ DisplayVersion)
 
 abbrev pub AnswersAt : Places → List Text → Task → Type 0
-AnswersAt places words (Run file names stop check explain journal) =
-    (faults places words ≡ []) × (desk_task places words ≡ desk_task_of (Run file names stop check explain journal))
-AnswersAt places words (Report file name of) =
-    (faults places words ≡ []) × (desk_task places words ≡ desk_task_of (Report file name of))
-AnswersAt places words (Export file table) =
-    (faults places words ≡ []) × (desk_task places words ≡ desk_task_of (Export file table))
-AnswersAt places words (Dump file) =
-    (faults places words ≡ []) × (desk_task places words ≡ desk_task_of (Dump file))
-AnswersAt places words (Show file list csv) =
-    (faults places words ≡ []) × (desk_task places words ≡ desk_task_of (Show file list csv))
-AnswersAt places words (Low file levels csv) =
-    (faults places words ≡ []) × (desk_task places words ≡ desk_task_of (Low file levels csv))
+AnswersAt places words (Run file how) =
+    (faults places words ≡ []) × (desk_task places words ≡ desk_task_of (Run file how))
+AnswersAt places words (Look file shown) =
+    (faults places words ≡ []) × (desk_task places words ≡ desk_task_of (Look file shown))
 AnswersAt places words (Migrate file) =
     (faults places words ≡ []) × (desk_task places words ≡ desk_task_of (Migrate file))
-AnswersAt places words (Import file kind document day path names reading explain) =
-    (faults places words ≡ []) × (desk_task places words ≡ desk_task_of (Import file kind document day path names reading explain))
-AnswersAt places words (Sheet file told path stop explain) =
-    (faults places words ≡ []) × (desk_task places words ≡ desk_task_of (Sheet file told path stop explain))
+AnswersAt places words (Import file rows) =
+    (faults places words ≡ []) × (desk_task places words ≡ desk_task_of (Import file rows))
+AnswersAt places words (Sheet file told) =
+    (faults places words ≡ []) × (desk_task places words ≡ desk_task_of (Sheet file told))
 AnswersAt places words (Lines told path) =
     (faults places words ≡ []) × (desk_task places words ≡ desk_task_of (Lines told path))
-AnswersAt places words (Serve file port count token names page journal) =
-    (faults places words ≡ []) × (desk_task places words ≡ desk_task_of (Serve file port count token names page journal))
+AnswersAt places words (Serve file how) =
+    (faults places words ≡ []) × (desk_task places words ≡ desk_task_of (Serve file how))
 AnswersAt places words (Guide topic) =
     (faults places words ≡ []) × (desk_task places words ≡ desk_task_of (Guide topic))
 AnswersAt places words (At port token asked) =
@@ -761,18 +830,13 @@ Answers words task = (places : Places) × AnswersAt places words task
 
 -- a run in memory of each line as it comes, in which no row may be named and no request gets a key, unless memory ran out
 abbrev pub Runs : Task → Type 0
-Runs (Run file names stop check explain journal) =
-    (file ≡ None) × (names ≡ false) × (stop ≡ false) × (check ≡ false) × (explain ≡ false) × (journal ≡ false)
-Runs (Report file name of) = ⊥
-Runs (Export file table) = ⊥
-Runs (Dump file) = ⊥
-Runs (Show file list csv) = ⊥
-Runs (Low file levels csv) = ⊥
+Runs (Run file how) = (file ≡ None) × (how ≡ plain_words)
+Runs (Look file shown) = ⊥
 Runs (Migrate file) = ⊥
-Runs (Import file kind document day path names reading explain) = ⊥
-Runs (Sheet file told path stop explain) = ⊥
-Runs (Lines told path) = ⊥
-Runs (Serve file port count token names page journal) = ⊥
+Runs (Import file rows) = ⊥
+Runs (Sheet file told) = ⊥
+Runs (Lines told from) = ⊥
+Runs (Serve file how) = ⊥
 Runs (Guide topic) = ⊥
 Runs (At port token asked) = ⊥
 Runs (Help e) = ⊥
@@ -783,19 +847,13 @@ Runs Memory = Unit {0}
 -- a run of each line as it comes on the desk in this file, in which no row may be named and no request gets a key, unless
 -- memory ran out
 abbrev pub RunsOn : Text → Task → Type 0
-RunsOn path (Run file names stop check explain journal) =
-    (option_map (λ given. given.now) file ≡ Some path) × (names ≡ false) × (stop ≡ false) × (check ≡ false)
-    × (explain ≡ false) × (journal ≡ false)
-RunsOn path (Report file name of) = ⊥
-RunsOn path (Export file table) = ⊥
-RunsOn path (Dump file) = ⊥
-RunsOn path (Show file list csv) = ⊥
-RunsOn path (Low file levels csv) = ⊥
+RunsOn path (Run file how) = (option_map (λ given. given.now) file ≡ Some path) × (how ≡ plain_words)
+RunsOn path (Look file shown) = ⊥
 RunsOn path (Migrate file) = ⊥
-RunsOn path (Import file kind document day from names reading explain) = ⊥
-RunsOn path (Sheet file told from stop explain) = ⊥
+RunsOn path (Import file rows) = ⊥
+RunsOn path (Sheet file told) = ⊥
 RunsOn path (Lines told from) = ⊥
-RunsOn path (Serve file port count token names page journal) = ⊥
+RunsOn path (Serve file how) = ⊥
 RunsOn path (Guide topic) = ⊥
 RunsOn path (At port token asked) = ⊥
 RunsOn path (Help e) = ⊥
@@ -805,17 +863,13 @@ RunsOn path Memory = Unit {0}
 
 -- help or the version, by its kind, unless memory ran out
 abbrev pub HelpsBy : ErrorKind → Task → Type 0
-HelpsBy kind (Run file names stop check explain journal) = ⊥
-HelpsBy kind (Report file name of) = ⊥
-HelpsBy kind (Export file table) = ⊥
-HelpsBy kind (Dump file) = ⊥
-HelpsBy kind (Show file list csv) = ⊥
-HelpsBy kind (Low file levels csv) = ⊥
+HelpsBy kind (Run file how) = ⊥
+HelpsBy kind (Look file shown) = ⊥
 HelpsBy kind (Migrate file) = ⊥
-HelpsBy kind (Import file of document day path names reading explain) = ⊥
-HelpsBy kind (Sheet file told path stop explain) = ⊥
-HelpsBy kind (Lines told path) = ⊥
-HelpsBy kind (Serve file port count token names page journal) = ⊥
+HelpsBy kind (Import file rows) = ⊥
+HelpsBy kind (Sheet file told) = ⊥
+HelpsBy kind (Lines told from) = ⊥
+HelpsBy kind (Serve file how) = ⊥
 HelpsBy kind (Guide topic) = ⊥
 HelpsBy kind (At port token asked) = ⊥
 HelpsBy kind (Help e) = kind_of e ≡ kind

@@ -1,43 +1,58 @@
 //! The words that ask a service, at a port, in the place of a file.
 ghost use Rattle.std.specs.Prelude.{◌≡◌, IfOk, Some, is_some, option_and_then, option_map};
 ghost use Rattle.std.specs.Prelude.{codes};
-ghost use Rattle.desk_ends.specs.Lists.{list_by};
+ghost use Rattle.list_words.specs.Lists.{list_by};
 ghost use Rattle.desk_cli.specs.AtWords.{asking_of};
 ghost use Rattle.desk_cli.specs.Words.{file_asked, given_in, has_own_words, is_at, is_empty_word};
 ghost use Rattle.desk_cli.specs.Words.{lines_asked, number_up_to, report_asked, rows_in, served};
 ghost use Rattle.desk_cli.specs.Words.{show_asked, table_asked, AsksFor};
 
+use crate::task::Task;
 use crate::words::{
-    Task, given, has_flag, has_levels, has_sheet_words, import_day, import_document, import_kind,
+    given, has_flag, has_levels, has_sheet_words, import_day, import_document, import_kind,
     low_amount, number_up_to,
 };
 use clap::ArgMatches;
-use desk_ends::list_called;
 use desk_wire::number_in;
+use list_words::list_called;
 use std::alloc::{AllocError, Global};
+
+/// How a service is asked to run lines.
+#[derive(Clone, Copy, Debug)]
+pub struct AskedLines {
+    /// The first that is refused or faulty is the last.
+    pub stop: bool,
+    /// Nothing is run unless all can be read.
+    pub check: bool,
+}
+
+/// What is said of a list that a service is asked for, beside its name and its word.
+#[derive(Clone, Copy, Debug)]
+pub struct AskedList {
+    /// Of the stock: those parts alone of which less is free.
+    pub low: Option<u64>,
+    /// Of orders and builds: the open ones alone.
+    pub only_open: bool,
+    /// As comma-separated values, and not in columns.
+    pub csv: bool,
+}
 
 /// What a service is asked.
 #[derive(Clone, Copy, Debug)]
 pub enum Asked<'a> {
-    /// The lines of the standard input are run. Where `stop` is set, the first that is refused or faulty is the last; where
-    /// `check` is set, nothing is run unless all can be read.
-    Lines {
-        stop: bool,
-        check: bool,
-    },
+    /// The lines of the standard input are run.
+    Lines(AskedLines),
     /// A report of this name and number.
     Report(&'a str, u64),
     /// A table.
     Table(&'a str),
     /// All tables as SQL.
     Dump,
-    /// A list, in columns or as comma-separated values.
+    /// A list.
     Show {
         list: &'a str,
         of: Option<&'a str>,
-        low: Option<u64>,
-        only_open: bool,
-        csv: bool,
+        words: AskedList,
     },
     /// The file at the path is taken in.
     File {
@@ -101,10 +116,10 @@ pub fn at_task<'a>(matches: &ArgMatches<'a>, asked: Option<Asked<'a>>) -> Option
 pub fn lines_asked<'a>(matches: &ArgMatches<'a>) -> Option<Asked<'a>>
     ensures { option_map asking_of result ≡ lines_asked (rows_in matches.now) }
 {
-    Some(Asked::Lines {
+    Some(Asked::Lines(AskedLines {
         stop: has_flag(matches, "stop"),
         check: has_flag(matches, "check"),
-    })
+    }))
 }
 
 /// The report that is asked for, if the words name one of a number. Its second form is the desk's alone.
@@ -161,13 +176,12 @@ pub fn show_asked<'a>(matches: &ArgMatches<'a>) -> Option<Asked<'a>>
     if !is_list(list, of, low, only_open) || own || is_empty_word(of) {
         return None;
     }
-    Some(Asked::Show {
-        list,
-        of,
+    let words = AskedList {
         low,
         only_open,
         csv: has_flag(matches, "csv"),
-    })
+    };
+    Some(Asked::Show { list, of, words })
 }
 
 /// The file that is asked to be taken in, if the words tell of one that a service takes.

@@ -15,15 +15,16 @@ ghost use Rattle.desk_store.specs.Exports.{AppendsFront, table_text};
 ghost use Rattle.report_core.specs.History.{history_lines};
 ghost use Rattle.report_core.specs.Reports.{report_lines};
 ghost use Rattle.table_store.specs.Schema.{IsOwn};
-ghost use Rattle.desk_ends.specs.Empty.{AreLargest, IsEmpty};
+ghost use Rattle.desk_core.specs.Empty.{AreLargest, IsEmpty};
 ghost use Rattle.desk_cli.specs.FileFaults.{IsBare, IsOfMaking, MayBeMoved, MayBeNew, TellsUnmoved, TellsWhy};
-ghost use Rattle.desk_ends.specs.Printed.{IsPrinted, migrated_text, printed};
+ghost use Rattle.desk_cli.specs.Printed.{IsPrinted, migrated_text};
+ghost use Rattle.desk_wire.specs.Printed.{printed};
 
 use crate::database::FileFault;
-use desk_ends::{RunEnd, tell_report_as_text};
+use desk_core::RunEnd;
 use desk_store::{Desk, ExportFault, WriteFailed, send};
-use desk_wire::refused_text;
-use part_core::{Limits, Refusal};
+use desk_wire::{refused_text, tell_report_as_text};
+use part_core::{Limits, Refusal, Seed};
 use report_core::ReportName;
 use sqlite::{Alter, Connection};
 use std::alloc::Global;
@@ -40,6 +41,7 @@ fn has_own_tables<S: Alter>(conn: &Connection<S>) -> bool
 /// A new desk, with the largest limits, in a database that has nothing.
 fn make_desk<S: Alter + Drop>(
     alloc: Global,
+    seed: Seed,
     conn: Connection<S>,
     limits: Limits,
 ) -> Result<Desk<S>, (FileFault, S)>
@@ -55,14 +57,18 @@ fn make_desk<S: Alter + Drop>(
         → S.Store.recovers e.1 trees → (state S.Store conn).may_leave trees
         ⊎ MayBeNew trees e.0) }
 {
-    match Desk::create(alloc, conn, limits) {
+    match Desk::create(alloc, seed, conn, limits) {
         Ok(desk) => Ok(desk),
         Err((fault, database)) => Err((FileFault::from(fault), database)),
     }
 }
 
 /// The desk whose tables the database has.
-fn open_desk<S: Alter + Drop>(alloc: Global, conn: Connection<S>) -> Result<Desk<S>, (FileFault, S)>
+fn open_desk<S: Alter + Drop>(
+    alloc: Global,
+    seed: Seed,
+    conn: Connection<S>,
+) -> Result<Desk<S>, (FileFault, S)>
     requires { IsOwn (state S.Store conn).now.schema }
     ensures desk { IfOk result (λ desk. IsDesk S.Store desk) }
     ensures open { IfOk result (λ desk. desk.failed ≡ None) }
@@ -79,7 +85,7 @@ fn open_desk<S: Alter + Drop>(alloc: Global, conn: Connection<S>) -> Result<Desk
     ensures crash { IfErr result (λ e. IsClean (S.Store.view e.1) → (trees : Trees)
         → S.Store.recovers e.1 trees → (state S.Store conn).may_leave trees) }
 {
-    match Desk::open(alloc, conn) {
+    match Desk::open(alloc, seed, conn) {
         Ok(desk) => Ok(desk),
         Err((fault, database)) => Err((FileFault::from(fault), database)),
     }
@@ -89,6 +95,7 @@ fn open_desk<S: Alter + Drop>(alloc: Global, conn: Connection<S>) -> Result<Desk
 /// beside a fault.
 pub fn take_desk<S: Alter + Drop>(
     alloc: Global,
+    seed: Seed,
     conn: Connection<S>,
 ) -> Result<Desk<S>, (FileFault, S)>
     requires { HasCleanDisk (state S.Store conn) → (state S.Store conn).in_transaction ≡ false }
@@ -113,18 +120,19 @@ pub fn take_desk<S: Alter + Drop>(
         → (S.Store.view e.1).trees ≡ (state S.Store conn).committed.trees) }
 {
     if is_bare(&conn) {
-        return make_desk(alloc, conn, Limits::LARGEST);
+        return make_desk(alloc, seed, conn, Limits::LARGEST);
     }
     if !has_own_tables(&conn) {
         return Err((FileFault::OtherTables, conn.into_store()));
     }
-    open_desk(alloc, conn)
+    open_desk(alloc, seed, conn)
 }
 
 /// The desk that the database has, after tables that an earlier program left are made this version's. A database that has
 /// nothing is refused, and stays so. The database is handed back beside a fault.
 pub fn migrate_desk<S: Alter + Drop>(
     alloc: Global,
+    seed: Seed,
     conn: Connection<S>,
 ) -> Result<Desk<S>, (FileFault, S)>
     ensures desk { IfOk result (λ desk. IsDesk S.Store desk) }
@@ -146,7 +154,7 @@ pub fn migrate_desk<S: Alter + Drop>(
     if !has_own_tables(&conn) {
         return Err((FileFault::OtherTables, conn.into_store()));
     }
-    match Desk::migrate(alloc, conn) {
+    match Desk::migrate(alloc, seed, conn) {
         Ok(desk) => Ok(desk),
         Err((fault, database)) => Err((FileFault::from(fault), database)),
     }

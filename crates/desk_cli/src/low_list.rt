@@ -4,10 +4,11 @@ ghost use Rattle.std.specs.Io.KnownBytes.{Appends, Keeps};
 ghost use Rattle.desk_core.specs.ShopView.{state_of};
 ghost use Rattle.desk_store.specs.Exports.{AppendsFront};
 ghost use Rattle.desk_wire.specs.Writing.{fault_text};
-ghost use Rattle.desk_ends.specs.LowLevels.{levels_in};
+ghost use Rattle.desk_cli.specs.LowLevels.{levels_in};
 ghost use Rattle.desk_cli.specs.LowLists.{TellsNoLevels};
 
-use desk_ends::{RunEnd, levels_in};
+use crate::low_levels::levels_in;
+use desk_core::RunEnd;
 use desk_store::{Desk, WriteFailed, send};
 use desk_wire::{FileError, WireFault, fault_text};
 use list_core::Level;

@@ -1,7 +1,7 @@
 //! The words that tell what stands beside a file of records of a command.
 ghost use Rattle.std.specs.Prelude.{◌≡◌, map, option_map, option_and_then, codes, is_some, IfOk, Some, None};
 ghost use Rattle.std.specs.Prelude.{if◌then◌else◌};
-ghost use Rattle.part_core.specs.Forms.{is_among, names_of, shown, shown_fields};
+ghost use Rattle.word_core.specs.Forms.{is_among, names_of, shown, shown_fields};
 ghost use Rattle.desk_wire.specs.Sheets.{always, headed, said_of};
 ghost use Rattle.desk_wire.specs.SheetViews.{shown_said, shown_sayings, shown_sheet};
 ghost use Rattle.desk_cli.specs.SheetWords.{form_in, is_member, parts_of, sayings_in, sheet_in, values_in};

@@ -5,14 +5,16 @@ ghost use Rattle.desk_core.specs.Machine.{IsSoundState};
 ghost use Rattle.desk_core.specs.ShopView.{state_of};
 ghost use Rattle.desk_store.specs.Exports.{AppendsFront};
 ghost use Rattle.list_core.specs.Listings.{listing_lines};
-ghost use Rattle.desk_ends.specs.Lists.{listing_by, told_list};
+ghost use Rattle.list_words.specs.Lists.{listing_by};
+ghost use Rattle.desk_cli.specs.Layouts.{laid_out};
 ghost use Rattle.desk_cli.specs.Subjects.{TellsNoRow};
 
 use crate::subject::NoRow;
-use desk_ends::{ListOf, RunEnd, listing_in, row_at, told_list};
+use desk_core::RunEnd;
 use desk_store::{Desk, WriteFailed, send};
 use desk_wire::Unread;
 use list_core::{Listing, is_item};
+use list_words::{ListOf, listing_in, row_at, told_list};
 use part_core::RowKind;
 use sqlite::Alter;
 use std::alloc::Global;
@@ -57,25 +59,33 @@ pub fn listing_of<'a, S: Alter>(
     }
 }
 
-/// Prints a list, for a person's terminal, which has so many columns, if that is known, or not for one, or that there is no such row, which isn't fine: the whole text in one
-/// write.
+/// How a list is laid out.
+#[derive(Clone, Copy, Debug)]
+pub struct ListLayout {
+    /// As comma-separated values, and not in columns.
+    pub csv: bool,
+    /// For a person's terminal, and not for a program or a file.
+    pub person: bool,
+    /// How many columns the terminal has, if that is known.
+    pub most: Option<usize>,
+}
+
+/// Prints a list, laid out so, or that there is no such row, which isn't fine: the whole text in one write.
 pub fn print_list<S: Alter, W: Write>(
     alloc: Global,
     desk: &Desk<S>,
     listing: Listing<'_>,
-    csv: bool,
-    person: bool,
-    most: Option<usize>,
+    layout: ListLayout,
     writer: &mut W,
 ) -> RunEnd
     requires { IsSoundState (state_of desk.now.shop) }
     ensures whole { (there : Bool) → result ≡ RunEnd.Done there
-        → (there ≡ (told_list csv person most (listing_lines listing.entry (state_of desk.now.shop))).1)
+        → (there ≡ (laid_out layout (listing_lines listing.entry (state_of desk.now.shop))).1)
         × Appends (W.contents writer.old) (W.contents writer.new)
-        (told_list csv person most (listing_lines listing.entry (state_of desk.now.shop))).0 }
+        (laid_out layout (listing_lines listing.entry (state_of desk.now.shop))).0 }
     ensures front { result ≡ RunEnd.WriteFailed
         → AppendsFront (W.contents writer.old) (W.contents writer.new)
-        (told_list csv person most (listing_lines listing.entry (state_of desk.now.shop))).0 }
+        (laid_out layout (listing_lines listing.entry (state_of desk.now.shop))).0 }
     ensures nothing { (result ≡ RunEnd.Memory) ⊎ (result ≡ RunEnd.Store)
         → Keeps (W.contents writer.old) (W.contents writer.new) }
     ensures closed { (result ≡ RunEnd.Store) ↔ IsSome desk.now.failed }
@@ -84,7 +94,7 @@ pub fn print_list<S: Alter, W: Write>(
     let Ok(shop) = desk.shop() else {
         return RunEnd::Store;
     };
-    let shown = match told_list(alloc, shop, listing, csv, person, most) {
+    let shown = match told_list(alloc, shop, listing, layout.csv, layout.person, layout.most) {
         Ok(shown) => shown,
         Err(stop) => return stop.end(),
     };

@@ -1,10 +1,9 @@
 //! The status that the program ends with.
 ghost use Rattle.std.specs.Prelude.{◌≡◌};
-ghost use Rattle.desk_cli.specs.Statuses.{status_of, status_of_fault, early_status};
+ghost use Rattle.desk_cli.specs.Statuses.{status_of, status_of_fault};
 
 use crate::database::FileFault;
-use crate::words::Task;
-use desk_ends::RunEnd;
+use desk_core::RunEnd;
 
 /// Something was refused or faulty.
 pub const NOT_ALL: u8 = 1;
@@ -34,19 +33,5 @@ pub fn status_of_fault(fault: &FileFault) -> u8
     match fault {
         FileFault::Memory => MEMORY,
         _ => DEVICE,
-    }
-}
-
-/// The status to end with at once, unless the words ask for a desk.
-pub fn early_status(task: &Task<'_>) -> Option<u8>
-    ensures { result ≡ early_status task.now }
-{
-    match task {
-        Task::Run { .. } | Task::Report { .. } | Task::Export(..) | Task::Show { .. } => None,
-        Task::Low { .. } | Task::Migrate(_) | Task::Import { .. } | Task::Serve { .. } => None,
-        Task::Dump(_) | Task::Sheet { .. } | Task::Lines { .. } | Task::At { .. } => None,
-        Task::Guide(_) | Task::Help(_) => Some(0),
-        Task::Wrong(_) | Task::Unreadable => Some(WRONG_WORDS),
-        Task::Memory => Some(MEMORY),
     }
 }

@@ -5,11 +5,11 @@ ghost use Rattle.desk_core.specs.ShopView.{state_of};
 ghost use Rattle.list_core.specs.SerialWords.{called_text};
 ghost use Rattle.desk_cli.specs.Subjects.{TellsNoRow, no_row_text, row_of_report};
 
-use crate::words::ReportOf;
-use desk_ends::row_at;
+use crate::task::ReportOf;
 use desk_store::Desk;
 use desk_wire::{Unread, What, table_of};
 use list_core::called_text;
+use list_words::row_at;
 use report_core::ReportName;
 use sqlite::Alter;
 use std::alloc::Global;

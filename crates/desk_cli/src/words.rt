@@ -2,12 +2,11 @@
 ghost use Rattle.std.specs.Prelude.{◌≡◌, ◌≤◌, ℕ, List, map, option_map};
 ghost use Rattle.std.specs.Prelude.{option_and_then, codes, true, false, IfOk, IfSome, Some};
 ghost use Rattle.clap.specs.Words.{app_of, kind_of, rule_of, subcommand_rows_of};
-ghost use Rattle.part_core.specs.Day.{day_of};
+ghost use Rattle.word_core.specs.Day.{day_of};
 ghost use Rattle.list_core.specs.HistoryList.{span_of};
 ghost use Rattle.report_core.specs.Names.{report_named};
 ghost use Rattle.desk_wire.specs.Numbers.{number_in};
 ghost use Rattle.desk_wire.specs.Kinds.{import_kind_named};
-ghost use Rattle.desk_cli.specs.Subjects.{said_word};
 ghost use Rattle.desk_cli.specs.Words.{file_rule, flag_rule, journal_rule, names_rule, option_rule};
 ghost use Rattle.desk_cli.specs.Words.{is_given, optional_rule, word_rule};
 ghost use Rattle.desk_cli.specs.AtWords as ats;
@@ -15,17 +14,18 @@ ghost use Rattle.desk_cli.specs.Words.{dump_line, migrate_line, run_line, serve_
 ghost use Rattle.desk_cli.specs.Words.{file_asked, lines_asked, placed, report_asked, show_asked, table_asked};
 ghost use Rattle.desk_cli.specs.Words.{IsReportLine, IsExportLine, IsImportLine, IsCommandLine, IsLinesLine};
 ghost use Rattle.desk_cli.specs.Words.{has_sheet_words, lines_in, repeated_rule, rows_import_in, sheet_import_in};
-ghost use Rattle.part_core.specs.Forms.{shown};
+ghost use Rattle.word_core.specs.Forms.{shown};
 ghost use Rattle.desk_cli.specs.Words.{IsListRule, IsReportRule, IsShowLine, optional_word_rule, show_in};
 ghost use Rattle.desk_cli.specs.Words.{has_levels, has_list_words, low_list_in, shown_in};
 ghost use Rattle.desk_cli.specs.Words.{guide_in, IsHelpLine, IsTopicRule};
 ghost use Rattle.desk_cli.specs.Words.{day_in, days_in, history_by, listed_by, low_in};
-ghost use Rattle.desk_ends.specs.Lists.{listed_of};
-ghost use Rattle.desk_ends.specs.Named.{document_named, table_named};
-ghost use Rattle.desk_cli.specs.Words.{number_up_to, reading_by, report_in};
+ghost use Rattle.list_words.specs.Lists.{listed_of};
+ghost use Rattle.desk_wire.specs.Documents.{document_named};
+ghost use Rattle.table_store.specs.Named.{table_named};
+ghost use Rattle.desk_cli.specs.Words.{loose_in, number_up_to, reading_by, report_in, unchanged_in};
 ghost use Rattle.desk_cli.specs.Words.{dump_in, export_in, migrate_in, import_in, count_in, serve_in, desk_task_met};
 ghost use Rattle.desk_cli.specs.Words.{desk_task_of, names_in, run_in, subject_by, subject_of};
-ghost use Rattle.desk_cli.specs.Words.{given_in, rows_in, AsksFor, Tells, Parses, file_of};
+ghost use Rattle.desk_cli.specs.Words.{given_in, rows_in, AsksFor, Tells, Parses};
 ghost use Rattle.desk_cli.specs.Words.{asks_run, asks_help, asks_version, run_on};
 ghost use Rattle.desk_cli.specs.Words.{run_with, is_path, Answers, Runs, RunsOn, HelpsBy};
 
@@ -34,152 +34,17 @@ use crate::at_words::{
     tell_port_alone,
 };
 use crate::sheet_words::{kind_form, sheet_of};
+use crate::task::{LookAt, ReportOf, RowsFile, RunWords, ServeWords, SheetFile, Task};
 use clap::error::ErrorKind;
 use clap::{Arg, ArgAction, ArgMatches, Command, Error};
-use desk_ends::{ListOf, list_called, table_named};
-use desk_wire::{Document, FileReading, ImportKind, Sheet, import_kind_named, number_in};
+use desk_wire::{Document, FileReading, ImportKind, import_kind_named, number_in};
 use list_core::Days;
+use list_words::{ListOf, list_called};
 use part_core::{Day, Form};
 use report_core::{ReportName, report_named};
 use std::alloc::{AllocError, Global};
 use std::convert::AsStr;
-use table_store::TableName;
-
-/// What a report is of.
-#[derive(Clone, Copy, Debug)]
-pub enum ReportOf<'a> {
-    /// The part, the item or the build of this number.
-    Number(u64),
-    /// What this word says, where rows may be named: it is looked up once the file is open.
-    Word(&'a str),
-}
-
-impl<'a> ReportOf<'a> {
-    /// The word that says its row, if a word does.
-    pub fn word(&self) -> Option<&'a str>
-        ensures { result ≡ said_word self.now }
-    {
-        match self {
-            ReportOf::Number(_) => None,
-            ReportOf::Word(word) => Some(*word),
-        }
-    }
-}
-
-/// The task that the words ask for. A file is named by its path.
-#[derive(Drop)]
-pub enum Task<'a> {
-    /// Each line of the standard input is answered, by the desk in the file, or by a new one in memory. Where `names` is
-    /// true, lines may name rows; so it is of an import's rows, and of what a server is sent. Where `stop` is set, the run
-    /// ends at the first line that is refused or faulty; where `check` is set, nothing is run unless all lines can be read;
-    /// where `explain` is set, it is told why a line isn't done; where `journal` is set, a request without a key gets one,
-    /// and so it is of what a server is sent.
-    Run {
-        file: Option<&'a str>,
-        names: bool,
-        stop: bool,
-        check: bool,
-        explain: bool,
-        journal: bool,
-    },
-    /// A report of the desk in the file is printed.
-    Report {
-        file: &'a str,
-        name: ReportName,
-        of: ReportOf<'a>,
-    },
-    /// A table of the desk in the file is printed.
-    Export(&'a str, TableName),
-    /// All tables of the desk in the file are printed as SQL.
-    Dump(&'a str),
-    /// A list of the desk in the file is printed, in columns or as comma-separated values.
-    Show {
-        file: &'a str,
-        list: ListOf<'a>,
-        csv: bool,
-    },
-    /// The list of what has less free than its level is printed of the desk in the file, in columns or as comma-separated
-    /// values. Which level each part has is said by the file at the path `levels`.
-    Low {
-        file: &'a str,
-        levels: &'a str,
-        csv: bool,
-    },
-    /// The file, if an earlier program wrote it, is brought along.
-    Migrate(&'a str),
-    /// The rows of the file at the path, which is read in this way, are run by the desk in the file. Where `explain` is set,
-    /// it is told why a row isn't done.
-    Import {
-        file: &'a str,
-        kind: ImportKind,
-        document: Document,
-        day: Day,
-        path: &'a str,
-        names: bool,
-        reading: FileReading,
-        explain: bool,
-    },
-    /// The lines that the file at the path is, whose records are of a command, are run by the desk in the file once all have
-    /// been looked at, and rows may be named in them. Where `stop` is set, the run ends at the first that is refused or
-    /// faulty; where `explain` is set, it is told why one isn't done.
-    Sheet {
-        file: &'a str,
-        sheet: Sheet<'a>,
-        path: &'a str,
-        stop: bool,
-        explain: bool,
-    },
-    /// The lines that the file at the path is are printed.
-    Lines {
-        sheet: Sheet<'a>,
-        path: &'a str,
-    },
-    /// So many connections to a port of the loopback are served, or one after another without an end, by the desk in the
-    /// file, or by a new one in memory. Where a token is asked for, it stands in the file at the path. Where `page` is
-    /// set, the page is served too.
-    Serve {
-        file: Option<&'a str>,
-        port: u16,
-        count: Option<u64>,
-        token: Option<&'a str>,
-        names: bool,
-        page: bool,
-        journal: bool,
-    },
-    /// Help on this topic is printed.
-    Guide(&'a str),
-    /// The service at this port of the loopback is asked. Where a token is shown, it stands in the file at the path.
-    At {
-        port: u16,
-        token: Option<&'a str>,
-        asked: Asked<'a>,
-    },
-    /// Help, or the version, is printed.
-    Help(Error),
-    /// The words are wrong.
-    Wrong(Error),
-    /// A word isn't UTF-8.
-    Unreadable,
-    /// A growth was refused, as memory ran out.
-    Memory,
-}
-
-impl<'a> Task<'a> {
-    /// The file of the desk that is asked for: none is one in memory.
-    pub fn file(&self) -> Option<&'a str>
-        ensures { result ≡ file_of self.now }
-    {
-        match self {
-            Task::Run { file, .. } | Task::Serve { file, .. } => *file,
-            Task::Migrate(file) | Task::Export(file, _) | Task::Dump(file) => Some(*file),
-            Task::Report { file, .. } | Task::Import { file, .. } => Some(*file),
-            Task::Show { file, .. } | Task::Low { file, .. } | Task::Sheet { file, .. } => {
-                Some(*file)
-            }
-            _ => None,
-        }
-    }
-}
+use table_store::{TableName, table_named};
 
 /// The version of the program, and the kit's line with which it is proved, as `rt version` prints it.
 const VERSION: &str = "0.4 (rattle-kit-13f logic dac8208d650f15bf)";
@@ -881,20 +746,13 @@ pub fn has_flag(matches: &ArgMatches<'_>, id: &str) -> bool
     }
 }
 
-/// Whether rows may be named.
-fn names(matches: &ArgMatches<'_>) -> bool
-    ensures { result ≡ names_in (rows_in matches.now) }
-{
-    has_flag(matches, "names")
-}
-
 /// What the report is of: where rows may be named any word, else a number alone.
 fn report_of<'a>(matches: &ArgMatches<'a>) -> Option<ReportOf<'a>>
     ensures { option_map subject_of result
         ≡ subject_by (names_in (rows_in matches.now)) (given_in (codes "number") matches.now) }
 {
     let word = given(matches, "number")?;
-    if names(matches) {
+    if has_flag(matches, "names") {
         return Some(ReportOf::Word(word));
     }
     Some(ReportOf::Number(number_in(word)?))
@@ -955,13 +813,16 @@ fn serve_count(matches: &ArgMatches<'_>) -> Option<Option<u64>>
 fn run_task<'a>(matches: &ArgMatches<'a>) -> Task<'a>
     ensures { desk_task_of result ≡ Some (run_in (rows_in matches.now)) }
 {
-    Task::Run {
-        file: given(matches, "db"),
-        names: names(matches),
+    let options = RunWords {
+        names: has_flag(matches, "names"),
         stop: has_flag(matches, "stop"),
         check: has_flag(matches, "check"),
         explain: has_flag(matches, "explain"),
         journal: has_flag(matches, "journal"),
+    };
+    Task::Run {
+        file: given(matches, "db"),
+        options,
     }
 }
 
@@ -975,13 +836,12 @@ fn report_task<'a>(matches: &ArgMatches<'a>) -> Option<Task<'a>>
     let of = report_of(matches)?;
     let word = given(matches, "number")?;
     if has_flag(matches, "csv") {
-        return Some(Task::Show {
-            file,
-            list: ListOf::Report(name, word),
-            csv: true,
-        });
+        let list = ListOf::Report(name, word);
+        let look = LookAt::Show { list, csv: true };
+        return Some(Task::Look { file, look });
     }
-    Some(Task::Report { file, name, of })
+    let look = LookAt::Report { name, of };
+    Some(Task::Look { file, look })
 }
 
 /// The export that is asked for, if the words name one.
@@ -991,7 +851,8 @@ fn export_task<'a>(matches: &ArgMatches<'a>) -> Option<Task<'a>>
 {
     let file = given(matches, "db")?;
     let table = export_table(matches)?;
-    Some(Task::Export(file, table))
+    let look = LookAt::Export(table);
+    Some(Task::Look { file, look })
 }
 
 /// The dump that is asked for, if the words name a file.
@@ -1000,7 +861,10 @@ fn dump_task<'a>(matches: &ArgMatches<'a>) -> Option<Task<'a>>
     ensures { AsksFor (dump_in (rows_in matches.now)) result }
 {
     let file = given(matches, "db")?;
-    Some(Task::Dump(file))
+    Some(Task::Look {
+        file,
+        look: LookAt::Dump,
+    })
 }
 
 /// The amount below which a part is low, if it is said; none where what is said is no number.
@@ -1093,11 +957,9 @@ fn show_task<'a>(matches: &ArgMatches<'a>) -> Option<Task<'a>>
         given(matches, "from"),
         given(matches, "to"),
     )?;
-    Some(Task::Show {
-        file,
-        list,
-        csv: has_flag(matches, "csv"),
-    })
+    let csv = has_flag(matches, "csv");
+    let look = LookAt::Show { list, csv };
+    Some(Task::Look { file, look })
 }
 
 /// Whether something is said of a list beside its name and a file of levels.
@@ -1129,11 +991,9 @@ fn low_task<'a>(matches: &ArgMatches<'a>) -> Option<Task<'a>>
     if name != "low" || has_list_words(matches) {
         return None;
     }
-    Some(Task::Low {
-        file,
-        levels,
-        csv: has_flag(matches, "csv"),
-    })
+    let csv = has_flag(matches, "csv");
+    let look = LookAt::Low { levels, csv };
+    Some(Task::Look { file, look })
 }
 
 /// The list that is asked for, by whether a file of levels is named.
@@ -1165,10 +1025,10 @@ pub fn has_sheet_words(matches: &ArgMatches<'_>) -> bool
 }
 
 /// How a file is read, if the words can be said together.
-fn reading_by(loose: bool, unchanged: bool) -> Option<FileReading>
-    ensures { result ≡ reading_by loose unchanged }
+fn reading(matches: &ArgMatches<'_>) -> Option<FileReading>
+    ensures { result ≡ reading_by (loose_in (rows_in matches.now)) (unchanged_in (rows_in matches.now)) }
 {
-    match (loose, unchanged) {
+    match (has_flag(matches, "loose"), has_flag(matches, "unchanged")) {
         (false, false) => Some(FileReading::Strict),
         (true, false) => Some(FileReading::Loose),
         (true, true) => Some(FileReading::Unchanged),
@@ -1187,20 +1047,20 @@ fn import_of<'a>(matches: &ArgMatches<'a>, document: Option<Document>) -> Option
     let document = document?;
     let day = import_day(matches)?;
     let path = given(matches, "path")?;
-    let reading = reading_by(has_flag(matches, "loose"), has_flag(matches, "unchanged"))?;
+    let reading = reading(matches)?;
     if has_sheet_words(matches) {
         return None;
     }
-    Some(Task::Import {
-        file,
+    let rows = RowsFile {
         kind,
         document,
         day,
         path,
-        names: names(matches),
+        names: has_flag(matches, "names"),
         reading,
         explain: has_flag(matches, "explain"),
-    })
+    };
+    Some(Task::Import { file, rows })
 }
 
 /// The import of a file of records of that form's command that is asked for, if the words tell of one.
@@ -1224,13 +1084,13 @@ fn sheet_task<'a>(
     if has_flag(matches, "unchanged") {
         return Ok(None);
     }
-    Ok(Some(Task::Sheet {
-        file,
+    let lines = SheetFile {
         sheet,
         path,
         stop: has_flag(matches, "stop"),
         explain: has_flag(matches, "explain"),
-    }))
+    };
+    Ok(Some(Task::Sheet { file, lines }))
 }
 
 fn import_task<'a>(alloc: Global, matches: &ArgMatches<'a>) -> Result<Option<Task<'a>>, AllocError>
@@ -1269,15 +1129,15 @@ fn serve_task<'a>(matches: &ArgMatches<'a>) -> Option<Task<'a>>
     let port = serve_port(matches)?;
     let count = serve_count(matches)?;
     let token = given(matches, "token");
-    Some(Task::Serve {
-        file,
+    let options = ServeWords {
         port,
         count,
         token,
-        names: names(matches),
+        names: has_flag(matches, "names"),
         page: has_flag(matches, "page"),
         journal: has_flag(matches, "journal"),
-    })
+    };
+    Some(Task::Serve { file, options })
 }
 
 /// The help that is asked for: where the words name no topic, on what a line can ask for.
@@ -1375,11 +1235,13 @@ fn task_by<'a>(alloc: Global, matches: &ArgMatches<'a>) -> Result<Option<Task<'a
         Some((_, matches)) => Ok(run_words(matches)),
         None => Ok(Some(Task::Run {
             file: None,
-            names: false,
-            stop: false,
-            check: false,
-            explain: false,
-            journal: false,
+            options: RunWords {
+                names: false,
+                stop: false,
+                check: false,
+                explain: false,
+                journal: false,
+            },
         })),
     }
 }

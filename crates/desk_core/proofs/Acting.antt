@@ -2,12 +2,12 @@
 use Rattle.std.proofs.Common.{◌≡◌, ◌-◌, ap, ◌∙◌, arith}
 use Rattle.std.specs.Prelude.{Result, Ok, Err}
 use Rattle.std.specs.List.{range_with_len}
-use Rattle.part_core.specs.Acts.{Acts}
-use Rattle.part_core.specs.Day.{CivilDay}
-use Rattle.part_core.specs.Sheet.{Table}
-use Rattle.part_core.specs.declared.answer.Answer.{Answer}
-use Rattle.part_core.specs.declared.refusal.CoreFault.{CoreFault}
-use Rattle.part_core.specs.declared.refusal.CoreFault.TheVariants.{Refused, Memory}
+use Rattle.word_core.specs.Acts.{Acts}
+use Rattle.word_core.specs.Day.{CivilDay}
+use Rattle.sheet_core.specs.Sheet.{Table}
+use Rattle.word_core.specs.declared.answer.Answer.{Answer}
+use Rattle.word_core.specs.declared.refusal.CoreFault.{CoreFault}
+use Rattle.word_core.specs.declared.refusal.CoreFault.TheVariants.{Refused, Memory}
 use Rattle.alloc_core.specs.AllocMachine as alloc
 use Rattle.alloc_core.specs.declared.alloc_command.AllocCommand.{AllocCommand}
 use Rattle.alloc_core.specs.declared.allocation.Allocation.{Allocation}

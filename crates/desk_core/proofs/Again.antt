@@ -5,10 +5,10 @@ use Rattle.std.specs.Prelude.{Ok, Err, not, if◌then◌else◌, option_and_then
 use Rattle.std.specs.FinMap as table
 use Rattle.std.specs.Str.{bytes_eq}
 use Rattle.std.proofs.lemmas.Slice.Eq.{bytes_eq-Decides}
-use Rattle.part_core.specs.declared.answer.Answer.{Answer}
-use Rattle.part_core.specs.declared.refusal.Refusal.{Refusal}
-use Rattle.part_core.specs.declared.refusal.Refusal.TheVariants.{KeyTaken}
-use Rattle.part_core.proofs.RowLemmas.{get-insert_new, get-insert_other}
+use Rattle.word_core.specs.declared.answer.Answer.{Answer}
+use Rattle.word_core.specs.declared.refusal.Refusal.{Refusal}
+use Rattle.word_core.specs.declared.refusal.Refusal.TheVariants.{KeyTaken}
+use Rattle.sheet_core.proofs.RowLemmas.{get-insert_new, get-insert_other}
 use Rattle.desk_core.specs.declared.command.Request.{Request}
 use Rattle.desk_core.specs.declared.kept.Kept.{Kept}
 use Rattle.desk_core.specs.CommandText.{command_text}

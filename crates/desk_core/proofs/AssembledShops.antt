@@ -2,12 +2,12 @@
 use Rattle.std.proofs.Common.{◌≡◌, ℕ, zero, suc, ◌<◌, true, List, [], ◌∷◌, length, get_or, Option, Some, subst, arith}
 use Rattle.std.specs.Prelude.{IfSome}
 use Rattle.std.specs.FinMap as table
-use Rattle.part_core.specs.Counter.{IsNext}
-use Rattle.part_core.specs.Filled.{StandUnderKeys, filled, filled_onto}
-use Rattle.part_core.specs.Rows.{EachRow}
-use Rattle.part_core.specs.Sheet.{Table}
-use Rattle.part_core.proofs.FilledTables.{filled-own}
-use Rattle.part_core.proofs.RowLemmas.{each-empty, each-insert}
+use Rattle.word_core.specs.Counter.{IsNext}
+use Rattle.sheet_core.specs.Filled.{StandUnderKeys, filled, filled_onto}
+use Rattle.sheet_core.specs.Rows.{EachRow}
+use Rattle.sheet_core.specs.Sheet.{Table}
+use Rattle.sheet_core.proofs.FilledTables.{filled-own}
+use Rattle.sheet_core.proofs.RowLemmas.{each-empty, each-insert}
 use Rattle.order_core.specs.declared.order.Order.{Order}
 use Rattle.yard_core.specs.Stock.{IsRun}
 use Rattle.desk_core.specs.Assembled.{AreKeys, AreSoundTables, HasSoundBooks, state_from}

@@ -1,11 +1,11 @@
 -- A verb's form, and the command of a verb and fields, by the crate that has the verb.
 use Rattle.std.proofs.Common.{◌≡◌, ℕ, List, [], ◌∙◌, ap, refl}
 use Rattle.std.specs.Prelude.{Option, Some, None, option_map, if◌then◌else◌}
-use Rattle.part_core.proofs.JoinedForms.{form_within, command_within, only_within}
-use Rattle.part_core.specs.declared.field.Field.{Field}
-use Rattle.part_core.specs.Forms.{Form, form_named}
-use Rattle.part_core.specs.FormTables.{command_by, forms_by}
-use Rattle.part_core.specs.JoinedForms.{or_else, knows}
+use Rattle.word_core.proofs.JoinedForms.{form_within, command_within, only_within}
+use Rattle.word_core.specs.declared.field.Field.{Field}
+use Rattle.word_core.specs.Forms.{Form, form_named}
+use Rattle.word_core.specs.FormTables.{command_by, forms_by}
+use Rattle.word_core.specs.JoinedForms.{or_else, knows}
 use Rattle.part_core.specs.PartForms.{part_forms}
 use Rattle.bom_core.specs.BomForms.{bom_forms}
 use Rattle.yard_core.specs.YardForms.{yard_forms}

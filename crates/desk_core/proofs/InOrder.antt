@@ -3,11 +3,11 @@ use Rattle.std.proofs.Common.{◌≡◌, ◌≤◌, ℕ, Bool, true, false, List
 use Rattle.std.proofs.Common.{◌∙◌, subst, arith, is_ok, true≢false}
 use Rattle.std.specs.Prelude.{◌==◌, if◌then◌else◌, IsSome, IsSomeAnd, IfSome}
 use Rattle.std.specs.FinMap as table
-use Rattle.part_core.specs.Rows.{EachRow}
-use Rattle.part_core.specs.Sheet.{Table}
+use Rattle.sheet_core.specs.Rows.{EachRow}
+use Rattle.sheet_core.specs.Sheet.{Table}
 use Rattle.part_core.specs.Catalogue.{Parts}
-use Rattle.part_core.specs.declared.answer.Answer.{Answer}
-use Rattle.part_core.specs.declared.refusal.Refusal.{Refusal}
+use Rattle.word_core.specs.declared.answer.Answer.{Answer}
+use Rattle.word_core.specs.declared.refusal.Refusal.{Refusal}
 use Rattle.bom_core.specs.Bills.{Bills}
 use Rattle.bom_core.specs.declared.line.Line.{Line}
 use Rattle.forest.specs.Rows.{row_at}

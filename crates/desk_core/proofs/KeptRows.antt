@@ -7,11 +7,11 @@ use Rattle.std.proofs.lemmas.List.{append_assoc}
 use Rattle.std.proofs.lemmas.Bool.Decides.{nat_tests}
 use Rattle.std.proofs.lemmas.Fmt.{decimal_digit, decimal_step}
 use Rattle.std.proofs.lemmas.Slice.Eq.{bytes_eq-Decides}
-use Rattle.part_core.specs.declared.answer.Answer.{Answer}
-use Rattle.part_core.specs.declared.column.Column.{Column}
-use Rattle.part_core.specs.declared.column.Column.TheVariants.{Text}
-use Rattle.part_core.specs.Columns.{has, must, text_at}
-use Rattle.part_core.proofs.ColumnLemmas.{bound, found, has-is, text_at-is, fitting-is, same_columns}
+use Rattle.word_core.specs.declared.answer.Answer.{Answer}
+use Rattle.sheet_core.specs.declared.column.Column.{Column}
+use Rattle.sheet_core.specs.declared.column.Column.TheVariants.{Text}
+use Rattle.sheet_core.specs.Columns.{has, must, text_at}
+use Rattle.sheet_core.proofs.ColumnLemmas.{bound, found, has-is, text_at-is, fitting-is, same_columns}
 use Rattle.desk_core.specs.AnswerLine.{LinesTellAnswers, answer_line, answer_of_numbers, answer_told}
 use Rattle.desk_core.specs.AnswerLine.{before, is_digit, numbers_in, numbers_text, with_digit}
 use Rattle.desk_core.specs.CommandText.{AreFit, Fits}

@@ -8,8 +8,8 @@ use Rattle.std.proofs.lemmas.Slice.Eq.{bytes_eq-Decides}
 use Rattle.part_core.specs.Catalogue.{family}
 use Rattle.part_core.specs.declared.found.Found.{Found}
 use Rattle.part_core.specs.declared.found.Found.TheVariants.{Nothing, One}
-use Rattle.part_core.proofs.Conditions.{and_both, and_parts}
-use Rattle.part_core.proofs.Standing.{Stands, Stands-get, get-Stands}
+use Rattle.sheet_core.proofs.Conditions.{and_both, and_parts}
+use Rattle.sheet_core.proofs.Standing.{Stands, Stands-get, get-Stands}
 use Rattle.forest.specs.declared.item.Item.{Item}
 use Rattle.alloc_core.proofs.Once.{Stands-passes}
 use Rattle.yard_core.specs.ItemNames.{is_item_named, newest, newest_left}

@@ -2,14 +2,14 @@
 use Rattle.std.proofs.Common.{◌≡◌, ℕ, List, [], ◌∷◌, Option, Some, None, refl, ap, ◌∙◌}
 use Rattle.std.specs.FinMap as table
 use Rattle.part_core.specs.Catalogue.{Parts}
-use Rattle.part_core.specs.Checks.{first}
-use Rattle.part_core.specs.Day.{CivilDay}
+use Rattle.word_core.specs.Checks.{first}
+use Rattle.word_core.specs.Day.{CivilDay}
 use Rattle.part_core.specs.Names.{child_named, part_named}
 use Rattle.part_core.specs.PartMachine as catalogue
-use Rattle.part_core.specs.declared.answer.Answer.{Answer}
+use Rattle.word_core.specs.declared.answer.Answer.{Answer}
 use Rattle.part_core.specs.declared.found.Found.TheVariants.{One}
-use Rattle.part_core.specs.declared.refusal.Refusal.{Refusal}
-use Rattle.part_core.specs.declared.refusal.Refusal.TheVariants.{KeyTaken}
+use Rattle.word_core.specs.declared.refusal.Refusal.{Refusal}
+use Rattle.word_core.specs.declared.refusal.Refusal.TheVariants.{KeyTaken}
 use Rattle.part_core.proofs.NamesStay as parts
 use Rattle.yard_core.specs.Stock.{Stock}
 use Rattle.yard_core.proofs.NamesStay as locations

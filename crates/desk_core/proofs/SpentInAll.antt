@@ -4,12 +4,12 @@ use Rattle.std.proofs.Common.{eqb-true, eq-eqb}
 use Rattle.std.specs.Prelude.{◌==◌, ◌&&◌, if◌then◌else◌, sum_by}
 use Rattle.std.specs.FinMap as table
 use Rattle.std.proofs.lemmas.List.Sums.{sum_by-cons}
-use Rattle.part_core.specs.Rows.{StandRight}
-use Rattle.part_core.specs.Sheet.{Table}
-use Rattle.part_core.proofs.Conditions.{and_both, and_parts}
-use Rattle.part_core.proofs.RowLemmas.{get-remove_cases}
-use Rattle.part_core.proofs.Standing.{Stands, Stands-get}
-use Rattle.part_core.proofs.Totals.{of_option, sum-remove}
+use Rattle.sheet_core.specs.Rows.{StandRight}
+use Rattle.sheet_core.specs.Sheet.{Table}
+use Rattle.sheet_core.proofs.Conditions.{and_both, and_parts}
+use Rattle.sheet_core.proofs.RowLemmas.{get-remove_cases}
+use Rattle.sheet_core.proofs.Standing.{Stands, Stands-get}
+use Rattle.sheet_core.proofs.Totals.{of_option, sum-remove}
 use Rattle.build_core.specs.Sound.{IsSpentOnce}
 use Rattle.build_core.specs.Spent.{amount_on, is_spent_on, spent_on}
 use Rattle.build_core.specs.declared.spent.Spent.{Spent}

@@ -8,10 +8,10 @@ use Rattle.json.specs.Tree.{depth, items_depth, members_depth}
 use Rattle.serde_json.specs.Data.{Data, string, array, object, Members, no_members, member, put}
 use Rattle.serde_json.specs.View.{items_of}
 use Rattle.serde_json.specs.Written.{outline, items_outline, members_outline}
-use Rattle.part_core.specs.declared.field.Field.{Field}
-use Rattle.part_core.specs.declared.field.Field.TheVariants as field
-use Rattle.part_core.specs.Flags.{flag_words}
-use Rattle.part_core.specs.Forms.{Blanks}
+use Rattle.word_core.specs.declared.field.Field.{Field}
+use Rattle.word_core.specs.declared.field.Field.TheVariants as field
+use Rattle.word_core.specs.Flags.{flag_words}
+use Rattle.word_core.specs.Forms.{Blanks}
 use Rattle.desk_core.specs.DataOf.{whole, data_of}
 use Rattle.desk_core.specs.CommandText.{with_fields, AreFit, FieldFits, FieldsFit}
 use Rattle.desk_core.proofs.Plain.{IsPlain, ArePlain, HavePlain}

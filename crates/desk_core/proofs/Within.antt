@@ -5,14 +5,14 @@ use Rattle.std.proofs.lemmas.Bool.{le-ltb, ltb-false}
 use Rattle.part_core.specs.AddCategory.{add_category_checks}
 use Rattle.part_core.specs.AddPart.{add_part_checks}
 use Rattle.part_core.specs.Catalogue.{Parts, Register}
-use Rattle.part_core.specs.Checks.{Check, first}
-use Rattle.part_core.specs.Counter.{IsNext, Numbering, passes_limit}
-use Rattle.part_core.specs.Day.{CivilDay}
+use Rattle.word_core.specs.Checks.{Check, first}
+use Rattle.word_core.specs.Counter.{IsNext, Numbering, passes_limit}
+use Rattle.word_core.specs.Day.{CivilDay}
 use Rattle.part_core.specs.PartMachine as part
-use Rattle.part_core.specs.Sheet.{Table}
+use Rattle.sheet_core.specs.Sheet.{Table}
 use Rattle.part_core.specs.declared.part_command.PartCommand.{PartCommand}
 use Rattle.part_core.specs.declared.part_command.PartCommand.TheVariants.{AddCategory, AddPart, RetirePart}
-use Rattle.part_core.proofs.Conditions.{or_none}
+use Rattle.sheet_core.proofs.Conditions.{or_none}
 use Rattle.bom_core.specs.Bills.{Bills}
 use Rattle.bom_core.specs.BomMachine as bom
 use Rattle.bom_core.specs.Changes.{BillBooks}

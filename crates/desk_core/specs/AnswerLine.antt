@@ -2,8 +2,8 @@
 use Rattle.std.specs.Prelude.{◌≡◌, ℕ, ◌+◌, ◌-◌, ◌*◌, ◌%◌, ◌^◌, ◌&&◌, nat_le, List, [], ◌∷◌, ◌++◌}
 use Rattle.std.specs.Prelude.{Bool, true, false, if◌then◌else◌, Option, Some, None, decimal, codes}
 use Rattle.std.specs.Str.{bytes_eq}
-use Rattle.part_core.specs.Columns.{◌>>=◌, must}
-use Rattle.part_core.specs.declared.answer.Answer.{Answer}
+use Rattle.sheet_core.specs.Columns.{◌>>=◌, must}
+use Rattle.word_core.specs.declared.answer.Answer.{Answer}
 use Rattle.desk_core.specs.CommandText.{AreFit, Fits}
 
 -- numbers with a comma between two

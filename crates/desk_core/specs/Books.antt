@@ -1,9 +1,9 @@
 -- What the books can be relied on for, whatever was asked of them.
 use Rattle.std.specs.Prelude.{◌≡◌, ◌≤◌, ◌+◌, ℕ, true, false, List, [], ◌∷◌, Option, Some, Err, IsSome, IfSome}
 use Rattle.std.specs.FinMap as table
-use Rattle.part_core.specs.Counter.{IsNext}
-use Rattle.part_core.specs.Rows.{EachRow, StandRight}
-use Rattle.part_core.specs.declared.refusal.Refusal.{Refusal}
+use Rattle.word_core.specs.Counter.{IsNext}
+use Rattle.sheet_core.specs.Rows.{EachRow, StandRight}
+use Rattle.word_core.specs.declared.refusal.Refusal.{Refusal}
 use Rattle.bom_core.specs.Bills.{covers}
 use Rattle.bom_core.specs.Sound.{IsOnceEach}
 use Rattle.bom_core.specs.Walks.{IsAcyclic}

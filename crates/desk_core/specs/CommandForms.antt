@@ -1,12 +1,12 @@
 -- The forms of all commands: those of each crate, within the type of all commands.
 use Rattle.std.specs.Prelude.{◌≡◌, ℕ, List, [], true, Some, refl}
-use Rattle.part_core.proofs.JoinedForms.{back_here, back_later, told_within, distinct_within}
-use Rattle.part_core.specs.declared.field.Field.{Field}
+use Rattle.word_core.proofs.JoinedForms.{back_here, back_later, told_within, distinct_within}
+use Rattle.word_core.specs.declared.field.Field.{Field}
 use Rattle.part_core.specs.declared.part_command.PartCommand.{PartCommand}
-use Rattle.part_core.specs.Forms.{Fills, IsCommand, have_distinct, are_distinct, verbs_of}
-use Rattle.part_core.specs.FormLaws.{rows_fill, rows_made}
-use Rattle.part_core.specs.FormTables.{AllTell, FormRow, command_by, forms_by}
-use Rattle.part_core.specs.JoinedForms.{rows_within}
+use Rattle.word_core.specs.Forms.{Fills, IsCommand, have_distinct, are_distinct, verbs_of}
+use Rattle.word_core.specs.FormLaws.{rows_fill, rows_made}
+use Rattle.word_core.specs.FormTables.{AllTell, FormRow, command_by, forms_by}
+use Rattle.word_core.specs.JoinedForms.{rows_within}
 use Rattle.part_core.specs.PartForms.{part_forms, part_verb, part_fields, part_back, part_told, part_distinct}
 use Rattle.bom_core.specs.declared.bom_command.BomCommand.{BomCommand}
 use Rattle.bom_core.specs.BomForms.{bom_forms, bom_verb, bom_fields, bom_back, bom_told, bom_distinct}

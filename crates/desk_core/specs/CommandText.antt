@@ -2,10 +2,10 @@
 use Rattle.std.specs.Prelude.{◌≡◌, ℕ, ◌<◌, ◌^◌, List, Option, Some, None, IfSome, [], ◌∷◌, codes}
 use Rattle.serde_json.specs.Data.{Data, string, object, Members, no_members, put}
 use Rattle.serde_json.specs.Written.{compact_text}
-use Rattle.part_core.specs.declared.field.Field.{Field}
-use Rattle.part_core.specs.declared.field.Field.TheVariants as field
-use Rattle.part_core.specs.Forms.{Blanks, Form, form_named}
-use Rattle.part_core.specs.FormTables.{forms_by}
+use Rattle.word_core.specs.declared.field.Field.{Field}
+use Rattle.word_core.specs.declared.field.Field.TheVariants as field
+use Rattle.word_core.specs.Forms.{Blanks, Form, form_named}
+use Rattle.word_core.specs.FormTables.{forms_by}
 use Rattle.desk_core.specs.declared.command.Command.{Command}
 use Rattle.desk_core.specs.CommandForms.{command_forms, command_verb, command_fields}
 use Rattle.desk_core.specs.DataOf.{data_of}

@@ -2,11 +2,11 @@
 use Rattle.std.specs.Prelude.{ℕ, List, map, Option, Some, None}
 use Rattle.serde_json.specs.Data.{Data, null, boolean, string, number, unsigned, array}
 use Rattle.serde_json.specs.View.{items_of}
-use Rattle.part_core.specs.Flags.{flag_words}
-use Rattle.part_core.specs.Side.{side_name}
-use Rattle.part_core.specs.Status.{status_name}
-use Rattle.part_core.specs.declared.field.Field.{Field}
-use Rattle.part_core.specs.declared.field.Field.TheVariants as field
+use Rattle.word_core.specs.Flags.{flag_words}
+use Rattle.word_core.specs.Side.{side_name}
+use Rattle.word_core.specs.Status.{status_name}
+use Rattle.word_core.specs.declared.field.Field.{Field}
+use Rattle.word_core.specs.declared.field.Field.TheVariants as field
 
 abbrev pub whole : ℕ → Data
 whole n = number (unsigned n)

@@ -1,9 +1,9 @@
 -- A kept answer as a row of a file: word, command, answer.
 use Rattle.std.specs.Prelude.{ℕ, List, [], ◌∷◌, Option, Some}
-use Rattle.part_core.specs.declared.column.Column.{Column}
-use Rattle.part_core.specs.declared.column.Column.TheVariants.{Text}
-use Rattle.part_core.specs.Columns.{◌>>=◌, has, text_at, fitting}
-use Rattle.part_core.specs.declared.answer.Answer.{Answer}
+use Rattle.sheet_core.specs.declared.column.Column.{Column}
+use Rattle.sheet_core.specs.declared.column.Column.TheVariants.{Text}
+use Rattle.sheet_core.specs.Columns.{◌>>=◌, has, text_at, fitting}
+use Rattle.word_core.specs.declared.answer.Answer.{Answer}
 use Rattle.desk_core.specs.AnswerLine.{answer_line, answer_told}
 use Rattle.desk_core.specs.Key.{is_key}
 use Rattle.desk_core.specs.declared.kept.Kept.{Kept}

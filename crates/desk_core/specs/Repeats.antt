@@ -1,8 +1,8 @@
 -- What comes of sending a request with a key again.
 use Rattle.std.specs.Prelude.{◌≡◌, if◌then◌else◌, List, [], ◌∷◌, ◌++◌, Some, IsSome, Ok, Err}
 use Rattle.std.specs.Str.{bytes_eq}
-use Rattle.part_core.specs.declared.answer.Answer.{Answer}
-use Rattle.part_core.specs.declared.refusal.Refusal.TheVariants.{KeyTaken}
+use Rattle.word_core.specs.declared.answer.Answer.{Answer}
+use Rattle.word_core.specs.declared.refusal.Refusal.TheVariants.{KeyTaken}
 use Rattle.desk_core.specs.declared.command.Request.{Request}
 use Rattle.desk_core.specs.declared.kept.Kept.{Kept}
 use Rattle.desk_core.specs.CommandText.{command_text}

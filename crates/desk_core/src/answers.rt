@@ -1,7 +1,7 @@
 //! Answers as text: what is told to a clerk, and kept under a key.
 ghost use Rattle.std.specs.Prelude.{◌≡◌, ◌++◌, false, true, None, IfOk, OnOk};
 ghost use Rattle.std.specs.String.{string_bytes};
-ghost use Rattle.part_core.specs.Columns.{Finds};
+ghost use Rattle.sheet_core.specs.Columns.{Finds};
 ghost use Rattle.desk_core.specs.AnswerLine.{answer_line, answer_of_numbers, answer_told};
 ghost use Rattle.desk_core.specs.AnswerLine.{is_digit, numbers_in, numbers_text, with_digit};
 ghost use Rattle.desk_core.specs.CommandText.{AreFit, Fits};

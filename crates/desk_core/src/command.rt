@@ -1,7 +1,7 @@
 //! What a clerk may ask.
 ghost use Rattle.std.specs.Prelude.{◌≡◌, option_map};
-ghost use Rattle.part_core.specs.Forms.{form_named, shown};
-ghost use Rattle.part_core.specs.FormTables.{command_by, forms_by};
+ghost use Rattle.word_core.specs.Forms.{form_named, shown};
+ghost use Rattle.word_core.specs.FormTables.{command_by, forms_by};
 ghost use Rattle.desk_core.specs.CommandForms.{command_back, command_distinct, command_fields};
 ghost use Rattle.desk_core.specs.CommandForms.{command_fills, command_forms, command_made, command_verb};
 
@@ -90,6 +90,8 @@ impl Formed for Command {
         }
     }
 
+    // The verb is looked up here anew, once in the forms of a crate and once by the crate itself, though the fields were read
+    // by its form: a form doesn't say whose it is, and a verb of one's own choice has to be told apart all the same.
     #[tactic(auto, using(crate::proofs::ByCrate::command_by_crate))]
     fn from_fields(verb: &str, fields: Vec<Field>) -> Option<Self> {
         if StockCommand::form(verb).is_some() {

@@ -2,7 +2,7 @@
 ghost use Rattle.std.specs.Prelude.{◌≡◌, ◌↔◌, IsTrue, IfOk};
 ghost use Rattle.std.specs.Str.{bytes_eq};
 ghost use Rattle.std.specs.String.{string_bytes};
-ghost use Rattle.part_core.specs.Columns.{Finds};
+ghost use Rattle.sheet_core.specs.Columns.{Finds};
 ghost use Rattle.desk_core.specs.KeptColumns.{answer_at, kept_columns, kept_from, key_at};
 
 use crate::answers::{answer_line, are_fit, read_answer};

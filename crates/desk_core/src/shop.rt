@@ -1,11 +1,12 @@
-//! The shop: all that the machine holds, and its one step.
+//! The shop: all that the machine holds, and its one step. A request comes from a desk (`desk_store` `src/group.rt`),
+//! and its command goes to the crate whose tables it changes, one on stock to `stock_core` `src/stock_command.rt`.
 //!
 //! Between two requests the catalogue, the bills, the yard and the counter are a sound state of the machine. `accept`
-//! begins by keeping what is there. From then on each store knows what it held before the request: a call that
-//! stands for a command takes its own changes back where it is refused or memory runs out, so that nothing is pending
-//! after that, and after an answer exactly this request's changes are.
+//! begins by keeping what is there. From then on each store knows what it held before the request: a call that stands
+//! for a command takes its own changes back where it is refused or memory runs out, so that nothing is pending after
+//! that, and after an answer exactly this request's changes are.
 ghost use Rattle.std.specs.Prelude.{◌≡◌, ◌+◌, Some, length, IfOk, OnErr, OnOk};
-ghost use Rattle.part_core.specs.Acts.{Acts};
+ghost use Rattle.word_core.specs.Acts.{Acts};
 ghost use Rattle.desk_core.specs.Books.{AreInOrder};
 ghost use Rattle.desk_core.specs.CommandText.{command_text};
 ghost use Rattle.desk_core.specs.Machine.{Accepts, AreDrawn, Decides, IsSoundState, answer_of};
@@ -22,7 +23,9 @@ use alloc_core::{Allocations, alloc_command};
 use bom_core::{Boms, bom_command};
 use build_core::{Builds, build_command};
 use order_core::{Orders, order_command};
-use part_core::{Answer, Catalogue, CoreFault, Counter, Limits, Refusal, Sheet, part_command};
+use part_core::{
+    Answer, Catalogue, CoreFault, Counter, Limits, Refusal, Seed, Sheet, part_command,
+};
 use std::alloc::{AllocError, Global};
 use stock_core::{Floor, stock_command};
 use yard_core::{Yard, YardBooks, yard_command};
@@ -57,26 +60,27 @@ impl Drop for Shop {
 }
 
 impl Shop {
-    /// A shop with nothing in it.
-    pub fn new(alloc: Global, limits: Limits) -> Self
+    /// A shop with nothing in it. Its rows and the answers that it keeps are found by hashes that begin with the seed;
+    /// nothing else depends on it.
+    pub fn new(alloc: Global, seed: Seed, limits: Limits) -> Self
         ensures state { state_of result ≡ start limits }
         ensures before { state_before result ≡ start limits }
         ensures sound { IsSoundState (state_of result) }
     {
         Shop {
-            catalogue: Catalogue::new(alloc),
-            boms: Boms::new(alloc),
+            catalogue: Catalogue::new(alloc, seed),
+            boms: Boms::new(alloc, seed),
             floor: Floor {
-                allocations: Allocations::new(alloc),
+                allocations: Allocations::new(alloc, seed),
                 stock: YardBooks {
-                    yard: Yard::new(alloc),
+                    yard: Yard::new(alloc, seed),
                     counter: Counter::new(limits),
                     alloc,
                 },
             },
-            orders: Orders::new(alloc),
-            builds: Builds::new(alloc),
-            answers: Sheet::new(alloc),
+            orders: Orders::new(alloc, seed),
+            builds: Builds::new(alloc, seed),
+            answers: Sheet::new(alloc, seed),
         }
     }
 

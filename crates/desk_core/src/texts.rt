@@ -7,7 +7,7 @@ ghost use Rattle.std.specs.Prelude.{◌≡◌, [], IfOk, OnOk, codes};
 ghost use Rattle.std.specs.String.{string_bytes};
 ghost use Rattle.json.specs.Print.{print};
 ghost use Rattle.serde_json.specs.Data.{no_members, object, put, string};
-ghost use Rattle.part_core.specs.Forms.{shown_fields};
+ghost use Rattle.word_core.specs.Forms.{shown_fields};
 ghost use Rattle.desk_core.specs.CommandText.{TextsTell, TextsTellCommands, command_text};
 ghost use Rattle.desk_core.specs.CommandText.{data_in, text_in, with_fields};
 ghost use Rattle.desk_core.specs.TextWriting.{Adds, in_order, value_data};

@@ -6,8 +6,8 @@ use Rattle.std.specs.List.{list_all}
 use Rattle.std.specs.Str.{IsUtf8, IsAscii}
 use Rattle.std.proofs.lemmas.Str.{IsUtf8-from_ascii}
 use Rattle.std.proofs.lemmas.Bool.Decides.{nat_tests}
-use Rattle.part_core.specs.Pattern.{fits_pattern, is_digit_or}
-use Rattle.part_core.specs.Day.{day_of}
+use Rattle.word_core.specs.Pattern.{fits_pattern, is_digit_or}
+use Rattle.word_core.specs.Day.{day_of}
 use Rattle.desk_http.specs.Targets.{place_in}
 
 no : (c : Bool) → (c && false) ≡ false

@@ -1,12 +1,12 @@
 -- What is planned with a page, and without one.
-use Rattle.std.proofs.Common.{◌≡◌, ◌∙◌, ap, refl, sym, subst, ℕ, List, [], ◌∷◌, Bool, true, false, cond, drop}
+use Rattle.std.proofs.Common.{◌≡◌, ap, refl, sym, subst, ℕ, List, [], ◌∷◌, Bool, true, false, cond, drop}
 use Rattle.std.specs.Prelude.{Option, Some, None, Result, Ok, Err, codes, nat_eq}
 use Rattle.std.specs.List.{starts_with}
-use Rattle.part_core.specs.Day.{day_of}
+use Rattle.word_core.specs.Day.{day_of}
 use Rattle.desk_http.specs.AccessRules.{AccessRules, access_fault, page_fault, sender_fault}
 use Rattle.desk_http.specs.Heads.{Class, HeadParts, WellFormed, TooManyFields, Malformed}
 use Rattle.desk_http.specs.Plans.{IsOfProgram, ShowsNoPage, checked, known_tag, planned, planned_page, plan_by, plan_of}
-use Rattle.desk_http.specs.Plans.{plan_beside, planned_else, planned_proof, with_length}
+use Rattle.desk_http.specs.Plans.{plan_beside, with_length}
 use Rattle.desk_http.specs.Proofs.{nonce_at, nonce_by}
 use Rattle.desk_http.specs.Sites.{PageView, SiteRules}
 use Rattle.desk_http.specs.Targets.{Resource, ◌then◌, where_it, cut, kind_of, name_of, number_of, is_document}
@@ -79,25 +79,3 @@ page_planned site parts page e =
     (λ shown. plan_by (page_fault site.access parts.fields) parts shown
     (plan_beside (sender_fault site.access parts.fields) (access_fault site.access parts.fields) site.page parts
     (nonce_at site parts.target))) e
-
--- and where it says what is to be proved, and doesn't name the page, that
-pub proof_planned : (site : SiteRules) (parts : HeadParts) (nonce : List ℕ) → None ≡ page_at site.page parts.target
-    → Some nonce ≡ nonce_at site parts.target
-    → planned_proof (sender_fault site.access parts.fields) parts.method nonce ≡ plan_of site (WellFormed parts)
-proof_planned site parts nonce no_page e =
-    ap (plan_beside (sender_fault site.access parts.fields) (access_fault site.access parts.fields) site.page parts) e
-    ∙ ap
-    (λ shown. plan_by (page_fault site.access parts.fields) parts shown
-    (plan_beside (sender_fault site.access parts.fields) (access_fault site.access parts.fields) site.page parts
-    (nonce_at site parts.target))) no_page
-
--- and where it does neither, what the target names
-pub else_planned : (site : SiteRules) (parts : HeadParts) → None ≡ page_at site.page parts.target
-    → None ≡ nonce_at site parts.target
-    → planned_else (access_fault site.access parts.fields) site.page parts ≡ plan_of site (WellFormed parts)
-else_planned site parts no_page e =
-    ap (plan_beside (sender_fault site.access parts.fields) (access_fault site.access parts.fields) site.page parts) e
-    ∙ ap
-    (λ shown. plan_by (page_fault site.access parts.fields) parts shown
-    (plan_beside (sender_fault site.access parts.fields) (access_fault site.access parts.fields) site.page parts
-    (nonce_at site parts.target))) no_page

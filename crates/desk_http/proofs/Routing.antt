@@ -23,7 +23,7 @@ use Rattle.desk_http.specs.declared.route.Route.TheVariants.{ImportRoute, Report
 use Rattle.desk_http.specs.Targets.{Resource, Run, Report, Import, ◌then◌, where_it, place_in}
 use Rattle.desk_http.specs.Targets.{cut_at, kind_of, name_of, number_of, is_document, file_resource}
 use Rattle.desk_http.specs.Targets.{import_resource, report_resource, run_resource, resource_of}
-use Rattle.part_core.specs.Day.{day_of}
+use Rattle.word_core.specs.Day.{day_of}
 use Rattle.desk_http.proofs.Days.{no_slash}
 use Rattle.desk_http.specs.Routes.{all_routes, route_of, import_row, report_row, run_row}
 use Rattle.desk_http.proofs.Finding.{lit, parted, joined, Bytes, rest_of, last_of, param_mid, param_end}

@@ -2,7 +2,7 @@
 use Rattle.std.specs.Prelude.{◌≡◌, ◌⊎◌, ◌++◌, ℕ, Bool, codes, List, [], ◌∷◌, Option, Some, None, Result, Ok, Err}
 use Rattle.std.specs.Prelude.{decimal, if◌then◌else◌}
 use Rattle.std.specs.Str.{bytes_eq}
-use Rattle.part_core.specs.Day.{CivilDay}
+use Rattle.word_core.specs.Day.{CivilDay}
 use Rattle.desk_http.specs.Targets.{Resource, Run, Import, Report, Export, Books, HistoryFrom, Sheet, Show, RunAll, Stop}
 use Rattle.desk_http.specs.Targets.{Dump}
 use Rattle.desk_http.specs.declared.query.LineWords.{LineWords}

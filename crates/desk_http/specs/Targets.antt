@@ -8,7 +8,7 @@ use Rattle.std.specs.Str.Parse.{digits_value}
 use Rattle.std.specs.Char.{is_ascii_digit, is_ascii_alphanumeric, is_ascii_lowercase}
 use Rattle.std.specs.Str.Lossy.{utf8_lossy}
 use Rattle.percent_encoding.specs.Percent.{percent_decode}
-use Rattle.part_core.specs.Day.{CivilDay, day_of}
+use Rattle.word_core.specs.Day.{CivilDay, day_of}
 use Rattle.desk_http.specs.Sites.{PageView}
 use Rattle.desk_http.specs.declared.query.LineWords.{LineWords}
 use Rattle.desk_http.specs.declared.query.ListWords.{ListWords}

@@ -1,6 +1,19 @@
 //! One request of HTTP, read and answered. The connection gives the bytes, a service does what they ask: this crate
-//! knows what a request is, which are refused and how each is answered, and of the service only its trait. It is the other
-//! side, too: it asks such a service, and reads what it answers.
+//! knows what a request is, which are refused and how each is answered, and of the service only its trait. It is the
+//! other side, too: it asks such a service, and reads what it answers.
+//!
+//! - `Service`, the trait of what is asked: it says by ghost members what a caller may rely on: its state (`state`),
+//!   the machine of its operations (`machine`), whether it may be asked (`is_kept`), what may be left without a reply
+//!   (`left`), and what else holds (`relates`). `NoReply::Failed` leaves what `left` says, `NoReply::Untold` that, the
+//!   state before or the state after (`Services.Stops`). Names of commands and lists are the service's to know
+//!   (`Unknown`), and so is that two states of one `tag` are the same.
+//! - `serve_one`: answers one request, by the bytes that its reader has where they are known (`serves`:
+//!   `Serving.ServesOne`), and by some bytes in any case (`read`). Which of two faults a malformed head with more than
+//!   64 field lines has is left open (law `one_class`).
+//! - `serve_connections`: one operation or nothing for each connection, of so many at most (`steps`, `operations`,
+//!   `most`).
+//! - `ask_service`: writes the request of its question, or a front of it, and tells what the connection's bytes say, or
+//!   why nothing (`Answering.IsAsked`). That the service did what it answers has no clause.
 #![tactic(auto)]
 
 mod access;

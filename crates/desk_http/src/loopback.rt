@@ -1,7 +1,7 @@
 //! Clients on the loopback, a request a connection, one connection after another. Those that say nothing wait aside.
 ghost use Rattle.std.specs.Prelude.{◌≡◌, ◌⊎◌, ◌+◌, ◌<◌, ◌≤◌, ◌^◌, ℕ, length, true, IfNone};
 ghost use Rattle.std.specs.Prelude.{IfOk, IfSome, MatchOption, OnErr, OnOk};
-ghost use Rattle.desk_http.specs.Paces.{HaveGone};
+ghost use Rattle.desk_http.specs.Paces.{HaveGone, Meets};
 ghost use Rattle.desk_http.specs.Services.{Performs};
 ghost use Rattle.desk_http.specs.Serving.{AreSteps, IsOneOperation, IsOneStep, IsTaken};
 
@@ -183,12 +183,8 @@ fn meet_some<C: Clock, L: OpenListener<Stream = TcpStream> + Drop>(
     last: u64,
 ) -> io::Result<Option<TcpStream>>
     requires { clients.old.accepted ≤ last }
-    ensures last { clients.new.accepted ≤ last }
-    ensures gone { HaveGone 0 clients.old.accepted (length aside.old.silent.items)
-        clients.new.accepted (length aside.new.silent.items) }
-    ensures one { IfOk result (λ met. IfSome met (λ _. HaveGone 1 clients.old.accepted
-        (length aside.old.silent.items) clients.new.accepted
-        (length aside.new.silent.items))) }
+    ensures meets { Meets last clients.old.accepted (length aside.old.silent.items)
+        clients.new.accepted (length aside.new.silent.items) result }
 {
     'others: for _ in 0..AT_A_TIME {
         if clients.accepted >= last {
@@ -213,12 +209,8 @@ fn look_round<C: Clock, L: OpenListener<Stream = TcpStream> + Drop>(
     last: u64,
 ) -> io::Result<Option<TcpStream>>
     requires { clients.old.accepted ≤ last }
-    ensures last { clients.new.accepted ≤ last }
-    ensures gone { HaveGone 0 clients.old.accepted (length aside.old.silent.items)
-        clients.new.accepted (length aside.new.silent.items) }
-    ensures one { IfOk result (λ met. IfSome met (λ _. HaveGone 1 clients.old.accepted
-        (length aside.old.silent.items) clients.new.accepted
-        (length aside.new.silent.items))) }
+    ensures meets { Meets last clients.old.accepted (length aside.old.silent.items)
+        clients.new.accepted (length aside.new.silent.items) result }
 {
     if let Some(stream) = aside.take_speaking() {
         return Ok(Some(stream));
@@ -238,12 +230,9 @@ fn meet_next<C: Clock, L: OpenListener<Stream = TcpStream> + Drop>(
     aside: &mut Aside,
 ) -> io::Result<Option<TcpStream>>
     requires { clients.old.accepted + 1 < 2 ^ 64 }
-    ensures accepted { clients.new.accepted ≤ clients.old.accepted + 1 }
-    ensures gone { HaveGone 0 clients.old.accepted (length aside.old.silent.items)
-        clients.new.accepted (length aside.new.silent.items) }
-    ensures one { IfOk result (λ met. IfSome met (λ _. HaveGone 1 clients.old.accepted
+    ensures meets { Meets (clients.old.accepted + 1) clients.old.accepted
         (length aside.old.silent.items) clients.new.accepted
-        (length aside.new.silent.items))) }
+        (length aside.new.silent.items) result }
 {
     let stream = clients.accept_patiently(clock)?;
     if speaks_at_once(&stream) {
@@ -263,12 +252,8 @@ fn look<C: Clock, L: OpenListener<Stream = TcpStream> + Drop>(
     last: u64,
 ) -> io::Result<Option<TcpStream>>
     requires { clients.old.accepted ≤ last }
-    ensures last { clients.new.accepted ≤ last }
-    ensures gone { HaveGone 0 clients.old.accepted (length aside.old.silent.items)
-        clients.new.accepted (length aside.new.silent.items) }
-    ensures one { IfOk result (λ met. IfSome met (λ _. HaveGone 1 clients.old.accepted
-        (length aside.old.silent.items) clients.new.accepted
-        (length aside.new.silent.items))) }
+    ensures meets { Meets last clients.old.accepted (length aside.old.silent.items)
+        clients.new.accepted (length aside.new.silent.items) result }
 {
     if aside.is_empty() && clients.accepted < last {
         meet_next(clock, clients, aside)

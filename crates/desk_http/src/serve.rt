@@ -1,4 +1,16 @@
-//! One request, read and answered.
+//! One request of HTTP, read and answered. Its bytes come from a connection (`src/loopback.rt`). Its head is found by
+//! `src/receive.rt` and checked by `src/plan.rt`; its operation goes to a `Service`, which `desk_app` `src/service.rt`
+//! makes of the books, and what that replies to the client by `src/respond.rt`.
+//!
+//! What holds, each by the clauses of that name:
+//!
+//! 1. `kept`: however the request ends, the service may be asked again.
+//! 2. `serves`: by the bytes that the reader has, the request is rejected by the first check that it fails, or told the
+//!    page or the proof of the token, or its one operation is done and its reply told; of one that didn't come whole
+//!    nothing is done (`Serving.ServesOne`).
+//! 3. `read`: the same holds by the bytes that were read, so also where no clause knows those of the reader, as of a
+//!    connection.
+//! 4. `more`: bytes that were read are never lost, but read on behind.
 ghost use Rattle.std.specs.Prelude.{◌≡◌, ◌≤◌, ℕ, List, Some, [], length, IfOk};
 ghost use Rattle.std.specs.Io.{StartsWith};
 ghost use Rattle.desk_http.specs.HeadEnds.{all_of, arrival};

@@ -10,9 +10,9 @@ ghost use Rattle.desk_http.specs.Services.{IsReading, Stops, reply_view, step, t
 
 use crate::query::{LineWords, ListWords};
 use crate::target::{ImportKind, ReportName};
-use part_core::Day;
 use std::alloc::Global;
 use std::io::Write;
+use word_core::Day;
 
 /// What tells the books of a service from what they were, and will be: when the service began, in nanoseconds since 1970,
 /// and how many requests it has accepted since.

@@ -2,7 +2,7 @@
 //! is read elsewhere.
 ghost use Rattle.std.specs.Prelude.{◌≡◌, ◌<◌, IfSome, true, length};
 ghost use Rattle.std.specs.List.{list_all};
-ghost use Rattle.part_core.specs.Day.{day_of};
+ghost use Rattle.word_core.specs.Day.{day_of};
 ghost use Rattle.desk_http.specs.Targets.{number_of, cut, kind_of, name_of, place_in, is_document_byte};
 ghost use Rattle.desk_http.specs.Targets.{is_document, where_it, file_resource, import_resource};
 ghost use Rattle.desk_http.specs.Targets.{report_resource, some_parts, some_resource, some_text, IsProper};
@@ -12,7 +12,7 @@ ghost use Rattle.desk_http.specs.Targets.{asked_resource, first_of, sheet_at, sh
 
 use crate::asked::read_asked;
 use crate::query::{LineWords, ListWords};
-use part_core::Day;
+use word_core::Day;
 
 /// What the rows of a file are.
 #[derive(Clone, Copy, Debug)]

@@ -1,6 +1,6 @@
 //! A file of comma-separated values that is imported to books.
-use desk_app::{Books, import_file};
-use desk_ends::RunEnd;
+use desk_app::{Books, ImportOf, import_file};
+use desk_core::RunEnd;
 use desk_wire::{FileReading, ImportKind};
 use std::alloc::Global;
 use std::io::Write;
@@ -19,16 +19,13 @@ pub fn imports<B: Books, W: Write>(
     requires { B.are_kept books.old }
     ensures { B.are_kept books.new }
 {
-    let bytes = file.as_bytes();
-    Ok(import_file(
-        alloc,
-        bytes,
+    let document = document(alloc)?;
+    let asked = ImportOf {
         kind,
-        &document(alloc)?,
-        day(on)?,
-        FileReading::Strict,
-        false,
-        writer,
-        books,
-    ))
+        document: &document,
+        day: day(on)?,
+        reading: FileReading::Strict,
+        names: false,
+    };
+    Ok(import_file(alloc, file.as_bytes(), &asked, writer, books))
 }

@@ -8,11 +8,10 @@ ghost use Rattle.desk_core.specs.Machine.{IsSoundState};
 ghost use Rattle.desk_core.specs.ShopView.{state_of};
 ghost use Rattle.desk_store.specs.Desks.{IsDesk};
 
-use desk_app::{Books, LineOptions, run_lines};
-use desk_core::Shop;
-use desk_ends::RunEnd;
+use desk_app::{Books, RunOptions, run_lines};
+use desk_core::{RunEnd, Shop};
 use desk_store::Desk;
-use part_core::Limits;
+use part_core::{Limits, Seed};
 use sqlite::{Alter, Connection, FileStore};
 use sqlite_disk::Memory;
 use std::alloc::Global;
@@ -25,7 +24,7 @@ use store_play::outcomes::holds;
 fn reopened<S: Alter + Drop>(alloc: Global, desk: Desk<S>) -> Result<Desk<S>, Fail>
     ensures { IfOk result (λ desk. IsDesk S.Store desk) }
 {
-    match Desk::open(alloc, desk.close()) {
+    match Desk::open(alloc, Seed::new(2), desk.close()) {
         Ok(desk) => Ok(desk),
         Err(_) => Err(Fail::from("the desk is not opened again")),
     }
@@ -37,7 +36,7 @@ fn runs_on<B: Books>(alloc: Global, books: &mut B, lines: &str, sink: &mut Sink)
     ensures { B.are_kept books.new }
 {
     let mut reader = lines.as_bytes();
-    let end = run_lines(alloc, &mut reader, sink, books, LineOptions::PLAIN, false);
+    let end = run_lines(alloc, &mut reader, sink, books, RunOptions::PLAIN);
     holds(matches!(end, RunEnd::Done(_)), "the run stops")
 }
 
@@ -79,7 +78,7 @@ fn plays_out<S: Alter + Drop>(
 /// Runs the lines on a desk and on a shop with nothing in them, which have these limits, and fails where they are answered
 /// otherwise.
 pub fn plays(alloc: Global, limits: Limits, lines: &str, answers: &str) -> Result<(), Fail> {
-    let mut shop = Shop::new(alloc, limits);
+    let mut shop = Shop::new(alloc, Seed::new(0), limits);
     plays_on_shop(alloc, &mut shop, lines, answers)?;
     let conn = Connection::open_in_memory(alloc)?;
     plays_out(alloc, limits, conn, lines, answers)

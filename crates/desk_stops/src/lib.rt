@@ -1,5 +1,4 @@
-//! A disk that stops at each of its calls: amid lines and imports, and while files of an earlier program are brought along.
+//! A disk that stops at each of its calls, amid lines and imports.
 #![tactic(auto)]
 
-pub mod old;
 pub mod stops;

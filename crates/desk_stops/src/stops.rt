@@ -4,14 +4,13 @@
 ghost use Rattle.sqlite.specs.Files.{over_files};
 ghost use Rattle.desk_store.specs.Desks.{IsDesk};
 
-use desk_app::{Books, LineOptions, close_desk, run_lines};
-use desk_core::Shop;
-use desk_ends::RunEnd;
+use desk_app::{Books, RunOptions, close_desk, run_lines};
+use desk_core::{RunEnd, Shop};
 use desk_play::imports::imports;
 use desk_play::play::{filled, lines_in, plays_on_shop};
 use desk_store::Desk;
 use desk_wire::ImportKind;
-use part_core::Limits;
+use part_core::{Limits, Seed};
 use sqlite::{FileStore, Files};
 use sqlite_disk::{Disk, Memory};
 use std::alloc::Global;
@@ -57,14 +56,14 @@ pub struct Keyed {
 
 /// All tables of a shop that ran the lines, which are answered so.
 fn tables_after(alloc: Global, lines: &str, answers: &str) -> Result<String, Fail> {
-    let mut shop = Shop::new(alloc, Limits::LARGEST);
+    let mut shop = Shop::new(alloc, Seed::new(0), Limits::LARGEST);
     plays_on_shop(alloc, &mut shop, lines, answers)?;
     Ok(tables_text(alloc, &shop)?)
 }
 
 /// All tables of a shop that ran the lines, which are answered so, and to which the receipts came then.
 fn tables_received(alloc: Global, lines: &str, answers: &str, file: &str) -> Result<String, Fail> {
-    let mut shop = Shop::new(alloc, Limits::LARGEST);
+    let mut shop = Shop::new(alloc, Seed::new(0), Limits::LARGEST);
     plays_on_shop(alloc, &mut shop, lines, answers)?;
     let mut sink = Sink::new(alloc, 4096);
     let end = received(alloc, &mut shop, file, &mut sink)?;
@@ -199,14 +198,7 @@ fn answered<D: Disk + Drop>(
     let end = match sending {
         Sending::Lines(step) => {
             let mut source = Source::new(keyed.text.as_bytes(), step);
-            run_lines(
-                alloc,
-                &mut source,
-                &mut sink,
-                desk,
-                LineOptions::PLAIN,
-                false,
-            )
+            run_lines(alloc, &mut source, &mut sink, desk, RunOptions::PLAIN)
         }
         Sending::Receipts => received(alloc, desk, keyed.text.as_str(), &mut sink)?,
     };

@@ -5,9 +5,9 @@ use Rattle.std.specs.Prelude.{◌==◌, ◌&&◌, not, flat_map, decimal, Option
 use Rattle.std.specs.List.{list_all}
 use Rattle.std.specs.Fmt.{digits, digits_onto, digit_glyph}
 use Rattle.std.proofs.lemmas.List.{take-append-le}
-use Rattle.part_core.specs.Text.{is_plain}
-use Rattle.part_core.specs.declared.column.Column.{Column}
-use Rattle.part_core.specs.declared.column.Column.TheVariants.{Whole, Text, Absent}
+use Rattle.word_core.specs.Text.{is_plain}
+use Rattle.sheet_core.specs.declared.column.Column.{Column}
+use Rattle.sheet_core.specs.declared.column.Column.TheVariants.{Whole, Text, Absent}
 use Rattle.desk_store.specs.Dumps.{quoted_bytes, quoted_byte, hex_bytes, hex_byte, hex_digit, literal_of, values_text, text_literal}
 use Rattle.desk_store.specs.Dumps.{create_line, dump_text, insert_line, table_lines, tables_lines}
 use Rattle.desk_store.specs.Exports.{table_rows}
@@ -15,9 +15,7 @@ use Rattle.desk_core.specs.Machine.{State}
 use Rattle.table_store.specs.Schema.{all_names, name_of}
 use Rattle.table_store.specs.Texts.{create_text}
 use Rattle.table_store.specs.declared.name.TableName.{TableName}
-use Rattle.table_store.specs.declared.name.TableName.TheVariants.{Meta, Categories, Locations, Parts, Lines}
-use Rattle.table_store.specs.declared.name.TableName.TheVariants.{Substitutes, Items, History, Orders}
-use Rattle.table_store.specs.declared.name.TableName.TheVariants.{OrderLines, Builds, Allocations, Kept, Spent}
+use Rattle.table_store.specs.declared.name.TableName.TheVariants.{Kept}
 use Rattle.desk_store.specs.DumpLaws.{CutDumpsCommitNothing, behind, commits}
 
 -- ---- texts without a line break
@@ -164,20 +162,8 @@ line_quiet c d body h other = record {
 -- ---- the lines of a dump
 
 name_within : (table : TableName) → IsWithin (name_of table)
-name_within Meta = refl
-name_within Categories = refl
-name_within Locations = refl
-name_within Parts = refl
-name_within Lines = refl
-name_within Substitutes = refl
-name_within Items = refl
-name_within History = refl
-name_within Orders = refl
-name_within OrderLines = refl
-name_within Builds = refl
-name_within Allocations = refl
 name_within Kept = refl
-name_within Spent = refl
+name_within _ = refl
 
 insert_quiet : (table : TableName) (columns : List Column) → AreQuiet (insert_line table columns)
 insert_quiet table columns =
@@ -200,20 +186,8 @@ insert_quiet table columns =
     (line_quiet 73 78 (codes "SERT INTO " ++ (name ++ (middle ++ (values ++ last)))) within refl)
 
 create_quiet : (table : TableName) → AreQuiet (create_line table)
-create_quiet Meta = line_quiet 67 82 (drop 2 (create_text Meta) ++ 59 ∷ []) refl refl
-create_quiet Categories = line_quiet 67 82 (drop 2 (create_text Categories) ++ 59 ∷ []) refl refl
-create_quiet Locations = line_quiet 67 82 (drop 2 (create_text Locations) ++ 59 ∷ []) refl refl
-create_quiet Parts = line_quiet 67 82 (drop 2 (create_text Parts) ++ 59 ∷ []) refl refl
-create_quiet Lines = line_quiet 67 82 (drop 2 (create_text Lines) ++ 59 ∷ []) refl refl
-create_quiet Substitutes = line_quiet 67 82 (drop 2 (create_text Substitutes) ++ 59 ∷ []) refl refl
-create_quiet Items = line_quiet 67 82 (drop 2 (create_text Items) ++ 59 ∷ []) refl refl
-create_quiet History = line_quiet 67 82 (drop 2 (create_text History) ++ 59 ∷ []) refl refl
-create_quiet Orders = line_quiet 67 82 (drop 2 (create_text Orders) ++ 59 ∷ []) refl refl
-create_quiet OrderLines = line_quiet 67 82 (drop 2 (create_text OrderLines) ++ 59 ∷ []) refl refl
-create_quiet Builds = line_quiet 67 82 (drop 2 (create_text Builds) ++ 59 ∷ []) refl refl
-create_quiet Allocations = line_quiet 67 82 (drop 2 (create_text Allocations) ++ 59 ∷ []) refl refl
 create_quiet Kept = line_quiet 67 82 (drop 2 (create_text Kept) ++ 59 ∷ []) refl refl
-create_quiet Spent = line_quiet 67 82 (drop 2 (create_text Spent) ++ 59 ∷ []) refl refl
+create_quiet table = line_quiet 67 82 (drop 2 (create_text table) ++ 59 ∷ []) refl refl
 
 table_quiet : (s : State) (table : TableName) → AreQuiet (table_lines table s)
 table_quiet s table =

@@ -5,11 +5,11 @@ use Rattle.std.specs.Ordering.{eq_by_cmp}
 use Rattle.std.specs.FinMap.{empty, get, get-insert, insert, same_map}
 use Rattle.std.proofs.lemmas.List.Elements.{All-from_recursion}
 use Rattle.sqlite.specs.Order.{Row}
-use Rattle.part_core.specs.Columns.{AreSmall, IsSmall}
-use Rattle.part_core.specs.Filled.{StandUnderKeys}
-use Rattle.part_core.specs.Sheet.{Rows, Table, key_cmp, now_of}
-use Rattle.part_core.proofs.FilledTables.{filled-own}
-use Rattle.part_core.proofs.Keys.{keys_exact, keys_total}
+use Rattle.sheet_core.specs.Columns.{AreSmall, IsSmall}
+use Rattle.sheet_core.specs.Filled.{StandUnderKeys}
+use Rattle.sheet_core.specs.Sheet.{Rows, Table, key_cmp, now_of}
+use Rattle.sheet_core.proofs.FilledTables.{filled-own}
+use Rattle.sheet_core.proofs.Keys.{keys_exact, keys_total}
 use Rattle.desk_core.specs.KeptColumns.{kept_columns, kept_from}
 use Rattle.desk_core.specs.Machine.{IsSoundState, State, StandsKept}
 use Rattle.desk_core.specs.declared.kept.Kept.{Kept as KeptRow}

@@ -10,10 +10,10 @@ use Rattle.sqlite.specs.Order.{Row}
 use Rattle.sqlite.specs.State as sqlite
 use Rattle.sqlite.proofs.StateLemmas.{survives_then}
 use Rattle.sqlite.specs.Tree.{Trees}
-use Rattle.part_core.specs.Filled.{filled}
-use Rattle.part_core.specs.Sheet.{Table}
-use Rattle.part_core.proofs.Standing.{Stands, each-value}
-use Rattle.part_core.specs.declared.limits.Limits.{Limits}
+use Rattle.sheet_core.specs.Filled.{filled}
+use Rattle.sheet_core.specs.Sheet.{Table}
+use Rattle.sheet_core.proofs.Standing.{Stands, each-value}
+use Rattle.word_core.specs.declared.limits.Limits.{Limits}
 use Rattle.forest.specs.EntryColumns.{entry_columns, entry_from}
 use Rattle.forest.specs.declared.entry.Entry.{Entry}
 use Rattle.yard_core.specs.Stock.{IsRun}

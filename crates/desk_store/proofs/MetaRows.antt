@@ -1,8 +1,8 @@
 -- The row of the counter is read back from its columns, and no other columns are read as it.
 use Rattle.std.proofs.Common.{◌≡◌, ℕ, List, Some}
-use Rattle.part_core.specs.Columns.{has, number_at}
-use Rattle.part_core.specs.declared.column.Column.{Column}
-use Rattle.part_core.proofs.ColumnLemmas.{has-is, number_at-is, same_columns}
+use Rattle.sheet_core.specs.Columns.{has, number_at}
+use Rattle.sheet_core.specs.declared.column.Column.{Column}
+use Rattle.sheet_core.proofs.ColumnLemmas.{has-is, number_at-is, same_columns}
 use Rattle.desk_store.specs.MetaColumns.{meta_columns}
 use Rattle.desk_store.specs.declared.meta.MetaRow.{MetaRow}
 

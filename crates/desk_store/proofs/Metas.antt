@@ -8,9 +8,9 @@ use Rattle.sqlite.specs.Order.{Row}
 use Rattle.sqlite.specs.State as sqlite
 use Rattle.sqlite.specs.State.{HasCleanDisk}
 use Rattle.sqlite.specs.Tree.{Trees}
-use Rattle.part_core.proofs.Keys.{keys_total}
-use Rattle.part_core.specs.Counter.{IsLimit}
-use Rattle.part_core.specs.Sheet.{key_cmp}
+use Rattle.sheet_core.proofs.Keys.{keys_total}
+use Rattle.word_core.specs.Counter.{IsLimit}
+use Rattle.sheet_core.specs.Sheet.{key_cmp}
 use Rattle.desk_store.specs.Loading.{AreOfThisVersion, AreTheRows, IsMetaRow, IsNoMeta, Reads}
 use Rattle.desk_store.specs.MetaColumns.{meta_columns, meta_from, meta_of, only}
 use Rattle.desk_store.specs.Opening.{AreNoBooks, IsOfOtherVersion, WhyBut, open_fault_of}

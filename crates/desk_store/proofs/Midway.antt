@@ -37,39 +37,15 @@ in_turn =
 
 in_own_turn : (t : TableName) → get_or in_turn (turn_of t) Meta ≡ t
 unfolding in_turn
-in_own_turn Meta = refl
-in_own_turn Categories = refl
-in_own_turn Locations = refl
-in_own_turn Parts = refl
-in_own_turn Lines = refl
-in_own_turn Substitutes = refl
-in_own_turn Items = refl
-in_own_turn History = refl
-in_own_turn Orders = refl
-in_own_turn OrderLines = refl
-in_own_turn Builds = refl
-in_own_turn Allocations = refl
-in_own_turn Spent = refl
 in_own_turn Kept = refl
+in_own_turn _ = refl
 
 one_turn : (t u : TableName) → turn_of t ≡ turn_of u → t ≡ u
 one_turn t u e = sym (in_own_turn t) ∙ ap (λ n. get_or in_turn n Meta) e ∙ in_own_turn u
 
 within : (t : TableName) → turn_of t < 14
-within Meta = omega arith
-within Categories = omega arith
-within Locations = omega arith
-within Parts = omega arith
-within Lines = omega arith
-within Substitutes = omega arith
-within Items = omega arith
-within History = omega arith
-within Orders = omega arith
-within OrderLines = omega arith
-within Builds = omega arith
-within Allocations = omega arith
-within Spent = omega arith
 within Kept = omega arith
+within _ = omega arith
 
 -- a further table has its turn by its place
 pub next_turn : (t : TableName) (n : ℕ) → position t ≡ n + 1 → turn_of t ≡ n

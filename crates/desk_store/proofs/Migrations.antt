@@ -12,12 +12,12 @@ use Rattle.sqlite.specs.State as sqlite
 use Rattle.sqlite.specs.State.{HasCleanDisk}
 use Rattle.sqlite.specs.Tree.{Trees}
 use Rattle.sqlite_catalog.specs.Listing.{IsSound}
-use Rattle.part_core.specs.Columns.{IsSmall}
+use Rattle.sheet_core.specs.Columns.{IsSmall}
 use Rattle.part_core.specs.NamedRows.{named_columns, named_from}
 use Rattle.part_core.specs.PartColumns.{part_columns, part_from}
-use Rattle.part_core.specs.Sheet.{Table, key_cmp}
-use Rattle.part_core.specs.declared.column.Column.{Column}
-use Rattle.part_core.proofs.Keys.{keys_exact, keys_total}
+use Rattle.sheet_core.specs.Sheet.{Table, key_cmp}
+use Rattle.sheet_core.specs.declared.column.Column.{Column}
+use Rattle.sheet_core.proofs.Keys.{keys_exact, keys_total}
 use Rattle.bom_core.specs.BillColumns.{line_columns, line_from, substitute_columns, substitute_from}
 use Rattle.forest.specs.EntryColumns.{entry_columns, entry_from}
 use Rattle.forest.specs.ItemColumns.{item_columns, item_from}
@@ -298,20 +298,8 @@ books-before trees shop d brought = record {
 -- ---- within the transaction
 
 below : (table : TableName) → table ≢ Spent → position table < 13
-below Meta other = omega arith
-below Categories other = omega arith
-below Locations other = omega arith
-below Parts other = omega arith
-below Lines other = omega arith
-below Substitutes other = omega arith
-below Items other = omega arith
-below History other = omega arith
-below Orders other = omega arith
-below OrderLines other = omega arith
-below Builds other = omega arith
-below Allocations other = omega arith
-below Kept other = omega arith
 below Spent other = absurd (other refl)
+below _ other = omega arith
 
 module _ (row : MetaRow) (a d e : sqlite.State) (old : IsOldRow a.now.trees row) (second : HasSecond a d) where
   -- the row of version 1 is still there

@@ -5,9 +5,9 @@ use Rattle.std.specs.Prelude.{◌==◌, flat_map, decimal, Option, Some, None, o
 use Rattle.std.specs.List.{AllByRecursion, list_all}
 use Rattle.std.proofs.lemmas.Fmt.{decimal_by_steps}
 use Rattle.table_store.specs.Schema.{name_of}
-use Rattle.part_core.specs.Text.{is_plain}
-use Rattle.part_core.specs.declared.column.Column.{Column}
-use Rattle.part_core.specs.declared.column.Column.TheVariants.{Whole, Text, Absent}
+use Rattle.word_core.specs.Text.{is_plain}
+use Rattle.sheet_core.specs.declared.column.Column.{Column}
+use Rattle.sheet_core.specs.declared.column.Column.TheVariants.{Whole, Text, Absent}
 use Rattle.desk_store.specs.Dumps.{quoted_bytes, quoted_byte, hex_bytes, hex_byte, hex_digit, literal_of, values_text, text_literal}
 use Rattle.desk_store.specs.Dumps.{insert_line}
 use Rattle.desk_store.specs.DumpLaws.{behind, quoted, with_byte, hex_read, hex_value, digits_read, is_digit, number_read, literal_at}

@@ -9,7 +9,7 @@ use Rattle.sqlite_trees.specs.View.{IsShaped}
 use Rattle.sqlite_trees.specs.declared.store.Shape.TheVariants.{Table}
 use Rattle.desk_store.specs.Loading.{Reads}
 use Rattle.desk_store.specs.declared.fault.OpenFault.{OpenFault}
-use Rattle.part_core.specs.declared.column.Column.{Column}
+use Rattle.sheet_core.specs.declared.column.Column.{Column}
 use Rattle.table_store.specs.Schema.{desk_schema, tree_number}
 use Rattle.table_store.specs.Stored.{FailsToLoad}
 use Rattle.table_store.specs.Transactions.{MayUndo}

@@ -6,7 +6,7 @@ use Rattle.sqlite_trees.specs.declared.store.Store.{Ghosts}
 use Rattle.sqlite.specs.Held.{state}
 use Rattle.sqlite.specs.State.{HasCleanDisk, Survives}
 use Rattle.sqlite.specs.Tree.{Trees}
-use Rattle.part_core.specs.declared.answer.Answer.{Answer}
+use Rattle.word_core.specs.declared.answer.Answer.{Answer}
 use Rattle.desk_core.specs.Machine.{IsAnew, Outcome, State, run, step}
 use Rattle.desk_core.specs.ShopView.{state_of}
 use Rattle.desk_core.specs.declared.command.Request.{Request}

@@ -11,7 +11,7 @@ use Rattle.json.specs.Tree.{json_tokens, members_tokens}
 use Rattle.serde_json.specs.Data.{Data, object, Members, member}
 use Rattle.serde_json.specs.Written.{outline, members_outline}
 use Rattle.serde_json.proofs.Texts.{print-outline}
-use Rattle.part_core.specs.Log.{AreNumbered}
+use Rattle.sheet_core.specs.Log.{AreNumbered}
 use Rattle.forest.specs.declared.entry.Entry.{Entry}
 use Rattle.desk_store.specs.Shown.{line_of_data}
 

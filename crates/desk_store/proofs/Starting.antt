@@ -11,9 +11,9 @@ use Rattle.sqlite_trees.specs.declared.store.Store.{Ghosts}
 use Rattle.sqlite_trees.specs.declared.store.Shape.TheVariants.{Table}
 use Rattle.part_core.specs.NamedRows.{named_columns, named_from}
 use Rattle.part_core.specs.PartColumns.{part_columns, part_from}
-use Rattle.part_core.specs.declared.column.Column.{Column}
-use Rattle.part_core.specs.declared.limits.Limits.{Limits}
-use Rattle.part_core.proofs.RowLemmas.{each-empty}
+use Rattle.sheet_core.specs.declared.column.Column.{Column}
+use Rattle.word_core.specs.declared.limits.Limits.{Limits}
+use Rattle.sheet_core.proofs.RowLemmas.{each-empty}
 use Rattle.bom_core.specs.BillColumns.{line_columns, line_from, substitute_columns, substitute_from}
 use Rattle.forest.specs.EntryColumns.{entry_columns, entry_from}
 use Rattle.forest.specs.ItemColumns.{item_columns, item_from}

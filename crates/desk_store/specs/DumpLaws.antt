@@ -2,9 +2,9 @@
 use Rattle.std.specs.Prelude.{◌≡◌, ◌<◌, ◌+◌, ◌*◌, ◌-◌, ◌^◌, ◌==◌, ◌&&◌, ◌||◌, nat_lt, nat_le, ℕ, zero, suc, Bool, true, false}
 use Rattle.std.specs.Prelude.{if◌then◌else◌, List, [], ◌∷◌, ◌++◌, length, take, codes, Option, Some, None, is_some, option_map}
 use Rattle.std.specs.List.{AllByRecursion}
-use Rattle.part_core.specs.Columns.{◌>>=◌}
-use Rattle.part_core.specs.declared.column.Column.{Column}
-use Rattle.part_core.specs.declared.column.Column.TheVariants.{Whole, Text, Absent}
+use Rattle.sheet_core.specs.Columns.{◌>>=◌}
+use Rattle.sheet_core.specs.declared.column.Column.{Column}
+use Rattle.sheet_core.specs.declared.column.Column.TheVariants.{Whole, Text, Absent}
 use Rattle.desk_core.specs.Machine.{State}
 use Rattle.desk_store.specs.Dumps.{dump_text, insert_line}
 use Rattle.table_store.specs.Schema.{name_of}

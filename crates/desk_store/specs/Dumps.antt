@@ -3,9 +3,9 @@
 use Rattle.std.specs.Prelude.{ℕ, ◌+◌, ◌/◌, ◌%◌, ◌==◌, nat_lt, Bool, true, false, if◌then◌else◌, List, [], ◌∷◌, ◌++◌}
 use Rattle.std.specs.Prelude.{flat_map, codes, decimal}
 use Rattle.std.specs.List.{list_all}
-use Rattle.part_core.specs.Text.{is_plain}
-use Rattle.part_core.specs.declared.column.Column.{Column}
-use Rattle.part_core.specs.declared.column.Column.TheVariants.{Whole, Text, Absent}
+use Rattle.word_core.specs.Text.{is_plain}
+use Rattle.sheet_core.specs.declared.column.Column.{Column}
+use Rattle.sheet_core.specs.declared.column.Column.TheVariants.{Whole, Text, Absent}
 use Rattle.desk_core.specs.Machine.{State}
 use Rattle.desk_store.specs.Exports.{table_rows}
 use Rattle.table_store.specs.Schema.{all_names, name_of}

@@ -12,4 +12,3 @@ pub mod Dumps
 pub mod DumpLaws
 pub mod RowForms
 pub mod Shown
-pub mod Records

@@ -7,7 +7,7 @@ use Rattle.sqlite.specs.Tree.{Trees}
 use Rattle.part_core.specs.NamedRows.{named_columns, named_from}
 use Rattle.part_core.specs.PartColumns.{part_columns, part_from}
 use Rattle.part_core.specs.declared.named_row.NamedRow.{NamedRow as Category}
-use Rattle.part_core.specs.declared.column.Column.{Column}
+use Rattle.sheet_core.specs.declared.column.Column.{Column}
 use Rattle.part_core.specs.declared.part.Part.{Part}
 use Rattle.bom_core.specs.BillColumns.{line_columns, line_from, substitute_columns, substitute_from}
 use Rattle.bom_core.specs.declared.line.Line.{Line}

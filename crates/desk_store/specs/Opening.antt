@@ -4,7 +4,7 @@ use Rattle.sqlite.specs.Tree.{Trees}
 use Rattle.sqlite_catalog.specs.Listing.{IsSound}
 use Rattle.part_core.specs.NamedRows.{named_columns, named_from}
 use Rattle.part_core.specs.PartColumns.{part_columns, part_from}
-use Rattle.part_core.specs.declared.limits.Limits.{Limits}
+use Rattle.word_core.specs.declared.limits.Limits.{Limits}
 use Rattle.bom_core.specs.BillColumns.{line_columns, line_from, substitute_columns, substitute_from}
 use Rattle.forest.specs.EntryColumns.{entry_columns, entry_from}
 use Rattle.forest.specs.ItemColumns.{item_columns, item_from}

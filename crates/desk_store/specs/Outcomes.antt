@@ -1,9 +1,9 @@
 -- What a desk tells of requests: the machine's outcomes, and why there was none.
 use Rattle.std.specs.Prelude.{◌≡◌, ◌⊎◌, Bool, true, false, List, [], ◌∷◌, Option, Some, None, Result, Ok, Err}
 use Rattle.sqlite.specs.Tree.{Trees}
-use Rattle.part_core.specs.declared.answer.Answer.{Answer}
-use Rattle.part_core.specs.declared.refusal.CoreFault.{CoreFault}
-use Rattle.part_core.specs.declared.refusal.CoreFault.TheVariants as core
+use Rattle.word_core.specs.declared.answer.Answer.{Answer}
+use Rattle.word_core.specs.declared.refusal.CoreFault.{CoreFault}
+use Rattle.word_core.specs.declared.refusal.CoreFault.TheVariants as core
 use Rattle.desk_core.specs.Machine.{State, IsAnew, Outcome, step}
 use Rattle.desk_core.specs.declared.command.Request.{Request}
 use Rattle.desk_store.specs.StateTables.{TablesAre}

@@ -1,6 +1,6 @@
 -- How the line of a row is written: as comma-separated values, or as SQL that puts it.
 use Rattle.std.specs.Prelude.{ℕ, List, flat_map, map}
-use Rattle.part_core.specs.declared.column.Column.{Column}
+use Rattle.sheet_core.specs.declared.column.Column.{Column}
 use Rattle.desk_store.specs.Dumps.{insert_line}
 use Rattle.desk_store.specs.Exports.{row_line}
 use Rattle.desk_store.specs.declared.export.RowForm.{RowForm}

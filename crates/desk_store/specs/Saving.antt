@@ -4,11 +4,11 @@ use Rattle.sqlite.specs.Order.{Row}
 use Rattle.sqlite.specs.State as sqlite
 use Rattle.sqlite.specs.State.{HasCleanDisk, KeepsCommit, Survives}
 use Rattle.sqlite.specs.Tree.{Trees}
-use Rattle.part_core.specs.Columns.{AreSmall, IsSmall}
-use Rattle.part_core.specs.Filled.{StandUnderKeys}
-use Rattle.part_core.specs.Rows.{StayThere}
-use Rattle.part_core.specs.Sheet.{Rows, now_of}
-use Rattle.part_core.specs.declared.column.Column.{Column}
+use Rattle.sheet_core.specs.Columns.{AreSmall, IsSmall}
+use Rattle.sheet_core.specs.Filled.{StandUnderKeys}
+use Rattle.sheet_core.specs.Rows.{StayThere}
+use Rattle.sheet_core.specs.Sheet.{Rows, now_of}
+use Rattle.sheet_core.specs.declared.column.Column.{Column}
 use Rattle.desk_core.specs.Machine.{IsSoundState, State}
 use Rattle.desk_core.specs.Small.{HasSmallRows}
 use Rattle.desk_core.specs.Staying.{AllStay}

@@ -5,7 +5,7 @@ use Rattle.std.specs.FinMap.{values}
 use Rattle.serde_json.specs.Data.{Data, array, object, Members, no_members, member}
 use Rattle.serde_json.specs.View.{items_of}
 use Rattle.serde_json.specs.Written.{compact_text}
-use Rattle.part_core.specs.declared.column.Column.{Column}
+use Rattle.sheet_core.specs.declared.column.Column.{Column}
 use Rattle.forest.specs.EntryColumns.{entry_columns}
 use Rattle.forest.specs.declared.entry.Entry.{Entry}
 use Rattle.desk_core.specs.DataOf.{maybe_whole, strings}

@@ -1,9 +1,23 @@
 //! A desk that runs requests in groups: what they change is committed together.
 //!
-//! Between `run_grouped` and `commit` the shop is that after all requests so far, and so are the tables that the
-//! transaction shows, but for the row of the counter, which `commit` writes; a crash leaves those of the last commit. A
-//! group needs no beginning: the first request that changes anything begins the transaction, so a group of refusals, of
-//! repeats or of none costs nothing.
+//! A request comes from a run of lines (`desk_app` `src/run.rt`). The shop does it (`desk_core` `src/shop.rt`), and
+//! what it changed goes by `src/add.rt` into the tables (`table_store` `src/write.rt`).
+//!
+//! What holds, each by the clauses of that name:
+//!
+//! 1. `grouping`: between `run_grouped` and `commit` the shop is that after all requests so far, and so are the tables
+//!    that the transaction shows, but for the row of the counter, which `commit` writes. Behind a group it is a desk
+//!    again (`desk`), whose database holds its state.
+//! 2. `tells`: a request is told what one step of the machine tells, and the state is the one after it. Where it is
+//!    told a fault, or that there is no memory, the state is the one before it.
+//! 3. `crash`: until `commit` a crash leaves the tables of the last commit; as it commits, those or the tables of the
+//!    desk's state.
+//! 4. `store`, `stops`: a desk that is open is closed exactly where `Store` is told: of a fault of the database, and of
+//!    a want of memory for a row of a group that has others, or for the commit. The whole group is undone then.
+//! 5. `closed`, `idle`: every call of a closed desk answers `Closed` and does nothing.
+//!
+//! A group needs no beginning: the first request that changes anything begins the transaction, so a group of refusals,
+//! of repeats or of none costs nothing.
 ghost use Rattle.std.specs.Prelude.{◌≡◌, ◌↔◌, ◌⊎◌, None, IsSome, OnErr, OnOk, IfErr, Err};
 ghost use Rattle.sqlite.specs.Held.{state};
 ghost use Rattle.sqlite.specs.State.{HasCleanDisk, Survives};

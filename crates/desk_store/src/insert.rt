@@ -1,7 +1,7 @@
 //! Rows as SQL that puts them.
 ghost use Rattle.std.specs.Prelude.{◌≡◌, ◌<◌, ◌++◌, false, IfOk, OnOk};
 ghost use Rattle.std.specs.List.{list_all};
-ghost use Rattle.part_core.specs.Text.{is_plain};
+ghost use Rattle.word_core.specs.Text.{is_plain};
 ghost use Rattle.desk_store.specs.Dumps.{hex_bytes, hex_digit, insert_line, literal_of, quoted_byte, quoted_bytes};
 ghost use Rattle.desk_store.specs.Dumps.{text_literal, values_text};
 

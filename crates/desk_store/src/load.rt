@@ -5,7 +5,7 @@
 ghost use Rattle.std.specs.Prelude.{◌≡◌, ◌∷◌, [], IfOk, IfErr};
 ghost use Rattle.sqlite.specs.Held.{state};
 ghost use Rattle.sqlite.specs.State.{HasCleanDisk};
-ghost use Rattle.part_core.specs.RowKeys.{number_digits};
+ghost use Rattle.sheet_core.specs.RowKeys.{number_digits};
 ghost use Rattle.sqlite.specs.Tree.{Trees};
 ghost use Rattle.desk_core.specs.Machine.{IsSoundState};
 ghost use Rattle.desk_core.specs.ShopView.{state_of};
@@ -24,7 +24,7 @@ use bom_core::{Line, Substitute};
 use build_core::{Build, Spent};
 use desk_core::{AssembleFault, Kept, Shop, Tables};
 use order_core::{Order, OrderLine};
-use part_core::{Category, Limits, Part, Stored};
+use part_core::{Category, Limits, Part, Seed, Stored};
 use sqlite::{Alter, Connection};
 use std::alloc::Global;
 use table_store::{TableName, load_kept, load_sheet};
@@ -281,14 +281,18 @@ fn load_tables<S: Alter>(alloc: Global, conn: &mut Connection<S>) -> Result<Tabl
 }
 
 /// The shop whose state the tables have.
-pub(crate) fn load<S: Alter>(alloc: Global, conn: &mut Connection<S>) -> Result<Shop, OpenFault>
+pub(crate) fn load<S: Alter>(
+    alloc: Global,
+    seed: Seed,
+    conn: &mut Connection<S>,
+) -> Result<Shop, OpenFault>
     requires { HasCleanDisk (state S.Store conn.old) → HasTables (state S.Store conn.old) }
     ensures sound { IfOk result (λ shop. IsSoundState (state_of shop)) }
     ensures read { Reads AreBooksOf (WhyBut IsOfOtherVersion)
         (state S.Store conn.old) (state S.Store conn.new) result }
 {
     let tables = load_tables(alloc, conn)?;
-    match Shop::assemble(alloc, tables) {
+    match Shop::assemble(alloc, seed, tables) {
         Ok(shop) => Ok(shop),
         Err(AssembleFault::Memory) => Err(OpenFault::Memory),
         Err(AssembleFault::Unsound) => Err(OpenFault::Damaged(None)),

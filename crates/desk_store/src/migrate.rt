@@ -30,6 +30,7 @@ use crate::load::load;
 use crate::meta::MetaRow;
 use crate::old::load_old_rows;
 use desk_core::Shop;
+use part_core::Seed;
 use sqlite::{Alter, Connection};
 use std::alloc::Global;
 use table_store::{
@@ -128,7 +129,11 @@ fn make_second<S: Alter>(
 
 /// The shop that the tables of version 1 have, once they are made those of this version, in a transaction that stays
 /// open.
-fn bring_up<S: Alter>(alloc: Global, conn: &mut Connection<S>) -> Result<Shop, OpenFault>
+fn bring_up<S: Alter>(
+    alloc: Global,
+    seed: Seed,
+    conn: &mut Connection<S>,
+) -> Result<Shop, OpenFault>
     requires old { HasCleanDisk (state S.Store conn.old) → HasOldTables (state S.Store conn.old) }
     requires listed { HasCleanDisk (state S.Store conn.old)
         → IsSound old_schema (state S.Store conn.old).now.trees }
@@ -147,11 +152,11 @@ fn bring_up<S: Alter>(alloc: Global, conn: &mut Connection<S>) -> Result<Shop, O
     if let Err(fault) = make_second(alloc, conn, row) {
         return Err(OpenFault::from(fault));
     }
-    load(alloc, conn)
+    load(alloc, seed, conn)
 }
 
 /// The shop that the tables have, which are committed as those of this version.
-fn bring<S: Alter>(alloc: Global, conn: &mut Connection<S>) -> Result<Shop, OpenFault>
+fn bring<S: Alter>(alloc: Global, seed: Seed, conn: &mut Connection<S>) -> Result<Shop, OpenFault>
     requires old { HasCleanDisk (state S.Store conn.old) → HasOldTables (state S.Store conn.old) }
     requires listed { HasCleanDisk (state S.Store conn.old)
         → IsSound old_schema (state S.Store conn.old).now.trees }
@@ -169,7 +174,7 @@ fn bring<S: Alter>(alloc: Global, conn: &mut Connection<S>) -> Result<Shop, Open
     ensures crash { Survives (state S.Store conn.old) (state S.Store conn.new)
         (MayLeave (state S.Store conn.old).now.trees result) }
 {
-    let shop = bring_up(alloc, conn)?;
+    let shop = bring_up(alloc, seed, conn)?;
     match commit(conn) {
         Ok(()) => Ok(shop),
         Err(fault) => Err(OpenFault::from(fault)),
@@ -177,7 +182,11 @@ fn bring<S: Alter>(alloc: Global, conn: &mut Connection<S>) -> Result<Shop, Open
 }
 
 /// The shop that the tables have: those of version 1 are made those of this version.
-fn find_or_bring<S: Alter>(alloc: Global, conn: &mut Connection<S>) -> Result<Shop, OpenFault>
+fn find_or_bring<S: Alter>(
+    alloc: Global,
+    seed: Seed,
+    conn: &mut Connection<S>,
+) -> Result<Shop, OpenFault>
     requires rest { HasCleanDisk (state S.Store conn.old) → IsAtRest (state S.Store conn.old) }
     requires tables { HasCleanDisk (state S.Store conn.old)
         → HasTables (state S.Store conn.old) ⊎ HasOldTables (state S.Store conn.old) }
@@ -196,9 +205,9 @@ fn find_or_bring<S: Alter>(alloc: Global, conn: &mut Connection<S>) -> Result<Sh
         (MayLeave (state S.Store conn.old).now.trees result) }
 {
     if has_old_tables(conn) {
-        return bring(alloc, conn);
+        return bring(alloc, seed, conn);
     }
-    load(alloc, conn)
+    load(alloc, seed, conn)
 }
 
 impl<S: Alter + Drop> Desk<S> {
@@ -208,7 +217,11 @@ impl<S: Alter + Drop> Desk<S> {
     /// `Foreign` is told as by `open`, and `Old` never. Tables of version 1 are `Damaged` where they, with nothing
     /// spent, are those of no sound state. The database is handed back beside a fault, with the tables as they were;
     /// after `Store` it is to be opened again, and a crash leaves them so, or those of this version of the same state.
-    pub fn migrate(alloc: Global, conn: Connection<S>) -> Result<Desk<S>, (OpenFault, S)>
+    pub fn migrate(
+        alloc: Global,
+        seed: Seed,
+        conn: Connection<S>,
+    ) -> Result<Desk<S>, (OpenFault, S)>
         ensures desk { IfOk result (λ desk. IsDesk S.Store desk) }
         ensures open { IfOk result (λ desk. desk.failed ≡ None) }
         ensures found { IfOk result (λ desk. HasCleanDisk (state S.Store desk.conn)
@@ -229,7 +242,7 @@ impl<S: Alter + Drop> Desk<S> {
             Ok(opened) => opened,
             Err((fault, database)) => return Err((OpenFault::from(fault), database)),
         };
-        match find_or_bring(alloc, &mut opened) {
+        match find_or_bring(alloc, seed, &mut opened) {
             Ok(shop) => Ok(Desk {
                 conn: opened,
                 shop,

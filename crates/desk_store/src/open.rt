@@ -22,12 +22,13 @@ use crate::fault::OpenFault;
 use crate::load::load;
 use crate::old::load_old_rows;
 use desk_core::Shop;
+use part_core::Seed;
 use sqlite::{Alter, Connection};
 use std::alloc::Global;
 use table_store::{has_old_tables, open_tables};
 
 /// The shop that the tables have. `Old` where they are those of version 1, which are left as they are.
-fn find<S: Alter>(alloc: Global, conn: &mut Connection<S>) -> Result<Shop, OpenFault>
+fn find<S: Alter>(alloc: Global, seed: Seed, conn: &mut Connection<S>) -> Result<Shop, OpenFault>
     requires tables { HasCleanDisk (state S.Store conn.old)
         → HasTables (state S.Store conn.old) ⊎ HasOldTables (state S.Store conn.old) }
     requires listed { HasCleanDisk (state S.Store conn.old)
@@ -44,7 +45,7 @@ fn find<S: Alter>(alloc: Global, conn: &mut Connection<S>) -> Result<Shop, OpenF
             Err(fault) => Err(fault),
         };
     }
-    load(alloc, conn)
+    load(alloc, seed, conn)
 }
 
 impl<S: Alter + Drop> Desk<S> {
@@ -53,7 +54,7 @@ impl<S: Alter + Drop> Desk<S> {
     /// `Old` where the tables are those of version 1, which `migrate` brings along; `Foreign` where they aren't a
     /// desk's, or are of another version; `Damaged` where they are the tables of no sound state. The database is handed
     /// back beside a fault, with the tables as they were; after `Store` it is to be opened again.
-    pub fn open(alloc: Global, conn: Connection<S>) -> Result<Desk<S>, (OpenFault, S)>
+    pub fn open(alloc: Global, seed: Seed, conn: Connection<S>) -> Result<Desk<S>, (OpenFault, S)>
         ensures desk { IfOk result (λ desk. IsDesk S.Store desk) }
         ensures open { IfOk result (λ desk. desk.failed ≡ None) }
         ensures found { IfOk result (λ desk. HasCleanDisk (state S.Store desk.conn)
@@ -73,7 +74,7 @@ impl<S: Alter + Drop> Desk<S> {
             Ok(opened) => opened,
             Err((fault, database)) => return Err((OpenFault::from(fault), database)),
         };
-        match find(alloc, &mut opened) {
+        match find(alloc, seed, &mut opened) {
             Ok(shop) => Ok(Desk {
                 conn: opened,
                 shop,

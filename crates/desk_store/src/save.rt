@@ -11,8 +11,8 @@
 ghost use Rattle.std.specs.Prelude.{◌≡◌, ◌⊎◌, ◌+◌, false, All, IfErr, OnErr, OnOk, Ok, Err};
 ghost use Rattle.sqlite.specs.Held.{state};
 ghost use Rattle.sqlite.specs.State.{HasCleanDisk, KeepsCommit, Survives};
-ghost use Rattle.part_core.specs.Columns.{IsSmall};
-ghost use Rattle.part_core.specs.RowKeys.{number_digits};
+ghost use Rattle.sheet_core.specs.Columns.{IsSmall};
+ghost use Rattle.sheet_core.specs.RowKeys.{number_digits};
 ghost use Rattle.desk_core.specs.Machine.{IsSoundState};
 ghost use Rattle.desk_core.specs.ShopView.{state_before, state_of};
 ghost use Rattle.desk_core.specs.Staying.{AllStay};

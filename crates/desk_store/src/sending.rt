@@ -3,11 +3,23 @@ ghost use Rattle.std.specs.Prelude.{OnOk, OnErr};
 ghost use Rattle.std.specs.Io.KnownBytes.{Appends, Keeps};
 ghost use Rattle.desk_store.specs.Exports.{AppendsFront};
 
+use desk_core::Stop;
 use std::io::Write;
 
 /// The writer failed, or took no byte.
 #[derive(Clone, Copy, Debug, PartialEq, Eq)]
 pub struct WriteFailed;
+
+impl From<WriteFailed> for Stop {
+    ghost use Rattle.std.specs.Prelude.{◌≡◌};
+    ghost use Rattle.desk_core.specs.declared.end.Stop.TheVariants as stops;
+
+    ghost from_gives = { λ _ stop. stop ≡ stops.WriteFailed };
+
+    fn from(_: WriteFailed) -> Self {
+        Stop::WriteFailed
+    }
+}
 
 /// Writes all the bytes; else a front of them.
 pub(crate) fn write_whole<W: Write>(writer: &mut W, text: &[u8]) -> Result<(), WriteFailed>

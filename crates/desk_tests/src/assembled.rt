@@ -5,7 +5,7 @@ ghost use Rattle.desk_core.specs.ShopView.{state_of};
 use bom_core::Substitute;
 use desk_core::{AssembleFault, Shop, Tables};
 use desk_play::play::plays_on_shop;
-use part_core::{Limits, MOST, Row, Sheet};
+use part_core::{Limits, MOST, Row, Seed, Sheet};
 use std::alloc::Global;
 use std::test::Fail;
 use store_play::outcomes::holds;
@@ -93,7 +93,7 @@ fn tables_of(alloc: Global, shop: &Shop) -> Result<Tables, Fail> {
 
 /// The tables of a small workshop.
 fn workshop(alloc: Global) -> Result<Tables, Fail> {
-    let mut shop = Shop::new(alloc, Limits::LARGEST);
+    let mut shop = Shop::new(alloc, Seed::new(0), Limits::LARGEST);
     plays_on_shop(alloc, &mut shop, LINES, ANSWERS)?;
     tables_of(alloc, &shop)
 }
@@ -102,7 +102,7 @@ fn workshop(alloc: Global) -> Result<Tables, Fail> {
 fn taken_and_gone_on_with(rt: HostRuntime) -> Result<(), Fail> {
     let alloc = rt.alloc();
     let tables = workshop(alloc)?;
-    match Shop::assemble(alloc, tables) {
+    match Shop::assemble(alloc, Seed::new(0), tables) {
         Ok(shop) => {
             let mut shop = shop;
             plays_on_shop(alloc, &mut shop, LATER, LATER_ANSWERS)
@@ -235,7 +235,7 @@ fn damaged(alloc: Global, damage: Damage) -> Result<Tables, Fail> {
 
 fn is_refused(alloc: Global, damage: Damage) -> Result<(), Fail> {
     let tables = damaged(alloc, damage)?;
-    match Shop::assemble(alloc, tables) {
+    match Shop::assemble(alloc, Seed::new(0), tables) {
         Err(AssembleFault::Unsound) => Ok(()),
         _ => Err(Fail::from("damaged tables are taken")),
     }

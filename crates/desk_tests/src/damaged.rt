@@ -1,6 +1,7 @@
 //! Databases that no run could have left: one change by SQL of a small workshop's tables each.
 use desk_play::play::plays_on;
 use desk_store::{Desk, OpenFault};
+use part_core::Seed;
 use sqlite::{Connection, MemStore};
 use std::alloc::Global;
 use std::test::Fail;
@@ -323,7 +324,7 @@ fn refused_after(
     change: &str,
 ) -> Result<Option<OpenFault>, Fail> {
     conn.execute(change, &[])?;
-    match Desk::open(alloc, conn) {
+    match Desk::open(alloc, Seed::new(2), conn) {
         Ok(_) => Ok(None),
         Err((fault, _)) => Ok(Some(fault)),
     }
@@ -385,7 +386,7 @@ fn isnt_made_in(alloc: Global, conn: Connection<MemStore>) -> Result<(), Fail> {
     if !conn.is_autocommit() {
         return Err(Fail::from("a transaction is open"));
     }
-    let made = Desk::create(alloc, conn, part_core::Limits::LARGEST);
+    let made = Desk::create(alloc, Seed::new(1), conn, part_core::Limits::LARGEST);
     holds(
         matches!(made, Err((OpenFault::Foreign, _))),
         "a second desk",

@@ -2,12 +2,11 @@
 //! answered or kept.
 ghost use Rattle.desk_store.specs.Desks.{IsDesk};
 
-use desk_app::{Advice, HeldFile, LineOptions, WatchedDesk, run_lines};
-use desk_core::Shop;
-use desk_ends::RunEnd;
+use desk_app::{Advice, HeldFile, RunOptions, WatchedDesk, run_lines};
+use desk_core::{RunEnd, Shop};
 use desk_play::play::{filled, lines_in};
 use desk_store::Desk;
-use part_core::Limits;
+use part_core::{Limits, Seed};
 use sqlite::{Alter, FileStore};
 use sqlite_disk::Memory;
 use std::alloc::{AllocError, Global};
@@ -68,11 +67,11 @@ fn first_lines(alloc: Global, count: usize) -> Result<String, AllocError> {
 /// The tables of books that ran so many of the lines.
 fn tables_after(alloc: Global, count: usize) -> Result<String, Fail> {
     let lines = first_lines(alloc, count)?;
-    let mut shop = Shop::new(alloc, Limits::LARGEST);
+    let mut shop = Shop::new(alloc, Seed::new(0), Limits::LARGEST);
     let mut reader = lines.as_bytes();
     let mut sink = Sink::new(alloc, 4096);
-    let plain = LineOptions::PLAIN;
-    let end = run_lines(alloc, &mut reader, &mut sink, &mut shop, plain, false);
+    let plain = RunOptions::PLAIN;
+    let end = run_lines(alloc, &mut reader, &mut sink, &mut shop, plain);
     holds(end == RunEnd::Done(true), "the shop runs otherwise")?;
     Ok(tables_text(alloc, &shop)?)
 }
@@ -93,8 +92,8 @@ fn runs<S: Alter + Drop>(
     };
     let mut watched = WatchedDesk::new(desk, file, Advice::Nothing, told);
     let mut source = Source::new(LINES.as_bytes(), 1);
-    let plain = LineOptions::PLAIN;
-    let end = run_lines(alloc, &mut source, sink, &mut watched, plain, false);
+    let plain = RunOptions::PLAIN;
+    let end = run_lines(alloc, &mut source, sink, &mut watched, plain);
     (watched.into_desk(), end)
 }
 

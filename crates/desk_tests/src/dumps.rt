@@ -2,6 +2,7 @@
 
 use desk_play::play::plays_on;
 use desk_store::{Desk, ExportFault};
+use part_core::Seed;
 use sqlite::{Alter, Connection, MemStore};
 use std::alloc::Global;
 use std::test::Fail;
@@ -63,7 +64,7 @@ fn dumped<S: Alter>(alloc: Global, desk: &Desk<S>) -> Result<Sink, Fail> {
 fn made(alloc: Global, text: &str) -> Result<Desk<MemStore>, Fail> {
     let mut conn = Connection::open_in_memory(alloc)?;
     conn.execute_batch(text)?;
-    match Desk::open(alloc, conn) {
+    match Desk::open(alloc, Seed::new(2), conn) {
         Ok(desk) => Ok(desk),
         Err((_fault, _database)) => Err(Fail::from("no desk of a dump")),
     }

@@ -1,7 +1,7 @@
 //! Tables and histories as text, whole and through writers that fail, and of a closed desk.
 ghost use Rattle.desk_store.specs.Desks.{IsDesk};
 
-use desk_app::{LineOptions, run_lines};
+use desk_app::{RunOptions, run_lines};
 use desk_play::play::plays_on;
 use desk_store::{Desk, ExportFault};
 use sqlite::{Alter, Connection};
@@ -198,14 +198,7 @@ fn closes_amid_lines<S: Alter + Drop>(alloc: Global, mut desk: Desk<S>) -> Resul
 {
     let mut sink = Sink::new(alloc, 4096);
     let mut lines = LINES.as_bytes();
-    let _end = run_lines(
-        alloc,
-        &mut lines,
-        &mut sink,
-        &mut desk,
-        LineOptions::PLAIN,
-        false,
-    );
+    let _end = run_lines(alloc, &mut lines, &mut sink, &mut desk, RunOptions::PLAIN);
     if desk.failed().is_none() {
         return Ok(false);
     }

@@ -1,6 +1,6 @@
 //! What a writer sees of the answers.
-use desk_app::{LineOptions, run_lines};
-use desk_ends::RunEnd;
+use desk_app::{RunOptions, run_lines};
+use desk_core::RunEnd;
 use sqlite::Connection;
 use std::io::{self, Write};
 use std::test::Fail;
@@ -44,8 +44,7 @@ fn flushes_each_answer(rt: HostRuntime) -> Result<(), Fail> {
         &mut reader,
         &mut writer,
         &mut desk,
-        LineOptions::PLAIN,
-        false,
+        RunOptions::PLAIN,
     );
     assert_eq!(rt; end, RunEnd::Done(false));
     assert_eq!(rt; writer.flushes, 2);

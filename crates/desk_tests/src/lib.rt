@@ -17,4 +17,6 @@ mod flushes;
 #[cfg(test)]
 mod lines;
 #[cfg(test)]
+mod seeds;
+#[cfg(test)]
 mod shown;

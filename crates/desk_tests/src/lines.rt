@@ -1,6 +1,6 @@
 //! Lines, a repeat and reports among them, through slow and failing readers and writers.
-use desk_app::{LineOptions, run_lines};
-use desk_ends::RunEnd;
+use desk_app::{RunOptions, run_lines};
+use desk_core::RunEnd;
 use sqlite::Connection;
 use std::alloc::Global;
 use std::io::ErrorKind;
@@ -30,7 +30,7 @@ const FIRST_OUT: &str = r#"{"entries":0,"ids":[1]}
 fn runs(alloc: Global, source: &mut Source, sink: &mut Sink) -> Result<RunEnd, Fail> {
     let conn = Connection::open_in_memory(alloc)?;
     let mut desk = created(alloc, conn)?;
-    Ok(run_lines(alloc, source, sink, &mut desk, LineOptions::PLAIN, false))
+    Ok(run_lines(alloc, source, sink, &mut desk, RunOptions::PLAIN))
 }
 
 #[test]

@@ -5,7 +5,7 @@ ghost use Rattle.desk_core.specs.ShopView.{state_of};
 use desk_core::Shop;
 use desk_play::play::plays_on;
 use desk_store::{books_text, history_text, table_text};
-use part_core::Limits;
+use part_core::{Limits, Seed};
 use std::alloc::Global;
 use std::test::Fail;
 use store_play::outcomes::holds;
@@ -55,7 +55,7 @@ fn tells_history(alloc: Global, shop: &Shop, from: u64, entries: &str) -> Result
 fn shop(alloc: Global) -> Shop
     ensures { IsSoundState (state_of result) }
 {
-    Shop::new(alloc, Limits::LARGEST)
+    Shop::new(alloc, Seed::new(0), Limits::LARGEST)
 }
 
 #[test]

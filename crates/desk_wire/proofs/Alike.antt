@@ -3,14 +3,14 @@ use Rattle.std.proofs.Common.{◌≡◌, inl, inr, ℕ, List, [], ◌∷◌, ◌
 use Rattle.std.specs.Prelude.{Option, Some, None, Result, Ok, Err, codes, if◌then◌else◌}
 use Rattle.serde_json.specs.Data.{Data, null, boolean, number, string, array, object, Items, no_items, item}
 use Rattle.serde_json.specs.Find.{as_array}
-use Rattle.part_core.specs.declared.field.Field.{Field}
-use Rattle.part_core.specs.declared.field.Field.TheVariants as field
-use Rattle.part_core.specs.declared.field.FieldKind.{FieldKind}
-use Rattle.part_core.specs.declared.field.FieldKind.TheVariants as kind
-use Rattle.part_core.specs.declared.field.RowKind.{RowKind}
+use Rattle.word_core.specs.declared.field.Field.{Field}
+use Rattle.word_core.specs.declared.field.Field.TheVariants as field
+use Rattle.word_core.specs.declared.field.FieldKind.{FieldKind}
+use Rattle.word_core.specs.declared.field.FieldKind.TheVariants as kind
+use Rattle.word_core.specs.declared.field.RowKind.{RowKind}
 use Rattle.part_core.specs.declared.found.Found.TheVariants.{One}
-use Rattle.part_core.specs.Forms.{Blanks, Form}
-use Rattle.part_core.specs.FormTables.{command_by, forms_by}
+use Rattle.word_core.specs.Forms.{Blanks, Form}
+use Rattle.word_core.specs.FormTables.{command_by, forms_by}
 use Rattle.desk_core.specs.CommandForms.{command_forms}
 use Rattle.desk_core.specs.Naming.{Naming}
 use Rattle.desk_wire.specs.declared.fault.What.{What}

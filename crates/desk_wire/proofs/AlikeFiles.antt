@@ -5,9 +5,9 @@ use Rattle.std.specs.Prelude.{Option, Some, None, Result, Ok, Err, codes, nat_le
 use Rattle.std.specs.Str.{bytes_eq}
 use Rattle.std.specs.Cmp.Lexicographic.{pointwise}
 use Rattle.csv.specs.Reading.{default_config, records, strip_bom}
-use Rattle.part_core.specs.Day.{CivilDay}
-use Rattle.part_core.specs.declared.field.RowKind.{RowKind}
-use Rattle.part_core.specs.declared.field.RowKind.TheVariants as table
+use Rattle.word_core.specs.Day.{CivilDay}
+use Rattle.word_core.specs.declared.field.RowKind.{RowKind}
+use Rattle.word_core.specs.declared.field.RowKind.TheVariants as table
 use Rattle.stock_core.specs.declared.stock_command.StockCommand.TheVariants.{Count}
 use Rattle.order_core.specs.declared.order_command.OrderCommand.TheVariants.{Receive}
 use Rattle.desk_core.specs.Naming.{Naming}

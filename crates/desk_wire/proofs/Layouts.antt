@@ -6,7 +6,7 @@ use Rattle.std.specs.Str.{bytes_eq}
 use Rattle.std.specs.Cmp.Lexicographic.{pointwise}
 use Rattle.std.proofs.lemmas.Bool.{cases_Bool, true≢false}
 use Rattle.csv.specs.Reading.{records, strip_bom}
-use Rattle.part_core.specs.Day.{CivilDay}
+use Rattle.word_core.specs.Day.{CivilDay}
 use Rattle.desk_core.specs.Naming.{Naming}
 use Rattle.desk_wire.specs.declared.fault.FileError.{FileError}
 use Rattle.desk_wire.specs.declared.fault.FileError.TheVariants as error

@@ -8,8 +8,8 @@ use Rattle.std.proofs.lemmas.Bool.{and_parts, cases_Bool, eqb-true, false≢true
 use Rattle.std.proofs.lemmas.Slice.Eq.{bytes_eq-Decides}
 use Rattle.csv.specs.Reading.{default_config, records, strip_bom}
 use Rattle.csv.specs.Records.{field_at}
-use Rattle.part_core.specs.Day.{CivilDay}
-use Rattle.part_core.specs.declared.field.RowKind.TheVariants as table
+use Rattle.word_core.specs.Day.{CivilDay}
+use Rattle.word_core.specs.declared.field.RowKind.TheVariants as table
 use Rattle.desk_core.specs.Naming.{Naming}
 use Rattle.std.specs.Prelude.{codes}
 use Rattle.desk_wire.specs.declared.fault.What.{What}

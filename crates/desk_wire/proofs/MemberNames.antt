@@ -8,7 +8,7 @@ use Rattle.serde_json.specs.Data.{Data}
 use Rattle.serde_json.specs.Find.{as_object}
 use Rattle.serde_json.specs.declared.value.Value.{Value}
 use Rattle.serde_json.specs.View.{members_view}
-use Rattle.part_core.specs.Forms.{is_among}
+use Rattle.word_core.specs.Forms.{is_among}
 use Rattle.desk_wire.specs.Members.{all_known, knows_all}
 
 abbrev pub all_keys : List (List ℕ) → List (String Global) → Bool

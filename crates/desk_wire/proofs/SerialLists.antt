@@ -6,9 +6,9 @@ use Rattle.std.specs.List.{list_all}
 use Rattle.std.proofs.lemmas.List.FromFn.{length-map-range_with_len}
 use Rattle.std.proofs.lemmas.Bool.Decides.{nat_tests}
 use Rattle.std.proofs.lemmas.List.{at_drop_more}
-use Rattle.part_core.specs.declared.serials.SerialFault.TheVariants.{BadChar, Empty, Falling, TooMany}
-use Rattle.part_core.specs.Serial.{is_serial_byte}
-use Rattle.part_core.specs.Serials.{Reading, decimals, element_serials, joined, put_before, range_of, range_or_one}
+use Rattle.word_core.specs.declared.serials.SerialFault.TheVariants.{BadChar, Empty, Falling, TooMany}
+use Rattle.word_core.specs.Serial.{is_serial_byte}
+use Rattle.word_core.specs.Serials.{Reading, decimals, element_serials, joined, put_before, range_of, range_or_one}
 use Rattle.desk_wire.specs.SerialLists.{Counts}
 
 -- ---- the elements of a text, of which so many serials stand before those that are left

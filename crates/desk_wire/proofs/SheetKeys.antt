@@ -9,7 +9,7 @@ use Rattle.std.proofs.lemmas.Slice.Eq.{bytes_eq-Decides}
 use Rattle.serde_json.specs.Data.{Members, no_members, put, string}
 use Rattle.serde_json.specs.Find.{get_member}
 use Rattle.serde_json.proofs.Views.{get_member-put, get_member-put_other}
-use Rattle.part_core.specs.Forms.{is_among}
+use Rattle.word_core.specs.Forms.{is_among}
 use Rattle.desk_wire.specs.Records.{Fields}
 use Rattle.desk_wire.specs.Sheets.{FieldPlace, cell, is_given, key_of, line_data, number_told, or_else}
 use Rattle.desk_wire.specs.Sheets.{value_of, with_cells}

@@ -9,8 +9,8 @@ use Rattle.std.proofs.lemmas.Bool.{cases_Bool, or_parts}
 use Rattle.serde_json.specs.Data.{Data, Members, no_members, member, put, string}
 use Rattle.serde_json.specs.View.{items_of}
 use Rattle.serde_json.specs.Written.{has_float, items_have_float, members_have_float}
-use Rattle.part_core.specs.declared.field.FieldKind.{FieldKind}
-use Rattle.part_core.specs.declared.field.FieldKind.TheVariants as kind
+use Rattle.word_core.specs.declared.field.FieldKind.{FieldKind}
+use Rattle.word_core.specs.declared.field.FieldKind.TheVariants as kind
 use Rattle.desk_wire.specs.declared.fault.What.{What}
 use Rattle.desk_wire.specs.Numbers.{number_in}
 use Rattle.desk_wire.specs.RowWords.{is_json, json_of}

@@ -9,10 +9,10 @@ use Rattle.serde_json.specs.Read.{read}
 use Rattle.serde_json.specs.View.{items_of}
 use Rattle.serde_json.specs.Written.{compact_text, has_float}
 use Rattle.serde_json.proofs.Views.{get_member-put}
-use Rattle.part_core.specs.Day.{CivilDay}
-use Rattle.part_core.specs.Forms.{is_among}
-use Rattle.part_core.specs.declared.field.FieldKind.{FieldKind}
-use Rattle.part_core.specs.declared.field.FieldKind.TheVariants as kind
+use Rattle.word_core.specs.Day.{CivilDay}
+use Rattle.word_core.specs.Forms.{is_among}
+use Rattle.word_core.specs.declared.field.FieldKind.{FieldKind}
+use Rattle.word_core.specs.declared.field.FieldKind.TheVariants as kind
 use Rattle.desk_core.specs.Key.{is_key}
 use Rattle.desk_core.specs.Naming.{Naming}
 use Rattle.desk_core.specs.declared.command.Command.{Command}

@@ -7,9 +7,9 @@ use Rattle.std.specs.Str.{bytes_eq}
 use Rattle.std.proofs.lemmas.Bool.{and_from, and_parts}
 use Rattle.csv.specs.Reading.{records, strip_bom}
 use Rattle.serde_json.specs.Written.{compact_text}
-use Rattle.part_core.specs.Day.{day_text}
-use Rattle.part_core.specs.Forms.{Blanks, Form, are_distinct, form_named, have_distinct, is_among, members_of, names_of}
-use Rattle.part_core.specs.FormTables.{forms_by}
+use Rattle.word_core.specs.Day.{day_text}
+use Rattle.word_core.specs.Forms.{Blanks, Form, are_distinct, form_named, have_distinct, is_among, members_of, names_of}
+use Rattle.word_core.specs.FormTables.{forms_by}
 use Rattle.desk_core.specs.CommandForms.{command_forms, command_distinct}
 use Rattle.desk_core.specs.Naming.{Naming}
 use Rattle.desk_wire.specs.declared.fault.What.{What}

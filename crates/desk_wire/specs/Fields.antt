@@ -3,20 +3,20 @@ use Rattle.std.specs.Prelude.{ℕ, List, [], ◌∷◌, ◌++◌, Bool, false, c
 use Rattle.std.specs.Prelude.{Option, Some, None, Result, Ok}
 use Rattle.serde_json.specs.Data.{Data, Items, no_items, item}
 use Rattle.serde_json.specs.Find.{get, as_bool, as_array}
-use Rattle.part_core.specs.Day.{CivilDay, day_of}
-use Rattle.part_core.specs.declared.field.FieldKind.{FieldKind}
-use Rattle.part_core.specs.declared.field.FieldKind.TheVariants as kind
-use Rattle.part_core.specs.declared.field.Field.{Field}
-use Rattle.part_core.specs.declared.field.Field.TheVariants as field
-use Rattle.part_core.specs.declared.field.RowKind.{RowKind}
-use Rattle.part_core.specs.declared.flags.Flags.{Flags}
-use Rattle.part_core.specs.declared.side.Side.{Side}
-use Rattle.part_core.specs.declared.status.Status.{Status}
-use Rattle.part_core.specs.Flags.{no_flags, with_word}
-use Rattle.part_core.specs.Forms.{Blanks}
-use Rattle.part_core.specs.Named.{named}
-use Rattle.part_core.specs.Side.{all_sides, side_name}
-use Rattle.part_core.specs.Status.{all_statuses, status_name}
+use Rattle.word_core.specs.Day.{CivilDay, day_of}
+use Rattle.word_core.specs.declared.field.FieldKind.{FieldKind}
+use Rattle.word_core.specs.declared.field.FieldKind.TheVariants as kind
+use Rattle.word_core.specs.declared.field.Field.{Field}
+use Rattle.word_core.specs.declared.field.Field.TheVariants as field
+use Rattle.word_core.specs.declared.field.RowKind.{RowKind}
+use Rattle.word_core.specs.declared.flags.Flags.{Flags}
+use Rattle.word_core.specs.declared.side.Side.{Side}
+use Rattle.word_core.specs.declared.status.Status.{Status}
+use Rattle.word_core.specs.Flags.{no_flags, with_word}
+use Rattle.word_core.specs.Forms.{Blanks}
+use Rattle.word_core.specs.Named.{named}
+use Rattle.word_core.specs.Side.{all_sides, side_name}
+use Rattle.word_core.specs.Status.{all_statuses, status_name}
 use Rattle.desk_core.specs.Naming.{Naming}
 use Rattle.desk_wire.specs.declared.fault.What.{What}
 use Rattle.desk_wire.specs.declared.fault.What.TheVariants.{WrongType, BadDay, BadWord}

@@ -1,7 +1,7 @@
 -- The report of an import.
 use Rattle.std.specs.Prelude.{ℕ, ◌++◌, ◌∷◌, List, [], decimal, Result, Ok, Err}
-use Rattle.part_core.specs.declared.answer.Answer.{Answer}
-use Rattle.part_core.specs.declared.refusal.Refusal.{Refusal}
+use Rattle.word_core.specs.declared.answer.Answer.{Answer}
+use Rattle.word_core.specs.declared.refusal.Refusal.{Refusal}
 use Rattle.desk_wire.specs.Writing.{answer_text, refused_text}
 
 -- the answer line of a row, with its LF

@@ -3,7 +3,7 @@ use Rattle.std.specs.Prelude.{ℕ, ◌≡◌, ◌≤◌, ◌+◌, ◌&&◌, ◌�
 use Rattle.std.specs.Prelude.{option_map}
 use Rattle.csv.specs.declared.parser.State.{State}
 use Rattle.csv.specs.declared.parser.State.TheVariants as st
-use Rattle.part_core.specs.Day.{CivilDay}
+use Rattle.word_core.specs.Day.{CivilDay}
 use Rattle.desk_core.specs.Naming.{Naming}
 use Rattle.desk_core.specs.ShopView.{state_of}
 use Rattle.desk_wire.specs.declared.columns.HeaderColumns.{HeaderColumns}

@@ -3,7 +3,7 @@
 use Rattle.std.specs.Prelude.{ℕ, ◌≡◌, ◌+◌, ◌++◌, ◌∷◌, List, [], length, drop, nat_le, not, codes, if◌then◌else◌}
 use Rattle.std.specs.Prelude.{Option, Some, None, option_map, option_and_then, Result, Ok, Err}
 use Rattle.csv.specs.Reading.{records, strip_bom}
-use Rattle.part_core.specs.declared.field.RowKind.TheVariants as table
+use Rattle.word_core.specs.declared.field.RowKind.TheVariants as table
 use Rattle.desk_core.specs.Naming.{Naming}
 use Rattle.desk_wire.specs.declared.fault.FileError.{FileError}
 use Rattle.desk_wire.specs.declared.fault.FileError.TheVariants as error

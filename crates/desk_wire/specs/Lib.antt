@@ -9,6 +9,7 @@ pub mod Fields
 pub mod Members
 pub mod Reading
 pub mod Writing
+pub mod Printed
 pub mod WrongFields
 pub mod Documents
 pub mod Kinds

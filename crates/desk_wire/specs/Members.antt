@@ -2,7 +2,7 @@
 use Rattle.std.specs.Prelude.{ℕ, List, ◌&&◌, Bool, true, Option, Some, None}
 use Rattle.serde_json.specs.Data.{Data, Members, no_members, member}
 use Rattle.serde_json.specs.Find.{as_object}
-use Rattle.part_core.specs.Forms.{is_among}
+use Rattle.word_core.specs.Forms.{is_among}
 
 abbrev pub all_known : List (List ℕ) → Members → Bool
 all_known names no_members = true

@@ -3,11 +3,11 @@ use Rattle.std.specs.Prelude.{◌≡◌, ◌⊎◌, ℕ, List, [], ◌∷◌, �
 use Rattle.std.specs.Prelude.{is_some, is_none, Option, Some, None, option_map, option_and_then, Result, Ok, Err, if◌then◌else◌}
 use Rattle.serde_json.specs.Data.{Data}
 use Rattle.serde_json.specs.Find.{get, as_object, as_str}
-use Rattle.part_core.specs.declared.field.Field.{Field}
-use Rattle.part_core.specs.Forms.{Form, form_named, members_of}
-use Rattle.part_core.specs.FormTables.{command_by, forms_by}
-use Rattle.part_core.specs.declared.field.RowKind.{RowKind}
-use Rattle.part_core.specs.declared.field.RowKind.TheVariants as table
+use Rattle.word_core.specs.declared.field.Field.{Field}
+use Rattle.word_core.specs.Forms.{Form, form_named, members_of}
+use Rattle.word_core.specs.FormTables.{command_by, forms_by}
+use Rattle.word_core.specs.declared.field.RowKind.{RowKind}
+use Rattle.word_core.specs.declared.field.RowKind.TheVariants as table
 use Rattle.desk_core.specs.CommandForms.{command_forms}
 use Rattle.desk_core.specs.Naming.{Naming}
 use Rattle.desk_core.specs.declared.command.Request.{Request}

@@ -3,9 +3,9 @@ use Rattle.std.specs.Prelude.{ℕ, List, [], ◌∷◌, codes, is_some, Option, 
 use Rattle.std.specs.Prelude.{if◌then◌else◌}
 use Rattle.serde_json.specs.Data.{Data, Items, no_items, item}
 use Rattle.serde_json.specs.Find.{get, as_str, as_array, as_object}
-use Rattle.part_core.specs.Serial.{is_serial}
-use Rattle.part_core.specs.declared.field.RowKind.{RowKind}
-use Rattle.part_core.specs.declared.field.RowKind.TheVariants.{Category, Part, Location, Item}
+use Rattle.word_core.specs.Serial.{is_serial}
+use Rattle.word_core.specs.declared.field.RowKind.{RowKind}
+use Rattle.word_core.specs.declared.field.RowKind.TheVariants.{Category, Part, Location, Item}
 use Rattle.part_core.specs.declared.found.Found.{Found}
 use Rattle.part_core.specs.declared.found.Found.TheVariants.{Nothing, One, Several}
 use Rattle.desk_core.specs.Naming.{Naming}

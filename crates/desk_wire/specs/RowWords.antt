@@ -3,7 +3,7 @@ use Rattle.std.specs.Prelude.{ℕ, ◌≡◌, List, Bool, ◌||◌, nat_eq, nat_
 use Rattle.std.specs.Prelude.{Option, Some, None, Result, Ok, Err, if◌then◌else◌}
 use Rattle.std.specs.List.{starts_with}
 use Rattle.serde_json.specs.Data.{Data}
-use Rattle.part_core.specs.declared.field.RowKind.{RowKind}
+use Rattle.word_core.specs.declared.field.RowKind.{RowKind}
 use Rattle.part_core.specs.declared.found.Found.{Found}
 use Rattle.desk_core.specs.Naming.{Naming}
 use Rattle.desk_wire.specs.declared.fault.What.{What}

@@ -1,6 +1,6 @@
 -- Serials as a text lists them.
 use Rattle.std.specs.Prelude.{◌≡◌, ◌≤◌, ℕ, List, [], length, Option, Some, None, Ok, Err}
-use Rattle.part_core.specs.Serials.{Reading, serials_in}
+use Rattle.word_core.specs.Serials.{Reading, serials_in}
 
 -- the serials that were read
 abbrev pub serials_read : Reading → List (List ℕ)

@@ -1,8 +1,8 @@
 -- The commands of which a file may be.
 use Rattle.std.specs.Prelude.{ℕ, Bool, List, Option, None, ◌||◌, codes, if◌then◌else◌}
 use Rattle.std.specs.Str.{bytes_eq}
-use Rattle.part_core.specs.Forms.{Form, form_named}
-use Rattle.part_core.specs.FormTables.{forms_by}
+use Rattle.word_core.specs.Forms.{Form, form_named}
+use Rattle.word_core.specs.FormTables.{forms_by}
 use Rattle.desk_core.specs.CommandForms.{command_forms}
 
 -- what a file of receipts or of counts asks for has keys of its own: under others a row would be done twice

@@ -6,8 +6,8 @@ use Rattle.csv.specs.Reading.{records, strip_bom}
 use Rattle.serde_json.specs.Data.{string}
 use Rattle.serde_json.specs.Find.{get}
 use Rattle.serde_json.specs.Written.{compact_text}
-use Rattle.part_core.specs.Day.{day_text}
-use Rattle.part_core.specs.Forms.{is_among}
+use Rattle.word_core.specs.Day.{day_text}
+use Rattle.word_core.specs.Forms.{is_among}
 use Rattle.desk_core.specs.Naming.{Naming}
 use Rattle.desk_wire.specs.declared.fault.What.{What}
 use Rattle.desk_wire.specs.declared.read.Wish.{Wish}

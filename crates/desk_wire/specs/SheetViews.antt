@@ -2,7 +2,7 @@
 use Rattle.std.specs.Prelude.{ℕ, ◌≡◌, ◌∷◌, List, [], map, Option, Some, None, Result, Ok, Err, String, string_bytes}
 use Rattle.std.specs.Borrow.{Bor}
 use Rattle.std.specs.declared.alloc.Global.{Global}
-use Rattle.part_core.specs.Forms.{shown}
+use Rattle.word_core.specs.Forms.{shown}
 use Rattle.desk_wire.specs.declared.fault.ReadError.{ReadError}
 use Rattle.desk_wire.specs.declared.fault.ReadError.TheVariants.{Memory, Wrong}
 use Rattle.desk_wire.specs.declared.fault.What.{What}

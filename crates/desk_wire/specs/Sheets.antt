@@ -9,10 +9,10 @@ use Rattle.csv.specs.Reading.{records, strip_bom}
 use Rattle.serde_json.specs.Data.{Data, boolean, string, number, unsigned, array, object, Members, no_members, put}
 use Rattle.serde_json.specs.View.{items_of}
 use Rattle.serde_json.specs.Written.{compact_text, has_float}
-use Rattle.part_core.specs.Day.{CivilDay, day_text}
-use Rattle.part_core.specs.Forms.{Blanks, Form}
-use Rattle.part_core.specs.declared.field.FieldKind.{FieldKind}
-use Rattle.part_core.specs.declared.field.FieldKind.TheVariants as kind
+use Rattle.word_core.specs.Day.{CivilDay, day_text}
+use Rattle.word_core.specs.Forms.{Blanks, Form}
+use Rattle.word_core.specs.declared.field.FieldKind.{FieldKind}
+use Rattle.word_core.specs.declared.field.FieldKind.TheVariants as kind
 use Rattle.desk_wire.specs.declared.fault.What.{What}
 use Rattle.desk_wire.specs.declared.fault.What.TheVariants.{TooLong, Csv, Header}
 use Rattle.desk_wire.specs.declared.fault.WireFault.{WireFault}

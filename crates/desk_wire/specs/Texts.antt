@@ -1,7 +1,7 @@
 -- Texts that say what stands in a row, in a line and in a file alike.
 use Rattle.std.specs.Prelude.{ℕ, List, Result, Ok, Err}
-use Rattle.part_core.specs.Text.{is_text}
-use Rattle.part_core.specs.declared.serials.SerialFault.{SerialFault}
+use Rattle.word_core.specs.Text.{is_text}
+use Rattle.word_core.specs.declared.serials.SerialFault.{SerialFault}
 use Rattle.desk_wire.specs.declared.fault.What.{What}
 use Rattle.desk_wire.specs.declared.fault.What.TheVariants.{BadText, BadSerials}
 use Rattle.desk_wire.specs.Steps.{◌>>=◌, must}

@@ -5,7 +5,7 @@ use Rattle.std.specs.Str.{is_utf8}
 use Rattle.serde_json.specs.Data.{Data, Items, no_items, item}
 use Rattle.serde_json.specs.Find.{get, as_null, as_number, as_str, as_u64}
 use Rattle.serde_json.specs.Read.{read}
-use Rattle.part_core.specs.Serials as texts
+use Rattle.word_core.specs.Serials as texts
 use Rattle.desk_core.specs.Key.{is_key}
 use Rattle.desk_wire.specs.declared.fault.What.{What}
 use Rattle.desk_wire.specs.declared.fault.What.TheVariants.{NoField, WrongType, BadKey}

@@ -2,9 +2,9 @@
 use Rattle.std.specs.Prelude.{ℕ, List, [], ◌∷◌, ◌++◌, decimal, codes, Option, Some, None}
 use Rattle.serde_json.specs.Data.{Data, object, no_members, member}
 use Rattle.serde_json.specs.Written.{compact_text}
-use Rattle.part_core.specs.declared.refusal.Refusal.{Refusal}
-use Rattle.part_core.specs.Refusal.{refusal_name}
-use Rattle.part_core.specs.declared.answer.Answer.{Answer}
+use Rattle.word_core.specs.declared.refusal.Refusal.{Refusal}
+use Rattle.word_core.specs.Refusal.{refusal_name}
+use Rattle.word_core.specs.declared.answer.Answer.{Answer}
 use Rattle.desk_core.specs.AnswerLine.{answer_line}
 use Rattle.report_core.specs.Lines.{Lines, report_data}
 use Rattle.desk_wire.specs.declared.fault.WireFault.{WireFault}

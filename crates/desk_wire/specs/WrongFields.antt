@@ -4,8 +4,8 @@ use Rattle.std.specs.Prelude.{Option, Some, None, option_and_then, Result, Ok, E
 use Rattle.serde_json.specs.Data.{Data, Members, no_members, member}
 use Rattle.serde_json.specs.Find.{as_object, get}
 use Rattle.serde_json.specs.Written.{compact_text, has_float}
-use Rattle.part_core.specs.FormTables.{forms_by}
-use Rattle.part_core.specs.Forms.{Blanks, Form, form_named, is_among, members_of}
+use Rattle.word_core.specs.FormTables.{forms_by}
+use Rattle.word_core.specs.Forms.{Blanks, Form, form_named, is_among, members_of}
 use Rattle.desk_core.specs.CommandForms.{command_forms}
 use Rattle.desk_core.specs.Naming.{Naming}
 use Rattle.report_core.specs.Names.{report_named}

@@ -3,8 +3,8 @@
 //! null.
 ghost use Rattle.std.specs.Prelude.{◌≡◌, [], MatchResult, Ok, Err, option_map};
 ghost use Rattle.serde_json.specs.View.{view, items_view};
-ghost use Rattle.part_core.specs.Flags.{no_flags};
-ghost use Rattle.part_core.specs.Forms.{shown_fields};
+ghost use Rattle.word_core.specs.Flags.{no_flags};
+ghost use Rattle.word_core.specs.Forms.{shown_fields};
 ghost use Rattle.desk_wire.specs.Steps.{Gives, Fails};
 ghost use Rattle.desk_wire.specs.Fields.{number_in, row_in, maybe_row_in, row_text_in};
 ghost use Rattle.desk_wire.specs.Fields.{maybe_row_text_in, yes_in, key_in, day_in, serials_in};

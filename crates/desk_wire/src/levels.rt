@@ -3,7 +3,7 @@
 ghost use Rattle.std.specs.Prelude.{◌≡◌, [], true, codes, Ok, Some, option_map, IfOk, IsSome, MatchResult};
 ghost use Rattle.csv.specs.Reading.{records, strip_bom};
 ghost use Rattle.csv.specs.Records.{fields_of};
-ghost use Rattle.part_core.specs.declared.field.RowKind.TheVariants as table;
+ghost use Rattle.word_core.specs.declared.field.RowKind.TheVariants as table;
 ghost use Rattle.desk_wire.specs.Faults.{shown_field};
 ghost use Rattle.desk_wire.specs.Imports.{separators};
 ghost use Rattle.desk_wire.specs.Levels.{FailsAs, ReadsAs, ReadsNext, first_columns, layout_by};

@@ -1,54 +1,22 @@
-//! Requests and reports as lines of JSON, and the lines that are answered; files of comma-separated
-//! values as lists of keyed requests, and the report of their run.
+//! Requests and reports as lines of JSON, and the lines that are answered; files of comma-separated values as lists of
+//! keyed requests, and the report of their run; and files of levels. What a line and a file may say, and which of their
+//! faults is told first, `docs/MACHINE.md` has under Lines, Names and Imports.
 //!
-//! A request is an object with `do`, a command's name, `day`, `key` where it has one, and the fields
-//! of the command. One reader reads every command: it goes over the form of that name. An object with
-//! `report` and without `do` asks for a report on what `of` numbers.
+//! One reader reads every command: it goes over the form of its verb. The reading stands on `serde_json`'s statement of
+//! JSON (`Values.parsed`) and `csv`'s of records.
 //!
-//! Of a line the first of these faults is told:
-//!
-//! 1. of the line: `TooLong`, `NotJson`, `NotObject`;
-//! 2. of `do`: `NoField`, `WrongType`, `UnknownCommand`;
-//! 3. of the members' names: `UnknownField`;
-//! 4. of `key`, which may be missing: `WrongType`, `BadKey`;
-//! 5. of `day`: `NoField`, `WrongType`, `BadDay`;
-//! 6. of each field, in the order of the command's form: `NoField`, `WrongType`, and then by what it
-//!    says, `BadText`, `BadSerials` or `BadWord`.
-//!
-//! Of a report it is `UnknownField`, and then those of `of` and of `report`.
-//!
-//! Where names are allowed, a field that is the number of a row, `of` too, may say what a clerk calls the row. Where
-//! no row is called so, or several are, the fault is `NoName` or `Ambiguous`, which alone tell their field. A line
-//! that is read without names is read so with them, and a fault other than `WrongType` stays the same.
-//!
-//! A file is receipts or counts of a document. Under its header each record is a row: a `receive` or
-//! a `count`, with a key of the document and of the row's number, so that the same file sent again is
-//! done once. The first of these faults is told, with the number of its record, of which the header
-//! is 1:
-//!
-//! 1. of the file, with 0: `TooLong`;
-//! 2. of the header: `Header`;
-//! 3. of each row, in order: `Csv`, and then of its fields from left to right `WrongType`, `BadText` or
-//!    `BadSerials`.
-//!
-//! Beside the fault stands the name of the field that can't be read, with what stands in it, where
-//! it is a field of a row with as many fields as it may have.
-//!
-//! A file may be read loosely. Then a comma, a semicolon or a tab stands between two fields: the
-//! first of these by which the first record names each wanted column just once. The columns stand
-//! in any order, beside others, and `batch` and `serials` may have none. A record whose quantity is
-//! empty is left out, and one that ends before its last fields has them empty. `Csv` is a record
-//! that isn't text, has more fields than the header, or has a quote that is open at the end of the
-//! file; and, where no record is a row, the first one under the header if another separator stands
-//! there. What is read strictly is read so loosely too, unless a quote is open at its end.
-//!
-//! A file may be of any other command: then it is a text of lines, of which line n is record n, and what the lines ask is
-//! read as of any line. Its columns are the fields of the command, its number, key and day, and its faults those of a
-//! file that is read loosely.
-//!
-//! Where names are allowed, the line of a receipt, its location and the item of a count may be words that say what the
-//! row is called, in the books as they are before the first row of the file; so may a word of the command line. Such
-//! a file too is read as it is without names, but for one with a value of a wrong type.
+//! - `read_line`: exactly what the line asks, or its first fault; of a line too long 65,537 bytes are enough.
+//!   `read_request` is the same where only a request may stand.
+//! - `lines_are_commands`, `names_change_little`: laws, that the fields of a form, once read, are always a command, and
+//!   that what is read without names is read so with them.
+//! - `wrong_field`: the first member that can't be read. A number with a fraction may be spelled otherwise there.
+//! - `answer_text`, `refused_text`, `fault_text`, `report_text`: exactly the line that answers.
+//! - `import_rows`, `import_unchanged`: the rows of a file of receipts or counts, or its first fault. What is read
+//!   strictly is read so loosely too, unless a quote is open at its end (law `loose_reads_strict`); names change only
+//!   what a value of a wrong type was (law `names_change_files_little`).
+//! - `sheet_text`: the text of lines that a file of any other command is, line n of record n, or its first fault.
+//! - `read_levels`: the levels of a file, its parts looked up by the names that it is lent, or its first fault
+//!   (`Levels.file_levels`).
 #![tactic(auto)]
 
 mod columns;
@@ -64,6 +32,7 @@ mod levels;
 mod line_faults;
 mod members;
 mod number;
+mod printed;
 mod quotes;
 mod read;
 mod records;
@@ -80,6 +49,7 @@ mod sheet_columns;
 mod sheet_values;
 mod text_ways;
 mod texts;
+mod told;
 mod values;
 mod verbs;
 mod write;
@@ -96,6 +66,7 @@ pub use kind::{FileReading, ImportKind, import_kind_named};
 pub use levels::{LevelRow, read_levels};
 pub use line_faults::wrong_field;
 pub use number::number_in;
+pub use printed::tell_report_as_text;
 pub use read::{Wish, lines_are_commands, names_change_little, read_line, read_request, table_of};
 pub use report::{import_report, push_report_line};
 pub use row::ImportRow;
@@ -105,5 +76,6 @@ pub use sheet::{
     Sheet, keys_tell_records, lines_ask_under_keys, records_have_keys, sheet_text, sheets_are_lines,
 };
 pub use sheet_columns::{Said, may_lack};
+pub use told::Told;
 pub use verbs::sheet_form;
 pub use write::{answer_text, fault_text, refused_text, report_text};

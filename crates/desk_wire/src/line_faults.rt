@@ -4,7 +4,7 @@
 ghost use Rattle.std.specs.Prelude.{◌≡◌, ◌++◌, IfOk, MatchResult, Ok, Err, Some, map, option_map};
 ghost use Rattle.serde_json.specs.Find.{get};
 ghost use Rattle.serde_json.specs.View.{view};
-ghost use Rattle.part_core.specs.Forms.{names_of, shown, shown_fields};
+ghost use Rattle.word_core.specs.Forms.{names_of, shown, shown_fields};
 ghost use Rattle.desk_wire.specs.Steps.{has_failed};
 ghost use Rattle.desk_wire.specs.WrongFields.{Spells, TellsField, unknown_in, verb_form};
 ghost use Rattle.desk_wire.specs.WrongFields.{report_word, wrong_field, wrong_in_line};

@@ -2,7 +2,7 @@
 //! this kit compares texts of up to 32 bytes whole, which takes several times as long.
 ghost use Rattle.std.specs.Prelude.{◌≡◌, ◌++◌, map};
 ghost use Rattle.serde_json.specs.View.{view};
-ghost use Rattle.part_core.specs.Forms.{is_among, names_of, shown_fields};
+ghost use Rattle.word_core.specs.Forms.{is_among, names_of, shown_fields};
 ghost use Rattle.desk_wire.specs.Members.{knows_all};
 
 use part_core::FieldKind;

@@ -1,7 +1,8 @@
-//! A line, as what it asks for: a wish.
+//! A line, as what it asks for: a wish. The line comes from a run (`desk_app` `src/run.rt`), and the request that is
+//! read goes back to it, and from there to the desk (`desk_store` `src/group.rt`).
 ghost use Rattle.std.specs.Prelude.{◌≡◌, Ok, Err, MatchResult, option_map};
 ghost use Rattle.serde_json.specs.View.{view};
-ghost use Rattle.part_core.specs.Forms.{shown};
+ghost use Rattle.word_core.specs.Forms.{shown};
 ghost use Rattle.desk_wire.specs.Steps.{Gives, GivesAt, Fails};
 ghost use Rattle.desk_wire.specs.Reading.{LinesAreCommands, NamesChangeLittle, object_of, form_in};
 ghost use Rattle.desk_wire.specs.Reading.{command_in, request_of, is_report, of_in, report_of, report_table};

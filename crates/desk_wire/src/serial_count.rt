@@ -1,6 +1,6 @@
 //! How many serials a text lists. They are counted and not made out.
 ghost use Rattle.std.specs.Prelude.{◌≡◌, is_ok};
-ghost use Rattle.part_core.specs.Serials.{element_serials, serials_in};
+ghost use Rattle.word_core.specs.Serials.{element_serials, serials_in};
 ghost use Rattle.desk_wire.specs.SerialLists.{Counts};
 
 use part_core::{are_serial, serial_range};
@@ -9,7 +9,7 @@ use part_core::{are_serial, serial_range};
 const MOST_SERIALS: u64 = 1_000;
 
 /// How many serials an element stands for, where it is a good one.
-#[tactic(auto, unfolding(part_core::specs::Serials::element_serials))]
+#[tactic(auto, unfolding(word_core::specs::Serials::element_serials))]
 fn count_in(element: &str) -> Option<u64>
     ensures { Counts (element_serials element.now) result }
 {

@@ -1,6 +1,6 @@
 //! Serials as they were written.
 ghost use Rattle.std.specs.Prelude.{◌≡◌, IfOk};
-ghost use Rattle.part_core.specs.Serials.{serials_in};
+ghost use Rattle.word_core.specs.Serials.{serials_in};
 ghost use Rattle.desk_wire.specs.Steps.{Gives};
 ghost use Rattle.desk_wire.specs.Texts.{listed};
 
@@ -20,7 +20,7 @@ pub struct SerialList {
 impl Model for SerialList {
     ghost use Rattle.std.specs.Prelude.{ℕ, List, ◌≡◌, true, is_ok};
     ghost use Rattle.std.specs.String.{string_bytes};
-    ghost use Rattle.part_core.specs.Serials.{serials_in};
+    ghost use Rattle.word_core.specs.Serials.{serials_in};
     ghost use Rattle.desk_wire.specs.SerialLists.{listed_by};
 
     ghost Value = { List (List ℕ) };

@@ -5,7 +5,7 @@ ghost use Rattle.csv.specs.Records.{fields_of};
 ghost use Rattle.serde_json.specs.Data.{object};
 ghost use Rattle.serde_json.specs.View.{members_view};
 ghost use Rattle.serde_json.specs.Written.{compact_text};
-ghost use Rattle.part_core.specs.Day.{day_text};
+ghost use Rattle.word_core.specs.Day.{day_text};
 ghost use Rattle.desk_wire.specs.declared.fault.ReadError.TheVariants.{Wrong};
 ghost use Rattle.desk_wire.specs.declared.fault.What.TheVariants.{Csv, Header, TooLong};
 ghost use Rattle.desk_wire.specs.Records.{IsReading, are_texts, left};

@@ -2,8 +2,8 @@
 ghost use Rattle.std.specs.Prelude.{◌≡◌, IfOk, true, option_map};
 ghost use Rattle.csv.specs.Reading.{records, strip_bom};
 ghost use Rattle.csv.specs.Records.{fields_of};
-ghost use Rattle.part_core.specs.Forms.{shown};
-ghost use Rattle.part_core.specs.Forms as forms;
+ghost use Rattle.word_core.specs.Forms.{shown};
+ghost use Rattle.word_core.specs.Forms as forms;
 ghost use Rattle.desk_wire.specs.Imports.{separators};
 ghost use Rattle.desk_wire.specs.Records.{are_texts, config_by};
 ghost use Rattle.desk_wire.specs.Sheets.{cell, column_headed, field_places, first_columns, is_blank};

@@ -1,5 +1,5 @@
 //! Texts that say what stands in a row, in a line and in a file alike.
-ghost use Rattle.part_core.specs.Serials.{serials_in};
+ghost use Rattle.word_core.specs.Serials.{serials_in};
 ghost use Rattle.desk_wire.specs.Steps.{Gives};
 ghost use Rattle.desk_wire.specs.Texts.{row_text_from, listed};
 

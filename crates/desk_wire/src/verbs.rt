@@ -1,6 +1,6 @@
 //! The commands of which a file may be.
 ghost use Rattle.std.specs.Prelude.{◌≡◌, option_map};
-ghost use Rattle.part_core.specs.Forms.{shown};
+ghost use Rattle.word_core.specs.Forms.{shown};
 ghost use Rattle.desk_wire.specs.SheetForms.{sheet_form};
 
 use desk_core::Command;

@@ -2,6 +2,7 @@ pub mod Weights
 pub mod Conservation
 pub mod Sorts
 pub mod Flat
+pub mod HashesAt
 pub mod Tell
 pub mod Changes
 pub mod Loops
@@ -12,3 +13,4 @@ pub mod Prunes
 pub mod RowColumns
 pub mod Pruned
 pub mod Marks
+pub mod WordColumns

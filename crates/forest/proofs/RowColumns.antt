@@ -2,17 +2,20 @@
 use Rattle.std.proofs.Common.{◌≡◌, ℕ, ◌+◌, Bool, true, false, List, [], ◌∷◌, Option, Some, None, refl, sym, ap, ◌∙◌}
 use Rattle.std.specs.Prelude.{slice_get, ◌==◌, if◌then◌else◌}
 use Rattle.std.proofs.lemmas.Bool.{eqb-true}
-use Rattle.part_core.specs.Columns.{◌>>=◌, has, must, number_at, row_text_or_none_at, serial_or_none_at}
-use Rattle.part_core.specs.Columns.{status_at, day_at, day_as_written, fitting_or_none, text_or_absent}
-use Rattle.part_core.specs.Day.{CivilDay, day_text}
-use Rattle.part_core.specs.Serial.{is_serial}
-use Rattle.part_core.specs.Status.{status_code}
-use Rattle.part_core.specs.Text.{is_text}
-use Rattle.part_core.specs.declared.column.Column.{Column}
-use Rattle.part_core.specs.declared.column.Column.TheVariants.{Whole}
-use Rattle.part_core.proofs.ColumnLemmas.{bound, found, code-found, has-is, number_at-is}
-use Rattle.part_core.proofs.ColumnLemmas.{row_text_or_none_at-is, serial_or_none_at-is, status_at-is}
-use Rattle.part_core.proofs.ColumnLemmas.{day_at-is, same_columns, absent_text-read, status-read}
+use Rattle.sheet_core.specs.Columns.{◌>>=◌, has, must, number_at}
+use Rattle.forest.specs.WordColumns.{row_text_or_none_at, serial_or_none_at}
+use Rattle.forest.specs.WordColumns.{status_at, day_at, day_as_written}
+use Rattle.sheet_core.specs.Columns.{fitting_or_none, text_or_absent}
+use Rattle.word_core.specs.Day.{CivilDay, day_text}
+use Rattle.word_core.specs.Serial.{is_serial}
+use Rattle.word_core.specs.Status.{status_code}
+use Rattle.word_core.specs.Text.{is_text}
+use Rattle.sheet_core.specs.declared.column.Column.{Column}
+use Rattle.sheet_core.specs.declared.column.Column.TheVariants.{Whole}
+use Rattle.sheet_core.proofs.ColumnLemmas.{bound, found, code-found, has-is, number_at-is}
+use Rattle.forest.proofs.WordColumns.{row_text_or_none_at-is, serial_or_none_at-is, status_at-is}
+use Rattle.forest.proofs.WordColumns.{day_at-is, status-read}
+use Rattle.sheet_core.proofs.ColumnLemmas.{same_columns, absent_text-read}
 use Rattle.forest.specs.Forest.{kind_code}
 use Rattle.forest.specs.PlaceColumns.{all_kinds, all_reasons, gone_of, kind_at, kind_of, off_of}
 use Rattle.forest.specs.PlaceColumns.{place_at, place_code, place_of, place_ref, reason_code, reason_of}

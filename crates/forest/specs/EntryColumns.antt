@@ -1,9 +1,10 @@
 -- An entry of the history as a row of a file: n, day, kind, item, part, quantity, place, ref.
 use Rattle.std.specs.Prelude.{List, [], ◌∷◌, Option, Some}
-use Rattle.part_core.specs.Day.{day_text}
-use Rattle.part_core.specs.declared.column.Column.{Column}
-use Rattle.part_core.specs.declared.column.Column.TheVariants.{Whole, Text}
-use Rattle.part_core.specs.Columns.{◌>>=◌, has, number_at, day_at}
+use Rattle.word_core.specs.Day.{day_text}
+use Rattle.sheet_core.specs.declared.column.Column.{Column}
+use Rattle.sheet_core.specs.declared.column.Column.TheVariants.{Whole, Text}
+use Rattle.sheet_core.specs.Columns.{◌>>=◌, has, number_at}
+use Rattle.forest.specs.WordColumns.{day_at}
 use Rattle.forest.specs.Forest.{kind_code}
 use Rattle.forest.specs.PlaceColumns.{kind_at, place_at, place_code, place_ref}
 use Rattle.forest.specs.declared.entry.Entry.{Entry}

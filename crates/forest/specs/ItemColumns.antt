@@ -1,10 +1,12 @@
 -- An item as a row of a file: id, part, batch, serial, status, quantity, place, ref.
 use Rattle.std.specs.Prelude.{List, [], ◌∷◌, Option, Some}
-use Rattle.part_core.specs.Status.{status_code}
-use Rattle.part_core.specs.declared.column.Column.{Column}
-use Rattle.part_core.specs.declared.column.Column.TheVariants.{Whole}
-use Rattle.part_core.specs.Columns.{◌>>=◌, has, number_at, row_text_or_none_at}
-use Rattle.part_core.specs.Columns.{serial_or_none_at, status_at, text_or_absent}
+use Rattle.word_core.specs.Status.{status_code}
+use Rattle.sheet_core.specs.declared.column.Column.{Column}
+use Rattle.sheet_core.specs.declared.column.Column.TheVariants.{Whole}
+use Rattle.sheet_core.specs.Columns.{◌>>=◌, has, number_at}
+use Rattle.forest.specs.WordColumns.{row_text_or_none_at}
+use Rattle.forest.specs.WordColumns.{serial_or_none_at, status_at}
+use Rattle.sheet_core.specs.Columns.{text_or_absent}
 use Rattle.forest.specs.PlaceColumns.{place_at, place_code, place_ref}
 use Rattle.forest.specs.declared.item.Item.{Item}
 use Rattle.forest.specs.declared.item.Lot.{Lot}

@@ -8,3 +8,4 @@ pub mod PlaceColumns
 pub mod Rows
 pub mod Sound
 pub mod Tables
+pub mod WordColumns

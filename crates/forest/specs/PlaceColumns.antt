@@ -1,8 +1,8 @@
 -- Places, kinds and reasons as numbers of a file.
 use Rattle.std.specs.Prelude.{ℕ, ◌+◌, ◌==◌, List, [], ◌∷◌, Option, Some, None, if◌then◌else◌}
 use Rattle.std.specs.List.{find}
-use Rattle.part_core.specs.declared.column.Column.{Column}
-use Rattle.part_core.specs.Columns.{◌>>=◌, number_at, must}
+use Rattle.sheet_core.specs.declared.column.Column.{Column}
+use Rattle.sheet_core.specs.Columns.{◌>>=◌, number_at, must}
 use Rattle.forest.specs.Forest.{kind_code}
 use Rattle.forest.specs.declared.entry.Kind.{Kind}
 use Rattle.forest.specs.declared.entry.Kind.TheVariants.{Received, Found, Built, Consumed, Shipped, Returned}

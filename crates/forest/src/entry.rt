@@ -3,12 +3,14 @@ ghost use Rattle.std.specs.Prelude.{◌≡◌, ◌↔◌, ◌∷◌, [], IsTrue,
 ghost use Rattle.forest.specs.EntryColumns.{entry_columns, entry_from, note_at};
 ghost use Rattle.forest.specs.Forest.{kind_code};
 ghost use Rattle.forest.specs.PlaceColumns.{kind_at, kind_of};
-ghost use Rattle.part_core.specs.Columns.{Finds};
+ghost use Rattle.sheet_core.specs.Columns.{Finds};
 
+use crate::column::{day_at, day_column};
 use crate::place::{Place, place_at};
-use part_core::column::{day_at, has, number_at};
-use part_core::{Column, ColumnFault, Day, Id, Quantity, Row, Stored};
+use sheet_core::column::{has, number_at};
+use sheet_core::{Column, ColumnFault, Row, Stored};
 use std::alloc::{AllocError, Global};
+use word_core::{Day, Id, Quantity};
 
 /// What an entry records.
 #[derive(Clone, Copy, Debug, PartialEq, Eq)]
@@ -176,7 +178,7 @@ impl Stored for Entry {
 
     #[tactic(auto, using(crate::proofs::RowColumns::entry_read))]
     fn columns(&self, alloc: Global) -> Result<Vec<Column>, AllocError> {
-        let day = self.day.column(alloc)?;
+        let day = day_column(alloc, &self.day)?;
         let note = self.note;
         Ok(vec![in alloc;
             Column::Whole(self.number),

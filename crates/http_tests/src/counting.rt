@@ -12,9 +12,9 @@ use desk_http::{
     CutShort, Failure, ImportKind, LineWords, ListWords, NoReply, Outcome, Reply, ReportName,
     Service, Tag,
 };
-use part_core::Day;
 use std::alloc::{AllocError, Global};
 use std::io::Write;
+use word_core::Day;
 
 /// What is dumped.
 pub const DUMP: &str = "BEGIN;\nCOMMIT;\n";

@@ -237,30 +237,41 @@ const NO_SHEETS: [&str; 9] = [
     "add_part/P1",
 ];
 
+/// Whether a file is taken so.
+fn is_taken_so(
+    alloc: Global,
+    site: &Site,
+    (path, file, status, name, body): (&str, &str, u16, &str, &str),
+) -> Result<bool, Fail> {
+    let request = sheet(alloc, "POST", path, file)?;
+    let media = "text/plain; charset=utf-8";
+    let wanted = response(alloc, (status, name), media, GUARDS, body)?;
+    let counted = if status == 200 { file.len() as u64 } else { 0 };
+    let wanted = (status, wanted.as_str().as_bytes());
+    Ok(is_taken(alloc, site, request.as_str(), wanted, counted))
+}
+
 #[test]
 fn sheets(rt: HostRuntime) -> Result<(), Fail> {
     let alloc = rt.alloc();
     let site = with_page(alloc)?;
-    for (path, file, status, name, body) in SHEETS {
-        let request = sheet(alloc, "POST", path, file)?;
-        let wanted = response(
-            alloc,
-            (status, name),
-            "text/plain; charset=utf-8",
-            GUARDS,
-            body,
-        )?;
-        let counted = if status == 200 { file.len() as u64 } else { 0 };
-        let wanted = (status, wanted.as_str().as_bytes());
-        assert!(rt;
-            is_taken(alloc, &site, request.as_str(), wanted, counted),
-            "at {path}"
-        );
+    for file in SHEETS {
+        assert!(rt; is_taken_so(alloc, &site, file)?, "at {}", file.0);
     }
+    Ok(())
+}
+
+/// Whether no file is taken there.
+fn takes_none(alloc: Global, path: &str) -> Result<bool, Fail> {
+    let request = sheet(alloc, "POST", path, "abc")?;
+    Ok(is_refused(alloc, request.as_str(), (404, "Not Found"), "")?)
+}
+
+#[test]
+fn no_sheets(rt: HostRuntime) -> Result<(), Fail> {
+    let alloc = rt.alloc();
     for path in NO_SHEETS {
-        let request = sheet(alloc, "POST", path, "abc")?;
-        let fine = is_refused(alloc, request.as_str(), (404, "Not Found"), "")?;
-        assert!(rt; fine, "at {path}");
+        assert!(rt; takes_none(alloc, path)?, "at {path}");
     }
     let request = sheet(alloc, "GET", "add_part/P1/2030-01-02", "")?;
     let not_allowed = (405, "Method Not Allowed");
@@ -339,27 +350,40 @@ const NOT_KNOWN: [&str; 9] = [
     "If-None-Match: \"5-0\"\r\nIf-None-Match: \"5-0\"\r\n",
 ];
 
+/// Whether the books are answered so where these fields are said.
+fn is_answered_so(
+    alloc: Global,
+    site: &Site,
+    fields: &str,
+    wanted: (u16, &[u8]),
+) -> Result<bool, Fail> {
+    let request = format!(in alloc; "GET /books HTTP/1.1\r\n{fields}\r\n")?;
+    Ok(is_read(alloc, site, 0, request.as_str(), wanted))
+}
+
 #[test]
 fn unchanged_books(rt: HostRuntime) -> Result<(), Fail> {
     let alloc = rt.alloc();
     let site = with_page(alloc)?;
     for fields in KNOWN {
-        let request = format!(in alloc; "GET /books HTTP/1.1\r\n{fields}\r\n")?;
         let wanted = (304, UNCHANGED.as_bytes());
         assert!(rt;
-            is_read(alloc, &site, 0, request.as_str(), wanted),
+            is_answered_so(alloc, &site, fields, wanted)?,
             "at {fields}"
         );
     }
+    Ok(())
+}
+
+#[test]
+fn changed_books(rt: HostRuntime) -> Result<(), Fail> {
+    let alloc = rt.alloc();
+    let site = with_page(alloc)?;
     let fields = format!(in alloc; "ETag: \"5-0\"\r\n{GUARDS}")?;
     let shown = response(alloc, (200, "OK"), JSON, fields.as_str(), "0\n")?;
     let shown = (200, shown.as_str().as_bytes());
     for fields in NOT_KNOWN {
-        let request = format!(in alloc; "GET /books HTTP/1.1\r\n{fields}\r\n")?;
-        assert!(rt;
-            is_read(alloc, &site, 0, request.as_str(), shown),
-            "at {fields}"
-        );
+        assert!(rt; is_answered_so(alloc, &site, fields, shown)?, "at {fields}");
     }
     Ok(())
 }

@@ -2,7 +2,7 @@
 use crate::shown::{show, under};
 use desk_core::Shop;
 use desk_wire::{ImportKind, Unread, read_request, row_at_word};
-use part_core::{Limits, RowKind};
+use part_core::{Limits, RowKind, Seed};
 use std::alloc::{AllocError, Global};
 use std::test::Fail;
 
@@ -33,7 +33,11 @@ pub fn shop(alloc: Global) -> Result<Shop, Fail> {
         )?;
         requests.push(request)?;
     }
-    let mut shop = Shop::new(alloc, Limits::new(1_000, 1_000).ok_or("limits")?);
+    let mut shop = Shop::new(
+        alloc,
+        Seed::new(0),
+        Limits::new(1_000, 1_000).ok_or("limits")?,
+    );
     for outcome in shop.run_list(alloc, requests.as_slice())? {
         outcome.map_err(|_| "it is done")?;
     }

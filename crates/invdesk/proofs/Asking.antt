@@ -1,18 +1,18 @@
 -- A service that is asked, over plain variables.
-use Rattle.std.proofs.Common.{◌≡◌, ◌<◌, ℕ, Bool, true, false, List, [], length, ap, ap₂, subst, refl, inl, inr, ◌∙◌}
-use Rattle.std.specs.Prelude.{◌⊎◌, ◌&&◌, not, None, Result, Ok, Err}
+use Rattle.std.proofs.Common.{◌≡◌, ◌<◌, ℕ, Bool, true, false, List, [], length, ap, ap₂, subst, sym, refl, inl, inr, ◌∙◌}
+use Rattle.std.specs.Prelude.{◌⊎◌, ◌&&◌, not, Option, Some, None, Result, Ok, Err}
 use Rattle.std.specs.Result.{IsErrAnd}
 use Rattle.desk_http.specs.Asking.{is_done}
 use Rattle.desk_http.specs.declared.question.Question.{Question}
-use Rattle.desk_ends.specs.declared.end.RunEnd.{RunEnd}
-use Rattle.desk_ends.specs.declared.end.RunEnd.TheVariants as end
+use Rattle.desk_core.specs.declared.end.RunEnd.{RunEnd}
+use Rattle.desk_core.specs.declared.end.RunEnd.TheVariants as end
 use Rattle.desk_app.specs.Asked.{AsksAndPrints, IsOfInput}
 use Rattle.desk_app.specs.declared.heard.Trouble.{Trouble}
 use Rattle.desk_app.specs.declared.heard.Trouble.TheVariants.{Memory, ReadFailed, TooLong}
 use Rattle.desk_app.proofs.Asking.{ends_input, going_none}
 use Rattle.desk_cli.specs.declared.at_words.Asked.{Asked}
-use Rattle.desk_cli.specs.declared.at_words.Asked.TheVariants as asked
-use Rattle.invdesk.specs.Asks.{AsksOnce, AsksService, IsAskedSo, end_of_asking, question_of}
+use Rattle.desk_cli.specs.declared.at_words.AskedLines.{AskedLines}
+use Rattle.invdesk.specs.Asks.{AsksBy, AsksOnce, AsksService, IsAskedSo, end_of_asking, question_of, sent_as_they_come}
 use Rattle.invdesk.specs.Prints.{ends_quietly}
 
 pub unread : (question : Question) (r : Result Bool Trouble) (why : Trouble) → (why ≡ ReadFailed) ⊎ (why ≡ Memory)
@@ -35,36 +35,21 @@ pub asked_same : (wanted question : Question) (r : Result Bool Trouble) → ques
     → AsksOnce wanted r
 asked_same wanted question r same h = subst (λ q. AsksOnce q r) same h
 
--- what isn't sent as it comes is asked once
-pub once_asked : (it : Asked) (r : Result Bool Trouble) → ((stop : Bool) → it ≡ asked.Lines stop false → ⊥)
-    → AsksOnce (question_of it) r → IsAskedSo it r
-once_asked (asked.Lines stop true) r other h = h
-once_asked (asked.Lines stop false) r other h = absurd (other stop refl)
-once_asked (asked.Report name number) r other h = h
-once_asked (asked.Table name) r other h = h
-once_asked asked.Dump r other h = h
-once_asked (asked.Show list of low only_open csv) r other h = h
-once_asked (asked.File loose kind document day path) r other h = h
-once_asked asked.Stop r other h = h
+-- by whether it is sent as it comes
+pub asked_by : (it : Asked) (coming : Option AskedLines) (r : Result Bool Trouble) → sent_as_they_come it ≡ coming
+    → AsksBy coming it r → IsAskedSo it r
+asked_by it coming r is h = subst (λ v. AsksBy v it r) (sym is) h
 
 -- ---- how the program ends
 
 -- it may end before anything is asked
+never_by : (coming : Option AskedLines) (it : Asked) (why : Trouble) → IsOfInput why → AsksBy coming it (Err why)
+never_by (Some how) it why input =
+    ends_input how.stop None None None None None None 0 true why (going_none how.stop None [] None None refl) input
+never_by None it why input = unread (question_of it) (Err why) why input refl
+
 never_so : (it : Asked) (why : Trouble) → IsOfInput why → IsAskedSo it (Err why)
-never_so (asked.Lines stop true) why input =
-    unread (question_of (asked.Lines stop true)) (Err why) why input refl
-never_so (asked.Lines stop false) why input =
-    ends_input stop None None None None None None 0 true why (going_none stop None [] None None refl) input
-never_so (asked.Report name number) why input =
-    unread (question_of (asked.Report name number)) (Err why) why input refl
-never_so (asked.Table name) why input =
-    unread (question_of (asked.Table name)) (Err why) why input refl
-never_so asked.Dump why input = unread (question_of asked.Dump) (Err why) why input refl
-never_so (asked.Show list of low only_open csv) why input =
-    unread (question_of (asked.Show list of low only_open csv)) (Err why) why input refl
-never_so (asked.File loose kind document day path) why input =
-    unread (question_of (asked.File loose kind document day path)) (Err why) why input refl
-never_so asked.Stop why input = unread (question_of asked.Stop) (Err why) why input refl
+never_so it why input = never_by (sent_as_they_come it) it why input
 
 pub never_asked : (it : Asked) (ended : RunEnd) → (ended ≡ end.ReadFailed) ⊎ (ended ≡ end.Memory) → AsksService it ended
 never_asked it ended (inl e) = (false, Err ReadFailed, never_so it ReadFailed (inl refl), e)

@@ -1,10 +1,8 @@
 -- What is printed, by what the calls that print it say.
 use Rattle.std.proofs.Common.{◌≡◌, ◌⊎◌, inl, inr, ℕ, List, Bool, true, false, refl, sym, subst, arith}
-use Rattle.std.specs.Borrow.{Bor}
 use Rattle.std.specs.Prelude.{◌≢◌, Option, Some, None, Result, Ok, Err}
 use Rattle.std.specs.Io.KnownBytes.{Appends, Keeps}
 use Rattle.std.proofs.KnownBytes.{Appends-nil}
-use Rattle.table_store.specs.declared.name.TableName.{TableName}
 use Rattle.desk_core.specs.Machine.{State}
 use Rattle.desk_store.specs.Exports.{AppendsFront}
 use Rattle.list_core.specs.Listings.{listing_lines}
@@ -18,17 +16,15 @@ use Rattle.desk_wire.specs.Levels.{FailsAs, Fault}
 use Rattle.desk_wire.specs.declared.fault.FileError.{FileError}
 use Rattle.desk_wire.specs.declared.fault.FileError.TheVariants as error
 use Rattle.desk_wire.specs.declared.fault.What.{What}
-use Rattle.desk_ends.specs.Printed.{IsPrinted, migrated_text, printed}
-use Rattle.desk_ends.specs.Lists.{told_list}
-use Rattle.desk_ends.specs.LowLevels.{low_by}
-use Rattle.desk_ends.specs.declared.end.RunEnd.{RunEnd}
-use Rattle.desk_ends.specs.declared.end.RunEnd.TheVariants.{Done, ReadFailed, WriteFailed, Memory, Store}
-use Rattle.desk_ends.specs.declared.list_of.ListOf.{ListOf}
+use Rattle.desk_cli.specs.Printed.{IsPrinted, migrated_text}
+use Rattle.desk_wire.specs.Printed.{printed}
+use Rattle.desk_cli.specs.LowLevels.{low_by}
+use Rattle.desk_core.specs.declared.end.RunEnd.{RunEnd}
+use Rattle.desk_core.specs.declared.end.RunEnd.TheVariants.{Done, ReadFailed, WriteFailed, Memory, Store}
+use Rattle.desk_cli.specs.Layouts.{laid_out}
 use Rattle.desk_cli.specs.LowLists.{told_low}
-use Rattle.desk_cli.specs.declared.words.ReportOf.{ReportOf}
-use Rattle.desk_cli.specs.declared.words.Task.{Task}
-use Rattle.desk_cli.specs.declared.words.Task.TheVariants as task
-use Rattle.invdesk.specs.Prints.{Prints, PrintsFault, PrintsLines, PrintsList, PrintsOfRow, PrintsReport, PrintsText}
+use Rattle.desk_cli.specs.declared.show.ListLayout.{ListLayout}
+use Rattle.invdesk.specs.Prints.{PrintsFault, PrintsLines, PrintsList, PrintsOfRow, PrintsReport, PrintsText}
 
 pub prints_text : (told : List ℕ × Bool) (w w' : Option (List ℕ)) (end : RunEnd)
     → ((fine : Bool) → end ≡ Done fine → (fine ≡ told.1) × Appends w w' told.0)
@@ -145,71 +141,44 @@ prints_closed name (Err what) s w = Keeps-refl w
 -- ---- a list, whose row may be said by a word
 
 -- the list was found
-pub list_found : (csv person : Bool) (most : Option ℕ) (asked : Result Listing What) (listing : Listing) (s : State) (w w' : Option (List ℕ))
-    (end : RunEnd) → asked ≡ Ok listing → PrintsText (told_list csv person most (listing_lines listing s)) w w' end
-    → PrintsList csv person most asked s w w' end
-list_found csv person most asked listing s w w' end found h = subst (λ r. PrintsList csv person most r s w w' end) (sym found) h
+pub list_found : (layout : ListLayout) (asked : Result Listing What) (listing : Listing) (s : State) (w w' : Option (List ℕ))
+    (end : RunEnd) → asked ≡ Ok listing → PrintsText (laid_out layout (listing_lines listing s)) w w' end
+    → PrintsList layout asked s w w' end
+list_found layout asked listing s w w' end found h = subst (λ r. PrintsList layout r s w w' end) (sym found) h
 
 -- ... or the word says none
-pub list_unfound : (csv person : Bool) (most : Option ℕ) (asked : Result Listing What) (what : What) (s : State) (w : Option (List ℕ))
-    → asked ≡ Err what → PrintsList csv person most asked s w w (Done false)
-list_unfound csv person most asked what s w none =
-    subst (λ r. PrintsList csv person most r s w w (Done false)) (sym none) (refl, Keeps-refl w)
+pub list_unfound : (layout : ListLayout) (asked : Result Listing What) (what : What) (s : State) (w : Option (List ℕ))
+    → asked ≡ Err what → PrintsList layout asked s w w (Done false)
+list_unfound layout asked what s w none =
+    subst (λ r. PrintsList layout r s w w (Done false)) (sym none) (refl, Keeps-refl w)
 
 -- there was no memory to look it up
-pub list_no_memory : (csv person : Bool) (most : Option ℕ) (asked : Result Listing What) (s : State) (w : Option (List ℕ))
-    → PrintsList csv person most asked s w w Memory
-list_no_memory csv person most (Ok listing) s w = Keeps-refl w
-list_no_memory csv person most (Err what) s w = Keeps-refl w
+pub list_no_memory : (layout : ListLayout) (asked : Result Listing What) (s : State) (w : Option (List ℕ))
+    → PrintsList layout asked s w w Memory
+list_no_memory layout (Ok listing) s w = Keeps-refl w
+list_no_memory layout (Err what) s w = Keeps-refl w
 
 -- the desk was closed
-pub list_closed : (csv person : Bool) (most : Option ℕ) (asked : Result Listing What) (s : State) (w : Option (List ℕ))
-    → PrintsList csv person most asked s w w Store
-list_closed csv person most (Ok listing) s w = Keeps-refl w
-list_closed csv person most (Err what) s w = Keeps-refl w
+pub list_closed : (layout : ListLayout) (asked : Result Listing What) (s : State) (w : Option (List ℕ))
+    → PrintsList layout asked s w w Store
+list_closed layout (Ok listing) s w = Keeps-refl w
+list_closed layout (Err what) s w = Keeps-refl w
 
 -- ---- the list of what has less free than its level
 
 -- the file says these levels
-pub low_found : (csv person : Bool) (most : Option ℕ) (read : Result (List Level) Fault) (levels : List Level) (s : State)
+pub low_found : (layout : ListLayout) (read : Result (List Level) Fault) (levels : List Level) (s : State)
     (w w' : Option (List ℕ)) (end : RunEnd) → read ≡ Ok levels
-    → PrintsText (told_list csv person most (low_list levels s)) w w' end
-    → PrintsText (told_low csv person most (low_by read s)) w w' end
-low_found csv person most read levels s w w' end found h =
-    subst (λ r. PrintsText (told_low csv person most (low_by r s)) w w' end) (sym found) h
+    → PrintsText (laid_out layout (low_list levels s)) w w' end
+    → PrintsText (told_low layout (low_by read s)) w w' end
+low_found layout read levels s w w' end found h =
+    subst (λ r. PrintsText (told_low layout (low_by r s)) w w' end) (sym found) h
 
 -- ... or it has this fault, of which the line was printed
-pub low_failed : (csv person : Bool) (most : Option ℕ) (read : Result (List Level) Fault) (e : FileError) (s : State)
+pub low_failed : (layout : ListLayout) (read : Result (List Level) Fault) (e : FileError) (s : State)
     (w w' : Option (List ℕ)) (end : RunEnd) → FailsAs read e → PrintsFault e w w' end
-    → PrintsText (told_low csv person most (low_by read s)) w w' end
-low_failed csv person most read error.Memory s w w' end found (is, kept) =
-    subst (PrintsText (told_low csv person most (low_by read s)) w w') (sym is) kept
-low_failed csv person most read (error.Wrong what field) s w w' end found h =
-    subst (λ r. PrintsText (told_low csv person most (low_by r s)) w w' end) (sym found) h
-
--- of a task that isn't one of the six nothing is printed
-pub prints_nothing : (it : Task) (s : State) (w : Option (List ℕ))
-    → ((file : Bor (List ℕ)) (name : ReportName) (of : ReportOf) → it ≡ task.Report file name of → ⊥)
-    → ((file : Bor (List ℕ)) (table : TableName) → it ≡ task.Export file table → ⊥)
-    → ((file : Bor (List ℕ)) → it ≡ task.Dump file → ⊥)
-    → ((file : Bor (List ℕ)) (list : ListOf) (csv : Bool) → it ≡ task.Show file list csv → ⊥)
-    → ((file levels : Bor (List ℕ)) (csv : Bool) → it ≡ task.Low file levels csv → ⊥)
-    → ((file : Bor (List ℕ)) → it ≡ task.Migrate file → ⊥)
-    → Prints it s w w (Done true)
-prints_nothing (task.Report file name of) s w report export dump show low migrate = absurd (report file name of refl)
-prints_nothing (task.Export file table) s w report export dump show low migrate = absurd (export file table refl)
-prints_nothing (task.Dump file) s w report export dump show low migrate = absurd (dump file refl)
-prints_nothing (task.Show file list csv) s w report export dump show low migrate = absurd (show file list csv refl)
-prints_nothing (task.Low file levels csv) s w report export dump show low migrate = absurd (low file levels csv refl)
-prints_nothing (task.Migrate file) s w report export dump show low migrate = absurd (migrate file refl)
-prints_nothing (task.Run file names stop check explain journal) s w report export dump show low migrate = (refl, Keeps-refl w)
-prints_nothing (task.Import file kind document day path names reading explain) s w report export dump show low migrate = (refl, Keeps-refl w)
-prints_nothing (task.Sheet file told path stop explain) s w report export dump show low migrate = (refl, Keeps-refl w)
-prints_nothing (task.Lines told path) s w report export dump show low migrate = (refl, Keeps-refl w)
-prints_nothing (task.Serve file port count token names page journal) s w report export dump show low migrate = (refl, Keeps-refl w)
-prints_nothing (task.Guide topic) s w report export dump show low migrate = (refl, Keeps-refl w)
-prints_nothing (task.At port token asked) s w report export dump show low migrate = (refl, Keeps-refl w)
-prints_nothing (task.Help e) s w report export dump show low migrate = (refl, Keeps-refl w)
-prints_nothing (task.Wrong e) s w report export dump show low migrate = (refl, Keeps-refl w)
-prints_nothing task.Unreadable s w report export dump show low migrate = (refl, Keeps-refl w)
-prints_nothing task.Memory s w report export dump show low migrate = (refl, Keeps-refl w)
+    → PrintsText (told_low layout (low_by read s)) w w' end
+low_failed layout read error.Memory s w w' end found (is, kept) =
+    subst (PrintsText (told_low layout (low_by read s)) w w') (sym is) kept
+low_failed layout read (error.Wrong what field) s w w' end found h =
+    subst (λ r. PrintsText (told_low layout (low_by r s)) w w' end) (sym found) h

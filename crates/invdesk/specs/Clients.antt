@@ -1,6 +1,6 @@
 -- Clients of the loopback that are served.
 use Rattle.std.specs.Prelude.{◌≡◌, ◌≤◌, ◌^◌, ◌-◌, ◌==◌, ◌&&◌, ℕ, Bool, true, false, List, Option, Some, None, Result, IfSome, IsSome}
-use Rattle.std.specs.Prelude.{is_none, is_some, if◌then◌else◌}
+use Rattle.std.specs.Prelude.{is_none, is_some, not, if◌then◌else◌}
 use Rattle.std.specs.List.{before_first}
 use Rattle.sqlite.specs.Tree.{Trees}
 use Rattle.desk_core.specs.Machine.{State}
@@ -12,18 +12,21 @@ use Rattle.desk_http.specs.declared.service.NoReply.{NoReply}
 use Rattle.desk_app.specs.Services.{desk_machine, is_over, leaves, IsStoppedBy, Relates}
 use Rattle.desk_app.specs.declared.options.LineOptions.{LineOptions}
 use Rattle.desk_app.specs.declared.service.BooksService.{BooksService}
-use Rattle.desk_ends.specs.declared.end.RunEnd.{RunEnd}
-use Rattle.desk_ends.specs.declared.end.RunEnd.TheVariants.{Done, ReadFailed, WriteFailed, Memory, Store}
+use Rattle.desk_cli.specs.declared.task.ServeWords.{ServeWords}
+use Rattle.desk_core.specs.declared.end.RunEnd.{RunEnd}
+use Rattle.desk_core.specs.declared.end.RunEnd.TheVariants.{Done, ReadFailed, WriteFailed, Memory, Store}
+use Rattle.invdesk.specs.declared.token.TokenFile.{TokenFile}
 use Rattle.invdesk.specs.declared.token.TokenFault.{TokenFault}
 use Rattle.invdesk.specs.declared.token.TokenFault.TheVariants.{NoFile, Foreign, Shared}
 
 -- why a file gives no token: it has to be a regular one, to be the user's own that the program acts as, and to give nothing
 -- to others
-abbrev pub fault_of_token_file : Bool → Bool → Bool → Option TokenFault
-fault_of_token_file false is_own is_shared = Some NoFile
-fault_of_token_file true false is_shared = Some Foreign
-fault_of_token_file true true true = Some Shared
-fault_of_token_file true true false = None
+abbrev pub fault_of_token_file : TokenFile → Option TokenFault
+fault_of_token_file file =
+    if not file.is_file then Some NoFile
+    else if not file.is_own then Some Foreign
+    else if file.is_shared then Some Shared
+    else None
 
 -- a text, if it may be a token
 abbrev pub fit_token : List ℕ → Option (List ℕ)
@@ -49,6 +52,10 @@ pub record OffersTo (port : ℕ) (has_token has_page : Bool) (site : SiteRules) 
   pub has : is_some token ≡ has_token
   pub in_file : IfSome token IsInFile
   pub offers : Offers port token has_page site
+
+-- how the lines of clients are taken, by the words
+abbrev pub served_by : ServeWords → LineOptions
+served_by how = record { names = how.names; journal = how.journal }
 
 -- how many connections are served at most
 abbrev pub most_of : Option ℕ → ℕ
@@ -85,11 +92,11 @@ module _ {B F : Type 0} (state_in : B → State) (failure_of : B → Option F) (
   -- be, the token in a file, and shows a page or none; and the serving ended so. What came by them, and what was answered, is known to
   -- no clause: so each did what some bytes ask for, and that is an operation at most. None came once the service took no
   -- further request. What was sent was taken in this way.
-  pub record ServesClients (options : LineOptions) (port : ℕ) (has_token has_page : Bool) (count : Option ℕ)
-      (old new : BooksService B) (end : RunEnd) : Type 0 where
+  pub record ServesClients (options : LineOptions) (how : ServeWords) (old new : BooksService B) (end : RunEnd)
+      : Type 0 where
     pub taken : old.options ≡ options
     pub site : SiteRules
-    pub offers : OffersTo port has_token has_page site
-    pub steps : (n : ℕ) × (n ≤ most_of count) × AreSteps (IsTaken takes_none (IsOneStep DoesOperation site)) n old new
-    pub operations : (n : ℕ) × (n ≤ most_of count) × AreSteps (IsTaken takes_none (IsOneOperation DoesOperation)) n old new
+    pub offers : OffersTo how.port (is_some how.token) how.page site
+    pub steps : (n : ℕ) × (n ≤ most_of how.count) × AreSteps (IsTaken takes_none (IsOneStep DoesOperation site)) n old new
+    pub operations : (n : ℕ) × (n ≤ most_of how.count) × AreSteps (IsTaken takes_none (IsOneOperation DoesOperation)) n old new
     pub ends : IsOfServing old.ends_at_fault (failure_of new.books) end

@@ -18,16 +18,18 @@ use Rattle.desk_store.specs.Migrating.{EitherAre}
 use Rattle.desk_store.specs.StateTables.{TablesAre}
 use Rattle.desk_store.specs.declared.desk.Desk.{Desk}
 use Rattle.desk_app.specs.Closed.{KeepAlone}
-use Rattle.desk_ends.specs.Empty.{IsEmpty}
+use Rattle.desk_core.specs.Empty.{IsEmpty}
 use Rattle.desk_cli.specs.FileFaults.{IsBare, IsOfMaking, IsOfOpening, MayBeMoved, MayBeNew, TellsUnmoved, TellsWhy}
 use Rattle.desk_cli.specs.declared.database.FileFault.{FileFault}
 use Rattle.desk_cli.specs.declared.database.FileFault.TheVariants as file_fault
 use Rattle.desk_cli.specs.declared.look.Content.{Content}
 use Rattle.desk_cli.specs.declared.look.Content.TheVariants as content
-use Rattle.desk_ends.specs.declared.end.RunEnd.{RunEnd}
-use Rattle.desk_ends.specs.declared.end.RunEnd.TheVariants.{Store}
-use Rattle.desk_cli.specs.declared.words.Task.{Task}
-use Rattle.desk_cli.specs.declared.words.Task.TheVariants as task
+use Rattle.desk_core.specs.declared.end.RunEnd.{RunEnd}
+use Rattle.desk_core.specs.declared.end.RunEnd.TheVariants.{Store}
+use Rattle.desk_cli.specs.declared.task.LookAt.{LookAt}
+use Rattle.desk_cli.specs.declared.task.LookAt.TheVariants as look
+use Rattle.desk_cli.specs.declared.task.Task.{Task}
+use Rattle.desk_cli.specs.declared.task.Task.TheVariants as task
 use Rattle.invdesk.specs.Prints.{PrintsOut}
 use Rattle.invdesk.specs.Works.{Does}
 
@@ -78,15 +80,6 @@ module _ {S : Type 0} (g : Ghosts S) where
     pub crash : IsClean (g.view left) → (trees : Trees) → g.recovers left trees
         → (state g database).may_leave trees ⊎ MayBeMoved (state g database).committed.trees trees fault
 
--- the words ask for a look alone
-abbrev pub IsLook : Task → Type 0
-IsLook (task.Report file name of) = Unit {0}
-IsLook (task.Export file table) = Unit {0}
-IsLook (task.Dump file) = Unit {0}
-IsLook (task.Show file list csv) = Unit {0}
-IsLook (task.Low file levels csv) = Unit {0}
-IsLook _ = ⊥
-
 -- whether a look finds a database where this was found; it may have to be there
 abbrev pub finds_database : Content → Bool → Result Bool FileFault
 finds_database content.Database must_be_there = Ok true
@@ -102,23 +95,31 @@ can_be_migrated content.Foreign = Err file_fault.NoDatabase
 can_be_migrated content.Absent = Err file_fault.Missing
 can_be_migrated content.Empty = Err file_fault.OtherTables
 
+-- a list and a dump are of a file that is there
+abbrev pub is_to_be_looked_at : LookAt → Content → Result Bool FileFault
+is_to_be_looked_at (look.Report name of) found = finds_database found false
+is_to_be_looked_at (look.Export table) found = finds_database found false
+is_to_be_looked_at look.Dump found = finds_database found true
+is_to_be_looked_at (look.Show list csv) found = finds_database found true
+is_to_be_looked_at (look.Low levels csv) found = finds_database found true
+
 -- Whether the words open a file in which this was found, or why it is refused. Those that neither look nor bring along
 -- open whatever is there.
 abbrev pub is_to_be_opened : Task → Content → Result Bool FileFault
-is_to_be_opened (task.Report file name of) found = finds_database found false
-is_to_be_opened (task.Export file table) found = finds_database found false
-is_to_be_opened (task.Dump file) found = finds_database found true
-is_to_be_opened (task.Show file list csv) found = finds_database found true
-is_to_be_opened (task.Low file levels csv) found = finds_database found true
+is_to_be_opened (task.Look file shown) found = is_to_be_looked_at shown found
 is_to_be_opened (task.Migrate file) found = can_be_migrated found
 is_to_be_opened it found = Ok true
 
--- What the words ask to look at was printed of books that are empty.
-pub record LooksAtNone (it : Task) (end : RunEnd) : Type 0 where
-  pub look : IsLook it
+-- What is looked at was printed of books that are empty.
+pub record LooksAtNone (shown : LookAt) (end : RunEnd) : Type 0 where
   pub books : State
   pub empty : IsEmpty books
-  pub prints : PrintsOut it books end
+  pub prints : PrintsOut shown books end
+
+-- so what the words ask for was done, that only look
+abbrev pub DoesByLook : Task → RunEnd → Type 0
+DoesByLook (task.Look file shown) end = LooksAtNone shown end
+DoesByLook _ end = ⊥
 
 -- a file has some database that has no desk, for this reason
 abbrev pub HasNone : {D : Type 0} → disk.Ghosts D → FileFault → Type 0
@@ -161,12 +162,19 @@ module _ {D : Type 0} {g : disk.Ghosts D} where
     pub in_order : AreInOrder (state_of after.shop)
     pub closed : IsClosedAfter after worked end left
 
+-- what closing handed back is let go of once it is known
+abbrev pub IsClosedWith : {D : Type 0} → (g : disk.Ghosts D) → Desk (FileStore D g) → RunEnd → RunEnd → Type 0
+IsClosedWith g desk worked end = (left : Left g) × IsClosedAfter desk worked end left
+
+abbrev pub Acts : {D : Type 0} → disk.Ghosts D → Task → RunEnd → Type 0
+Acts g it end = (left : Left g) × ActsOnFile it end left
+
 -- How work on a file ended in which this was found, or why there was none: it was opened, or what the words ask for was
 -- printed of empty books, or it was refused, each where what was found tells so.
 abbrev pub EndsByFound : {D : Type 0} → disk.Ghosts D → Task → Content → Result RunEnd FileFault → Type 0
 EndsByFound g it found (Ok end) =
-    ((is_to_be_opened it found ≡ Ok true) × ((left : Left g) × ActsOnFile it end left))
-    ⊎ ((is_to_be_opened it found ≡ Ok false) × LooksAtNone it end)
+    ((is_to_be_opened it found ≡ Ok true) × Acts g it end)
+    ⊎ ((is_to_be_opened it found ≡ Ok false) × DoesByLook it end)
 EndsByFound g it found (Err fault) = (is_to_be_opened it found ≡ Err fault) ⊎ NoneComes g it fault
 
 -- What is found in a file is known to no clause: so it is something.

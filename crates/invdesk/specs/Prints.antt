@@ -15,15 +15,18 @@ use Rattle.desk_wire.specs.Writing.{fault_text}
 use Rattle.desk_wire.specs.declared.fault.FileError.{FileError}
 use Rattle.desk_wire.specs.declared.fault.FileError.TheVariants as error
 use Rattle.desk_wire.specs.declared.fault.What.{What}
-use Rattle.desk_ends.specs.Printed.{migrated_text, printed}
-use Rattle.desk_ends.specs.Lists.{listing_by, told_list}
-use Rattle.desk_ends.specs.LowLevels.{low_lines}
+use Rattle.desk_cli.specs.Printed.{migrated_text}
+use Rattle.desk_wire.specs.Printed.{printed}
+use Rattle.list_words.specs.Lists.{listing_by}
+use Rattle.desk_cli.specs.LowLevels.{low_lines}
+use Rattle.desk_cli.specs.Layouts.{laid_out}
 use Rattle.desk_cli.specs.LowLists.{told_low}
 use Rattle.desk_cli.specs.Subjects.{row_of_report}
-use Rattle.desk_ends.specs.declared.end.RunEnd.{RunEnd}
-use Rattle.desk_ends.specs.declared.end.RunEnd.TheVariants.{Done, ReadFailed, WriteFailed, Memory, Store}
-use Rattle.desk_cli.specs.declared.words.Task.{Task}
-use Rattle.desk_cli.specs.declared.words.Task.TheVariants as task
+use Rattle.desk_core.specs.declared.end.RunEnd.{RunEnd}
+use Rattle.desk_core.specs.declared.end.RunEnd.TheVariants.{Done, ReadFailed, WriteFailed, Memory, Store}
+use Rattle.desk_cli.specs.declared.show.ListLayout.{ListLayout}
+use Rattle.desk_cli.specs.declared.task.LookAt.{LookAt}
+use Rattle.desk_cli.specs.declared.task.LookAt.TheVariants as look
 use Rattle.invdesk.specs.Rows.{IsOfFile}
 
 -- this text was printed whole, and the end tells whether it is what was asked for; or a front of it, where the writer
@@ -57,15 +60,16 @@ abbrev pub PrintsOfRow : ReportName → Result ℕ What → State → Option (Li
 PrintsOfRow name (Ok number) s w w' end = PrintsReport name number s w w' end
 PrintsOfRow name (Err what) s w w' end = PrintsNone w w' end
 
--- the list that was asked for was printed, for a person's terminal or not; where a word says no row, nothing was
-abbrev pub PrintsList : Bool → Bool → Option ℕ → Result Listing What → State → Option (List ℕ) → Option (List ℕ) → RunEnd
-    → Type 0
-PrintsList csv person most (Ok listing) s w w' end = PrintsText (told_list csv person most (listing_lines listing s)) w w' end
-PrintsList csv person most (Err what) s w w' end = PrintsNone w w' end
+-- the list that was asked for was printed, laid out so; where a word says no row, nothing was
+abbrev pub PrintsList : ListLayout → Result Listing What → State → Option (List ℕ) → Option (List ℕ) → RunEnd → Type 0
+PrintsList layout (Ok listing) s w w' end = PrintsText (laid_out layout (listing_lines listing s)) w w' end
+PrintsList layout (Err what) s w w' end = PrintsNone w w' end
 
 -- it was printed on the standard output: whether that is a person's terminal, and how wide, is known to no clause
 abbrev pub PrintsListOut : Bool → Result Listing What → State → Option (List ℕ) → Option (List ℕ) → RunEnd → Type 0
-PrintsListOut csv listing s w w' end = (person : Bool) × (most : Option ℕ) × PrintsList csv person most listing s w w' end
+PrintsListOut csv listing s w w' end =
+    (person : Bool) × (most : Option ℕ)
+    × PrintsList (record { csv = csv; person = person; most = most }) listing s w w' end
 
 -- of a file's fault the line was printed, and for want of memory nothing
 abbrev pub PrintsFault : FileError → Option (List ℕ) → Option (List ℕ) → RunEnd → Type 0
@@ -78,17 +82,15 @@ abbrev pub PrintsLow : Bool → State → Option (List ℕ) → Option (List ℕ
 PrintsLow csv s w w' end =
     (IsOfFile end × Keeps w w')
     ⊎ ((bytes : List ℕ) × (person : Bool) × (most : Option ℕ)
-    × PrintsText (told_low csv person most (low_lines bytes s)) w w' end)
+    × PrintsText (told_low (record { csv = csv; person = person; most = most }) (low_lines bytes s)) w w' end)
 
--- what the words ask for was printed of a desk in this state; of other tasks nothing is printed
-abbrev pub Prints : Task → State → Option (List ℕ) → Option (List ℕ) → RunEnd → Type 0
-Prints (task.Report file name of) s w w' end = PrintsOfRow name (row_of_report name of s) s w w' end
-Prints (task.Export file table) s w w' end = PrintsLines (table_text table s, true) w w' end
-Prints (task.Dump file) s w w' end = PrintsLines (dump_text s, true) w w' end
-Prints (task.Show file list csv) s w w' end = PrintsListOut csv (listing_by list s) s w w' end
-Prints (task.Low file levels csv) s w w' end = PrintsLow csv s w w' end
-Prints (task.Migrate file) s w w' end = PrintsText (migrated_text, true) w w' end
-Prints _ s w w' end = (end ≡ Done true) × Keeps w w'
+-- what is looked at was printed of a desk in this state
+abbrev pub Prints : LookAt → State → Option (List ℕ) → Option (List ℕ) → RunEnd → Type 0
+Prints (look.Report name of) s w w' end = PrintsOfRow name (row_of_report name of s) s w w' end
+Prints (look.Export table) s w w' end = PrintsLines (table_text table s, true) w w' end
+Prints look.Dump s w w' end = PrintsLines (dump_text s, true) w w' end
+Prints (look.Show list csv) s w w' end = PrintsListOut csv (listing_by list s) s w w' end
+Prints (look.Low levels csv) s w w' end = PrintsLow csv s w w' end
 
 -- where it failed since whoever reads it has gone, printing ends well
 abbrev pub ends_quietly : Bool → RunEnd → RunEnd
@@ -96,6 +98,12 @@ ends_quietly true WriteFailed = Done true
 ends_quietly is_left end = end
 
 -- The same on the standard output, whose bytes are known to no clause, nor whether whoever reads it has gone.
-abbrev pub PrintsOut : Task → State → RunEnd → Type 0
-PrintsOut it s end =
-    (is_left : Bool) × (printed : RunEnd) × Prints it s None None printed × (end ≡ ends_quietly is_left printed)
+abbrev pub PrintsOut : LookAt → State → RunEnd → Type 0
+PrintsOut shown s end =
+    (is_left : Bool) × (printed : RunEnd) × Prints shown s None None printed × (end ≡ ends_quietly is_left printed)
+
+-- there it was printed that a file was brought along
+abbrev pub PrintsMoved : RunEnd → Type 0
+PrintsMoved end =
+    (is_left : Bool) × (printed : RunEnd) × PrintsText (migrated_text, true) None None printed
+    × (end ≡ ends_quietly is_left printed)

@@ -1,20 +1,18 @@
 -- The import of a file.
 use Rattle.std.specs.Prelude.{◌≡◌, ◌≢◌, ◌⊎◌, ℕ, List, Bool, Option, None, IsSome}
 use Rattle.sqlite.specs.Tree.{Trees}
-use Rattle.part_core.specs.Day.{CivilDay}
 use Rattle.desk_core.specs.Machine.{State}
 use Rattle.desk_store.specs.StateTables.{TablesAre}
-use Rattle.desk_wire.specs.Imports.{import_by}
 use Rattle.desk_wire.specs.Sheets.{Sheet, sheet_text}
-use Rattle.desk_wire.specs.declared.kind.FileReading.{FileReading}
-use Rattle.desk_wire.specs.declared.kind.ImportKind.{ImportKind}
-use Rattle.desk_ends.specs.declared.end.RunEnd.{RunEnd}
-use Rattle.desk_ends.specs.declared.end.RunEnd.TheVariants.{Done, ReadFailed, Memory, Store}
-use Rattle.desk_ends.specs.declared.end.Stop.{Stop}
-use Rattle.desk_ends.specs.Ends.{end_of}
-use Rattle.desk_app.specs.ImportRuns.{ImportedWhole, ImportStopped, IsLeftByImport, Reading}
-use Rattle.desk_app.specs.Runs.{naming}
+use Rattle.desk_wire.specs.SheetViews.{shown_sheet}
+use Rattle.desk_core.specs.declared.end.RunEnd.{RunEnd}
+use Rattle.desk_core.specs.declared.end.RunEnd.TheVariants.{Done, ReadFailed, Memory, Store}
+use Rattle.desk_core.specs.declared.end.Stop.{Stop}
+use Rattle.desk_core.specs.Ends.{end_of}
+use Rattle.desk_app.specs.ImportRuns.{file_rows, ImportedWhole, ImportOf, ImportStopped, IsLeftByImport, Reading}
 use Rattle.desk_app.specs.SheetRuns.{PrintsSheet, RunsSheet}
+use Rattle.desk_cli.specs.declared.task.RowsFile.{RowsFile}
+use Rattle.desk_cli.specs.declared.task.SheetFile.{SheetFile}
 
 -- a file can't be read, or there is no memory for it
 abbrev pub IsOfFile : RunEnd → Type 0
@@ -41,19 +39,30 @@ pub record RunsRows {F : Type 0} (reading : Reading) (old new : Option F) (leave
   pub left : old ≡ None → end ≢ Store → (trees : Trees) → leaves trees → TablesAre s' trees
   pub left_by_groups : old ≡ None → (trees : Trees) → leaves trees → IsLeftByImport reading s s' trees
 
+-- the import that the words ask for
+abbrev pub asked_by : RowsFile → ImportOf
+asked_by rows =
+    record {
+      kind = rows.kind;
+      document = rows.document;
+      day = rows.day;
+      reading = rows.reading;
+      names = rows.names;
+    }
+
 -- A file was imported: which bytes it has is known to no clause, so some bytes. Rows might be named in it, or not.
-abbrev pub ImportsFile : {F : Type 0} → FileReading → Bool → ImportKind → List ℕ → CivilDay → Option F → Option F → (Trees → Type 0)
-    → State → State → RunEnd → Type 0
-ImportsFile reading names kind document day old new leaves s s' end =
+abbrev pub ImportsFile : {F : Type 0} → RowsFile → Option F → Option F → (Trees → Type 0) → State → State → RunEnd → Type 0
+ImportsFile rows old new leaves s s' end =
     Unread old new leaves s s' end
-    ⊎ ((bytes : List ℕ) × RunsRows (import_by reading s (naming names s) kind document day bytes) old new leaves s s' end)
+    ⊎ ((bytes : List ℕ) × RunsRows (file_rows (asked_by rows) s bytes) old new leaves s s' end)
 
 -- A file of records of a command was imported: which bytes it has is known to no clause, so some bytes.
-abbrev pub ImportsSheet : {F : Type 0} → Sheet → Bool → Option F → Option F → (Trees → Type 0) → State → State → RunEnd
+abbrev pub ImportsSheet : {F : Type 0} → SheetFile → Option F → Option F → (Trees → Type 0) → State → State → RunEnd
     → Type 0
-ImportsSheet sheet stop old new leaves s s' end =
+ImportsSheet told old new leaves s s' end =
     Unread old new leaves s s' end
-    ⊎ ((bytes : List ℕ) × RunsSheet stop (sheet_text sheet bytes) None None old new leaves s s' end)
+    ⊎ ((bytes : List ℕ)
+    × RunsSheet told.stop (sheet_text (shown_sheet told.sheet) bytes) None None old new leaves s s' end)
 
 -- the lines that it is were printed, or it couldn't be read
 abbrev pub PrintsLines : Sheet → RunEnd → Type 0

@@ -4,9 +4,9 @@ use Rattle.sqlite_disk.specs.declared.Disk as disk
 use Rattle.desk_cli.specs.Statuses.{early_status, status_of, status_of_fault}
 use Rattle.desk_cli.specs.Words.{Answers, file_of}
 use Rattle.desk_cli.specs.declared.database.FileFault.{FileFault}
-use Rattle.desk_ends.specs.declared.end.RunEnd.{RunEnd}
-use Rattle.desk_cli.specs.declared.words.Task.{Task}
-use Rattle.desk_cli.specs.declared.words.Task.TheVariants as task
+use Rattle.desk_core.specs.declared.end.RunEnd.{RunEnd}
+use Rattle.desk_cli.specs.declared.task.Task.{Task}
+use Rattle.desk_cli.specs.declared.task.Task.TheVariants as task
 use Rattle.invdesk.specs.Files.{EndsOnFile}
 use Rattle.invdesk.specs.Memory.{DoesInMemory}
 

@@ -2,14 +2,18 @@
 ghost use Rattle.std.specs.Prelude.{◌≡◌, ◌⊎◌, ◌&&◌, not, IfErr};
 ghost use Rattle.desk_http.specs.Asking.{is_done};
 ghost use Rattle.invdesk.specs.Asks.{end_of_asking, question_of, AsksOnce, AsksService, IsAskedSo};
+ghost use Rattle.invdesk.specs.Asks.{sent_as_they_come};
 
+use crate::bytes::{all_of, bytes_at};
+use crate::lines::{greet, lines_in};
 use crate::pipe::{Output, end_of_print};
 use crate::serve::token_to_show;
-use crate::{all_of, bytes_at, greet, lines_in, tell_line, told_columns};
+use crate::tell::{tell_line, told_columns};
 use desk_app::{Asker, Trouble, ask_and_print, ask_lines};
-use desk_cli::Asked;
-use desk_ends::{RunEnd, cut_lines, escaped};
+use desk_cli::{Asked, AskedLines};
+use desk_core::RunEnd;
 use desk_http::{Access, Answer, LineWords, ListWords, Question, Unheard, ask_service};
+use report_core::{cut_lines, escaped};
 use std::alloc::{AllocError, Global};
 use std::io::{self, IsTerminal, Write};
 use std::net::{Ipv4Addr, TcpStream};
@@ -54,23 +58,20 @@ fn question_of(asked: Asked<'_>) -> Question<'_>
     ensures { result ≡ question_of asked.entry }
 {
     match asked {
-        Asked::Lines { stop, check } => Question::Lines(LineWords { stop, check }),
+        Asked::Lines(how) => Question::Lines(LineWords {
+            stop: how.stop,
+            check: how.check,
+        }),
         Asked::Report(name, number) => Question::Report(name, number),
         Asked::Table(table) => Question::Export(table),
         Asked::Dump => Question::Dump,
-        Asked::Show {
-            list,
-            of,
-            low,
-            only_open,
-            csv,
-        } => Question::Show(
+        Asked::Show { list, of, words } => Question::Show(
             list,
             of,
             ListWords {
-                csv,
-                only_open,
-                low,
+                csv: words.csv,
+                only_open: words.only_open,
+                low: words.low,
             },
         ),
         Asked::File {
@@ -89,7 +90,7 @@ fn body_of(rt: &HostRuntime, asked: Asked<'_>) -> Result<Vec<u8>, Trouble>
     ensures { IfErr result (λ why. (why ≡ Trouble.ReadFailed) ⊎ (why ≡ Trouble.Memory)) }
 {
     let read = match asked {
-        Asked::Lines { .. } => all_of(rt.alloc(), &mut lines_in(rt)),
+        Asked::Lines(_) => all_of(rt.alloc(), &mut lines_in(rt)),
         Asked::File { path, .. } => bytes_at(rt, path),
         _ => return Ok(Vec::new(rt.alloc())),
     };
@@ -139,7 +140,10 @@ impl<W: Write> Write for Terminal<W> {
 
 /// Whether a list in columns is asked for.
 fn is_in_columns(asked: Asked<'_>) -> bool {
-    matches!(asked, Asked::Show { csv: false, .. })
+    match asked {
+        Asked::Show { words, .. } => !words.csv,
+        _ => false,
+    }
 }
 
 /// Tells of a list that isn't there which word says no row.
@@ -188,8 +192,23 @@ fn ask_once<W: Write>(
     ask_and_print(rt.alloc(), caller, question, bytes, output)
 }
 
+/// How lines are run that are sent as they come: those that aren't to be looked at before.
+fn sent_as_they_come(asked: Asked<'_>) -> Option<AskedLines>
+    ensures { result ≡ sent_as_they_come asked.entry }
+{
+    match asked {
+        Asked::Lines(how) => {
+            if how.check {
+                return None;
+            }
+            Some(how)
+        }
+        _ => None,
+    }
+}
+
 /// Asks as the words say, and prints what is answered.
-#[tactic(auto, using(crate::proofs::Asking::once_asked))]
+#[tactic(auto, using(crate::proofs::Asking::asked_by))]
 fn ask<W: Write>(
     rt: &HostRuntime,
     caller: &mut Caller<'_>,
@@ -198,13 +217,13 @@ fn ask<W: Write>(
 ) -> Result<bool, Trouble>
     ensures { IsAskedSo asked.entry result }
 {
-    match asked {
-        Asked::Lines { stop, check: false } => {
+    match sent_as_they_come(asked) {
+        Some(how) => {
             let port = caller.port;
             greet(rt, format_args!("127.0.0.1:{port} runs them."));
-            ask_lines(rt.alloc(), &mut lines_in(rt), output, caller, stop)
+            ask_lines(rt.alloc(), &mut lines_in(rt), output, caller, how.stop)
         }
-        _ => ask_once(rt, caller, asked, output),
+        None => ask_once(rt, caller, asked, output),
     }
 }
 

@@ -1,6 +1,6 @@
 //! The file that was opened, and whether it still lies at its path. What lies there is known to no clause.
 use desk_app::HeldFile;
-use desk_ends::escaped;
+use report_core::escaped;
 use std::alloc::AllocError;
 use std::fs;
 use std::os::unix::fs::MetadataExt;

@@ -2,12 +2,13 @@
 ghost use Rattle.desk_core.specs.ShopView.{state_of};
 ghost use Rattle.desk_store.specs.Desks.{IsDesk};
 ghost use Rattle.desk_cli.specs.LowLists.{told_low};
-ghost use Rattle.desk_ends.specs.LowLevels.{low_lines};
+ghost use Rattle.desk_cli.specs.LowLevels.{low_lines};
 ghost use Rattle.invdesk.specs.Prints.{PrintsFault, PrintsLow, PrintsText};
 
-use crate::{bytes_at, tell_line, told_columns};
-use desk_cli::{NoLevels, levels_of, print_fault, print_list};
-use desk_ends::RunEnd;
+use crate::bytes::bytes_at;
+use crate::tell::{tell_line, told_columns};
+use desk_cli::{ListLayout, NoLevels, levels_of, print_fault, print_list};
+use desk_core::RunEnd;
 use desk_store::Desk;
 use desk_wire::{FileError, What, WireFault, WrongField};
 use list_core::Listing;
@@ -58,26 +59,23 @@ fn print_file_fault<W: Write>(
     }
 }
 
-/// Prints the list by the bytes of the file at the path, for a person's terminal, which has so many columns, if that is known,
-/// or not for one. A fault of the file is told, too.
+/// Prints the list by the bytes of the file at the path, laid out so. A fault of the file is told, too.
 fn print_levels<S: Alter, W: Write>(
     rt: &HostRuntime,
     path: &str,
     bytes: &[u8],
-    csv: bool,
-    person: bool,
-    most: Option<usize>,
+    layout: ListLayout,
     desk: &Desk<S>,
     writer: &mut W,
 ) -> RunEnd
     requires { IsDesk S.Store desk.now }
-    ensures { PrintsText (told_low csv person most (low_lines bytes.now (state_of desk.now.shop)))
+    ensures { PrintsText (told_low layout (low_lines bytes.now (state_of desk.now.shop)))
         (W.contents writer.old) (W.contents writer.new) result }
 {
     match levels_of(rt.alloc(), desk, bytes) {
         Ok(levels) => {
             let listing = Listing::Low(levels.as_slice());
-            print_list(rt.alloc(), desk, listing, csv, person, most, writer)
+            print_list(rt.alloc(), desk, listing, layout, writer)
         }
         Err(NoLevels::Wrong(error)) => print_file_fault(rt, path, error, writer),
         Err(NoLevels::Closed) => RunEnd::Store,
@@ -101,7 +99,10 @@ pub fn print_low<S: Alter, W: Write>(
         Ok(bytes) => bytes,
         Err(end) => return end,
     };
-    let person = rt.stdout().is_terminal();
-    let most = told_columns(rt);
-    print_levels(rt, path, &bytes, csv, person, most, desk, writer)
+    let layout = ListLayout {
+        csv,
+        person: rt.stdout().is_terminal(),
+        most: told_columns(rt),
+    };
+    print_levels(rt, path, &bytes, layout, desk, writer)
 }

@@ -2,7 +2,7 @@
 ghost use Rattle.std.specs.Prelude.{◌≡◌};
 ghost use Rattle.invdesk.specs.Prints.{ends_quietly};
 
-use desk_ends::RunEnd;
+use desk_core::RunEnd;
 use std::io::{self, Write};
 
 /// A writer that keeps in mind whether it failed since whoever reads it has gone.

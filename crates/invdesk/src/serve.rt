@@ -1,14 +1,28 @@
 //! Serves clients on the loopback.
-ghost use Rattle.std.specs.Prelude.{◌≡◌, ◌⊎◌, IfErr, IfOk, IfSome, is_some};
+ghost use Rattle.std.specs.Prelude.{◌≡◌, ◌⊎◌, IfErr, IfOk, IfSome, Some, is_some};
+ghost use Rattle.sqlite.specs.Files.{over_files};
+ghost use Rattle.desk_store.specs.Desks.{IsDesk};
 ghost use Rattle.invdesk.specs.Clients.{ends_at_fault, IsInFile, IsOfServing, Offers, OffersTo};
-ghost use Rattle.invdesk.specs.Clients.{ServesClients};
+ghost use Rattle.invdesk.specs.Clients.{ServesClients, served_by};
+ghost use Rattle.invdesk.specs.Files.{Acts, NoneComes};
+ghost use Rattle.invdesk.specs.Memory.{ServesInMemory};
+ghost use Rattle.invdesk.specs.Statuses.{IsStatusOf};
+ghost use Rattle.invdesk.specs.Works.{ServesDesk};
 
+use crate::desk_file::{Worked, close_desk, open_desk, told_status};
+use crate::held::OpenedFile;
 use crate::page::{PAGE, POLICY};
-use crate::tell_line;
+use crate::seed::seed_of;
+use crate::tell::tell_line;
 use crate::token::{TokenFault, token_at};
-use desk_app::{Books, BooksService};
-use desk_ends::RunEnd;
+use desk_app::{Advice, Books, BooksService, LineOptions, WatchedDesk};
+use desk_cli::{FileFault, ServeWords, Task, status_of};
+use desk_core::{RunEnd, Shop};
 use desk_http::{Access, Clients, Page, Site, Token, serve_connections};
+use desk_store::Desk;
+use part_core::Limits;
+use sqlite::{File, FileStore};
+use sqlite_disk::Disk;
 use std::alloc::{AllocError, Global};
 use std::boxed::Box;
 use std::io::{self, ErrorKind};
@@ -100,7 +114,7 @@ fn site_for(rt: &HostRuntime, port: u16, path: Option<&str>, page: bool) -> Resu
 }
 
 /// What tells this run of the program from every other: the nanoseconds since 1970, none where the clock can't say.
-pub fn began(rt: &HostRuntime) -> Option<u64> {
+fn began(rt: &HostRuntime) -> Option<u64> {
     let now = SystemTime::now(rt).ok()?;
     let since = now.duration_since(UNIX_EPOCH).ok()?;
     u64::try_from(since.as_nanos()).ok()
@@ -116,7 +130,7 @@ fn say_where(rt: &HostRuntime, port: u16, page: bool) -> io::Result<()> {
 }
 
 /// Whether a serving ends once a fault has closed its books: with a page, where no count says when it ends.
-pub fn ends_at_fault(page: bool, count: Option<u64>) -> bool
+fn ends_at_fault(page: bool, count: Option<u64>) -> bool
     ensures { result ≡ ends_at_fault page count }
 {
     page && count.is_none()
@@ -137,20 +151,14 @@ fn end_of_serving<B: Books>(ends_at_fault: bool, service: &BooksService<B>) -> R
 /// Serves so many connections, whatever each gives, or one after another until the program is stopped or the service is
 /// over: it was asked to stop, or a fault has closed its books. It ends otherwise only where there is no token to ask for,
 /// or it can't listen, accept or tell that it listens. What clients send, and what they get, is known to no clause.
-pub fn serve<B: Books>(
-    rt: &HostRuntime,
-    port: u16,
-    count: Option<u64>,
-    token: Option<&str>,
-    page: bool,
-    service: &mut BooksService<B>,
-) -> RunEnd
+fn serve<B: Books>(rt: &HostRuntime, how: ServeWords<'_>, service: &mut BooksService<B>) -> RunEnd
     requires { B.are_kept service.old.books }
     ensures kept { B.are_kept service.new.books }
-    ensures serves { ServesClients B.state_in B.failure_of B.may_leave service.old.options port
-        (is_some token.entry) page count service.old service.new result }
+    ensures serves { ServesClients B.state_in B.failure_of B.may_leave service.old.options
+        how.entry service.old service.new result }
 {
-    let site = match site_for(rt, port, token, page) {
+    let port = how.port;
+    let site = match site_for(rt, port, how.token, how.page) {
         Ok(site) => site,
         Err(end) => return end,
     };
@@ -158,14 +166,82 @@ pub fn serve<B: Books>(
         Ok(listener) => listener,
         Err(error) => return port_failed(rt, port, &error),
     };
-    if let Err(error) = say_where(rt, port, page) {
+    if let Err(error) = say_where(rt, port, how.page) {
         return failed(rt, "standard output", &error, RunEnd::WriteFailed);
     }
     let ends_at_fault = service.ends_at_fault;
-    let count = count.unwrap_or(u64::MAX);
+    let count = how.count.unwrap_or(u64::MAX);
     let mut clients = Clients::of(listener);
     match serve_connections(rt, rt.alloc(), &mut clients, count, service, &site) {
         Ok(()) => end_of_serving(ends_at_fault, service),
         Err(error) => port_failed(rt, port, &error),
+    }
+}
+
+/// How the lines of clients are taken.
+fn served_by(how: &ServeWords<'_>) -> LineOptions
+    ensures { result ≡ served_by how.now }
+{
+    LineOptions {
+        names: how.names,
+        journal: how.journal,
+    }
+}
+
+/// What is said beside a fault of the database, while clients are served until one.
+fn advice_to_clients(ends_at_fault: bool) -> Advice {
+    if ends_at_fault {
+        Advice::Ends
+    } else {
+        Advice::StartAgain
+    }
+}
+
+/// Serves clients with the desk of this file, so many or until it is stopped, or, with a page and without a count, until a
+/// fault closes the desk.
+fn serve_on(
+    rt: &HostRuntime,
+    how: ServeWords<'_>,
+    desk: Desk<FileStore<File>>,
+    file: OpenedFile,
+) -> Worked<FileStore<File>>
+    requires { IsDesk over_files desk }
+    ensures desk { IsDesk over_files result.0 }
+    ensures serves { ServesDesk over_files how.entry desk result.0 result.1 }
+{
+    let ends = ends_at_fault(how.page, how.count);
+    let watched = WatchedDesk::new(desk, file, advice_to_clients(ends), rt.stderr());
+    let mut service = BooksService::ending_at_fault(watched, served_by(&how), began(rt), ends);
+    let end = serve(rt, how, &mut service);
+    (service.books.into_desk(), end)
+}
+
+/// Serves clients with the desk of the file, and tells how it ended, or why there is no desk.
+pub fn serve_on_file(rt: &HostRuntime, path: &str, how: ServeWords<'_>) -> Result<RunEnd, FileFault>
+    ensures acts { IfOk result (Acts ⟦<File as Disk>⟧ (Task.Serve (Some path.entry) how.entry)) }
+    ensures none { IfErr result
+        (NoneComes ⟦<File as Disk>⟧ (Task.Serve (Some path.entry) how.entry)) }
+{
+    let (desk, file) = open_desk(rt, path)?;
+    let (desk, end) = serve_on(rt, how, desk, file);
+    Ok(close_desk(rt, path, desk, end))
+}
+
+/// Serves clients with new books in memory.
+pub fn serve_in_memory(rt: &HostRuntime, how: ServeWords<'_>) -> RunEnd
+    ensures { ServesInMemory how.entry result }
+{
+    let books = Shop::new(rt.alloc(), seed_of(rt), Limits::LARGEST);
+    let mut service = BooksService::new(books, served_by(&how), began(rt));
+    serve(rt, how, &mut service)
+}
+
+/// The status of clients that are served, by the desk in the file, or by a new one in memory where none is named.
+pub fn serve_status(rt: &HostRuntime, file: Option<&str>, how: ServeWords<'_>) -> u8
+    ensures { IsStatusOf ⟦<File as Disk>⟧ (Task.Serve file.entry how.entry) result }
+{
+    match file {
+        Some(path) => told_status(rt, path, serve_on_file(rt, path, how)),
+        None => status_of(serve_in_memory(rt, how)),
     }
 }

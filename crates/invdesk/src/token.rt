@@ -53,23 +53,41 @@ impl From<io::Error> for TokenFault {
     }
 }
 
+/// What is seen of the file of a token.
+#[derive(Clone, Copy)]
+struct TokenFile {
+    /// It is a regular file.
+    is_file: bool,
+    /// It belongs to the user that the program acts as.
+    is_own: bool,
+    /// Its mode lets others in.
+    is_shared: bool,
+}
+
 /// What is wrong with the file of a token: it has to be a regular one, the user's own, and to give nothing to others.
-fn fault_of_token_file(is_file: bool, is_own: bool, is_shared: bool) -> Option<TokenFault>
-    ensures { result ≡ fault_of_token_file is_file is_own is_shared }
+fn fault_of_token_file(file: TokenFile) -> Option<TokenFault>
+    ensures { result ≡ fault_of_token_file file }
 {
-    match (is_file, is_own, is_shared) {
-        (false, _, _) => Some(TokenFault::NoFile),
-        (true, false, _) => Some(TokenFault::Foreign),
-        (true, true, true) => Some(TokenFault::Shared),
-        (true, true, false) => None,
+    if !file.is_file {
+        return Some(TokenFault::NoFile);
     }
+    if !file.is_own {
+        return Some(TokenFault::Foreign);
+    }
+    if file.is_shared {
+        return Some(TokenFault::Shared);
+    }
+    None
 }
 
 /// Why no token is taken of what this is said of.
 fn look_at(found: &Metadata) -> Result<(), TokenFault> {
-    let is_own = found.uid() == acting_user();
-    let is_shared = found.permissions().mode() & TO_OTHERS != 0;
-    match fault_of_token_file(found.is_file(), is_own, is_shared) {
+    let file = TokenFile {
+        is_file: found.is_file(),
+        is_own: found.uid() == acting_user(),
+        is_shared: found.permissions().mode() & TO_OTHERS != 0,
+    };
+    match fault_of_token_file(file) {
         Some(fault) => Err(fault),
         None => Ok(()),
     }

@@ -3,7 +3,7 @@ ghost use Rattle.std.specs.Prelude.{◌≤◌};
 
 use desk_core::Shop;
 use desk_play::play::{plays, plays_on_shop};
-use part_core::Limits;
+use part_core::{Limits, Seed};
 use std::alloc::Global;
 use std::test::Fail;
 
@@ -64,7 +64,7 @@ fn a_thousand_allocations(rt: HostRuntime) -> Result<(), Fail> {
     let alloc = rt.alloc();
     let lines = lines(alloc, 1000)?;
     let answers = answers(alloc, 1000, 999)?;
-    let mut shop = Shop::new(alloc, Limits::LARGEST);
+    let mut shop = Shop::new(alloc, Seed::new(0), Limits::LARGEST);
     plays_on_shop(alloc, &mut shop, lines.as_str(), answers.as_str())
 }
 

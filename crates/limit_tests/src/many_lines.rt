@@ -2,7 +2,7 @@
 //! leaves the rest to the next build. Fifty lines of two thousand items each on a shop, and fewer on a desk too.
 use desk_core::Shop;
 use desk_play::play::{plays, plays_on_shop};
-use part_core::Limits;
+use part_core::{Limits, Seed};
 use std::alloc::Global;
 use std::test::Fail;
 
@@ -180,7 +180,7 @@ fn fifty_lines(rt: HostRuntime) -> Result<(), Fail> {
     };
     let lines = lines(alloc, size)?;
     let answers = answers(alloc, size)?;
-    let mut shop = Shop::new(alloc, Limits::LARGEST);
+    let mut shop = Shop::new(alloc, Seed::new(0), Limits::LARGEST);
     plays_on_shop(alloc, &mut shop, lines.as_str(), answers.as_str())
 }
 

@@ -5,8 +5,8 @@ use Rattle.std.proofs.lemmas.Bool.{ne_eqb}
 use Rattle.std.proofs.lemmas.List.{append-nil}
 use Rattle.std.specs.FinMap as table
 use Rattle.std.specs.List.{list_any}
-use Rattle.part_core.specs.Sheet.{Table}
-use Rattle.part_core.specs.Text.{is_text}
+use Rattle.sheet_core.specs.Sheet.{Table}
+use Rattle.word_core.specs.Text.{is_text}
 use Rattle.part_core.specs.declared.named_row.NamedRow.{NamedRow}
 use Rattle.list_core.specs.Ways.{as_names, joined, names_to, numbers_up, parent_of}
 

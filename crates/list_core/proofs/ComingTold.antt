@@ -4,8 +4,8 @@ use Rattle.std.proofs.Common.{ap, arith, cond, refl, sym}
 use Rattle.std.specs.FinMap as table
 use Rattle.std.proofs.lemmas.Bool.{eqb-true}
 use Rattle.std.proofs.lemmas.List.Sums.{sum_by-cons}
-use Rattle.part_core.specs.Sheet.{Table, key_cmp}
-use Rattle.part_core.proofs.Keys.{keys_total}
+use Rattle.sheet_core.specs.Sheet.{Table, key_cmp}
+use Rattle.sheet_core.proofs.Keys.{keys_total}
 use Rattle.order_core.specs.declared.line.OrderLine.{OrderLine}
 use Rattle.list_core.specs.Coming.{amount_in, coming_by, coming_in, gathered, with_line}
 use Rattle.list_core.specs.declared.coming.Coming.{Coming}

@@ -2,8 +2,8 @@
 use Rattle.std.proofs.Common.{◌≡◌, ◌∙◌, ◌++◌, ◌∷◌, [], ℕ, List, ap, inl, inr, refl, sym}
 use Rattle.std.specs.Prelude.{◌⊎◌}
 use Rattle.std.proofs.lemmas.List.{append-nil}
-use Rattle.part_core.specs.Forms.{Blanks}
-use Rattle.part_core.specs.declared.field.Field.{Field}
+use Rattle.word_core.specs.Forms.{Blanks}
+use Rattle.word_core.specs.declared.field.Field.{Field}
 use Rattle.desk_core.specs.Machine.{State}
 use Rattle.list_core.specs.Facts.{facts_from}
 

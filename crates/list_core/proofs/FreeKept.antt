@@ -1,8 +1,8 @@
 -- What is free of a part stays so as another part's is found.
 use Rattle.std.proofs.Common.{◌≡◌, ◌∙◌, inl, inr, ℕ, [], ◌∷◌, Option, Some, None, ap, sym}
 use Rattle.std.specs.FinMap as table
-use Rattle.part_core.specs.Sheet.{Table}
-use Rattle.part_core.proofs.RowLemmas.{get-insert_cases, same_digit}
+use Rattle.sheet_core.specs.Sheet.{Table}
+use Rattle.sheet_core.proofs.RowLemmas.{get-insert_cases, same_digit}
 use Rattle.desk_core.specs.Machine.{State}
 use Rattle.list_core.specs.Amounts.{free_amount}
 use Rattle.list_core.specs.FreeAmounts.{AreFree}

@@ -5,10 +5,10 @@ use Rattle.std.specs.Prelude.{nat_lt, unwrap_or}
 use Rattle.std.specs.FinMap as table
 use Rattle.std.proofs.lemmas.Bool.{eqb-true, eq-eqb}
 use Rattle.std.proofs.lemmas.List.Sums.{sum_by-cons}
-use Rattle.part_core.specs.Sheet.{Table, key_cmp}
+use Rattle.sheet_core.specs.Sheet.{Table, key_cmp}
 use Rattle.part_core.specs.declared.part.Part.{Part}
-use Rattle.part_core.proofs.Keys.{key_eq, key_eq_is, keys_total}
-use Rattle.part_core.proofs.RowLemmas.{same_digit}
+use Rattle.sheet_core.proofs.Keys.{key_eq, key_eq_is, keys_total}
+use Rattle.sheet_core.proofs.RowLemmas.{same_digit}
 use Rattle.build_core.specs.declared.shortage.Shortage.{Shortage}
 use Rattle.desk_core.specs.Machine.{State}
 use Rattle.list_core.specs.Gathered.{gathered, gathered_row, is_lacking, no_want, want_in, want_with, with_row}

@@ -3,9 +3,9 @@ use Rattle.std.proofs.Common.{◌≡◌, ◌∙◌, ◌==◌, ℕ, Bool, true, f
 use Rattle.std.proofs.Common.{ap, cond, filter, refl, sym}
 use Rattle.std.specs.Prelude.{option_map}
 use Rattle.std.specs.FinMap as table
-use Rattle.part_core.specs.Day.{CivilDay}
-use Rattle.part_core.specs.Sheet.{Table, key_cmp, now_of}
-use Rattle.part_core.proofs.Keys.{keys_total}
+use Rattle.word_core.specs.Day.{CivilDay}
+use Rattle.sheet_core.specs.Sheet.{Table, key_cmp, now_of}
+use Rattle.sheet_core.proofs.Keys.{keys_total}
 use Rattle.forest.specs.declared.entry.Entry.{Entry}
 use Rattle.desk_core.specs.Machine.{State}
 use Rattle.list_core.specs.Origins.{day_or_empty, key_day_text, key_text, origin_at, origins_in}

@@ -5,8 +5,8 @@ use Rattle.std.specs.Prelude.{sum_by}
 use Rattle.std.specs.FinMap as table
 use Rattle.std.proofs.lemmas.Bool.{eqb-true}
 use Rattle.std.proofs.lemmas.List.Sums.{sum_by-cons}
-use Rattle.part_core.specs.Sheet.{Table, key_cmp}
-use Rattle.part_core.proofs.Keys.{keys_total}
+use Rattle.sheet_core.specs.Sheet.{Table, key_cmp}
+use Rattle.sheet_core.proofs.Keys.{keys_total}
 use Rattle.forest.specs.declared.entry.Entry.{Entry}
 use Rattle.yard_core.specs.Stock.{is_entry_on}
 use Rattle.desk_core.specs.Machine.{State}

@@ -1,7 +1,7 @@
 -- Origins are filed under what they are looked up by.
 use Rattle.std.proofs.Common.{◌≡◌, ℕ, true, List, [], ◌∷◌, refl, ap, eq-eqb, eqb-true}
 use Rattle.std.specs.Prelude.{◌==◌}
-use Rattle.part_core.specs.Indexed.{IsFiledUnder, is_index_key}
+use Rattle.sheet_core.specs.Indexed.{IsFiledUnder, is_index_key}
 use Rattle.list_core.specs.declared.origins.Origin.{Origin}
 use Rattle.list_core.specs.declared.origins.Source.{Source}
 use Rattle.list_core.specs.declared.origins.Source.TheVariants.{Begun, Received, CutOff, Made}

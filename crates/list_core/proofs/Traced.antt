@@ -5,10 +5,10 @@ use Rattle.std.specs.Prelude.{flat_map}
 use Rattle.std.specs.FinMap as table
 use Rattle.std.specs.List.{Contains, list_any}
 use Rattle.std.proofs.lemmas.List.Folds.{list_any-append}
-use Rattle.part_core.specs.Sheet.{Table}
-use Rattle.part_core.proofs.FilledTables.{filled-own}
-use Rattle.part_core.proofs.RowLemmas.{same_digit}
-use Rattle.part_core.proofs.Standing.{Contains-Stands, Stands, get-Stands}
+use Rattle.sheet_core.specs.Sheet.{Table}
+use Rattle.sheet_core.proofs.FilledTables.{filled-own}
+use Rattle.sheet_core.proofs.RowLemmas.{same_digit}
+use Rattle.sheet_core.proofs.Standing.{Contains-Stands, Stands, get-Stands}
 use Rattle.forest.specs.Rows.{lies_in}
 use Rattle.forest.specs.declared.item.Item.{Item}
 use Rattle.forest.specs.declared.place.Place.{Place}

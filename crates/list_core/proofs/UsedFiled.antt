@@ -1,7 +1,7 @@
 -- Items that builds used are filed under the build.
 use Rattle.std.proofs.Common.{◌≡◌, ℕ, true, [], refl, ap, eq-eqb, eqb-true}
 use Rattle.std.specs.Prelude.{◌==◌}
-use Rattle.part_core.specs.Indexed.{IsFiledUnder}
+use Rattle.sheet_core.specs.Indexed.{IsFiledUnder}
 use Rattle.list_core.specs.Used.{used_key, used_keys}
 
 pub used_filed : (n : ℕ) → IsFiledUnder used_keys (used_key n) (λ u. u.build == n)

@@ -8,11 +8,11 @@ use Rattle.std.specs.FinMap.Entries.{put, by_order, below_all, is_sorted}
 use Rattle.std.specs.declared.cmp.Ordering.{Ordering}
 use Rattle.std.specs.declared.cmp.Ordering.TheVariants.{Less, Equal, Greater}
 use Rattle.std.specs.Ordering.{is_lt, ordering_reverse}
-use Rattle.part_core.specs.Filled.{filled, filled_onto}
-use Rattle.part_core.specs.Sheet.{Table, key_cmp}
-use Rattle.part_core.proofs.Conditions.{and_parts}
-use Rattle.part_core.proofs.Keys.{keys_total}
-use Rattle.part_core.proofs.Totals.{entries-empty}
+use Rattle.sheet_core.specs.Filled.{filled, filled_onto}
+use Rattle.sheet_core.specs.Sheet.{Table, key_cmp}
+use Rattle.sheet_core.proofs.Conditions.{and_parts}
+use Rattle.sheet_core.proofs.Keys.{keys_total}
+use Rattle.sheet_core.proofs.Totals.{entries-empty}
 use Rattle.forest.specs.declared.item.Item.{Item}
 use Rattle.forest.specs.declared.place.Place.{Place}
 use Rattle.forest.specs.declared.place.Place.TheVariants.{At, In, Output, Sent, Used, Off, Gone}

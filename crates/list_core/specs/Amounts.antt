@@ -1,7 +1,7 @@
 -- How much of a part there is.
 use Rattle.std.specs.Prelude.{ℕ, ◌-◌, ◌&&◌, if◌then◌else◌, List, filter, sum_by}
 use Rattle.std.specs.FinMap as table
-use Rattle.part_core.specs.Status.{is_allocatable}
+use Rattle.word_core.specs.Status.{is_allocatable}
 use Rattle.forest.specs.declared.item.Item.{Item}
 use Rattle.forest.specs.Forest.{is_at}
 use Rattle.yard_core.specs.Stock.{root_place}

@@ -1,7 +1,7 @@
 -- What is still to come of parts by purchases that are under way.
 use Rattle.std.specs.Prelude.{◌≡◌, ℕ, ◌+◌, ◌-◌, ◌==◌, if◌then◌else◌, List, [], ◌∷◌, sum_by, Option, Some, None}
 use Rattle.std.specs.FinMap as table
-use Rattle.part_core.specs.Sheet.{Table}
+use Rattle.sheet_core.specs.Sheet.{Table}
 use Rattle.order_core.specs.declared.line.OrderLine.{OrderLine}
 use Rattle.desk_core.specs.Machine.{State}
 use Rattle.list_core.specs.ReceiptSheet.{awaited}

@@ -3,16 +3,16 @@ use Rattle.std.specs.Prelude.{ℕ, nat_lt, ◌==◌, Bool, List, [], ◌∷◌, 
 use Rattle.std.specs.Prelude.{Option, Some, None, option_map}
 use Rattle.std.specs.FinMap as table
 use Rattle.part_core.specs.Catalogue.{category_in, part_in}
-use Rattle.part_core.specs.Flags.{flag_words}
-use Rattle.part_core.specs.Forms.{Blanks, Form, form_named}
-use Rattle.part_core.specs.Side.{side_name}
-use Rattle.part_core.specs.Status.{status_name}
-use Rattle.part_core.specs.declared.field.Field.{Field}
-use Rattle.part_core.specs.declared.field.Field.TheVariants as field
-use Rattle.part_core.specs.declared.field.FieldKind.{FieldKind}
-use Rattle.part_core.specs.declared.field.FieldKind.TheVariants as kind
-use Rattle.part_core.specs.declared.field.RowKind.{RowKind}
-use Rattle.part_core.specs.declared.field.RowKind.TheVariants as table_of
+use Rattle.word_core.specs.Flags.{flag_words}
+use Rattle.word_core.specs.Forms.{Blanks, Form, form_named}
+use Rattle.word_core.specs.Side.{side_name}
+use Rattle.word_core.specs.Status.{status_name}
+use Rattle.word_core.specs.declared.field.Field.{Field}
+use Rattle.word_core.specs.declared.field.Field.TheVariants as field
+use Rattle.word_core.specs.declared.field.FieldKind.{FieldKind}
+use Rattle.word_core.specs.declared.field.FieldKind.TheVariants as kind
+use Rattle.word_core.specs.declared.field.RowKind.{RowKind}
+use Rattle.word_core.specs.declared.field.RowKind.TheVariants as table_of
 use Rattle.part_core.specs.declared.part.Part.{Part}
 use Rattle.forest.specs.declared.item.Item.{Item}
 use Rattle.bom_core.specs.declared.line.Line.{Line}

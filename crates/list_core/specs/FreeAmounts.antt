@@ -1,7 +1,7 @@
 -- What is free of parts, as a table.
 use Rattle.std.specs.Prelude.{◌≡◌, ℕ, [], ◌∷◌, Some}
 use Rattle.std.specs.FinMap as table
-use Rattle.part_core.specs.Sheet.{Table}
+use Rattle.sheet_core.specs.Sheet.{Table}
 use Rattle.desk_core.specs.Machine.{State}
 use Rattle.list_core.specs.Amounts.{free_amount}
 use Rattle.list_core.specs.declared.free_amounts.FreeAmount.{FreeAmount}

@@ -1,7 +1,7 @@
 -- What lines of bills want of each part, gathered line by line.
 use Rattle.std.specs.Prelude.{ℕ, ◌+◌, ◌-◌, nat_lt, Bool, List, [], ◌∷◌, decimal, unwrap_or}
 use Rattle.std.specs.FinMap as table
-use Rattle.part_core.specs.Sheet.{Table}
+use Rattle.sheet_core.specs.Sheet.{Table}
 use Rattle.part_core.specs.declared.part.Part.{Part}
 use Rattle.build_core.specs.declared.shortage.Shortage.{Shortage}
 use Rattle.desk_core.specs.Machine.{State}

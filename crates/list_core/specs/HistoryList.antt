@@ -7,8 +7,8 @@ use Rattle.std.specs.Ordering.{nat_cmp}
 use Rattle.std.specs.declared.cmp.Ordering.{Ordering}
 use Rattle.std.specs.declared.cmp.Ordering.TheVariants.{Less, Equal, Greater}
 use Rattle.part_core.specs.Catalogue.{part_in}
-use Rattle.part_core.specs.Day.{CivilDay, day_text}
-use Rattle.part_core.specs.Sheet.{Table}
+use Rattle.word_core.specs.Day.{CivilDay, day_text}
+use Rattle.sheet_core.specs.Sheet.{Table}
 use Rattle.forest.specs.declared.entry.Entry.{Entry}
 use Rattle.forest.specs.declared.item.Item.{Item}
 use Rattle.forest.specs.declared.place.Place.{Place}

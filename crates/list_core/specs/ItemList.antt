@@ -2,8 +2,8 @@
 use Rattle.std.specs.Prelude.{ℕ, List, [], ◌∷◌, ◌++◌, map, filter, decimal, codes, Option, Some, None, option_map}
 use Rattle.std.specs.FinMap as table
 use Rattle.part_core.specs.Catalogue.{part_in}
-use Rattle.part_core.specs.Day.{day_text}
-use Rattle.part_core.specs.Status.{status_name}
+use Rattle.word_core.specs.Day.{day_text}
+use Rattle.word_core.specs.Status.{status_name}
 use Rattle.forest.specs.declared.entry.Entry.{Entry}
 use Rattle.forest.specs.declared.item.Item.{Item}
 use Rattle.forest.specs.declared.place.Place.{Place}

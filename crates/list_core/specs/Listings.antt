@@ -1,6 +1,6 @@
 -- The lines of each list.
 use Rattle.std.specs.Prelude.{ℕ, Option, Some, option_map, Result}
-use Rattle.part_core.specs.declared.refusal.CoreFault.{CoreFault}
+use Rattle.word_core.specs.declared.refusal.CoreFault.{CoreFault}
 use Rattle.desk_core.specs.Machine.{State}
 use Rattle.list_core.specs.BuildList.{build_list}
 use Rattle.list_core.specs.CountSheet.{count_sheet}

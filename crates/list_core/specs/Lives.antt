@@ -2,8 +2,8 @@
 use Rattle.std.specs.Prelude.{◌≡◌, ℕ, ◌+◌, ◌&&◌, not, Bool, true, false, if◌then◌else◌, List, [], ◌∷◌, filter, sum_by}
 use Rattle.std.specs.Prelude.{Option, Some, None, option_map, unwrap_or}
 use Rattle.std.specs.FinMap as table
-use Rattle.part_core.specs.Day.{CivilDay}
-use Rattle.part_core.specs.Sheet.{Table}
+use Rattle.word_core.specs.Day.{CivilDay}
+use Rattle.sheet_core.specs.Sheet.{Table}
 use Rattle.forest.specs.declared.entry.Entry.{Entry}
 use Rattle.forest.specs.declared.entry.Kind.{Kind}
 use Rattle.forest.specs.declared.entry.Kind.TheVariants.{Built}

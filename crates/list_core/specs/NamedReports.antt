@@ -1,7 +1,7 @@
 -- Reports in a second form, for a spreadsheet: with a header, and with a name or a way beside each number, or in its place.
 use Rattle.std.specs.Prelude.{ℕ, List, [], ◌∷◌, map, filter, drop, decimal, codes, Option, Some, None, option_and_then, option_map}
 use Rattle.part_core.specs.Catalogue.{part_in}
-use Rattle.part_core.specs.Status.{status_name}
+use Rattle.word_core.specs.Status.{status_name}
 use Rattle.forest.specs.declared.item.Item.{Item}
 use Rattle.desk_core.specs.Machine.{State}
 use Rattle.report_core.specs.Content.{content_lines}

@@ -4,7 +4,7 @@ use Rattle.std.specs.Prelude.{Option, Some, None, option_map, if◌then◌else�
 use Rattle.std.specs.FinMap as table
 use Rattle.std.specs.Str.{bytes_eq}
 use Rattle.part_core.specs.Catalogue.{Parts, category_in, part_in}
-use Rattle.part_core.specs.Numbered.{is_same_number}
+use Rattle.word_core.specs.Numbered.{is_same_number}
 use Rattle.part_core.specs.declared.named_row.NamedRow.{NamedRow}
 use Rattle.part_core.specs.declared.part_command.PartCommand.{PartCommand}
 use Rattle.part_core.specs.declared.part_command.PartCommand.TheVariants.{AddCategory, AddPart}

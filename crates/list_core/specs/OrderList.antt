@@ -3,7 +3,7 @@ use Rattle.std.specs.Prelude.{ℕ, ◌-◌, ◌==◌, ◌||◌, not, Bool, if◌
 use Rattle.std.specs.Prelude.{filter, flat_map, decimal, codes}
 use Rattle.std.specs.FinMap as table
 use Rattle.part_core.specs.Catalogue.{part_in}
-use Rattle.part_core.specs.Side.{side_name}
+use Rattle.word_core.specs.Side.{side_name}
 use Rattle.alloc_core.specs.Allocations.{allocated_for_sale_line}
 use Rattle.order_core.specs.Orders.{is_open}
 use Rattle.order_core.specs.declared.line.OrderLine.{OrderLine}

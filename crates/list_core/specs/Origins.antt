@@ -7,10 +7,10 @@ use Rattle.std.specs.Str.{bytes_eq}
 use Rattle.serde_json.specs.Data.{Data}
 use Rattle.serde_json.specs.Find.{get, as_number, as_str, as_u64}
 use Rattle.serde_json.specs.Read.{read}
-use Rattle.part_core.specs.Day.{CivilDay, day_of, day_text}
-use Rattle.part_core.specs.Filled.{filled}
-use Rattle.part_core.specs.Indexed.{index_key_of}
-use Rattle.part_core.specs.Sheet.{Table}
+use Rattle.word_core.specs.Day.{CivilDay, day_of, day_text}
+use Rattle.sheet_core.specs.Filled.{filled}
+use Rattle.sheet_core.specs.Indexed.{index_key_of}
+use Rattle.sheet_core.specs.Sheet.{Table}
 use Rattle.desk_core.specs.declared.kept.Kept.{Kept}
 use Rattle.desk_core.specs.Machine.{State}
 use Rattle.list_core.specs.declared.origins.Origin.{Origin}

@@ -2,8 +2,8 @@
 use Rattle.std.specs.Prelude.{ℕ, zero, suc, ◌+◌, Bool, if◌then◌else◌, List, [], ◌∷◌, ◌++◌, map, filter, flat_map}
 use Rattle.std.specs.Prelude.{decimal, codes, Option, option_map}
 use Rattle.part_core.specs.Catalogue.{part_in}
-use Rattle.part_core.specs.Flags.{flag_words}
-use Rattle.part_core.specs.Status.{status_name}
+use Rattle.word_core.specs.Flags.{flag_words}
+use Rattle.word_core.specs.Status.{status_name}
 use Rattle.part_core.specs.declared.part.Part.{Part}
 use Rattle.forest.specs.declared.item.Item.{Item}
 use Rattle.bom_core.specs.Bills.{effective, part_rows}

@@ -3,8 +3,8 @@
 use Rattle.std.specs.Prelude.{◌≡◌, ℕ, ◌==◌, Bool, true, false, if◌then◌else◌, List, [], ◌∷◌, filter, option_map}
 use Rattle.std.specs.Prelude.{Option, Some, None}
 use Rattle.std.specs.FinMap as table
-use Rattle.part_core.specs.Day.{CivilDay}
-use Rattle.part_core.specs.Sheet.{Table, now_of}
+use Rattle.word_core.specs.Day.{CivilDay}
+use Rattle.sheet_core.specs.Sheet.{Table, now_of}
 use Rattle.forest.specs.declared.entry.Entry.{Entry}
 use Rattle.forest.specs.declared.entry.Kind.{Kind}
 use Rattle.forest.specs.declared.entry.Kind.TheVariants as kind

@@ -4,7 +4,7 @@ use Rattle.std.specs.Prelude.{if◌then◌else◌, is_some, Option, Some, None, 
 use Rattle.std.specs.FinMap as table
 use Rattle.std.specs.List.{repeat}
 use Rattle.part_core.specs.Catalogue.{part_in}
-use Rattle.part_core.specs.Status.{status_name}
+use Rattle.word_core.specs.Status.{status_name}
 use Rattle.forest.specs.declared.item.Item.{Item}
 use Rattle.forest.specs.declared.place.Place.{Place}
 use Rattle.forest.specs.declared.place.Place.TheVariants.{At}

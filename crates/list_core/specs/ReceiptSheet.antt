@@ -3,7 +3,7 @@ use Rattle.std.specs.Prelude.{ℕ, ◌+◌, ◌-◌, ◌==◌, ◌&&◌, not, na
 use Rattle.std.specs.Prelude.{decimal, codes, Option, Some, None, if◌then◌else◌}
 use Rattle.std.specs.FinMap as table
 use Rattle.part_core.specs.Catalogue.{part_in}
-use Rattle.part_core.specs.Side.{is_sale}
+use Rattle.word_core.specs.Side.{is_sale}
 use Rattle.order_core.specs.Orders.{is_in_progress}
 use Rattle.order_core.specs.declared.line.OrderLine.{OrderLine}
 use Rattle.order_core.specs.declared.order.Order.{Order}

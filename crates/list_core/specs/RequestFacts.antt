@@ -2,7 +2,7 @@
 -- taken.
 use Rattle.std.specs.Prelude.{ℕ, Bool, not, List, [], ◌∷◌, ◌++◌, map, filter, codes, Option, Some, None, option_map}
 use Rattle.std.specs.FinMap as table
-use Rattle.part_core.specs.FormTables.{forms_by}
+use Rattle.word_core.specs.FormTables.{forms_by}
 use Rattle.yard_core.specs.Stock.{is_serial_free}
 use Rattle.stock_core.specs.declared.stock_command.StockCommand.{StockCommand}
 use Rattle.stock_core.specs.declared.stock_command.StockCommand.TheVariants.{Found, Serialise}

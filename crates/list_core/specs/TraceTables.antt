@@ -1,6 +1,6 @@
 -- The tables that a walk looks into, each made once.
 use Rattle.std.specs.Prelude.{◌≡◌, ℕ}
-use Rattle.part_core.specs.Sheet.{now_of}
+use Rattle.sheet_core.specs.Sheet.{now_of}
 use Rattle.desk_core.specs.Machine.{State}
 use Rattle.list_core.specs.Lives.{TellLives}
 use Rattle.list_core.specs.Origins.{origins_in}

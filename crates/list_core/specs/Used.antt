@@ -2,9 +2,9 @@
 use Rattle.std.specs.Prelude.{ℕ, ◌==◌, ◌++◌, Bool, false, List, [], ◌∷◌, filter, flat_map, map, pos}
 use Rattle.std.specs.FinMap as table
 use Rattle.std.specs.Hash as fed
-use Rattle.part_core.specs.Filled.{filled}
-use Rattle.part_core.specs.Indexed.{index_key_of}
-use Rattle.part_core.specs.Sheet.{Table}
+use Rattle.sheet_core.specs.Filled.{filled}
+use Rattle.sheet_core.specs.Indexed.{index_key_of}
+use Rattle.sheet_core.specs.Sheet.{Table}
 use Rattle.forest.specs.declared.item.Item.{Item}
 use Rattle.forest.specs.declared.place.Place.{Place}
 use Rattle.forest.specs.declared.place.Place.TheVariants.{Used}

@@ -2,7 +2,7 @@
 use Rattle.std.specs.Prelude.{ℕ, zero, suc, ◌==◌, Bool, List, [], ◌∷◌, ◌++◌, codes, Option, Some, None}
 use Rattle.std.specs.FinMap as table
 use Rattle.std.specs.List.{list_any}
-use Rattle.part_core.specs.Sheet.{Table}
+use Rattle.sheet_core.specs.Sheet.{Table}
 use Rattle.part_core.specs.declared.named_row.NamedRow.{NamedRow}
 
 abbrev pub parent_of : Option NamedRow → Option ℕ

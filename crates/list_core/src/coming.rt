@@ -1,7 +1,7 @@
 //! What is still to come of each part, added up once for a list that says it row by row.
 ghost use Rattle.std.specs.Prelude.{◌≡◌, ◌∷◌, [], map, IfOk, OnOk};
 ghost use Rattle.std.specs.FinMap as table;
-ghost use Rattle.part_core.specs.Sheet.{now_of};
+ghost use Rattle.sheet_core.specs.Sheet.{now_of};
 ghost use Rattle.desk_core.specs.ShopView.{state_of};
 ghost use Rattle.list_core.specs.Coming.{AreComing, coming_in, gathered, with_line};
 
@@ -9,7 +9,7 @@ use crate::amounts::added;
 use crate::receipt_sheet::awaited;
 use desk_core::Shop;
 use order_core::OrderLine;
-use part_core::{Id, Row, Sheet};
+use part_core::{Id, Row, Seed, Sheet};
 use std::alloc::{AllocError, Global};
 
 /// What is still to come of a part, by all lines together.
@@ -66,11 +66,11 @@ fn gather(coming: &mut Sheet<Coming>, line: &OrderLine) -> Result<(), AllocError
 }
 
 /// What is still to come of each part by these lines. An error is one of memory.
-fn gathered(alloc: Global, lines: &[&OrderLine]) -> Result<Sheet<Coming>, AllocError>
+fn gathered(alloc: Global, seed: Seed, lines: &[&OrderLine]) -> Result<Sheet<Coming>, AllocError>
     ensures { IfOk result (λ coming.
         now_of coming ≡ gathered (map (λ l. l.now) lines.now) table.empty) }
 {
-    let mut coming = Sheet::new(alloc);
+    let mut coming = Sheet::new(alloc, seed);
     for line in lines {
         gather(&mut coming, line)?;
     }
@@ -83,5 +83,5 @@ pub fn coming_amounts(alloc: Global, shop: &Shop) -> Result<Sheet<Coming>, Alloc
     ensures { IfOk result (λ coming. AreComing (state_of shop.now) (now_of coming)) }
 {
     let lines = awaited(shop, None)?;
-    gathered(alloc, lines.as_slice())
+    gathered(alloc, shop.catalogue().seed(), lines.as_slice())
 }

@@ -1,6 +1,6 @@
 //! What is free of each part, added up once for a list that says it row by row.
 ghost use Rattle.std.specs.Prelude.{◌≡◌, ◌∷◌, [], IfOk};
-ghost use Rattle.part_core.specs.Sheet.{now_of};
+ghost use Rattle.sheet_core.specs.Sheet.{now_of};
 ghost use Rattle.desk_core.specs.ShopView.{state_of};
 ghost use Rattle.list_core.specs.Amounts.{free_amount};
 ghost use Rattle.list_core.specs.FreeAmounts.{AreFree};
@@ -49,7 +49,7 @@ pub fn free_amounts(
 ) -> Result<Sheet<FreeAmount>, AllocError>
     ensures { IfOk result (λ found. AreFree (state_of shop.now) (now_of found)) }
 {
-    let mut found = Sheet::new(alloc);
+    let mut found = Sheet::new(alloc, shop.catalogue().seed());
     for part in parts {
         let amount = free_amount(shop, part.number)?;
         found.put(FreeAmount {

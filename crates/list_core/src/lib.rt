@@ -1,5 +1,13 @@
 //! Lists of what a shop has, each a report whose first line names its columns; and what the tables say of the rows that a
 //! request names, of its key and of its serials, and of a name that is near a new one.
+//!
+//! - `listed`: exactly the list of its definition. It asks for a sound state, since one tells where a part is used;
+//!   single lists mostly ask for nothing.
+//! - `request_facts`: what the tables say of the rows that a request names.
+//! - `forward_lists_are_complete`, `back_lists_are_complete`: laws, that no item is left out of where a batch or an
+//!   item went, or of where it came from, as far as kept texts name it: of what no kept text names they say nothing
+//!   (`TraceLaws.IsForwardComplete`, `TraceLaws.IsBackComplete`). A walk of 2 to the 64 steps would be called a want of
+//!   memory.
 #![tactic(auto)]
 
 mod amounts;

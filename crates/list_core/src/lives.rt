@@ -1,7 +1,7 @@
 //! Of each item the day of its first entry, and what was built of it.
 ghost use Rattle.std.specs.Prelude.{◌≡◌, ◌∷◌, [], IfOk, OnOk};
 ghost use Rattle.std.specs.FinMap as table;
-ghost use Rattle.part_core.specs.Sheet.{now_of};
+ghost use Rattle.sheet_core.specs.Sheet.{now_of};
 ghost use Rattle.desk_core.specs.ShopView.{state_of};
 ghost use Rattle.list_core.specs.Lives.{TellLives, built_by, built_in, day_in, life_at, life_with};
 ghost use Rattle.list_core.specs.Lives.{with_entries, with_entry};
@@ -106,7 +106,7 @@ fn gather_all(lives: &mut Sheet<Life>, entries: &[Entry]) -> Result<(), AllocErr
 pub(crate) fn lives(alloc: Global, shop: &Shop) -> Result<Sheet<Life>, AllocError>
     ensures { IfOk result (λ lives. TellLives (state_of shop.now) (now_of lives)) }
 {
-    let mut lives = Sheet::new(alloc);
+    let mut lives = Sheet::new(alloc, shop.catalogue().seed());
     gather_all(&mut lives, shop.yard().whole_history().as_slice())?;
     Ok(lives)
 }

@@ -9,7 +9,7 @@ ghost use Rattle.list_core.specs.NearNames.{IsNote, StandsNear, child_name, is_n
 
 use crate::folds::{fold, is_blank, shown};
 use desk_core::{Command, Shop};
-use part_core::{Catalogue, Id, Name, NamedRow, PartCommand, index_key_of, is_same_number};
+use part_core::{Catalogue, Id, Name, NamedRow, PartCommand, Seed, is_same_number};
 use std::alloc::{AllocError, Global};
 use std::collections::BTreeSet;
 use yard_core::{Yard, YardCommand};
@@ -30,7 +30,7 @@ enum NearLookup<'a> {
     Location(Id, &'a str),
 }
 
-// The hash of what a name is filed by, with the number of its row.
+// The hash of what a name is filed by, begun with the seed of the shop, with the number of its row.
 #[derive(Clone, Copy, PartialEq, Eq, PartialOrd, Ord)]
 struct Filing {
     key: u64,
@@ -53,14 +53,14 @@ fn parent_number(parent: Option<Id>) -> Id {
 }
 
 /// What a name is filed under.
-fn key_of(shelf: Shelf, folded: &str) -> u64 {
+fn key_of(seed: Seed, shelf: Shelf, folded: &str) -> u64 {
     match shelf {
-        Shelf::Parts => index_key_of(NearLookup::Part(folded)),
+        Shelf::Parts => seed.hash_of(NearLookup::Part(folded)),
         Shelf::Categories(parent) => {
-            index_key_of(NearLookup::Category(parent_number(parent), folded))
+            seed.hash_of(NearLookup::Category(parent_number(parent), folded))
         }
         Shelf::Locations(parent) => {
-            index_key_of(NearLookup::Location(parent_number(parent), folded))
+            seed.hash_of(NearLookup::Location(parent_number(parent), folded))
         }
     }
 }
@@ -157,6 +157,7 @@ impl NearNames {
     fn file(
         &mut self,
         alloc: Global,
+        seed: Seed,
         shelf: Shelf,
         name: &Name,
         number: Id,
@@ -164,7 +165,7 @@ impl NearNames {
         ensures { self.new.next ≡ self.old.next }
     {
         let folded = fold(alloc, name.as_str())?;
-        let key = key_of(shelf, folded.as_str());
+        let key = key_of(seed, shelf, folded.as_str());
         self.filings.insert(Filing { key, number })?;
         Ok(())
     }
@@ -173,14 +174,21 @@ impl NearNames {
     fn file_row(&mut self, alloc: Global, shop: &Shop, number: Id) -> Result<(), AllocError>
         ensures { self.new.next ≡ self.old.next }
     {
+        let seed = shop.catalogue().seed();
         if let Some(part) = shop.catalogue().part(number) {
-            return self.file(alloc, Shelf::Parts, &part.name, number);
+            return self.file(alloc, seed, Shelf::Parts, &part.name, number);
         }
         if let Some(row) = shop.catalogue().category(number) {
-            return self.file(alloc, Shelf::Categories(row.parent), &row.name, number);
+            return self.file(
+                alloc,
+                seed,
+                Shelf::Categories(row.parent),
+                &row.name,
+                number,
+            );
         }
         if let Some(row) = shop.yard().location(number) {
-            return self.file(alloc, Shelf::Locations(row.parent), &row.name, number);
+            return self.file(alloc, seed, Shelf::Locations(row.parent), &row.name, number);
         }
         Ok(())
     }
@@ -218,7 +226,7 @@ impl NearNames {
             StandsNear (parts_of catalogue.now) (stock_of yard.now) shelf name.now other.now)) }
     {
         let folded = fold(alloc, name.as_str())?;
-        let key = key_of(shelf, folded.as_str());
+        let key = key_of(catalogue.seed(), shelf, folded.as_str());
         let first = Filing { key, number: 0 };
         let last = Filing {
             key,

@@ -3,7 +3,7 @@ ghost use Rattle.std.specs.Prelude.{◌≡◌, ◌||◌, ◌++◌, ◌∷◌, []
 ghost use Rattle.std.specs.Prelude.{IfOk, OnOk};
 ghost use Rattle.std.specs.FinMap as table;
 ghost use Rattle.part_core.specs.Catalogue.{part_in};
-ghost use Rattle.part_core.specs.Sheet.{now_of};
+ghost use Rattle.sheet_core.specs.Sheet.{now_of};
 ghost use Rattle.alloc_core.specs.Allocations.{allocated_for_sale_line};
 ghost use Rattle.order_core.specs.Orders.{is_open};
 ghost use Rattle.desk_core.specs.ShopView.{state_of};

@@ -3,9 +3,10 @@ ghost use Rattle.std.specs.Prelude.{◌≡◌, ◌↔◌, ◌++◌, ◌∷◌, [
 ghost use Rattle.std.specs.Prelude.{codes, flat_map, map, option_and_then, option_copied, option_map, unwrap_or};
 ghost use Rattle.std.specs.FinMap as table;
 ghost use Rattle.std.specs.String.{string_bytes};
+ghost use Rattle.sheet_core.specs.Indexed.{index_key_of};
 ghost use Rattle.serde_json.specs.Read.{read};
 ghost use Rattle.serde_json.specs.View.{view};
-ghost use Rattle.part_core.specs.Sheet.{now_of};
+ghost use Rattle.sheet_core.specs.Sheet.{now_of};
 ghost use Rattle.desk_core.specs.ShopView.{state_of};
 ghost use Rattle.list_core.specs.Origins.{begun, begun_for, begun_key, cut_key, cut_off, cut_off_it};
 ghost use Rattle.list_core.specs.Origins.{day_or_empty, is_begun_for, is_cut_off, is_cutting};
@@ -16,9 +17,10 @@ ghost use Rattle.list_core.specs.Origins.{source_by, source_in, source_keys, sou
 ghost use Rattle.list_core.specs.Origins.{verb_of, verb_text};
 
 use desk_core::{CommandText, Kept, Key, Shop};
-use part_core::{Day, Id, Indexed, IndexedSheet, Row, index_key_of};
+use part_core::{Day, Id, Indexed, IndexedSheet, Row, Seed};
 use serde_json::Value;
 use std::alloc::{AllocError, Global};
+use std::hash::Hash;
 use std::marker::Model;
 use yard_core::rows_in_order;
 
@@ -138,25 +140,25 @@ impl Source {
     }
 }
 
-/// The index key of the rows that were begun for the build.
-fn begun_key(build: Id) -> u64
-    ensures { result ≡ begun_key build }
+/// The look-up of the rows that were begun for the build.
+fn begun_key(build: Id) -> SourceLookup
+    ensures { index_key_of (⟦<SourceLookup as Hash>⟧.hash_input result) ≡ begun_key build }
 {
-    index_key_of(SourceLookup::Begun(build))
+    SourceLookup::Begun(build)
 }
 
-/// The index key of the rows that were received for the line of an order.
-fn received_key(line: Id) -> u64
-    ensures { result ≡ received_key line }
+/// The look-up of the rows that were received for the line of an order.
+fn received_key(line: Id) -> SourceLookup
+    ensures { index_key_of (⟦<SourceLookup as Hash>⟧.hash_input result) ≡ received_key line }
 {
-    index_key_of(SourceLookup::Received(line))
+    SourceLookup::Received(line)
 }
 
-/// The index key of the rows that were cut off the item.
-fn cut_key(item: Id) -> u64
-    ensures { result ≡ cut_key item }
+/// The look-up of the rows that were cut off the item.
+fn cut_key(item: Id) -> SourceLookup
+    ensures { index_key_of (⟦<SourceLookup as Hash>⟧.hash_input result) ≡ cut_key item }
 {
-    index_key_of(SourceLookup::CutOff(item))
+    SourceLookup::CutOff(item)
 }
 
 impl Row for Origin {
@@ -196,14 +198,14 @@ impl Row for Origin {
 impl Indexed for Origin {
     ghost index_keys = { origin_keys };
 
-    fn index_key(&self, place: usize) -> Option<u64> {
+    fn index_key(&self, seed: &Seed, place: usize) -> Option<u64> {
         if place != 0 {
             return None;
         }
         match self.source {
-            Source::Begun(build) => Some(begun_key(build)),
-            Source::Received(line) => Some(received_key(line)),
-            Source::CutOff(item) => Some(cut_key(item)),
+            Source::Begun(build) => Some(seed.hash_of(begun_key(build))),
+            Source::Received(line) => Some(seed.hash_of(received_key(line))),
+            Source::CutOff(item) => Some(seed.hash_of(cut_key(item))),
             Source::Made => None,
         }
     }
@@ -365,7 +367,7 @@ pub(crate) fn origins(alloc: Global, shop: &Shop) -> Result<IndexedSheet<Origin>
 {
     let answers = rows_in_order(shop.answers())?;
     let rows = origin_rows(alloc, answers.as_slice())?;
-    IndexedSheet::filled(alloc, rows)
+    IndexedSheet::filled(alloc, shop.catalogue().seed(), rows)
 }
 
 /// The rows that were begun for the build, in order of number. It looks at those alone. An error is one of memory.

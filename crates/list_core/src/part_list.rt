@@ -1,7 +1,7 @@
 //! The list of all that there is of a part: its flags, its sums, its bill, where it is used, and its items.
 ghost use Rattle.std.specs.Prelude.{◌≡◌, ◌+◌, ◌++◌, ◌∷◌, ◌<◌, ◌^◌, [], filter, map, not, IfOk, OnOk};
 ghost use Rattle.std.specs.String.{string_bytes};
-ghost use Rattle.part_core.specs.Sheet.{now_of};
+ghost use Rattle.sheet_core.specs.Sheet.{now_of};
 ghost use Rattle.bom_core.specs.Bills.{effective, part_rows};
 ghost use Rattle.yard_core.specs.Stock.{is_gone};
 ghost use Rattle.alloc_core.specs.Candidates.{substitutes_on};

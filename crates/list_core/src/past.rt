@@ -3,7 +3,7 @@
 ghost use Rattle.std.specs.Prelude.{◌≡◌, ◌∷◌, [], IfOk, OnOk, option_map};
 ghost use Rattle.std.specs.FinMap as table;
 ghost use Rattle.std.specs.String.{string_bytes};
-ghost use Rattle.part_core.specs.Sheet.{now_of};
+ghost use Rattle.sheet_core.specs.Sheet.{now_of};
 ghost use Rattle.desk_core.specs.ShopView.{state_of};
 ghost use Rattle.list_core.specs.Origins.{day_or_empty, origin_at};
 ghost use Rattle.list_core.specs.Past.{IsPast, build_of, built_for, day_in, gathered_days, is_output, number_of};
@@ -187,7 +187,7 @@ fn last_days(
         ≡ gathered_days (number_of subject s (now_of origins.now))
         (table.values s.stock.history) table.empty) }
 {
-    let mut days = Sheet::new(alloc);
+    let mut days = Sheet::new(alloc, shop.catalogue().seed());
     let entries = whole_history(shop);
     for entry in entries {
         let number = number_of(shop, origins, subject, entry);

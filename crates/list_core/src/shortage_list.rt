@@ -1,7 +1,7 @@
 //! The list of what all open builds together still want.
 ghost use Rattle.std.specs.Prelude.{◌≡◌, ◌∷◌, [], filter, flat_map, map, nat_lt, IfOk, OnOk};
 ghost use Rattle.std.specs.FinMap as table;
-ghost use Rattle.part_core.specs.Sheet.{now_of};
+ghost use Rattle.sheet_core.specs.Sheet.{now_of};
 ghost use Rattle.desk_core.specs.ShopView.{state_of};
 ghost use Rattle.list_core.specs.BuildList.{wants_of};
 ghost use Rattle.list_core.specs.Gathered.{gathered, gathered_row, is_lacking, want_in, with_row};
@@ -109,7 +109,7 @@ fn wants_of(alloc: Global, shop: &Shop, builds: &[&Build]) -> Result<Sheet<Want>
     ensures { IfOk result (λ wants. now_of wants ≡ gathered (flat_map
         (λ b. wants_of b.number (state_of shop.now)) (map (λ b. b.now) builds.now)) table.empty) }
 {
-    let mut wants = Sheet::new(alloc);
+    let mut wants = Sheet::new(alloc, shop.catalogue().seed());
     for build in builds {
         let rows = shortages(
             alloc,

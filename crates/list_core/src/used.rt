@@ -1,12 +1,14 @@
 //! The items that builds used, found by the build.
 ghost use Rattle.std.specs.Prelude.{◌≡◌, ◌==◌, ◌++◌, ◌∷◌, [], IfOk, OnOk, filter, flat_map, map};
 ghost use Rattle.std.specs.FinMap as table;
-ghost use Rattle.part_core.specs.Sheet.{now_of};
+ghost use Rattle.sheet_core.specs.Indexed.{index_key_of};
+ghost use Rattle.sheet_core.specs.Sheet.{now_of};
 ghost use Rattle.yard_core.specs.YardView.{stock_of};
 ghost use Rattle.list_core.specs.Used.{numbers_used, used_in, used_key, used_keys, used_row};
 
-use part_core::{Id, Indexed, IndexedSheet, Row, index_key_of};
+use part_core::{Id, Indexed, IndexedSheet, Row, Seed};
 use std::alloc::{AllocError, Global};
+use std::hash::Hash;
 use yard_core::{Item, Place, Yard, rows_in_order};
 
 /// An item, and the build that used it.
@@ -20,11 +22,11 @@ pub struct UsedItem {
 #[derive(Clone, Copy, Debug, PartialEq, Eq, Hash)]
 pub struct UsedBy(Id);
 
-/// The index key of the items that the build used.
-fn used_key(build: Id) -> u64
-    ensures { result ≡ used_key build }
+/// The look-up of the items that the build used.
+fn used_key(build: Id) -> UsedBy
+    ensures { index_key_of (⟦<UsedBy as Hash>⟧.hash_input result) ≡ used_key build }
 {
-    index_key_of(UsedBy(build))
+    UsedBy(build)
 }
 
 impl Row for UsedItem {
@@ -54,9 +56,9 @@ impl Row for UsedItem {
 impl Indexed for UsedItem {
     ghost index_keys = { used_keys };
 
-    fn index_key(&self, place: usize) -> Option<u64> {
+    fn index_key(&self, seed: &Seed, place: usize) -> Option<u64> {
         match place {
-            0 => Some(used_key(self.build)),
+            0 => Some(seed.hash_of(used_key(self.build))),
             _ => None,
         }
     }
@@ -85,7 +87,7 @@ pub(crate) fn used(alloc: Global, yard: &Yard) -> Result<IndexedSheet<UsedItem>,
 {
     let items = rows_in_order(yard.items())?;
     let rows = used_rows(alloc, items.as_slice())?;
-    IndexedSheet::filled(alloc, rows)
+    IndexedSheet::filled(alloc, Seed::new(0), rows)
 }
 
 /// The rows of the items that the build used, in order of number. It looks at those alone. An error is one of memory.

@@ -2,7 +2,7 @@
 ghost use Rattle.std.specs.Prelude.{◌≡◌, ◌+◌, ◌++◌, ◌∷◌, [], OnOk, IfOk, Some, flat_map, map, sum_by};
 ghost use Rattle.desk_core.specs.Machine.{IsSoundState, is_build};
 ghost use Rattle.desk_core.specs.ShopView.{state_of};
-ghost use Rattle.part_core.specs.Sheet.{now_of};
+ghost use Rattle.sheet_core.specs.Sheet.{now_of};
 ghost use Rattle.list_core.specs.Origins.{origin_at};
 ghost use Rattle.list_core.specs.Trace.{after_build, after_item, after_place, before_build, before_item};
 ghost use Rattle.list_core.specs.Trace.{build_child, children, delivery_child, has_delivery, item_child};

@@ -1,7 +1,7 @@
 //! The ways of categories and locations: their names from the top.
 ghost use Rattle.std.specs.Prelude.{◌≡◌, ◌∷◌, IfOk};
 ghost use Rattle.std.specs.String.{string_bytes};
-ghost use Rattle.part_core.specs.Sheet.{now_of};
+ghost use Rattle.sheet_core.specs.Sheet.{now_of};
 ghost use Rattle.list_core.specs.Ways.{as_names, is_under, joined, way_text};
 
 use part_core::{Id, NamedRow, Sheet};

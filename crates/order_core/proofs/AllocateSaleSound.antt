@@ -5,12 +5,13 @@ use Rattle.std.specs.Prelude.{◌==◌}
 use Rattle.std.specs.FinMap as table
 use Rattle.std.proofs.lemmas.Bool.{ltb-false}
 use Rattle.part_core.specs.Catalogue.{Parts}
-use Rattle.part_core.specs.Checks.{NoneHolds, first}
-use Rattle.part_core.specs.Quantity.{largest}
-use Rattle.part_core.specs.Rows.{EachRow, IsThere}
-use Rattle.part_core.proofs.Conditions.{none-holds, not_false, or_none}
-use Rattle.part_core.proofs.RowLemmas.{each-insert, right-later, right-none}
-use Rattle.part_core.proofs.Totals.{sum-insert_new}
+use Rattle.word_core.specs.Checks.{first}
+use Rattle.word_core.specs.Quantity.{largest}
+use Rattle.sheet_core.specs.Rows.{EachRow, IsThere}
+use Rattle.word_core.proofs.CheckLemmas.{NoneHolds, none-holds}
+use Rattle.sheet_core.proofs.Conditions.{not_false, or_none}
+use Rattle.sheet_core.proofs.RowLemmas.{each-insert, right-later, right-none}
+use Rattle.sheet_core.proofs.Totals.{sum-insert_new}
 use Rattle.forest.specs.Forest.{is_at}
 use Rattle.alloc_core.specs.Allocations.{allocated_for_sale_line, amount_where}
 use Rattle.alloc_core.specs.declared.allocation.Allocation.{Allocation}
@@ -23,7 +24,9 @@ use Rattle.stock_core.specs.StockMachine.{Grows}
 use Rattle.stock_core.proofs.Beside.{sound-later}
 use Rattle.stock_core.proofs.Checked.{good-quantity, there-row}
 use Rattle.order_core.specs.AllocateSale.{allocate_sale, allocate_sale_checks, sale_row}
-use Rattle.part_core.specs.Side.{is_sale}
+use Rattle.word_core.specs.Side.{is_sale}
+use Rattle.word_core.specs.declared.refusal.Refusal.TheVariants.{NoSuch, BadNumber, WrongState, Mismatch}
+use Rattle.word_core.specs.declared.refusal.Refusal.TheVariants.{Unfit, NotLoose, Allocated, OverNeed}
 use Rattle.order_core.specs.Orders.{OrderBooks, is_in_progress, is_no_line, line_at}
 use Rattle.order_core.specs.Orders.{one_drawn, order_of_line, owners_beside}
 use Rattle.order_core.specs.Sound.{AreSoundBooks, IsSoundLine, IsSoundPurpose}
@@ -50,17 +53,17 @@ module _ (is_build : ℕ → Bool) (parts : Parts) (line item q : ℕ) (b : Orde
   abbrev after : OrderBooks
   after = allocate_sale line item q b
 
-  holds : NoneHolds (allocate_sale_checks line item q b)
-  holds = none-holds (allocate_sale_checks line item q b) e
+  passed : NoneHolds (allocate_sale_checks line item q b)
+  passed = none-holds (allocate_sale_checks line item q b) e
 
   quantity : (1 ≤ q) × (q ≤ largest)
-  quantity = good-quantity q holds.1.0
+  quantity = good-quantity q (passed BadNumber)
 
   loose : is_at (item_at item b.books.stock).place ≡ true
-  loose = not_false (is_loose item b.books.stock) holds.1.1.1.1.1.0
+  loose = not_false (is_loose item b.books.stock) (passed NotLoose)
 
   there : IsThere b.lines line
-  there = there-row b.lines line (or_none (is_no_line line b) (is_no_item item b.books.stock) holds.0).0
+  there = there-row b.lines line (or_none (is_no_line line b) (is_no_item item b.books.stock) (passed NoSuch)).0
 
   sum : (m : ℕ) → allocated_for_sale_line m after.allocations
       ≡ amount_where (test_of m) row + allocated_for_sale_line m b.allocations
@@ -86,7 +89,7 @@ module _ (is_build : ℕ → Bool) (parts : Parts) (line item q : ℕ) (b : Orde
           let same = eqb-true line x.number f in
           let under = subst (λ j. table.get b.lines j ≡ Some x) (sound.orders.lines k x at).own at in
           let is : l ≡ x = ap line_of (ap (λ j. table.get b.lines (j ∷ [])) same ∙ under) in
-          let enough = ltb-false _ _ holds.1.1.1.1.1.1.1.1.0 in
+          let enough = ltb-false _ _ (passed OverNeed) in
           let mine = subst (λ j. l.done + allocated_for_sale_line j b.allocations + q ≤ l.quantity) same enough in
           let here =
           subst (λ (z : OrderLine). z.done + allocated_for_sale_line x.number b.allocations + q ≤ z.quantity) is mine in
@@ -94,11 +97,11 @@ module _ (is_build : ℕ → Bool) (parts : Parts) (line item q : ℕ) (b : Orde
 
   new : IsSoundPurpose after row.item row.purpose
   new = record {
-    sale = not_false (is_sale (order_of_line line b).side) holds.1.1.1.0;
-    in_progress = not_false (is_in_progress (order_of_line line b).state) holds.1.1.0;
+    sale = not_false (is_sale (order_of_line line b).side) (passed Mismatch);
+    in_progress = not_false (is_in_progress (order_of_line line b).state) (passed WrongState);
     there = there;
     of_order = refl;
-    fits = eqb-true _ _ (not_false (part_at item b.books.stock == l.part) holds.1.1.1.1.0);
+    fits = eqb-true _ _ (not_false (part_at item b.books.stock == l.part) (passed Unfit));
   }
 
   pub sound-allocate_sale : AreSoundBooks is_build parts after × Grows b.books after.books
@@ -110,7 +113,7 @@ module _ (is_build : ℕ → Bool) (parts : Parts) (line item q : ℕ) (b : Orde
       allocations =
           sound-allocated b.allocations b.books sound.allocations row after.books refl refl
           sound.stock.items.locations.some refl quantity.0 quantity.1 loose
-          (free-enough item q b.allocations b.books.stock holds.1.1.1.1.1.1.1.0);
+          (free-enough item q b.allocations b.books.stock (passed Allocated));
       orders = record {
         orders =
             right-later (λ (o : Order). o.number) next after.books.counter.next b.orders (omega arith)

@@ -3,11 +3,11 @@ use Rattle.std.proofs.Common.{◌≡◌, ℕ, ◌≤◌, Bool, true, List, [], �
 use Rattle.std.specs.Prelude.{unwrap_or, ◌==◌}
 use Rattle.std.specs.FinMap as table
 use Rattle.part_core.specs.Catalogue.{Parts}
-use Rattle.part_core.specs.Counter.{Numbering}
-use Rattle.part_core.specs.Rows.{StayThere}
-use Rattle.part_core.specs.Sheet.{Table}
-use Rattle.part_core.proofs.RowLemmas.{each-empty, right-empty, right-later}
-use Rattle.part_core.specs.TableRows.{without_rows}
+use Rattle.word_core.specs.Counter.{Numbering}
+use Rattle.sheet_core.specs.Rows.{StayThere}
+use Rattle.sheet_core.specs.Sheet.{Table}
+use Rattle.sheet_core.proofs.RowLemmas.{each-empty, right-empty, right-later}
+use Rattle.sheet_core.specs.TableRows.{without_rows}
 use Rattle.alloc_core.specs.AllocMachine as alloc
 use Rattle.alloc_core.specs.Allocations.{is_for_sale, is_for_sale_line, sum_where}
 use Rattle.alloc_core.specs.NoneComes.{NoneComes}
@@ -19,7 +19,7 @@ use Rattle.alloc_core.specs.declared.alloc_command.AllocCommand.{AllocCommand}
 use Rattle.alloc_core.specs.declared.alloc_command.AllocCommand.TheVariants.{Release}
 use Rattle.alloc_core.proofs.Sound.{release-is}
 use Rattle.alloc_core.proofs.Sums.{sum-split}
-use Rattle.part_core.proofs.TableRows.{get-without, values-without}
+use Rattle.sheet_core.proofs.TableRows.{get-without, values-without}
 use Rattle.yard_core.specs.StockBooks.{StockBooks}
 use Rattle.yard_core.specs.Stock.{no_item}
 use Rattle.stock_core.specs.StockMachine.{Grows}

@@ -3,22 +3,22 @@ use Rattle.std.proofs.Common.{◌≡◌, ℕ, ◌+◌, ◌≤◌, Bool, true, fa
 use Rattle.std.proofs.Common.{Some, None, refl, sym, ap, ◌∙◌, subst, arith, eqb-true, eq-eqb}
 use Rattle.std.specs.Prelude.{◌==◌, option_map}
 use Rattle.std.specs.FinMap as table
-use Rattle.part_core.specs.Quantity.{largest}
-use Rattle.part_core.specs.Rows.{IsThere, StandRight}
-use Rattle.part_core.specs.Sheet.{Table}
-use Rattle.part_core.proofs.Keys.{key_eq, key_eq-same, key_eq-true, keys_exact, keys_total}
-use Rattle.part_core.proofs.RowLemmas.{get-insert_new, get-insert_other, right-changed}
-use Rattle.part_core.proofs.RowLemmas.{right-number, row_there, there-insert}
+use Rattle.word_core.specs.Quantity.{largest}
+use Rattle.sheet_core.specs.Rows.{IsThere, StandRight}
+use Rattle.sheet_core.specs.Sheet.{Table}
+use Rattle.sheet_core.proofs.Keys.{key_eq, key_eq-same, key_eq-true, keys_exact, keys_total}
+use Rattle.sheet_core.proofs.RowLemmas.{get-insert_new, get-insert_other, right-changed}
+use Rattle.sheet_core.proofs.RowLemmas.{right-number, row_there, there-insert}
 use Rattle.alloc_core.specs.Allocations.{is_for_sale_line, sum_where}
 use Rattle.alloc_core.specs.declared.allocation.Allocation.{Allocation}
 use Rattle.alloc_core.specs.declared.purpose.Purpose.TheVariants.{Sale}
 use Rattle.alloc_core.proofs.Sums.{amount-in, amount-out, sum-cons}
-use Rattle.part_core.specs.TableRows.{mapped}
+use Rattle.sheet_core.specs.TableRows.{mapped}
 use Rattle.order_core.specs.Orders.{done_more, with_done_of}
 use Rattle.order_core.specs.Ship.{CanDeliver, HaveLines, deliver_each, deliver_to, delivered}
 use Rattle.order_core.specs.declared.line.OrderLine.{OrderLine}
 use Rattle.order_core.proofs.Kept.{line_of}
-use Rattle.part_core.proofs.Mapped.{get-mapped}
+use Rattle.sheet_core.proofs.Mapped.{get-mapped}
 use Rattle.order_core.proofs.NoneFor.{test_of}
 
 have-more : (t : Table OrderLine) (n : ℕ) (l : OrderLine) (xs : List Allocation) → HaveLines t xs

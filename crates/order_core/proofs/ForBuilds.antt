@@ -3,7 +3,7 @@ use Rattle.std.proofs.Common.{refl, arith}
 use Rattle.alloc_core.specs.Allocations.{is_for_some_build, is_owned}
 use Rattle.alloc_core.specs.declared.purpose.Owner.TheVariants as owner
 use Rattle.alloc_core.proofs.NoneComes.{none-insert, none-same, none-without}
-use Rattle.part_core.proofs.RowLemmas.{right-none}
+use Rattle.sheet_core.proofs.RowLemmas.{right-none}
 use Rattle.alloc_core.specs.declared.allocation.Allocation.{Allocation}
 use Rattle.std.specs.Prelude.{[], ◌∷◌}
 use Rattle.order_core.specs.AllocateSale.{sale_row}

@@ -1,9 +1,9 @@
 -- What is asked of allocations for sales holds on, where lines and items stay of their orders and parts.
-use Rattle.std.proofs.Common.{◌≡◌, ℕ, true, false, [], ◌∷◌, Option, Some, None, refl, sym, ap, ◌∙◌, is_none, is_some}
+use Rattle.std.proofs.Common.{◌≡◌, ℕ, true, [], ◌∷◌, Option, Some, refl, sym, ap, ◌∙◌}
 use Rattle.std.specs.Prelude.{unwrap_or}
 use Rattle.std.specs.FinMap as table
-use Rattle.part_core.specs.Sheet.{Table}
-use Rattle.part_core.proofs.RowLemmas.{row_there, there}
+use Rattle.sheet_core.specs.Sheet.{Table}
+use Rattle.sheet_core.proofs.RowLemmas.{row_there, there}
 use Rattle.alloc_core.specs.declared.purpose.Purpose.{Purpose}
 use Rattle.alloc_core.specs.declared.purpose.Purpose.TheVariants.{Sale, Build}
 use Rattle.yard_core.specs.Stock.{Stock, item_at}
@@ -12,7 +12,7 @@ use Rattle.stock_core.specs.ItemTests.{part_at}
 use Rattle.stock_core.specs.Sound.{PartsStay}
 use Rattle.stock_core.proofs.Plain.{item_of}
 use Rattle.stock_core.proofs.Taking.{there-loose}
-use Rattle.part_core.specs.Side.{is_sale}
+use Rattle.word_core.specs.Side.{is_sale}
 use Rattle.order_core.specs.Orders.{OrderBooks, is_in_progress, line_at, no_line, order_at}
 use Rattle.order_core.specs.Sound.{IsSoundPurpose, IsSoundSale}
 use Rattle.order_core.specs.declared.line.OrderLine.{OrderLine}
@@ -59,7 +59,3 @@ pub purpose-kept : (b c : OrderBooks) (item : ℕ) (p : Purpose)
 purpose-kept b c item (Sale order line) same lines part h =
     sale-kept b c item order line (same order line refl) lines part h
 purpose-kept b c item (Build build line output) same lines part h = tt
-
-pub some-there : {X : Type 0} (o : Option X) → is_none o ≡ false → is_some o ≡ true
-some-there None e = cc
-some-there (Some x) e = refl

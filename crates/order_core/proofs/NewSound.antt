@@ -4,10 +4,11 @@ use Rattle.std.proofs.Common.{Some, None, is_none, refl, sym, ap, ◌∙◌, ari
 use Rattle.std.specs.Prelude.{◌==◌, ◌||◌}
 use Rattle.std.specs.FinMap as table
 use Rattle.part_core.specs.Catalogue.{Parts, part_in}
-use Rattle.part_core.specs.Checks.{first}
-use Rattle.part_core.proofs.Conditions.{none-holds, or_none}
-use Rattle.part_core.proofs.RowLemmas.{each-insert, get-insert_other, right-later, right-new}
-use Rattle.part_core.proofs.RowLemmas.{right-none, row_there, same_digit, there-insert}
+use Rattle.word_core.specs.Checks.{first}
+use Rattle.word_core.proofs.CheckLemmas.{none-holds}
+use Rattle.sheet_core.proofs.Conditions.{or_none}
+use Rattle.sheet_core.proofs.RowLemmas.{each-insert, get-insert_other, right-later, right-new}
+use Rattle.sheet_core.proofs.RowLemmas.{right-none, row_there, same_digit, there-insert}
 use Rattle.alloc_core.specs.declared.allocation.Allocation.{Allocation}
 use Rattle.alloc_core.specs.declared.purpose.Purpose.TheVariants.{Sale}
 use Rattle.alloc_core.specs.Sound.{AreSoundAllocations}
@@ -18,12 +19,13 @@ use Rattle.stock_core.proofs.Checked.{good-quantity, there-row}
 use Rattle.stock_core.proofs.Owned.{sound-owned}
 use Rattle.order_core.specs.NewLine.{line_row, new_line, new_line_checks}
 use Rattle.order_core.specs.NewOrder.{new_order, order_row}
-use Rattle.part_core.specs.Side.{is_sale}
+use Rattle.word_core.specs.Side.{is_sale}
 use Rattle.order_core.specs.Orders.{OrderBooks, is_no_order, one_drawn, order_at, owners_beside}
 use Rattle.order_core.specs.Sound.{AreSoundBooks, IsSoundLine, IsSoundSale}
 use Rattle.order_core.specs.declared.line.OrderLine.{OrderLine}
 use Rattle.order_core.specs.declared.order.Order.{Order}
-use Rattle.part_core.specs.declared.side.Side.{Side}
+use Rattle.word_core.specs.declared.side.Side.{Side}
+use Rattle.word_core.specs.declared.refusal.Refusal.TheVariants.{NoSuch, BadNumber}
 use Rattle.order_core.proofs.AllocateSaleSound.{grows-drawn}
 use Rattle.order_core.proofs.Kept.{LinesStay, lines-same, purpose-kept}
 use Rattle.order_core.proofs.NoneFor.{none-for}
@@ -130,9 +132,9 @@ module _ (is_build : ℕ → Bool) (parts : Parts) (b : OrderBooks) (sound : Are
 
     pub sound-line : AreSoundBooks is_build parts lined × Grows b.books lined.books
     sound-line =
-        let holds = none-holds (new_line_checks order part q parts b) e in
-        let there = or_none (is_no_order order b) (is_none (part_in part parts)) holds.0 in
-        let quantity = good-quantity q holds.1.0 in
+        let passed = none-holds (new_line_checks order part q parts b) e in
+        let there = or_none (is_no_order order b) (is_none (part_in part parts)) (passed NoSuch) in
+        let quantity = good-quantity q (passed BadNumber) in
         let new : IsSoundLine parts lined row = record {
           order = there-row b.orders order there.0;
           part = there-row parts.parts part there.1;

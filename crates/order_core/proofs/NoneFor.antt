@@ -3,9 +3,9 @@ use Rattle.std.proofs.Common.{◌≡◌, inl, inr, ℕ, ◌+◌, ◌≤◌, Bool
 use Rattle.std.proofs.Common.{Some, refl, ap, ◌∙◌, subst, arith, eqb-true, eq-eqb}
 use Rattle.std.specs.Prelude.{◌==◌}
 use Rattle.std.specs.FinMap as table
-use Rattle.part_core.specs.Sheet.{Table}
-use Rattle.part_core.specs.Rows.{EachRow}
-use Rattle.part_core.proofs.Standing.{Stands, each-value, get-Stands}
+use Rattle.sheet_core.specs.Sheet.{Table}
+use Rattle.sheet_core.specs.Rows.{EachRow}
+use Rattle.sheet_core.proofs.Standing.{Stands, each-value, get-Stands}
 use Rattle.alloc_core.specs.Allocations.{allocated_for_sale_line, is_for_sale_line, sum_where}
 use Rattle.alloc_core.specs.declared.allocation.Allocation.{Allocation}
 use Rattle.alloc_core.specs.declared.purpose.Purpose.{Purpose}

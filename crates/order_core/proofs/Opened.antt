@@ -4,8 +4,8 @@ use Rattle.std.specs.Prelude.{◌&&◌, ◌==◌, is_some, ◌∷◌, []}
 use Rattle.std.specs.FinMap as table
 use Rattle.std.proofs.lemmas.Bool.Decides.{nat_tests}
 use Rattle.part_core.specs.Catalogue.{Parts, part_in}
-use Rattle.part_core.specs.Sheet.{Table}
-use Rattle.part_core.proofs.Conditions.{and_both, and_parts}
+use Rattle.sheet_core.specs.Sheet.{Table}
+use Rattle.sheet_core.proofs.Conditions.{and_both, and_parts}
 use Rattle.alloc_core.specs.Allocations.{allocated_for_sale_line}
 use Rattle.alloc_core.specs.declared.allocation.Allocation.{Allocation}
 use Rattle.alloc_core.specs.declared.purpose.Purpose.{Purpose}

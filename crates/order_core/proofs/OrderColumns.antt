@@ -1,14 +1,16 @@
 -- Orders and their lines are read back from their columns, and no other columns are read as them.
 use Rattle.std.proofs.Common.{◌≡◌, ℕ, true, List, [], Some, refl, ap, ◌∙◌}
 use Rattle.std.specs.Prelude.{slice_get}
-use Rattle.part_core.specs.Columns.{has, number_at, row_text_at}
-use Rattle.part_core.specs.Side.{all_sides, side_code, side_of}
-use Rattle.part_core.specs.Text.{is_text}
-use Rattle.part_core.specs.declared.column.Column.{Column}
-use Rattle.part_core.specs.declared.column.Column.TheVariants.{Whole}
-use Rattle.part_core.specs.declared.side.Side.{Side}
-use Rattle.part_core.specs.declared.side.Side.TheVariants.{Purchase, Sale}
-use Rattle.part_core.proofs.ColumnLemmas.{bound, code-found, has-is, number_at-is, row_text_at-is, same_columns}
+use Rattle.sheet_core.specs.Columns.{has, number_at}
+use Rattle.part_core.specs.TextColumns.{row_text_at}
+use Rattle.word_core.specs.Side.{all_sides, side_code, side_of}
+use Rattle.word_core.specs.Text.{is_text}
+use Rattle.sheet_core.specs.declared.column.Column.{Column}
+use Rattle.sheet_core.specs.declared.column.Column.TheVariants.{Whole}
+use Rattle.word_core.specs.declared.side.Side.{Side}
+use Rattle.word_core.specs.declared.side.Side.TheVariants.{Purchase, Sale}
+use Rattle.sheet_core.proofs.ColumnLemmas.{bound, code-found, has-is, number_at-is, same_columns}
+use Rattle.part_core.proofs.TextColumns.{row_text_at-is}
 use Rattle.order_core.specs.OrderColumns.{all_states, line_columns, order_columns, order_from}
 use Rattle.order_core.specs.OrderColumns.{side_at, state_at, state_code, state_of}
 use Rattle.order_core.specs.declared.line.OrderLine.{OrderLine}

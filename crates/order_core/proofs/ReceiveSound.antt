@@ -5,12 +5,13 @@ use Rattle.std.specs.Prelude.{◌==◌, ◌||◌}
 use Rattle.std.specs.FinMap as table
 use Rattle.std.proofs.lemmas.Bool.{eqb-false, ltb-false}
 use Rattle.part_core.specs.Catalogue.{Parts}
-use Rattle.part_core.specs.Checks.{NoneHolds, first}
-use Rattle.part_core.specs.Day.{CivilDay}
-use Rattle.part_core.specs.Quantity.{is_bad_quantity}
-use Rattle.part_core.proofs.Conditions.{none-holds, or_none}
-use Rattle.part_core.proofs.RowLemmas.{each-insert, get-insert_new, get-insert_other, right-changed}
-use Rattle.part_core.proofs.RowLemmas.{right-later, right-number, row_there, same_digit}
+use Rattle.word_core.specs.Checks.{first}
+use Rattle.word_core.specs.Day.{CivilDay}
+use Rattle.word_core.specs.Quantity.{is_bad_quantity}
+use Rattle.word_core.proofs.CheckLemmas.{NoneHolds, none-holds}
+use Rattle.sheet_core.proofs.Conditions.{or_none}
+use Rattle.sheet_core.proofs.RowLemmas.{each-insert, get-insert_new, get-insert_other, right-changed}
+use Rattle.sheet_core.proofs.RowLemmas.{right-later, right-number, row_there, same_digit}
 use Rattle.forest.specs.declared.entry.Kind.TheVariants as kind
 use Rattle.forest.specs.declared.place.Place.TheVariants.{At}
 use Rattle.alloc_core.specs.Allocations.{allocated_for_sale_line}
@@ -27,7 +28,9 @@ use Rattle.stock_core.proofs.HeldMoves.{holds-make_new}
 use Rattle.stock_core.proofs.Holding.{sound-held}
 use Rattle.stock_core.proofs.OutputsStay.{leaves-make_new}
 use Rattle.stock_core.proofs.Upright.{upright-of}
-use Rattle.part_core.specs.Side.{is_sale}
+use Rattle.word_core.specs.Side.{is_sale}
+use Rattle.word_core.specs.declared.refusal.Refusal.TheVariants.{NoSuch, BadNumber, Mismatch}
+use Rattle.word_core.specs.declared.refusal.Refusal.TheVariants.{OverNeed, SerialTaken, Full}
 use Rattle.order_core.specs.Orders.{OrderBooks, is_no_line, line_at, order_at, owners_beside}
 use Rattle.order_core.specs.Receive.{receive, receive_checks}
 use Rattle.order_core.specs.Sound.{AreSoundBooks, IsSoundLine, IsSoundSale}
@@ -45,11 +48,11 @@ module _ (is_build : ℕ → Bool) (parts : Parts) (line location : ℕ) (new : 
   abbrev after : OrderBooks
   after = receive line location new day b
 
-  holds : NoneHolds (receive_checks line location new day parts b)
-  holds = none-holds (receive_checks line location new day parts b) e
+  passed : NoneHolds (receive_checks line location new day parts b)
+  passed = none-holds (receive_checks line location new day parts b) e
 
   both : (is_no_line line b ≡ false) × (is_no_location location b.books.stock ≡ false)
-  both = or_none (is_no_line line b) (is_no_location location b.books.stock) holds.0
+  both = or_none (is_no_line line b) (is_no_location location b.books.stock) (passed NoSuch)
 
   was : (l : OrderLine) × (table.get b.lines (line ∷ []) ≡ Some l)
   was = row_there b.lines line (there-row b.lines line both.0)
@@ -67,9 +70,9 @@ module _ (is_build : ℕ → Bool) (parts : Parts) (line location : ℕ) (new : 
   stock = sound-leads owners parts b.books after.books
       (leads-make_new owners parts arrival new day b.books (upright-of owners parts b.books sound.stock) tt
       old.part (there-row b.books.stock.locations location both.1)
-      (good-quantity new.quantity (or_none (is_bad_quantity new.quantity) (given are_many new.serials) holds.1.0).0)
-      holds.1.1.1.1.1.1.1.0)
-      holds.1.1.1.1.1.1.1.1.0
+      (good-quantity new.quantity (or_none (is_bad_quantity new.quantity) (given are_many new.serials) (passed BadNumber)).0)
+      (passed SerialTaken))
+      (passed Full)
 
   abbrev changed : OrderLine
   changed = record (line_at line b) { done = (line_at line b).done + new.quantity }
@@ -83,7 +86,7 @@ module _ (is_build : ℕ → Bool) (parts : Parts) (line location : ℕ) (new : 
   none : (item order : ℕ) → IsSoundSale b item order line → ⊥
   none item order h =
       let clash : true ≡ false =
-      sym h.sale ∙ ap (λ m. is_sale (order_at m b).side) (sym h.of_order) ∙ holds.1.1.1.1.0 in
+      sym h.sale ∙ ap (λ m. is_sale (order_at m b).side) (sym h.of_order) ∙ passed Mismatch in
       cc
 
   lines-stay : LinesStay b.lines after.lines
@@ -116,7 +119,7 @@ module _ (is_build : ℕ → Bool) (parts : Parts) (line location : ℕ) (new : 
     needed = (
         let nothing = none-for b line none sound.orders.each_sale in
         let mine = subst (λ j. allocated_for_sale_line j b.allocations ≡ 0) (sym own) nothing in
-        omega (arith, mine, ltb-false _ _ holds.1.1.1.1.1.0));
+        omega (arith, mine, ltb-false _ _ (passed OverNeed)));
   }
 
   pub leaves-receive : LeavesOutputs b.books.stock.items after.books.stock.items

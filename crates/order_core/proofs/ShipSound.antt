@@ -1,15 +1,16 @@
 -- What is shipped leaves orders, allocations and stock sound.
-use Rattle.std.proofs.Common.{◌≡◌, ℕ, ◌+◌, ◌≤◌, Bool, true, false, not, List, [], ◌∷◌, ◌++◌}
-use Rattle.std.proofs.Common.{None, refl, sym, ap, ◌∙◌, subst, arith, eqb-true}
+use Rattle.std.proofs.Common.{◌≡◌, ℕ, ◌+◌, ◌≤◌, Bool, true, not, List, [], ◌∷◌, ◌++◌}
+use Rattle.std.proofs.Common.{None, refl, sym, ap, ◌∙◌, subst, arith}
 use Rattle.std.specs.Prelude.{◌==◌, filter, option_map}
 use Rattle.std.specs.FinMap as table
-use Rattle.std.proofs.lemmas.Bool.{eqb-false}
 use Rattle.part_core.specs.Catalogue.{Parts}
-use Rattle.part_core.specs.Checks.{NoneHolds, first}
-use Rattle.part_core.specs.Day.{CivilDay}
-use Rattle.part_core.specs.Rows.{EachRow}
-use Rattle.part_core.proofs.Conditions.{none-holds}
-use Rattle.part_core.proofs.RowLemmas.{right-later, right-number}
+use Rattle.word_core.specs.Checks.{first}
+use Rattle.word_core.specs.Day.{CivilDay}
+use Rattle.sheet_core.specs.Rows.{EachRow}
+use Rattle.word_core.specs.declared.refusal.Refusal.TheVariants.{NoSuch, Full}
+use Rattle.word_core.proofs.CheckLemmas.{NoneHolds, none-holds}
+use Rattle.sheet_core.proofs.Conditions.{some-there, turned}
+use Rattle.sheet_core.proofs.RowLemmas.{right-later, right-number}
 use Rattle.forest.specs.declared.item.Item.{Item}
 use Rattle.forest.specs.declared.place.Place.TheVariants.{Sent}
 use Rattle.forest.specs.Forest.{row_of}
@@ -21,7 +22,7 @@ use Rattle.alloc_core.specs.declared.purpose.Owner.TheVariants as owner
 use Rattle.alloc_core.proofs.Covers.{IsCovered, covered-of, covered-split}
 use Rattle.alloc_core.proofs.Sound.{sound-served}
 use Rattle.alloc_core.proofs.Sums.{sum-split}
-use Rattle.part_core.proofs.TableRows.{get-without, values-without}
+use Rattle.sheet_core.proofs.TableRows.{get-without, values-without}
 use Rattle.yard_core.specs.StockBooks.{StockBooks}
 use Rattle.yard_core.specs.Stock.{item_at, tree_of}
 use Rattle.yard_core.specs.Outputs.{LeavesOutputs}
@@ -42,15 +43,8 @@ use Rattle.order_core.specs.Ship.{delivered, sale_rows, sent_for, ship, ship_che
 use Rattle.order_core.specs.Sound.{AreSoundBooks, AreSoundOrders, IsSoundLine}
 use Rattle.order_core.specs.declared.line.OrderLine.{OrderLine}
 use Rattle.order_core.specs.declared.order.Order.{Order}
-use Rattle.order_core.proofs.Kept.{LinesStay, part-stays, purpose-kept, some-there}
-use Rattle.part_core.proofs.Mapped.{get-mapped, right-mapped, row-mapped}
-
-turned : (n m : ℕ) → (n == m) ≡ false → (m == n) ≡ false
-turned n m e = go (m == n) refl
-  where
-    go : (d : Bool) → (m == n) ≡ d → d ≡ false
-    go true u = absurd (eqb-false n m e (sym (eqb-true m n u)))
-    go false u = refl
+use Rattle.order_core.proofs.Kept.{LinesStay, part-stays, purpose-kept}
+use Rattle.sheet_core.proofs.Mapped.{get-mapped, right-mapped, row-mapped}
 
 -- an item that was taken goes to the customer
 pub sent-on : (owners : Owners) (parts : Parts) (n q order : ℕ) (day : CivilDay) (b : StockBooks) (t : StockBooks × ℕ)
@@ -87,11 +81,11 @@ module _ (is_build : ℕ → Bool) (parts : Parts) (n : ℕ) (day : CivilDay) (b
   abbrev rest : List Allocation
   rest = filter (λ a. not (is_owned own a)) all
 
-  holds : NoneHolds (ship_checks n day b)
-  holds = none-holds (ship_checks n day b) e
+  passed : NoneHolds (ship_checks n day b)
+  passed = none-holds (ship_checks n day b) e
 
   is_order : owners.is_order n ≡ true
-  is_order = some-there (table.get b.orders (n ∷ [])) holds.0
+  is_order = some-there (table.get b.orders (n ∷ [])) (passed NoSuch)
 
   up : Upright owners parts b.books
   up = upright-of owners parts b.books sound.stock
@@ -128,7 +122,7 @@ module _ (is_build : ℕ → Bool) (parts : Parts) (n : ℕ) (day : CivilDay) (b
   leaves-ship = all-served.1
 
   stock : IsSoundStock owners parts after.books × Grows b.books after.books
-  stock = sound-leads owners parts b.books after.books served.leads holds.1.1.1.1.0
+  stock = sound-leads owners parts b.books after.books served.leads (passed Full)
 
   lines-stay : LinesStay b.lines after.lines
   lines-stay m l at = (

@@ -4,9 +4,9 @@ use Rattle.std.proofs.Common.{List, [], ◌∷◌, ◌++◌, refl, ap, ◌∙◌
 use Rattle.std.specs.Prelude.{filter}
 use Rattle.std.specs.FinMap as table
 use Rattle.part_core.specs.Catalogue.{Parts}
-use Rattle.part_core.specs.Rows.{IsThere}
-use Rattle.part_core.proofs.Mapped.{row-mapped}
-use Rattle.part_core.proofs.Standing.{Stands, each-value}
+use Rattle.sheet_core.specs.Rows.{IsThere}
+use Rattle.sheet_core.proofs.Mapped.{row-mapped}
+use Rattle.sheet_core.proofs.Standing.{Stands, each-value}
 use Rattle.alloc_core.specs.Allocations.{is_for_order, is_of_item, is_owned}
 use Rattle.alloc_core.specs.declared.allocation.Allocation.{Allocation}
 use Rattle.alloc_core.specs.declared.purpose.Owner.{Owner}

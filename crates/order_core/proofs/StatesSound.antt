@@ -6,13 +6,15 @@ use Rattle.std.specs.FinMap as table
 use Rattle.std.specs.List.{list_any}
 use Rattle.std.proofs.lemmas.Bool.{eqb-false, lt-ltb}
 use Rattle.part_core.specs.Catalogue.{Parts}
-use Rattle.part_core.specs.Checks.{first}
-use Rattle.part_core.specs.Rows.{IsThere}
-use Rattle.part_core.specs.Sheet.{Table}
-use Rattle.part_core.proofs.Conditions.{and_both, none-holds, not_false, or_none}
-use Rattle.part_core.proofs.RowLemmas.{get-insert_other, right-changed, right-number}
-use Rattle.part_core.proofs.RowLemmas.{row_there, same_digit, there-insert}
-use Rattle.part_core.proofs.Standing.{Stands, get-Stands}
+use Rattle.word_core.specs.Checks.{first}
+use Rattle.sheet_core.specs.Rows.{IsThere}
+use Rattle.sheet_core.specs.Sheet.{Table}
+use Rattle.word_core.specs.declared.refusal.Refusal.TheVariants.{NoSuch, WrongState, Short}
+use Rattle.sheet_core.proofs.Conditions.{and_both, not_false, or_none}
+use Rattle.word_core.proofs.CheckLemmas.{none-holds}
+use Rattle.sheet_core.proofs.RowLemmas.{get-insert_other, right-changed, right-number}
+use Rattle.sheet_core.proofs.RowLemmas.{row_there, same_digit, there-insert}
+use Rattle.sheet_core.proofs.Standing.{Stands, get-Stands}
 use Rattle.alloc_core.specs.Allocations.{allocated_for_sale_line, is_for_order}
 use Rattle.alloc_core.specs.Allocations.{is_for_sale_line, is_owned, released_for, sum_where}
 use Rattle.alloc_core.specs.declared.allocation.Allocation.{Allocation}
@@ -21,7 +23,7 @@ use Rattle.alloc_core.specs.declared.purpose.Purpose.{Purpose}
 use Rattle.alloc_core.specs.declared.purpose.Purpose.TheVariants.{Sale}
 use Rattle.alloc_core.proofs.Sound.{sound-released}
 use Rattle.alloc_core.proofs.Sums.{sum-split}
-use Rattle.part_core.proofs.TableRows.{get-without, values-without}
+use Rattle.sheet_core.proofs.TableRows.{get-without, values-without}
 use Rattle.stock_core.specs.Sound.{IsSoundStock, OwnersStay}
 use Rattle.stock_core.specs.StockMachine.{Grows}
 use Rattle.stock_core.proofs.Checked.{there-row}
@@ -125,15 +127,15 @@ module _ (is_build : ℕ → Bool) (parts : Parts) (n : ℕ) (b : OrderBooks) (s
   pub sound-issue : first (issue_order_checks n b) ≡ None
       → AreSoundBooks is_build parts (issue_order n b) × Grows b.books (issue_order n b).books
   sound-issue e =
-      let holds = none-holds (issue_order_checks n b) e in
-      let there = there-row b.orders n holds.0 in (
+      let passed = none-holds (issue_order_checks n b) e in
+      let there = there-row b.orders n (passed NoSuch) in (
         record {
           stock = stock-kept (record (order_at n b) { state = InProgress });
           allocations = sound.allocations;
           orders =
               orders-of-state is_build parts InProgress n b sound there b.allocations (λ k a at. at)
               (λ line. omega arith)
-              (idle (pending (order_at n b).state (not_false (is_pending (order_at n b).state) holds.1.0)));
+              (idle (pending (order_at n b).state (not_false (is_pending (order_at n b).state) (passed WrongState))));
         },
         grows-none b.books,
       )
@@ -174,14 +176,14 @@ module _ (is_build : ℕ → Bool) (parts : Parts) (n : ℕ) (b : OrderBooks) (s
   pub sound-close : first (close_order_checks n b) ≡ None
       → AreSoundBooks is_build parts (close_order n b) × Grows b.books (close_order n b).books
   sound-close e =
-      let holds = none-holds (close_order_checks n b) e in
-      let there = there-row b.orders n holds.0 in (
+      let passed = none-holds (close_order_checks n b) e in
+      let there = there-row b.orders n (passed NoSuch) in (
         record {
           stock = stock-kept (record (order_at n b) { state = Complete });
           allocations = sound.allocations;
           orders =
               orders-of-state is_build parts Complete n b sound there b.allocations (λ k a at. at) (λ line. omega arith)
-              (done holds.1.1.0);
+              (done (passed Short));
         },
         grows-none b.books,
       )
@@ -192,8 +194,8 @@ module _ (is_build : ℕ → Bool) (parts : Parts) (n : ℕ) (b : OrderBooks) (s
   pub sound-cancel : first (cancel_order_checks n b) ≡ None
       → AreSoundBooks is_build parts (cancel_order n b) × Grows b.books (cancel_order n b).books
   sound-cancel e =
-      let holds = none-holds (cancel_order_checks n b) e in
-      let there = there-row b.orders n holds.0 in
+      let passed = none-holds (cancel_order_checks n b) e in
+      let there = there-row b.orders n (passed NoSuch) in
       let own = is_owned (owner.Order n) in (
         record {
           stock = stock-kept (record (order_at n b) { state = Cancelled });

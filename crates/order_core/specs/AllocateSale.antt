@@ -1,18 +1,18 @@
 -- An amount of an item is meant for a line of a sale.
 use Rattle.std.specs.Prelude.{ℕ, ◌+◌, ◌==◌, ◌||◌, not, nat_lt, List, [], ◌∷◌}
 use Rattle.std.specs.FinMap as table
-use Rattle.part_core.specs.Checks.{Check}
-use Rattle.part_core.specs.Counter.{passes_limit}
-use Rattle.part_core.specs.Quantity.{is_bad_quantity}
-use Rattle.part_core.specs.Status.{is_allocatable}
-use Rattle.part_core.specs.declared.refusal.Refusal.TheVariants.{NoSuch, BadNumber, WrongState, Mismatch, Unfit}
-use Rattle.part_core.specs.declared.refusal.Refusal.TheVariants.{NotLoose, Unavailable, Allocated, OverNeed, Full}
+use Rattle.word_core.specs.Checks.{Check}
+use Rattle.word_core.specs.Counter.{passes_limit}
+use Rattle.word_core.specs.Quantity.{is_bad_quantity}
+use Rattle.word_core.specs.Status.{is_allocatable}
+use Rattle.word_core.specs.declared.refusal.Refusal.TheVariants.{NoSuch, BadNumber, WrongState, Mismatch, Unfit}
+use Rattle.word_core.specs.declared.refusal.Refusal.TheVariants.{NotLoose, Unavailable, Allocated, OverNeed, Full}
 use Rattle.alloc_core.specs.Allocations.{allocated_for_sale_line, is_above_free}
 use Rattle.alloc_core.specs.declared.allocation.Allocation.{Allocation}
 use Rattle.alloc_core.specs.declared.purpose.Purpose.TheVariants as purpose
 use Rattle.yard_core.specs.Stock.{item_at}
 use Rattle.stock_core.specs.ItemTests.{is_loose, is_no_item, part_at}
-use Rattle.part_core.specs.Side.{is_sale}
+use Rattle.word_core.specs.Side.{is_sale}
 use Rattle.order_core.specs.Orders.{OrderBooks, is_in_progress, is_no_line, line_at, one_drawn, order_of_line}
 
 abbrev pub sale_row : ℕ → ℕ → ℕ → ℕ → ℕ → Allocation

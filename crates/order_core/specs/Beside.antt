@@ -1,6 +1,6 @@
 -- What commands of other crates owe to orders: where they leave this, orders stay sound beside what they do.
 use Rattle.part_core.specs.Catalogue.{Parts}
-use Rattle.part_core.specs.Sheet.{Table}
+use Rattle.sheet_core.specs.Sheet.{Table}
 use Rattle.alloc_core.specs.Allocations.{is_for_sale}
 use Rattle.alloc_core.specs.NoneComes.{NoneComes}
 use Rattle.alloc_core.specs.Sound.{AreSoundAllocations}

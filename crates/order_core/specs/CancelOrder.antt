@@ -1,7 +1,7 @@
 -- An order is given up.
 use Rattle.std.specs.Prelude.{ℕ, not, List, [], ◌∷◌}
-use Rattle.part_core.specs.Checks.{Check}
-use Rattle.part_core.specs.declared.refusal.Refusal.TheVariants.{NoSuch, WrongState}
+use Rattle.word_core.specs.Checks.{Check}
+use Rattle.word_core.specs.declared.refusal.Refusal.TheVariants.{NoSuch, WrongState}
 use Rattle.alloc_core.specs.Allocations.{released_for}
 use Rattle.alloc_core.specs.declared.purpose.Owner.TheVariants as owner
 use Rattle.order_core.specs.Orders.{OrderBooks, is_no_order, is_open, order_at, with_state}

@@ -1,7 +1,7 @@
 -- An order is under way.
 use Rattle.std.specs.Prelude.{ℕ, not, List, [], ◌∷◌}
-use Rattle.part_core.specs.Checks.{Check}
-use Rattle.part_core.specs.declared.refusal.Refusal.TheVariants.{NoSuch, WrongState}
+use Rattle.word_core.specs.Checks.{Check}
+use Rattle.word_core.specs.declared.refusal.Refusal.TheVariants.{NoSuch, WrongState}
 use Rattle.order_core.specs.Orders.{OrderBooks, is_no_order, is_pending, order_at, with_state}
 use Rattle.order_core.specs.declared.state.OrderState.TheVariants.{InProgress}
 

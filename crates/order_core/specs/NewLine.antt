@@ -2,15 +2,15 @@
 use Rattle.std.specs.Prelude.{ℕ, ◌||◌, not, is_none, Bool, List, [], ◌∷◌}
 use Rattle.std.specs.FinMap as table
 use Rattle.part_core.specs.Catalogue.{Parts, is_flagged, is_retired, is_virtual, part_in}
-use Rattle.part_core.specs.Checks.{Check}
-use Rattle.part_core.specs.Counter.{passes_limit}
-use Rattle.part_core.specs.Quantity.{is_bad_quantity}
-use Rattle.part_core.specs.declared.refusal.Refusal.TheVariants.{NoSuch, BadNumber, WrongFlag}
-use Rattle.part_core.specs.declared.refusal.Refusal.TheVariants.{Retired, WrongState, Full}
+use Rattle.word_core.specs.Checks.{Check}
+use Rattle.word_core.specs.Counter.{passes_limit}
+use Rattle.word_core.specs.Quantity.{is_bad_quantity}
+use Rattle.word_core.specs.declared.refusal.Refusal.TheVariants.{NoSuch, BadNumber, WrongFlag}
+use Rattle.word_core.specs.declared.refusal.Refusal.TheVariants.{Retired, WrongState, Full}
 use Rattle.order_core.specs.Orders.{OrderBooks, is_no_order, is_open, one_drawn, order_at}
 use Rattle.order_core.specs.declared.line.OrderLine.{OrderLine}
-use Rattle.part_core.specs.declared.side.Side.{Side}
-use Rattle.part_core.specs.declared.side.Side.TheVariants.{Purchase, Sale}
+use Rattle.word_core.specs.declared.side.Side.{Side}
+use Rattle.word_core.specs.declared.side.Side.TheVariants.{Purchase, Sale}
 
 -- the part may be bought, or may be sold
 abbrev pub is_suited : Side → ℕ → Parts → Bool

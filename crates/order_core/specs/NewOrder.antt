@@ -1,12 +1,12 @@
 -- A new order, of a supplier or of a customer.
 use Rattle.std.specs.Prelude.{ℕ, List, [], ◌∷◌}
 use Rattle.std.specs.FinMap as table
-use Rattle.part_core.specs.Checks.{Check}
-use Rattle.part_core.specs.Counter.{passes_limit}
-use Rattle.part_core.specs.declared.refusal.Refusal.TheVariants.{Full}
+use Rattle.word_core.specs.Checks.{Check}
+use Rattle.word_core.specs.Counter.{passes_limit}
+use Rattle.word_core.specs.declared.refusal.Refusal.TheVariants.{Full}
 use Rattle.order_core.specs.Orders.{OrderBooks, one_drawn}
 use Rattle.order_core.specs.declared.order.Order.{Order}
-use Rattle.part_core.specs.declared.side.Side.{Side}
+use Rattle.word_core.specs.declared.side.Side.{Side}
 use Rattle.order_core.specs.declared.state.OrderState.TheVariants.{Pending}
 
 abbrev pub order_row : ℕ → Side → List ℕ → Order

@@ -1,11 +1,12 @@
 -- Orders and their lines as rows of a file: id, side, partner, state; and id, owner, part, quantity, done.
 use Rattle.std.specs.Prelude.{ℕ, ◌==◌, List, [], ◌∷◌, Option, Some}
 use Rattle.std.specs.List.{find}
-use Rattle.part_core.specs.declared.column.Column.{Column}
-use Rattle.part_core.specs.declared.column.Column.TheVariants.{Whole, Text}
-use Rattle.part_core.specs.declared.side.Side.{Side}
-use Rattle.part_core.specs.Columns.{◌>>=◌, has, number_at, row_text_at}
-use Rattle.part_core.specs.Side.{side_code, side_of}
+use Rattle.sheet_core.specs.declared.column.Column.{Column}
+use Rattle.sheet_core.specs.declared.column.Column.TheVariants.{Whole, Text}
+use Rattle.word_core.specs.declared.side.Side.{Side}
+use Rattle.sheet_core.specs.Columns.{◌>>=◌, has, number_at}
+use Rattle.part_core.specs.TextColumns.{row_text_at}
+use Rattle.word_core.specs.Side.{side_code, side_of}
 use Rattle.order_core.specs.declared.line.OrderLine.{OrderLine}
 use Rattle.order_core.specs.declared.order.Order.{Order}
 use Rattle.order_core.specs.declared.state.OrderState.{OrderState}

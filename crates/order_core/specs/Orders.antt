@@ -1,13 +1,13 @@
 -- Orders and their lines: the tables, and what is read from them.
 use Rattle.std.specs.Prelude.{ℕ, ◌+◌, Bool, true, false, is_none, is_some, [], ◌∷◌, unwrap_or}
 use Rattle.std.specs.FinMap as table
-use Rattle.part_core.specs.Sheet.{Table}
+use Rattle.sheet_core.specs.Sheet.{Table}
 use Rattle.alloc_core.specs.declared.allocation.Allocation.{Allocation}
 use Rattle.yard_core.specs.StockBooks.{StockBooks, with_drawn}
 use Rattle.stock_core.specs.Sound.{Owners}
 use Rattle.order_core.specs.declared.line.OrderLine.{OrderLine}
 use Rattle.order_core.specs.declared.order.Order.{Order}
-use Rattle.part_core.specs.declared.side.Side.TheVariants.{Purchase}
+use Rattle.word_core.specs.declared.side.Side.TheVariants.{Purchase}
 use Rattle.order_core.specs.declared.state.OrderState.{OrderState}
 use Rattle.order_core.specs.declared.state.OrderState.TheVariants.{Pending, InProgress, Complete, Cancelled}
 

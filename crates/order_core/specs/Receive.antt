@@ -1,11 +1,11 @@
 -- Stock comes by a line of a purchase.
 use Rattle.std.specs.Prelude.{ℕ, ◌+◌, ◌||◌, not, nat_lt, List, [], ◌∷◌}
 use Rattle.part_core.specs.Catalogue.{Parts, is_trackable, part_in}
-use Rattle.part_core.specs.Checks.{Check}
-use Rattle.part_core.specs.Day.{CivilDay}
-use Rattle.part_core.specs.Quantity.{is_bad_quantity}
-use Rattle.part_core.specs.declared.refusal.Refusal.TheVariants.{NoSuch, BadNumber, WrongFlag, WrongState, Mismatch}
-use Rattle.part_core.specs.declared.refusal.Refusal.TheVariants.{OverNeed, SerialCount, SerialTaken, Full}
+use Rattle.word_core.specs.Checks.{Check}
+use Rattle.word_core.specs.Day.{CivilDay}
+use Rattle.word_core.specs.Quantity.{is_bad_quantity}
+use Rattle.word_core.specs.declared.refusal.Refusal.TheVariants.{NoSuch, BadNumber, WrongFlag, WrongState, Mismatch}
+use Rattle.word_core.specs.declared.refusal.Refusal.TheVariants.{OverNeed, SerialCount, SerialTaken, Full}
 use Rattle.forest.specs.declared.entry.Kind.TheVariants as kind
 use Rattle.forest.specs.declared.place.Place.TheVariants.{At}
 use Rattle.yard_core.specs.StockBooks.{is_full}
@@ -14,7 +14,7 @@ use Rattle.stock_core.specs.Serials.{are_many, are_taken, given, is_other_count}
 use Rattle.stock_core.specs.Steps.{make_new}
 use Rattle.stock_core.specs.declared.arrivals.Arrival.{Arrival}
 use Rattle.stock_core.specs.declared.arrivals.NewStock.{NewStock}
-use Rattle.part_core.specs.Side.{is_sale}
+use Rattle.word_core.specs.Side.{is_sale}
 use Rattle.order_core.specs.Orders.{OrderBooks, is_in_progress, is_no_line, line_at, order_of_line, with_done}
 
 -- stock that comes from a supplier

@@ -2,10 +2,10 @@
 use Rattle.std.specs.Prelude.{ℕ, ◌+◌, ◌≤◌, ◌==◌, ◌&&◌, Bool, true, not, nat_le, is_some, [], ◌∷◌}
 use Rattle.std.specs.FinMap as table
 use Rattle.part_core.specs.Catalogue.{Parts, part_in}
-use Rattle.part_core.specs.Quantity.{is_bad_quantity, largest}
-use Rattle.part_core.specs.Rows.{IsThere}
-use Rattle.part_core.specs.Sheet.{Table}
-use Rattle.part_core.specs.Side.{is_sale}
+use Rattle.word_core.specs.Quantity.{is_bad_quantity, largest}
+use Rattle.sheet_core.specs.Rows.{IsThere}
+use Rattle.sheet_core.specs.Sheet.{Table}
+use Rattle.word_core.specs.Side.{is_sale}
 use Rattle.alloc_core.specs.Allocations.{allocated_for_sale_line}
 use Rattle.alloc_core.specs.declared.allocation.Allocation.{Allocation}
 use Rattle.alloc_core.specs.declared.purpose.Purpose.{Purpose}

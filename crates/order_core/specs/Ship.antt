@@ -1,11 +1,11 @@
 -- What is allocated for a sale goes to the customer.
 use Rattle.std.specs.Prelude.{◌≡◌, ℕ, ◌+◌, ◌≤◌, ◌++◌, not, List, [], ◌∷◌, length, ◌==◌}
-use Rattle.part_core.specs.Checks.{Check}
-use Rattle.part_core.specs.Day.{CivilDay}
-use Rattle.part_core.specs.Quantity.{largest}
-use Rattle.part_core.specs.Rows.{EachRow, IsThere, StandRight}
-use Rattle.part_core.specs.Sheet.{Table}
-use Rattle.part_core.specs.declared.refusal.Refusal.TheVariants.{NoSuch, WrongState, Mismatch, Short, Full}
+use Rattle.word_core.specs.Checks.{Check}
+use Rattle.word_core.specs.Day.{CivilDay}
+use Rattle.word_core.specs.Quantity.{largest}
+use Rattle.sheet_core.specs.Rows.{EachRow, IsThere, StandRight}
+use Rattle.sheet_core.specs.Sheet.{Table}
+use Rattle.word_core.specs.declared.refusal.Refusal.TheVariants.{NoSuch, WrongState, Mismatch, Short, Full}
 use Rattle.forest.specs.declared.place.Place.TheVariants.{Sent}
 use Rattle.alloc_core.specs.Allocations.{allocations_of, is_for_sale_line, released_for, sum_where}
 use Rattle.alloc_core.specs.declared.allocation.Allocation.{Allocation}
@@ -15,8 +15,8 @@ use Rattle.alloc_core.specs.declared.purpose.Purpose.TheVariants.{Sale, Build}
 use Rattle.yard_core.specs.StockBooks.{StockBooks, is_full, with_stock}
 use Rattle.yard_core.specs.Stock.{lift}
 use Rattle.stock_core.specs.Serving.{serve_each}
-use Rattle.part_core.specs.TableRows.{mapped}
-use Rattle.part_core.specs.Side.{is_sale}
+use Rattle.sheet_core.specs.TableRows.{mapped}
+use Rattle.word_core.specs.Side.{is_sale}
 use Rattle.order_core.specs.Orders.{OrderBooks, done_more, is_in_progress, is_no_order, order_at}
 use Rattle.order_core.specs.declared.line.OrderLine.{OrderLine}
 

@@ -1,15 +1,15 @@
 -- What always holds of orders, beside the catalogue, the stock and the allocations.
 use Rattle.std.specs.Prelude.{◌≡◌, ℕ, ◌+◌, ◌≤◌, Bool, true}
 use Rattle.part_core.specs.Catalogue.{Parts}
-use Rattle.part_core.specs.Quantity.{largest}
-use Rattle.part_core.specs.Rows.{EachRow, IsThere, StandRight}
+use Rattle.word_core.specs.Quantity.{largest}
+use Rattle.sheet_core.specs.Rows.{EachRow, IsThere, StandRight}
 use Rattle.alloc_core.specs.Allocations.{allocated_for_sale_line}
 use Rattle.alloc_core.specs.Sound.{AreSoundAllocations}
 use Rattle.alloc_core.specs.declared.purpose.Purpose.{Purpose}
 use Rattle.alloc_core.specs.declared.purpose.Purpose.TheVariants.{Sale, Build}
 use Rattle.stock_core.specs.ItemTests.{part_at}
 use Rattle.stock_core.specs.Sound.{IsSoundStock}
-use Rattle.part_core.specs.Side.{is_sale}
+use Rattle.word_core.specs.Side.{is_sale}
 use Rattle.order_core.specs.Orders.{OrderBooks, is_in_progress, line_at, order_at, owners_beside}
 use Rattle.order_core.specs.declared.line.OrderLine.{OrderLine}
 

@@ -1,11 +1,13 @@
 //! Lines of orders.
 ghost use Rattle.std.specs.Prelude.{◌≡◌, ◌∷◌, []};
+ghost use Rattle.sheet_core.specs.Indexed.{index_key_of};
 ghost use Rattle.order_core.specs.OrderColumns.{line_columns, line_from};
 ghost use Rattle.order_core.specs.OrderKeys.{line_keys, of_order_key};
 
 use part_core::column::{has, number_at};
-use part_core::{Column, ColumnFault, Id, Indexed, Quantity, Row, Stored, index_key_of};
+use part_core::{Column, ColumnFault, Id, Indexed, Quantity, Row, Seed, Stored};
 use std::alloc::{AllocError, Global};
+use std::hash::Hash;
 
 /// A line of an order: so many of a part. `done` is what was received or shipped of it.
 #[derive(Drop, Debug)]
@@ -25,11 +27,11 @@ pub enum LineLookup {
     Order(Id),
 }
 
-/// The index key of the order's lines.
-pub fn of_order_key(number: Id) -> u64
-    ensures { result ≡ of_order_key number }
+/// The look-up of the order's lines.
+pub fn of_order_key(number: Id) -> LineLookup
+    ensures { index_key_of (⟦<LineLookup as Hash>⟧.hash_input result) ≡ of_order_key number }
 {
-    index_key_of(LineLookup::Order(number))
+    LineLookup::Order(number)
 }
 
 impl Row for OrderLine {
@@ -71,9 +73,9 @@ impl Row for OrderLine {
 impl Indexed for OrderLine {
     ghost index_keys = { line_keys };
 
-    fn index_key(&self, place: usize) -> Option<u64> {
+    fn index_key(&self, seed: &Seed, place: usize) -> Option<u64> {
         match place {
-            0 => Some(of_order_key(self.order)),
+            0 => Some(seed.hash_of(of_order_key(self.order))),
             _ => None,
         }
     }

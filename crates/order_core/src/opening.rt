@@ -4,10 +4,10 @@ ghost use Rattle.std.specs.Prelude.{◌≡◌, ◌≤◌, ◌+◌, ◌↔◌, �
 ghost use Rattle.alloc_core.specs.AllocationsView.{allocations_now};
 ghost use Rattle.alloc_core.specs.Allocations.{allocated_for_sale_line};
 ghost use Rattle.part_core.specs.CatalogueView.{parts_of};
-ghost use Rattle.part_core.specs.Filled.{StandUnderKeys};
-ghost use Rattle.part_core.specs.Quantity.{largest};
-ghost use Rattle.part_core.specs.Rows.{EachRow, IsThere, StandRight};
-ghost use Rattle.part_core.specs.Sheet.{now_of};
+ghost use Rattle.sheet_core.specs.Filled.{StandUnderKeys};
+ghost use Rattle.word_core.specs.Quantity.{largest};
+ghost use Rattle.sheet_core.specs.Rows.{EachRow, IsThere, StandRight};
+ghost use Rattle.sheet_core.specs.Sheet.{now_of};
 ghost use Rattle.yard_core.specs.YardView.{stock_of};
 ghost use Rattle.order_core.specs.OrderBooks.{order_books};
 ghost use Rattle.order_core.specs.RowTests.{HasRows, has_rows, is_sound_purpose, is_sound_sale, is_within};

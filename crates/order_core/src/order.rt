@@ -1,7 +1,7 @@
 //! Orders.
 ghost use Rattle.std.specs.Prelude.{◌∷◌, []};
 ghost use Rattle.order_core.specs.OrderColumns.{order_columns, order_from, side_at, state_at};
-ghost use Rattle.part_core.specs.Columns.{Finds};
+ghost use Rattle.sheet_core.specs.Columns.{Finds};
 
 use crate::state::OrderState;
 use part_core::column::{has, number_at, row_text_at};

@@ -3,17 +3,17 @@ ghost use Rattle.std.specs.Prelude.{◌≡◌, ◌+◌, ◌<◌, ◌^◌, ◌==�
 ghost use Rattle.std.specs.Prelude.{option_copied, IfOk, OnOk};
 ghost use Rattle.std.specs.FinMap as table;
 ghost use Rattle.std.specs.List.{list_any};
-ghost use Rattle.part_core.specs.Rows.{IsThere};
-ghost use Rattle.part_core.specs.Sheet.{now_of};
+ghost use Rattle.sheet_core.specs.Rows.{IsThere};
+ghost use Rattle.sheet_core.specs.Sheet.{now_of};
 ghost use Rattle.order_core.specs.CloseOrder.{is_missing};
-ghost use Rattle.part_core.specs.Filled.{StandUnderKeys, filled};
-ghost use Rattle.part_core.specs.Side.{is_sale};
+ghost use Rattle.sheet_core.specs.Filled.{StandUnderKeys, filled};
+ghost use Rattle.word_core.specs.Side.{is_sale};
 ghost use Rattle.order_core.specs.Orders.{done_more, in_state, is_in_progress, line_in, order_in};
 
 use crate::line::{OrderLine, of_order_key};
 use crate::order::Order;
 use crate::state::OrderState;
-use part_core::{Id, IndexedSheet, Quantity, Row, Sheet};
+use part_core::{Id, IndexedSheet, Quantity, Row, Seed, Sheet};
 use std::alloc::{AllocError, Global};
 
 /// Whether the line is of the order, and not all of it is done.
@@ -43,15 +43,15 @@ impl Drop for Orders {
 
 impl Orders {
     /// No order.
-    pub fn new(alloc: Global) -> Self
+    pub fn new(alloc: Global, seed: Seed) -> Self
         ensures orders { now_of result.orders ≡ table.empty }
         ensures lines { now_of result.lines ≡ table.empty }
         ensures orders_before { result.orders.before ≡ table.empty }
         ensures lines_before { result.lines.before ≡ table.empty }
     {
         Orders {
-            orders: Sheet::new(alloc),
-            lines: IndexedSheet::new(alloc),
+            orders: Sheet::new(alloc, seed),
+            lines: IndexedSheet::new(alloc, seed),
             alloc,
         }
     }
@@ -59,6 +59,7 @@ impl Orders {
     /// The orders and lines of these rows, now and before. An error is one of memory.
     pub fn assemble(
         alloc: Global,
+        seed: Seed,
         orders: Vec<Order>,
         lines: Vec<OrderLine>,
     ) -> Result<Self, AllocError>
@@ -69,8 +70,8 @@ impl Orders {
         ensures orders_before { IfOk result (λ all. all.orders.before ≡ now_of all.orders) }
         ensures lines_before { IfOk result (λ all. all.lines.before ≡ now_of all.lines) }
     {
-        let orders = Sheet::filled(alloc, orders)?;
-        let lines = IndexedSheet::filled(alloc, lines)?;
+        let orders = Sheet::filled(alloc, seed, orders)?;
+        let lines = IndexedSheet::filled(alloc, seed, lines)?;
         Ok(Orders {
             orders,
             lines,

@@ -5,52 +5,23 @@ use Rattle.std.proofs.Common.{Bor, drop, eqb-true, eq-eqb, get_or, map}
 use Rattle.std.specs.Prelude.{◌==◌, ◌&&◌, filter, flat_map, is_some, nat_lt, unwrap_or}
 use Rattle.std.specs.List.{list_any}
 use Rattle.std.specs.FinMap as table
-use Rattle.std.proofs.lemmas.Bool.{lt-ltb, ltb-true}
+use Rattle.std.proofs.lemmas.Bool.{lt-ltb, ltb-true, or_left, or_right}
 use Rattle.std.proofs.lemmas.List.{append-nil, append_assoc, at_drop_all, at_drop_more}
 use Rattle.std.proofs.lemmas.List.Folds.{list_any-append}
+use mathlib.Core.Bool.{or-false}
 use Rattle.part_core.specs.Catalogue.{AreFlat, Climbs, Parts, ancestors, descendants, descends, down_from, family}
 use Rattle.part_core.specs.Catalogue.{is_among, is_number, last_from, part_in, template_in, template_of, up_from, variants_in}
-use Rattle.part_core.specs.Filled.{StandUnderKeys}
-use Rattle.part_core.specs.Rows.{IsThere}
+use Rattle.sheet_core.specs.Filled.{StandUnderKeys}
+use Rattle.sheet_core.specs.Rows.{IsThere}
 use Rattle.part_core.specs.SoundCatalogue.{IsSoundCatalogue}
 use Rattle.part_core.specs.declared.part.Part.{Part}
-use Rattle.part_core.proofs.Conditions.{and_both, and_parts, not_true, or_cases}
-use Rattle.part_core.proofs.RowLemmas.{same_digit, there}
-use Rattle.part_core.proofs.Standing.{Stands, Stands-get, get-Stands}
+use Rattle.sheet_core.proofs.Conditions.{and_both, and_parts, not_true, or_cases, same_test}
+use Rattle.sheet_core.proofs.RowLemmas.{same_digit, there}
+use Rattle.sheet_core.proofs.Standing.{Stands, Stands-get, any-found, any-from, get-Stands}
 
 -- ---- truth values and lists
 
-or_left : (a b : Bool) → a ≡ true → (a || b) ≡ true
-or_left true b e = refl
-or_left false b e = cc
-
-or_right : (a b : Bool) → b ≡ true → (a || b) ≡ true
-or_right true b e = refl
-or_right false b e = e
-
-same_test : (a b : Bool) → (a ≡ true → b ≡ true) → (b ≡ true → a ≡ true) → a ≡ b
-same_test true true f g = refl
-same_test true false f g = sym (f refl)
-same_test false true f g = g refl
-same_test false false f g = refl
-
 module _ {X : Type 0} where
-  any-found : (p : X → Bool) (xs : List X) → list_any p xs ≡ true → (x : X) × Stands x xs × (p x ≡ true)
-  any-found p [] e = cc
-  any-found p (x ∷ xs) e =
-      elim (or_cases (p x) (list_any p xs) e) [
-        | inl h ↦ (x, inl refl, h)
-        | inr h ↦ let f = any-found p xs h in (f.0, inr f.1, f.2)
-      ]
-
-  any-from : (p : X → Bool) (xs : List X) (x : X) → Stands x xs → p x ≡ true → list_any p xs ≡ true
-  any-from p [] x s e = absurd s
-  any-from p (y ∷ ys) x s e =
-      elim s [
-        | inl h ↦ or_left (p y) (list_any p ys) (ap p h ∙ e)
-        | inr h ↦ or_right (p y) (list_any p ys) (any-from p ys x h e)
-      ]
-
   -- what the rows that pass add
   among-added : (added : X → List ℕ) (test : X → Bool) (xs : List X) (p : ℕ)
       → is_among (flat_map added (filter test xs)) p ≡ list_any (λ x. test x && is_among (added x) p) xs
@@ -544,10 +515,6 @@ module _ (s : Parts) (flat : AreFlat s) where
   pub flat-descends : (p t : ℕ) → descends p t s ≡ is_number t (template_in p s)
   flat-descends p t = go (template_in p s) refl
     where
-      or_false : (b : Bool) → (b || false) ≡ b
-      or_false true = refl
-      or_false false = refl
-
       go : (o : Option ℕ) → template_in p s ≡ o → descends p t s ≡ is_number t o
       go None e = ap (λ l. is_among l t) (ap (λ o. up_from 3 o s.parts) e ∙ up-none 3 s)
-      go (Some u) e = ap (λ l. is_among l t) (flat-ancestors p u e) ∙ or_false (u == t)
+      go (Some u) e = ap (λ l. is_among l t) (flat-ancestors p u e) ∙ or-false (u == t)

@@ -2,10 +2,10 @@
 use Rattle.std.proofs.Common.{◌≡◌, ◌<◌, ℕ, [], ◌∷◌, List, Option, Some, arith}
 use Rattle.std.specs.FinMap as table
 use Rattle.part_core.specs.NamedRows.{HasParent}
-use Rattle.part_core.specs.Rows.{EachRow, IsThere, StandRight}
-use Rattle.part_core.specs.Sheet.{Table}
+use Rattle.sheet_core.specs.Rows.{EachRow, IsThere, StandRight}
+use Rattle.sheet_core.specs.Sheet.{Table}
 use Rattle.part_core.specs.declared.named_row.NamedRow.{NamedRow}
-use Rattle.part_core.proofs.RowLemmas.{each-insert, each-so, row_there, same_digit, there-insert}
+use Rattle.sheet_core.proofs.RowLemmas.{each-insert, each-so, row_there, same_digit, there-insert}
 
 module _ (next : ℕ) (name : List ℕ) (parent : Option ℕ) (rows : Table NamedRow)
     (right : StandRight (λ r. r.number) next rows) where

@@ -3,16 +3,18 @@ use Rattle.std.proofs.Common.{◌≡◌, ℕ, Bool, true, false, List, Option, S
 use Rattle.std.specs.Prelude.{slice_get, ◌==◌, nat_lt, if◌then◌else◌}
 use Rattle.std.proofs.lemmas.Bool.{eqb-true, ltb-true, lt-ltb}
 use Rattle.part_core.specs.declared.part.Part.{Part}
-use Rattle.part_core.specs.declared.flags.Flags.{Flags}
-use Rattle.part_core.specs.declared.column.Column.{Column}
-use Rattle.part_core.specs.declared.column.Column.TheVariants.{Whole}
-use Rattle.part_core.specs.Columns.{has, is_bit, number_at, number_or_none_at, row_text_at, yes_at}
+use Rattle.word_core.specs.declared.flags.Flags.{Flags}
+use Rattle.sheet_core.specs.declared.column.Column.{Column}
+use Rattle.sheet_core.specs.declared.column.Column.TheVariants.{Whole}
+use Rattle.sheet_core.specs.Columns.{has, is_bit, number_at, number_or_none_at, yes_at}
+use Rattle.part_core.specs.TextColumns.{row_text_at}
 use Rattle.part_core.specs.NamedRows.{named_columns}
 use Rattle.part_core.specs.PartColumns.{part_columns, part_from, flags_at, flags_number, flags_of, flags_of_bits}
-use Rattle.part_core.specs.Text.{is_text}
-use Rattle.part_core.proofs.ColumnLemmas.{absent-read, below, bit-is, bound, found, has-is}
-use Rattle.part_core.proofs.ColumnLemmas.{number_at-is, number_or_none_at-is, row_text_at-is}
-use Rattle.part_core.proofs.ColumnLemmas.{yes_at-is, same_columns, yes-small, yes_of-number}
+use Rattle.word_core.specs.Text.{is_text}
+use Rattle.sheet_core.proofs.ColumnLemmas.{absent-read, below, bit-is, bound, found, has-is}
+use Rattle.sheet_core.proofs.ColumnLemmas.{number_at-is, number_or_none_at-is}
+use Rattle.part_core.proofs.TextColumns.{row_text_at-is}
+use Rattle.sheet_core.proofs.ColumnLemmas.{yes_at-is, same_columns, yes-small, yes_of-number}
 
 -- those of a row with a name and a parent
 pub named_told : (cs : List Column) (number : ℕ) (name : List ℕ) (parent : Option ℕ)

@@ -6,7 +6,7 @@ use Rattle.part_core.specs.PartMachine.{RowsStay}
 use Rattle.part_core.specs.RetirePart.{retire_part, retired_part}
 use Rattle.part_core.specs.declared.part.Part.{Part}
 use Rattle.part_core.specs.declared.part_command.PartCommand.TheVariants.{AddCategory, AddPart, RetirePart}
-use Rattle.part_core.proofs.RowLemmas.{stay-insert}
+use Rattle.sheet_core.proofs.RowLemmas.{stay-insert}
 
 stay-retired : (n : ℕ) (s : Parts) → AllStay s (retire_part n s)
 stay-retired n s = go (part_in n s) refl

@@ -2,10 +2,10 @@
 use Rattle.std.specs.Prelude.{ℕ, List, [], ◌∷◌, Option}
 use Rattle.std.specs.FinMap as table
 use Rattle.part_core.specs.Catalogue.{Parts, Register, category_in, is_missing}
-use Rattle.part_core.specs.Checks.{Check}
-use Rattle.part_core.specs.Counter.{drawn, passes_limit}
+use Rattle.word_core.specs.Checks.{Check}
+use Rattle.word_core.specs.Counter.{drawn, passes_limit}
 use Rattle.part_core.specs.NamedRows.{is_named}
-use Rattle.part_core.specs.declared.refusal.Refusal.TheVariants.{NoSuch, NameTaken, Full}
+use Rattle.word_core.specs.declared.refusal.Refusal.TheVariants.{NoSuch, NameTaken, Full}
 
 -- the catalogue with a category under that number
 abbrev pub with_category : ℕ → List ℕ → Option ℕ → Parts → Parts

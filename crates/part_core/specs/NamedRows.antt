@@ -4,14 +4,15 @@ use Rattle.std.specs.FinMap as table
 use Rattle.std.specs.Hash as fed
 use Rattle.std.specs.List.{list_any}
 use Rattle.std.specs.Str.{bytes_eq}
-use Rattle.part_core.specs.declared.column.Column.{Column}
-use Rattle.part_core.specs.declared.column.Column.TheVariants.{Whole, Text}
+use Rattle.sheet_core.specs.declared.column.Column.{Column}
+use Rattle.sheet_core.specs.declared.column.Column.TheVariants.{Whole, Text}
 use Rattle.part_core.specs.declared.named_row.NamedRow.{NamedRow}
-use Rattle.part_core.specs.Columns.{◌>>=◌, has, number_at, number_or_absent, number_or_none_at, row_text_at}
-use Rattle.part_core.specs.Indexed.{index_key_of}
-use Rattle.part_core.specs.Numbered.{is_same_number, passes_where_named}
-use Rattle.part_core.specs.Rows.{IsThere}
-use Rattle.part_core.specs.Sheet.{Table}
+use Rattle.sheet_core.specs.Columns.{◌>>=◌, has, number_at, number_or_absent, number_or_none_at}
+use Rattle.part_core.specs.TextColumns.{row_text_at}
+use Rattle.sheet_core.specs.Indexed.{index_key_of}
+use Rattle.word_core.specs.Numbered.{is_same_number, passes_where_named}
+use Rattle.sheet_core.specs.Rows.{IsThere}
+use Rattle.sheet_core.specs.Sheet.{Table}
 
 -- such a row of a file: id, name, parent
 abbrev pub named_columns : NamedRow → List Column

@@ -1,11 +1,12 @@
 -- A part as a row of a file: id, name, category, template, flags, retired.
 use Rattle.std.specs.Prelude.{ℕ, ◌+◌, ◌*◌, nat_lt, List, [], ◌∷◌, Option, Some, None, if◌then◌else◌}
-use Rattle.part_core.specs.declared.flags.Flags.{Flags}
+use Rattle.word_core.specs.declared.flags.Flags.{Flags}
 use Rattle.part_core.specs.declared.part.Part.{Part}
-use Rattle.part_core.specs.declared.column.Column.{Column}
-use Rattle.part_core.specs.declared.column.Column.TheVariants.{Whole, Text}
-use Rattle.part_core.specs.Columns.{◌>>=◌, has, number_at, number_or_none_at, row_text_at}
-use Rattle.part_core.specs.Columns.{yes_at, number_or_absent, yes_number, is_bit}
+use Rattle.sheet_core.specs.declared.column.Column.{Column}
+use Rattle.sheet_core.specs.declared.column.Column.TheVariants.{Whole, Text}
+use Rattle.sheet_core.specs.Columns.{◌>>=◌, has, number_at, number_or_none_at}
+use Rattle.part_core.specs.TextColumns.{row_text_at}
+use Rattle.sheet_core.specs.Columns.{yes_at, number_or_absent, yes_number, is_bit}
 
 -- flags as a number, each a bit of it
 abbrev pub flags_number : Flags → ℕ

@@ -1,7 +1,7 @@
 -- What a part is looked up by in an index.
 use Rattle.std.specs.Prelude.{ℕ, List, [], ◌∷◌, ◌++◌, Option, Some, None, pos}
 use Rattle.std.specs.Hash as fed
-use Rattle.part_core.specs.Indexed.{index_key_of}
+use Rattle.sheet_core.specs.Indexed.{index_key_of}
 use Rattle.part_core.specs.declared.part.Part.{Part}
 
 -- the index key of what has the name

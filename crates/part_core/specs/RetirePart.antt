@@ -2,9 +2,9 @@
 use Rattle.std.specs.Prelude.{ℕ, true, is_none, List, [], ◌∷◌, Option, Some, None}
 use Rattle.std.specs.FinMap as table
 use Rattle.part_core.specs.Catalogue.{Parts, is_retired, part_in}
-use Rattle.part_core.specs.Checks.{Check}
+use Rattle.word_core.specs.Checks.{Check}
 use Rattle.part_core.specs.declared.part.Part.{Part}
-use Rattle.part_core.specs.declared.refusal.Refusal.TheVariants.{NoSuch, Retired}
+use Rattle.word_core.specs.declared.refusal.Refusal.TheVariants.{NoSuch, Retired}
 
 -- a part, retired
 abbrev pub retired_part : Part → Part

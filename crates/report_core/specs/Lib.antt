@@ -1,10 +1,13 @@
 pub mod Columns
 pub mod Content
+pub mod Cut
+pub mod Escaped
 pub mod Fields
 pub mod History
 pub mod Ledger
 pub mod Lines
 pub mod Names
+pub mod Records
 pub mod Reports
 pub mod Shortage
 pub mod Stock

@@ -5,9 +5,9 @@ use Rattle.std.specs.declared.alloc.Global.{Global}
 use Rattle.std.specs.declared.vec.Vec.{Vec}
 use Rattle.serde_json.specs.Data.{Data, string, array}
 use Rattle.serde_json.specs.View.{items_of}
-use Rattle.part_core.specs.declared.refusal.CoreFault.{CoreFault}
-use Rattle.part_core.specs.declared.refusal.CoreFault.TheVariants.{Refused, Memory}
-use Rattle.part_core.specs.declared.refusal.Refusal.TheVariants.{NoSuch}
+use Rattle.word_core.specs.declared.refusal.CoreFault.{CoreFault}
+use Rattle.word_core.specs.declared.refusal.CoreFault.TheVariants.{Refused, Memory}
+use Rattle.word_core.specs.declared.refusal.Refusal.TheVariants.{NoSuch}
 
 -- lines of fields, each the bytes of a text
 abbrev pub Lines : Type 0

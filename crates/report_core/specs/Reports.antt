@@ -1,6 +1,6 @@
 -- The lines of each report.
 use Rattle.std.specs.Prelude.{ℕ, Option, Result}
-use Rattle.part_core.specs.declared.refusal.CoreFault.{CoreFault}
+use Rattle.word_core.specs.declared.refusal.CoreFault.{CoreFault}
 use Rattle.desk_core.specs.Machine.{State}
 use Rattle.report_core.specs.declared.name.ReportName.{ReportName}
 use Rattle.report_core.specs.declared.name.ReportName.TheVariants.{Ledger, Stock, WhereUsed, History, Content, Shortage}

@@ -2,7 +2,7 @@
 use Rattle.std.specs.Prelude.{ℕ, Bool, ◌&&◌, ◌==◌, not, List, [], ◌∷◌, map, filter, decimal, Option, option_map}
 use Rattle.std.specs.FinMap as table
 use Rattle.part_core.specs.Catalogue.{part_in}
-use Rattle.part_core.specs.Status.{status_name}
+use Rattle.word_core.specs.Status.{status_name}
 use Rattle.forest.specs.declared.item.Item.{Item}
 use Rattle.yard_core.specs.Stock.{is_gone}
 use Rattle.desk_core.specs.Machine.{State}

@@ -1,8 +1,7 @@
 //! Runs that look at all lines before the first is run.
-use desk_app::{LineOptions, run_checked};
-use desk_core::Shop;
-use desk_ends::RunEnd;
-use part_core::Limits;
+use desk_app::{LineOptions, RunOptions, run_checked};
+use desk_core::{RunEnd, Shop};
+use part_core::{Limits, Seed};
 use std::test::Fail;
 use store_play::devices::Sink;
 use store_play::outcomes::holds;
@@ -47,15 +46,14 @@ const NUMBERED: &str = r#"{"fault":"WrongType","line":2}
 #[test]
 fn nothing_is_run_of_a_faulty_text(rt: HostRuntime) -> Result<(), Fail> {
     let alloc = rt.alloc();
-    let mut shop = Shop::new(alloc, Limits::LARGEST);
+    let mut shop = Shop::new(alloc, Seed::new(0), Limits::LARGEST);
     let mut sink = Sink::new(alloc, 4096);
     let end = run_checked(
         alloc,
         FAULTY.as_bytes(),
         &mut sink,
         &mut shop,
-        LineOptions::NAMED,
-        false,
+        RunOptions::NAMED,
     );
     holds(end == RunEnd::Done(false), "a faulty text ends otherwise")?;
     holds(
@@ -68,8 +66,7 @@ fn nothing_is_run_of_a_faulty_text(rt: HostRuntime) -> Result<(), Fail> {
         READABLE.as_bytes(),
         &mut sink,
         &mut shop,
-        LineOptions::NAMED,
-        false,
+        RunOptions::NAMED,
     );
     holds(end == RunEnd::Done(false), "a refusal ends otherwise")?;
     holds(
@@ -81,15 +78,17 @@ fn nothing_is_run_of_a_faulty_text(rt: HostRuntime) -> Result<(), Fail> {
 #[test]
 fn a_text_is_run_to_its_first_refusal(rt: HostRuntime) -> Result<(), Fail> {
     let alloc = rt.alloc();
-    let mut shop = Shop::new(alloc, Limits::LARGEST);
+    let mut shop = Shop::new(alloc, Seed::new(0), Limits::LARGEST);
     let mut sink = Sink::new(alloc, 4096);
     let end = run_checked(
         alloc,
         READABLE.as_bytes(),
         &mut sink,
         &mut shop,
-        LineOptions::NAMED,
-        true,
+        RunOptions {
+            lines: LineOptions::NAMED,
+            stop: true,
+        },
     );
     holds(end == RunEnd::Done(false), "a refusal ends otherwise")?;
     holds(
@@ -101,15 +100,14 @@ fn a_text_is_run_to_its_first_refusal(rt: HostRuntime) -> Result<(), Fail> {
 #[test]
 fn a_name_is_a_fault_where_none_may_be_said(rt: HostRuntime) -> Result<(), Fail> {
     let alloc = rt.alloc();
-    let mut shop = Shop::new(alloc, Limits::LARGEST);
+    let mut shop = Shop::new(alloc, Seed::new(0), Limits::LARGEST);
     let mut sink = Sink::new(alloc, 4096);
     let end = run_checked(
         alloc,
         READABLE.as_bytes(),
         &mut sink,
         &mut shop,
-        LineOptions::PLAIN,
-        false,
+        RunOptions::PLAIN,
     );
     holds(end == RunEnd::Done(false), "a faulty text ends otherwise")?;
     holds(

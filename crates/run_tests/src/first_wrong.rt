@@ -1,8 +1,7 @@
 //! Runs that stop at the first line that is refused or faulty, and runs of the same lines that don't.
-use desk_app::{LineOptions, run_lines};
-use desk_core::Shop;
-use desk_ends::RunEnd;
-use part_core::Limits;
+use desk_app::{LineOptions, RunOptions, run_lines};
+use desk_core::{RunEnd, Shop};
+use part_core::{Limits, Seed};
 use std::alloc::Global;
 use std::test::Fail;
 use store_play::devices::{Sink, Source};
@@ -59,7 +58,7 @@ fn runs(
     end: RunEnd,
     told: [&str; 2],
 ) -> Result<(), Fail> {
-    let mut shop = Shop::new(alloc, Limits::LARGEST);
+    let mut shop = Shop::new(alloc, Seed::new(0), Limits::LARGEST);
     let mut source = Source::new(lines.as_bytes(), step);
     let mut sink = Sink::new(alloc, 4096);
     let ended = run_lines(
@@ -67,8 +66,10 @@ fn runs(
         &mut source,
         &mut sink,
         &mut shop,
-        LineOptions::PLAIN,
-        stop,
+        RunOptions {
+            lines: LineOptions::PLAIN,
+            stop,
+        },
     );
     holds(ended == end, "another end")?;
     holds(
@@ -76,14 +77,7 @@ fn runs(
         "another answer",
     )?;
     let (mut next, mut sink) = (NEXT.as_bytes(), Sink::new(alloc, 4096));
-    run_lines(
-        alloc,
-        &mut next,
-        &mut sink,
-        &mut shop,
-        LineOptions::PLAIN,
-        false,
-    );
+    run_lines(alloc, &mut next, &mut sink, &mut shop, RunOptions::PLAIN);
     holds(
         sink.bytes.as_slice() == told[1].as_bytes(),
         "another answer to what comes next",

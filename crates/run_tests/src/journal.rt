@@ -1,8 +1,7 @@
 //! Runs with a journal: what is answered is what is answered without one, and each request that is accepted is kept.
-use desk_app::{LineOptions, run_checked, run_lines};
-use desk_core::Shop;
-use desk_ends::RunEnd;
-use part_core::Limits;
+use desk_app::{LineOptions, RunOptions, run_checked, run_lines};
+use desk_core::{RunEnd, Shop};
+use part_core::{Limits, Seed};
 use std::alloc::Global;
 use std::test::Fail;
 use store_play::devices::{Sink, Source};
@@ -49,9 +48,12 @@ const KEPT: [&str; 6] = [
 const GIVEN: [&str; 2] = ["2030-01-02/3", "2030-01-03/6"];
 
 /// Lines with a journal, in which no row may be named.
-const JOURNAL: LineOptions = LineOptions {
-    names: false,
-    journal: true,
+const JOURNAL: RunOptions = RunOptions {
+    lines: LineOptions {
+        names: false,
+        journal: true,
+    },
+    stop: false,
 };
 
 /// Fails where answers are kept under other keys.
@@ -68,11 +70,11 @@ fn are_kept(alloc: Global, shop: &Shop, keys: &[&str]) -> Result<(), Fail> {
 }
 
 /// Runs the lines on an empty shop, some bytes at a time.
-fn runs(alloc: Global, options: LineOptions, step: usize, keys: &[&str]) -> Result<(), Fail> {
-    let mut shop = Shop::new(alloc, Limits::LARGEST);
+fn runs(alloc: Global, options: RunOptions, step: usize, keys: &[&str]) -> Result<(), Fail> {
+    let mut shop = Shop::new(alloc, Seed::new(0), Limits::LARGEST);
     let mut source = Source::new(LINES.as_bytes(), step);
     let mut sink = Sink::new(alloc, 4096);
-    let end = run_lines(alloc, &mut source, &mut sink, &mut shop, options, false);
+    let end = run_lines(alloc, &mut source, &mut sink, &mut shop, options);
     holds(end == RunEnd::Done(false), "another end")?;
     holds(
         sink.bytes.as_slice() == ANSWERS.as_bytes(),
@@ -86,7 +88,7 @@ fn a_journal_keeps_what_is_accepted(rt: HostRuntime) -> Result<(), Fail> {
     let alloc = rt.alloc();
     for step in [4096, 1] {
         runs(alloc, JOURNAL, step, KEPT.as_slice())?;
-        runs(alloc, LineOptions::PLAIN, step, GIVEN.as_slice())?;
+        runs(alloc, RunOptions::PLAIN, step, GIVEN.as_slice())?;
     }
     Ok(())
 }
@@ -100,20 +102,16 @@ const NAMED: &str = r#"{"day":"2030-01-02","do":"add_location","name":"A"}
 #[test]
 fn a_journal_is_kept_of_lines_that_were_looked_at(rt: HostRuntime) -> Result<(), Fail> {
     let alloc = rt.alloc();
-    let mut shop = Shop::new(alloc, Limits::LARGEST);
+    let mut shop = Shop::new(alloc, Seed::new(0), Limits::LARGEST);
     let mut sink = Sink::new(alloc, 4096);
-    let options = LineOptions {
-        names: true,
-        journal: true,
+    let options = RunOptions {
+        lines: LineOptions {
+            names: true,
+            journal: true,
+        },
+        stop: false,
     };
-    let end = run_checked(
-        alloc,
-        NAMED.as_bytes(),
-        &mut sink,
-        &mut shop,
-        options,
-        false,
-    );
+    let end = run_checked(alloc, NAMED.as_bytes(), &mut sink, &mut shop, options);
     holds(end == RunEnd::Done(true), "another end")?;
     let keys = ["2030-01-02/1", "2030-01-02/2", "2030-01-02/3"];
     are_kept(alloc, &shop, keys.as_slice())

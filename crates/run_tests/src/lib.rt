@@ -1,5 +1,5 @@
-//! Runs that stop at what is wrong, runs that look at all lines first, runs with a journal, and why lines and rows aren't
-//! done.
+//! Runs that stop at what is wrong, runs that look at all lines first, runs with a journal, why lines and rows aren't done,
+//! and the statuses that the program ends with.
 #![tactic(auto)]
 
 #[cfg(test)]
@@ -10,3 +10,5 @@ mod first_wrong;
 mod journal;
 #[cfg(test)]
 mod reasons;
+#[cfg(test)]
+mod statuses;

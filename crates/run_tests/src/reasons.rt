@@ -4,12 +4,12 @@ ghost use Rattle.desk_core.specs.Machine.{IsSoundState};
 ghost use Rattle.desk_core.specs.ShopView.{state_of};
 
 use desk_app::{
-    Books, ExplainedBooks, LineOptions, explain_faults, import_file, run_in_memory, run_lines,
+    Books, ExplainedBooks, ImportOf, LineOptions, RunOptions, explain_faults, guide_to,
+    import_file, run_in_memory, run_lines,
 };
-use desk_core::Shop;
-use desk_ends::{RunEnd, guide_to};
+use desk_core::{RunEnd, Shop};
 use desk_wire::{FileReading, ImportKind};
-use part_core::Limits;
+use part_core::{Limits, Seed};
 use std::alloc::Global;
 use std::str;
 use std::test::Fail;
@@ -106,8 +106,7 @@ fn explains_lines<B: Books + Drop>(
         &mut source,
         &mut answers,
         &mut explained,
-        LineOptions::NAMED,
-        false,
+        RunOptions::NAMED,
     );
     explained.into_books();
     end
@@ -118,7 +117,7 @@ fn tells_why_lines_are_not_done(rt: HostRuntime) -> Result<(), Fail> {
     let alloc = rt.alloc();
     for step in [4096, 1] {
         let mut told = Sink::new(alloc, step);
-        let shop = Shop::new(alloc, Limits::LARGEST);
+        let shop = Shop::new(alloc, Seed::new(0), Limits::LARGEST);
         let end = explains_lines(alloc, shop, LINES, step, &mut told);
         holds(end == RunEnd::Done(false), "another end")?;
         begin_so(&told, TOLD.as_slice())?;
@@ -130,7 +129,7 @@ fn tells_why_lines_are_not_done(rt: HostRuntime) -> Result<(), Fail> {
 fn escapes_what_a_terminal_acts_on(rt: HostRuntime) -> Result<(), Fail> {
     let alloc = rt.alloc();
     let mut told = Sink::new(alloc, 4096);
-    let shop = Shop::new(alloc, Limits::LARGEST);
+    let shop = Shop::new(alloc, Seed::new(0), Limits::LARGEST);
     let end = explains_lines(alloc, shop, HIDDEN, 4096, &mut told);
     holds(end == RunEnd::Done(false), "another end")?;
     begin_so(&told, ESCAPED.as_slice())
@@ -140,7 +139,7 @@ fn escapes_what_a_terminal_acts_on(rt: HostRuntime) -> Result<(), Fail> {
 fn tells_of_names_that_are_near_or_blank(rt: HostRuntime) -> Result<(), Fail> {
     let alloc = rt.alloc();
     let mut told = Sink::new(alloc, 4096);
-    let shop = Shop::new(alloc, Limits::LARGEST);
+    let shop = Shop::new(alloc, Seed::new(0), Limits::LARGEST);
     let end = explains_lines(alloc, shop, NEAR, 4096, &mut told);
     holds(end == RunEnd::Done(true), "another end")?;
     begin_so(&told, NOTED.as_slice())
@@ -154,22 +153,22 @@ fn tells_nobody_who_does_not_ask(rt: HostRuntime) -> Result<(), Fail> {
     let nobody = None::<&mut Sink>;
     let end = run_in_memory(
         alloc,
+        Seed::new(0),
         &mut source,
         &mut answers,
         nobody,
-        LineOptions::NAMED,
-        false,
+        RunOptions::NAMED,
     );
     holds(end == RunEnd::Done(false), "another end")?;
     let mut source = Source::new(LINES.as_bytes(), 4096);
     let mut again = Sink::new(alloc, 4096);
     let end = run_in_memory(
         alloc,
+        Seed::new(0),
         &mut source,
         &mut again,
         Some(&mut told),
-        LineOptions::NAMED,
-        false,
+        RunOptions::NAMED,
     );
     holds(end == RunEnd::Done(false), "another end")?;
     holds(
@@ -191,7 +190,7 @@ fn tells_the_faults_of_a_check(rt: HostRuntime) -> Result<(), Fail> {
 fn stocked(alloc: Global) -> Result<Shop, Fail>
     ensures { IfOk result (λ shop. IsSoundState (state_of shop)) }
 {
-    let mut shop = Shop::new(alloc, Limits::LARGEST);
+    let mut shop = Shop::new(alloc, Seed::new(0), Limits::LARGEST);
     let mut source = Source::new(LINES.as_bytes(), 4096);
     let mut answers = Sink::new(alloc, 4096);
     run_lines(
@@ -199,8 +198,10 @@ fn stocked(alloc: Global) -> Result<Shop, Fail>
         &mut source,
         &mut answers,
         &mut shop,
-        LineOptions::NAMED,
-        true,
+        RunOptions {
+            lines: LineOptions::NAMED,
+            stop: true,
+        },
     );
     Ok(shop)
 }
@@ -216,20 +217,16 @@ fn explains_rows<B: Books + Drop>(
 ) -> Result<(), Fail>
     requires { B.are_kept books }
 {
-    let (document, day) = (document(alloc)?, day("2030-01-03")?);
-    let kind = ImportKind::Counts;
-    let mut explained = ExplainedBooks::new(alloc, books, Some(told));
-    import_file(
-        alloc,
-        file.as_bytes(),
-        kind,
-        &document,
-        day,
+    let document = document(alloc)?;
+    let asked = ImportOf {
+        kind: ImportKind::Counts,
+        document: &document,
+        day: day("2030-01-03")?,
         reading,
-        false,
-        sink,
-        &mut explained,
-    );
+        names: false,
+    };
+    let mut explained = ExplainedBooks::new(alloc, books, Some(told));
+    import_file(alloc, file.as_bytes(), &asked, sink, &mut explained);
     explained.into_books();
     Ok(())
 }

@@ -5,8 +5,10 @@ ghost use Rattle.sqlite.specs.Held.{state};
 ghost use Rattle.sqlite.specs.State.{HasCleanDisk};
 
 use crate::requests::{DELIVERED, FIRST};
-use desk_app::{Books, BooksService, LineOptions, import_file, read_file, run_lines};
-use desk_ends::RunEnd;
+use desk_app::{
+    Books, BooksService, ImportOf, LineOptions, RunOptions, import_file, read_file, run_lines,
+};
+use desk_core::RunEnd;
 use desk_http::Served;
 use desk_play::ask::ask;
 use desk_play::play::{lines_in, plays_on};
@@ -125,19 +127,15 @@ fn delivers<R: Read, B: Books>(
         Ok(file) => file,
         Err(stop) => return Ok(stop.end()),
     };
-    let (document, day) = (document(alloc)?, day("2030-03-01")?);
-    let kind = ImportKind::Receipts;
-    Ok(import_file(
-        alloc,
-        &file,
-        kind,
-        &document,
-        day,
-        FileReading::Strict,
-        false,
-        sink,
-        books,
-    ))
+    let document = document(alloc)?;
+    let asked = ImportOf {
+        kind: ImportKind::Receipts,
+        document: &document,
+        day: day("2030-03-01")?,
+        reading: FileReading::Strict,
+        names: false,
+    };
+    Ok(import_file(alloc, &file, &asked, sink, books))
 }
 
 /// Takes in to the books what comes that way: how it ends, and the books.
@@ -156,7 +154,7 @@ fn comes_in<R: Read, B: Books + Drop>(
         return Ok((end_of_connection(served), service.books));
     }
     let end = if way == Way::Lines {
-        run_lines(alloc, reader, sink, &mut books, LineOptions::PLAIN, false)
+        run_lines(alloc, reader, sink, &mut books, RunOptions::PLAIN)
     } else {
         delivers(alloc, reader, sink, &mut books)?
     };

@@ -4,13 +4,12 @@ ghost use Rattle.std.specs.Prelude.{IfOk};
 ghost use Rattle.desk_core.specs.Machine.{IsSoundState};
 ghost use Rattle.desk_core.specs.ShopView.{state_of};
 
-use desk_app::{CountedBooks, import_file, read_file};
-use desk_core::Shop;
-use desk_ends::{RunEnd, Stop};
+use desk_app::{CountedBooks, ImportOf, import_file, read_file};
+use desk_core::{RunEnd, Shop, Stop};
 use desk_play::imports::imports;
 use desk_play::play::plays_on_shop;
 use desk_wire::{FileReading, ImportKind};
-use part_core::Limits;
+use part_core::{Limits, Seed};
 use std::alloc::Global;
 use std::io::ErrorKind;
 use std::test::Fail;
@@ -24,7 +23,7 @@ use store_play::outcomes::holds;
 fn ordered(alloc: Global) -> Result<Shop, Fail>
     ensures { IfOk result (λ shop. IsSoundState (state_of shop)) }
 {
-    let mut shop = Shop::new(alloc, Limits::LARGEST);
+    let mut shop = Shop::new(alloc, Seed::new(0), Limits::LARGEST);
     plays_on_shop(alloc, &mut shop, ORDERED, ORDERED_OUT)?;
     Ok(shop)
 }
@@ -147,17 +146,15 @@ fn imports_none(alloc: Global, rows: &str, length: usize) -> Result<(RunEnd, Sin
     file.resize(file.len().max(length), b'\n')?;
     let mut shop = ordered(alloc)?;
     let mut sink = Sink::new(alloc, 1);
-    let end = import_file(
-        alloc,
-        &file,
-        ImportKind::Receipts,
-        &document(alloc)?,
-        day("2030-03-01")?,
-        FileReading::Strict,
-        false,
-        &mut sink,
-        &mut shop,
-    );
+    let document = document(alloc)?;
+    let asked = ImportOf {
+        kind: ImportKind::Receipts,
+        document: &document,
+        day: day("2030-03-01")?,
+        reading: FileReading::Strict,
+        names: false,
+    };
+    let end = import_file(alloc, &file, &asked, &mut sink, &mut shop);
     plays_on_shop(alloc, &mut shop, STOCK, "{\"report\":[]}\n")?;
     Ok((end, sink))
 }
@@ -228,17 +225,16 @@ fn tells_how_many(alloc: Global, times: u64, told: &str) -> Result<(), Fail> {
     let file = counted(alloc, times)?;
     let mut terminal = Sink::new(alloc, 4096);
     let mut books = CountedBooks::new(shop, Some(&mut terminal));
-    let end = import_file(
-        alloc,
-        file.as_bytes(),
-        ImportKind::Counts,
-        &document(alloc)?,
-        day("2030-03-02")?,
-        FileReading::Strict,
-        false,
-        &mut Sink::new(alloc, 4096),
-        &mut books,
-    );
+    let document = document(alloc)?;
+    let asked = ImportOf {
+        kind: ImportKind::Counts,
+        document: &document,
+        day: day("2030-03-02")?,
+        reading: FileReading::Strict,
+        names: false,
+    };
+    let mut sink = Sink::new(alloc, 4096);
+    let end = import_file(alloc, file.as_bytes(), &asked, &mut sink, &mut books);
     let mut shop = books.into_books();
     holds(end == RunEnd::Done(true), "a row is refused")?;
     holds(

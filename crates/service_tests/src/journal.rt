@@ -1,8 +1,9 @@
 //! Requests of HTTP with a journal: each that is accepted is kept, under a key where it has none.
+use crate::readings::serving;
 use crate::requests::asks_all;
-use desk_app::{BooksService, LineOptions};
+use desk_app::LineOptions;
 use desk_core::Shop;
-use part_core::Limits;
+use part_core::{Limits, Seed};
 use std::test::Fail;
 use store_play::outcomes::holds;
 
@@ -29,12 +30,12 @@ const REQUESTS: [[&str; 2]; 4] = [
 #[test]
 fn requests_are_kept(rt: HostRuntime) -> Result<(), Fail> {
     let alloc = rt.alloc();
-    let books = Shop::new(alloc, Limits::LARGEST);
+    let books = Shop::new(alloc, Seed::new(0), Limits::LARGEST);
     let options = LineOptions {
         names: false,
         journal: true,
     };
-    let mut service = BooksService::new(books, options, None);
+    let mut service = serving(books, options, None);
     asks_all(alloc, &mut service, 1, REQUESTS.as_slice())?;
     let answers = service.books.answers();
     holds(answers.len() == 3, "more or fewer answers are kept")?;

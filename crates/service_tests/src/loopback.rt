@@ -4,7 +4,7 @@ use crate::requests::{FIRST, LINES, NOTHING};
 use desk_app::LineOptions;
 use desk_core::Shop;
 use desk_http::{Access, Clients, Site, serve_connections};
-use part_core::Limits;
+use part_core::{Limits, Seed};
 use std::alloc::Global;
 use std::io::{self, Read, Write};
 use std::net::{Ipv4Addr, Shutdown, TcpListener, TcpStream};
@@ -29,7 +29,7 @@ fn got(alloc: Global, mut client: TcpStream, answer: &str) -> Result<(), Fail> {
 #[test]
 fn serve_loopback(rt: HostRuntime) -> Result<(), Fail> {
     let alloc = rt.alloc();
-    let books = Shop::new(alloc, Limits::LARGEST);
+    let books = Shop::new(alloc, Seed::new(0), Limits::LARGEST);
     let mut service = serving(books, LineOptions::PLAIN, None);
     let listener = TcpListener::bind(&rt, (Ipv4Addr::LOCALHOST, 0))?;
     let first = asked(&rt, &listener, FIRST[0])?;

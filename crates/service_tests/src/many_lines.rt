@@ -10,7 +10,7 @@ use desk_http::{
     serve_one,
 };
 use desk_store::Desk;
-use part_core::Limits;
+use part_core::{Limits, Seed};
 use sqlite::FileStore;
 use std::alloc::Global;
 use std::test::Fail;
@@ -130,7 +130,7 @@ fn lines_are_taken_as_lines(rt: HostRuntime) -> Result<(), Fail> {
         names: true,
         journal: true,
     };
-    let books = Shop::new(alloc, Limits::LARGEST);
+    let books = Shop::new(alloc, Seed::new(0), Limits::LARGEST);
     let mut kept = serving(books, options, None);
     let made = (
         "answers",

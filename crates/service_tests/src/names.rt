@@ -1,11 +1,10 @@
 //! Rows that are said by what they are called, in lines, in a file and by HTTP, where that is allowed and where it isn't.
 use crate::requests::asks_all;
-use desk_app::{BooksService, LineOptions, import_file, run_lines};
-use desk_core::Shop;
-use desk_ends::RunEnd;
+use desk_app::{BooksService, ImportOf, LineOptions, RunOptions, import_file, run_lines};
+use desk_core::{RunEnd, Shop};
 use desk_play::play::plays_on;
 use desk_wire::{FileReading, ImportKind};
-use part_core::Limits;
+use part_core::{Limits, Seed};
 use sqlite::Connection;
 use std::alloc::Global;
 use std::test::Fail;
@@ -48,11 +47,11 @@ const NUMBERED: &str = r#"{"entries":0,"ids":[1]}
 "#;
 
 /// Runs the lines on a desk with nothing in it, some bytes at a time.
-fn runs(alloc: Global, options: LineOptions, step: usize, answers: &str) -> Result<(), Fail> {
+fn runs(alloc: Global, options: RunOptions, step: usize, answers: &str) -> Result<(), Fail> {
     let mut desk = created(alloc, Connection::open_in_memory(alloc)?)?;
     let mut source = Source::new(LINES.as_bytes(), step);
     let mut sink = Sink::new(alloc, step);
-    let end = run_lines(alloc, &mut source, &mut sink, &mut desk, options, false);
+    let end = run_lines(alloc, &mut source, &mut sink, &mut desk, options);
     holds(end == RunEnd::Done(false), "another end")?;
     holds(
         sink.bytes.as_slice() == answers.as_bytes(),
@@ -64,8 +63,8 @@ fn runs(alloc: Global, options: LineOptions, step: usize, answers: &str) -> Resu
 fn lines_with_names(rt: HostRuntime) -> Result<(), Fail> {
     let alloc = rt.alloc();
     for step in [4096, 1] {
-        runs(alloc, LineOptions::NAMED, step, NAMED)?;
-        runs(alloc, LineOptions::PLAIN, step, NUMBERED)?;
+        runs(alloc, RunOptions::NAMED, step, NAMED)?;
+        runs(alloc, RunOptions::PLAIN, step, NUMBERED)?;
     }
     Ok(())
 }
@@ -84,22 +83,18 @@ fn is_imported(
     end: RunEnd,
     told: &str,
 ) -> Result<(), Fail> {
-    let mut shop = Shop::new(alloc, Limits::LARGEST);
+    let mut shop = Shop::new(alloc, Seed::new(0), Limits::LARGEST);
     plays_on(alloc, &mut shop, ORDERED, ORDERED_OUT)?;
     let mut sink = Sink::new(alloc, 4096);
-    let kind = ImportKind::Receipts;
-    let (document, day) = (document(alloc)?, day("2030-03-01")?);
-    let ended = import_file(
-        alloc,
-        file.as_bytes(),
-        kind,
-        &document,
-        day,
-        FileReading::Strict,
+    let document = document(alloc)?;
+    let asked = ImportOf {
+        kind: ImportKind::Receipts,
+        document: &document,
+        day: day("2030-03-01")?,
+        reading: FileReading::Strict,
         names,
-        &mut sink,
-        &mut shop,
-    );
+    };
+    let ended = import_file(alloc, file.as_bytes(), &asked, &mut sink, &mut shop);
     holds(ended == end, "another end")?;
     holds(sink.bytes.as_slice() == told.as_bytes(), "another report")
 }
@@ -133,7 +128,7 @@ const REQUESTS: [[&str; 2]; 3] = [
 #[test]
 fn requests_with_names(rt: HostRuntime) -> Result<(), Fail> {
     let alloc = rt.alloc();
-    let mut books = Shop::new(alloc, Limits::LARGEST);
+    let mut books = Shop::new(alloc, Seed::new(0), Limits::LARGEST);
     plays_on(alloc, &mut books, ORDERED, ORDERED_OUT)?;
     let mut service = BooksService::new(books, LineOptions::NAMED, None);
     asks_all(alloc, &mut service, 1, REQUESTS.as_slice())

@@ -5,7 +5,7 @@ ghost use Rattle.desk_core.specs.ShopView.{state_of};
 use desk_app::{Books, BooksService, LineOptions};
 use desk_core::Shop;
 use desk_http::{NoReply, Outcome, Reply, Service, Tag};
-use part_core::Limits;
+use part_core::{Limits, Seed};
 use std::alloc::Global;
 use std::test::Fail;
 use store_play::outcomes::holds;
@@ -44,7 +44,7 @@ pub fn service(alloc: Global, accepted: u64) -> BooksService<Shop>
     ensures { IsSoundState (state_of result.books) }
 {
     BooksService {
-        books: Shop::new(alloc, Limits::LARGEST),
+        books: Shop::new(alloc, Seed::new(0), Limits::LARGEST),
         options: LineOptions::PLAIN,
         tag: Some(Tag {
             began: BEGAN,

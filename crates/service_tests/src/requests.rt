@@ -9,7 +9,7 @@ use desk_core::Shop;
 use desk_http::Served;
 use desk_play::ask::ask;
 use desk_play::play::plays_on;
-use part_core::Limits;
+use part_core::{Limits, Seed};
 use sqlite::{Alter, Connection};
 use std::alloc::Global;
 use std::test::Fail;
@@ -236,8 +236,8 @@ fn is_served_by_desk<S: Alter + Drop>(alloc: Global, conn: Connection<S>) -> Res
 #[test]
 fn a_shop_is_asked(rt: HostRuntime) -> Result<(), Fail> {
     let alloc = rt.alloc();
-    let books = Shop::new(alloc, Limits::LARGEST);
-    let mut service = BooksService::new(books, LineOptions::PLAIN, None);
+    let books = Shop::new(alloc, Seed::new(0), Limits::LARGEST);
+    let mut service = serving(books, LineOptions::PLAIN, None);
     is_served(alloc, &mut service, 4096)
 }
 

@@ -9,7 +9,7 @@ use crate::requests::{
 };
 use build_core::required;
 use desk_core::{Request, Shop};
-use part_core::{CoreFault, Limits, Refusal};
+use part_core::{CoreFault, Limits, Refusal, Seed};
 use report_core::{ReportName, report};
 use std::alloc::Global;
 use std::test::Fail;
@@ -71,7 +71,7 @@ fn ask_needs(alloc: Global, shop: &mut Shop) -> Result<(), Fail>
 #[test]
 fn needs_of_a_build(rt: HostRuntime) -> Result<(), Fail> {
     let alloc = rt.alloc();
-    let mut shop = Shop::new(alloc, Limits::LARGEST);
+    let mut shop = Shop::new(alloc, Seed::new(0), Limits::LARGEST);
     ask_needs(alloc, &mut shop)
 }
 
@@ -96,6 +96,6 @@ fn ask_later(alloc: Global, shop: &mut Shop) -> Result<(), Fail>
 #[test]
 fn needs_while_it_goes_on(rt: HostRuntime) -> Result<(), Fail> {
     let alloc = rt.alloc();
-    let mut shop = Shop::new(alloc, Limits::LARGEST);
+    let mut shop = Shop::new(alloc, Seed::new(0), Limits::LARGEST);
     ask_later(alloc, &mut shop)
 }

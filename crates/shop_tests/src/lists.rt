@@ -13,7 +13,7 @@ use crate::requests::{
 };
 use desk_core::{Request, Shop};
 use list_core::{Level, Listing, called_text, listed, serial_found};
-use part_core::{CoreFault, Flags, Found, Limits, Refusal, Status};
+use part_core::{CoreFault, Flags, Found, Limits, Refusal, Seed, Status};
 use std::alloc::Global;
 use std::test::Fail;
 
@@ -99,16 +99,23 @@ fn builds(alloc: Global) -> Result<Vec<Request>, Fail> {
     Ok(requests)
 }
 
-/// The shop that all of these requests make.
-pub fn filled(alloc: Global) -> Result<Shop, Fail>
+/// The shop that all of these requests make, which finds its rows by hashes that begin so.
+fn filled_from(alloc: Global, seed: Seed) -> Result<Shop, Fail>
     ensures { IfOk result (λ shop. IsSoundState (state_of shop)) }
 {
-    let mut shop = Shop::new(alloc, Limits::LARGEST);
+    let mut shop = Shop::new(alloc, seed, Limits::LARGEST);
     runs(alloc, &mut shop, catalogue(alloc)?)?;
     runs(alloc, &mut shop, items(alloc)?)?;
     runs(alloc, &mut shop, orders(alloc)?)?;
     runs(alloc, &mut shop, builds(alloc)?)?;
     Ok(shop)
+}
+
+/// The shop that all of these requests make.
+pub fn filled(alloc: Global) -> Result<Shop, Fail>
+    ensures { IfOk result (λ shop. IsSoundState (state_of shop)) }
+{
+    filled_from(alloc, Seed::new(0))
 }
 
 /// That the list is these lines.
@@ -547,4 +554,29 @@ fn says_items_by_serials(rt: HostRuntime) -> Result<(), Fail> {
     holds(serial_found(&shop, "A-2")? == Found::Nothing, "an item")?;
     let told = called_text(alloc, &shop, "A-1")?;
     holds(told.as_str() == "Motor A-1 (item 13)", "other items")
+}
+
+/// Whether the lists of two shops are the same.
+fn are_alike(alloc: Global, shop: &Shop, other: &Shop, listing: Listing<'_>) -> Result<bool, Fail>
+    requires one { IsSoundState (state_of shop.now) }
+    requires both { IsSoundState (state_of other.now) }
+{
+    let told = listed(alloc, shop, listing)?.text(alloc)?;
+    let again = listed(alloc, other, listing)?.text(alloc)?;
+    Ok(told.as_str() == again.as_str())
+}
+
+/// No list shows what hashes begin with.
+#[test]
+fn lists_of_two_seeds_are_alike(rt: HostRuntime) -> Result<(), Fail> {
+    let alloc = rt.alloc();
+    let shop = filled(alloc)?;
+    let other = filled_from(alloc, Seed::new(7))?;
+    assert!(rt; are_alike(alloc, &shop, &other, Listing::Stock(None))?);
+    assert!(rt; are_alike(alloc, &shop, &other, Listing::Part(7))?);
+    assert!(rt; are_alike(alloc, &shop, &other, Listing::Builds(false))?);
+    assert!(rt; are_alike(alloc, &shop, &other, Listing::Find("A-1"))?);
+    assert!(rt; are_alike(alloc, &shop, &other, Listing::Shortages)?);
+    assert!(rt; are_alike(alloc, &shop, &other, Listing::TraceForward(15))?);
+    Ok(())
 }

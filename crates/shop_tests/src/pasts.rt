@@ -14,7 +14,7 @@ use crate::requests::{
 };
 use desk_core::{Request, Shop};
 use list_core::{Days, Listing};
-use part_core::{Day, Limits};
+use part_core::{Day, Limits, Seed};
 use std::alloc::Global;
 use std::test::Fail;
 
@@ -92,7 +92,7 @@ fn builds(alloc: Global) -> Result<Vec<Request>, Fail> {
 fn filled(alloc: Global) -> Result<Shop, Fail>
     ensures { IfOk result (λ shop. IsSoundState (state_of shop)) }
 {
-    let mut shop = Shop::new(alloc, Limits::LARGEST);
+    let mut shop = Shop::new(alloc, Seed::new(0), Limits::LARGEST);
     runs(alloc, &mut shop, catalogue(alloc)?)?;
     runs(alloc, &mut shop, deliveries(alloc)?)?;
     runs(alloc, &mut shop, sales(alloc)?)?;

@@ -7,7 +7,7 @@ use crate::requests::{
     found, found_of, found_one, install, line, location, name, of_stock, part, remove,
 };
 use desk_core::{Request, Shop};
-use part_core::{CoreFault, Day, Flags, Limits, Refusal, Serials, Status, read_serials};
+use part_core::{CoreFault, Day, Flags, Limits, Refusal, Seed, Serials, Status, read_serials};
 use report_core::{ReportName, report};
 use std::alloc::Global;
 use std::test::Fail;
@@ -131,7 +131,7 @@ fn reports(alloc: Global, shop: &mut Shop) -> Result<(), Fail>
 #[test]
 fn tells_each_report(rt: HostRuntime) -> Result<(), Fail> {
     let alloc = rt.alloc();
-    let mut shop = Shop::new(alloc, Limits::LARGEST);
+    let mut shop = Shop::new(alloc, Seed::new(0), Limits::LARGEST);
     reports(alloc, &mut shop)
 }
 
@@ -161,7 +161,7 @@ fn contents(alloc: Global, shop: &mut Shop) -> Result<(), Fail>
 #[test]
 fn tells_content_at_each_depth(rt: HostRuntime) -> Result<(), Fail> {
     let alloc = rt.alloc();
-    let mut shop = Shop::new(alloc, Limits::LARGEST);
+    let mut shop = Shop::new(alloc, Seed::new(0), Limits::LARGEST);
     contents(alloc, &mut shop)
 }
 
@@ -181,7 +181,7 @@ fn missing_rows(alloc: Global, shop: &mut Shop) -> Result<(), Fail>
 #[test]
 fn finds_no_such_row(rt: HostRuntime) -> Result<(), Fail> {
     let alloc = rt.alloc();
-    let mut shop = Shop::new(alloc, Limits::LARGEST);
+    let mut shop = Shop::new(alloc, Seed::new(0), Limits::LARGEST);
     missing_rows(alloc, &mut shop)
 }
 
@@ -200,7 +200,7 @@ fn as_json(alloc: Global, shop: &mut Shop) -> Result<(), Fail>
 #[test]
 fn tells_a_report_as_json(rt: HostRuntime) -> Result<(), Fail> {
     let alloc = rt.alloc();
-    let mut shop = Shop::new(alloc, Limits::LARGEST);
+    let mut shop = Shop::new(alloc, Seed::new(0), Limits::LARGEST);
     as_json(alloc, &mut shop)
 }
 

@@ -10,7 +10,7 @@ use crate::requests::{
     sale, scrap_output, serialised, ship, substitute, transfer,
 };
 use desk_core::{Key, Request, Shop};
-use part_core::{Limits, Serial, Sheet, Status};
+use part_core::{Limits, Seed, Serial, Sheet, Status};
 use std::alloc::{AllocError, Global};
 use std::test::Fail;
 use yard_core::{Item, Lot, Place};
@@ -32,7 +32,7 @@ fn item(alloc: Global, number: u64) -> Result<Item, AllocError> {
 #[test]
 fn kept_and_taken_back(rt: HostRuntime) -> Result<(), Fail> {
     let alloc = rt.alloc();
-    let mut sheet = Sheet::new(alloc);
+    let mut sheet = Sheet::new(alloc, Seed::new(0));
     sheet.put(item(alloc, 1)?)?;
     sheet.put(item(alloc, 2)?)?;
     sheet.keep();
@@ -186,7 +186,7 @@ fn change_each_sheet(alloc: Global, shop: &mut Shop) -> Result<(), Fail>
 #[test]
 fn what_a_request_changed(rt: HostRuntime) -> Result<(), Fail> {
     let alloc = rt.alloc();
-    let mut shop = Shop::new(alloc, Limits::LARGEST);
+    let mut shop = Shop::new(alloc, Seed::new(0), Limits::LARGEST);
     change_each_sheet(alloc, &mut shop)
 }
 
@@ -270,7 +270,7 @@ fn change_each_sheet_of_orders(alloc: Global, shop: &mut Shop) -> Result<(), Fai
 #[test]
 fn what_a_request_changed_of_orders(rt: HostRuntime) -> Result<(), Fail> {
     let alloc = rt.alloc();
-    let mut shop = Shop::new(alloc, Limits::LARGEST);
+    let mut shop = Shop::new(alloc, Seed::new(0), Limits::LARGEST);
     stock_a_lamp(alloc, &mut shop)?;
     change_each_sheet_of_orders(alloc, &mut shop)
 }
@@ -360,7 +360,7 @@ fn change_for_outputs(alloc: Global, shop: &mut Shop) -> Result<(), Fail>
 #[test]
 fn what_a_request_changed_of_builds(rt: HostRuntime) -> Result<(), Fail> {
     let alloc = rt.alloc();
-    let mut shop = Shop::new(alloc, Limits::LARGEST);
+    let mut shop = Shop::new(alloc, Seed::new(0), Limits::LARGEST);
     stock_robots(alloc, &mut shop)?;
     change_for_a_build(alloc, &mut shop)?;
     change_for_outputs(alloc, &mut shop)

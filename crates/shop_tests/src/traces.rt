@@ -15,7 +15,7 @@ use crate::requests::{
 };
 use desk_core::{Request, Shop};
 use list_core::{Listing, has_batch, listed};
-use part_core::{CoreFault, Flags, Limits, Refusal};
+use part_core::{CoreFault, Flags, Limits, Refusal, Seed};
 use std::alloc::Global;
 use std::test::Fail;
 use stock_core::StockCommand;
@@ -103,7 +103,7 @@ fn sold(alloc: Global) -> Result<Vec<Request>, Fail> {
 fn workshop(alloc: Global, noting: bool) -> Result<Shop, Fail>
     ensures { IfOk result (λ shop. IsSoundState (state_of shop)) }
 {
-    let mut shop = Shop::new(alloc, Limits::LARGEST);
+    let mut shop = Shop::new(alloc, Seed::new(0), Limits::LARGEST);
     runs(alloc, &mut shop, delivered(alloc, noting)?)?;
     runs(alloc, &mut shop, built(alloc, noting)?)?;
     runs(alloc, &mut shop, sold(alloc)?)?;

@@ -1,14 +1,15 @@
 -- Serials that are free in a family, before and after an item gets one of them.
-use Rattle.std.proofs.Common.{◌≡◌, ℕ, Bool, true, false, not, List, [], ◌∷◌, Option, Some, sym, ◌∙◌, subst, refl, rules}
+use Rattle.std.proofs.Common.{◌≡◌, ℕ, Bool, true, false, not, List, [], ◌∷◌, Option, Some, sym, ◌∙◌, subst, rules}
 use Rattle.std.specs.FinMap as table
 use Rattle.std.specs.List.{list_any}
 use Rattle.std.specs.Str.{bytes_eq}
 use Rattle.std.proofs.lemmas.Slice.Eq.{bytes_eq-Decides}
+use Rattle.std.proofs.lemmas.Bool.{not-true}
 use Rattle.part_core.specs.Catalogue.{Parts, family}
-use Rattle.part_core.specs.Sheet.{Table}
-use Rattle.part_core.specs.Twice.{stands_twice}
-use Rattle.part_core.proofs.Conditions.{not_false, or_none}
-use Rattle.part_core.proofs.Tables.{none-passes}
+use Rattle.sheet_core.specs.Sheet.{Table}
+use Rattle.word_core.specs.Twice.{stands_twice}
+use Rattle.sheet_core.proofs.Conditions.{not_false, or_none}
+use Rattle.sheet_core.proofs.Tables.{none-passes}
 use Rattle.forest.specs.declared.item.Item.{Item}
 use Rattle.yard_core.specs.Stock.{Stock, holds_serial, is_serial_free}
 use Rattle.stock_core.specs.Serials.{are_taken, is_one_held}
@@ -30,16 +31,12 @@ free-from parts part (x ∷ xs) s once free =
     let b =
     or_none (not (is_serial_free x part parts s)) (list_any (λ y. not (is_serial_free y part parts s)) xs) free in
     let none =
-    was_false (list_any (holds_serial x (family part parts) parts) (table.values s.items))
+    not-true (list_any (holds_serial x (family part parts) parts) (table.values s.items))
     (not_false (is_serial_free x part parts s) b.0) in (
       λ m z e. none-passes (holds_serial x (family part parts) parts) s.items (m ∷ []) z none e,
       a.0,
       free-from parts part xs s a.1 b.1,
     )
-  where
-    was_false : (c : Bool) → not c ≡ true → c ≡ false
-    was_false true h = cc
-    was_false false h = refl
 
 -- serials that aren't taken are free
 pub free-checked : (parts : Parts) (part : ℕ) (xs : List (List ℕ)) (s : Stock) → are_taken part parts s xs ≡ false

@@ -6,12 +6,12 @@ use Rattle.std.specs.FinMap as table
 use Rattle.std.specs.Str.{bytes_eq}
 use Rattle.std.proofs.lemmas.Slice.Eq.{bytes_eq-Decides}
 use Rattle.part_core.specs.Catalogue.{Parts, family}
-use Rattle.part_core.specs.Quantity.{largest}
-use Rattle.part_core.specs.Rows.{StandRight}
-use Rattle.part_core.specs.Sheet.{Table}
-use Rattle.part_core.specs.declared.status.Status.{Status}
-use Rattle.part_core.proofs.Conditions.{and_both, and_parts, not_true}
-use Rattle.part_core.proofs.RowLemmas.{get-insert_cases, right-changed, right-new, same_digit}
+use Rattle.word_core.specs.Quantity.{largest}
+use Rattle.sheet_core.specs.Rows.{StandRight}
+use Rattle.sheet_core.specs.Sheet.{Table}
+use Rattle.word_core.specs.declared.status.Status.{Status}
+use Rattle.sheet_core.proofs.Conditions.{and_both, and_parts, not_true}
+use Rattle.sheet_core.proofs.RowLemmas.{get-insert_cases, right-changed, right-new, same_digit}
 use Rattle.forest.specs.declared.item.Item.{Item}
 use Rattle.forest.specs.declared.place.Place.{Place}
 use Rattle.forest.specs.declared.place.Place.TheVariants.{At, In, Output, Sent, Used, Off, Gone}

@@ -5,13 +5,15 @@ use Rattle.std.specs.Prelude.{◌==◌, ◌&&◌, if◌then◌else◌, IsSome}
 use Rattle.std.specs.FinMap as table
 use Rattle.std.proofs.lemmas.Bool.{ltb-false}
 use Rattle.part_core.specs.Catalogue.{Parts}
-use Rattle.part_core.specs.Checks.{first}
-use Rattle.part_core.specs.Day.{CivilDay}
-use Rattle.part_core.specs.Rows.{StandRight}
-use Rattle.part_core.specs.Sheet.{Table}
-use Rattle.part_core.specs.declared.status.Status.{Status}
-use Rattle.part_core.proofs.Conditions.{none-holds, not_false, or_none}
-use Rattle.part_core.proofs.RowLemmas.{right-new, right-none, right-number}
+use Rattle.word_core.specs.Checks.{first}
+use Rattle.word_core.specs.Day.{CivilDay}
+use Rattle.sheet_core.specs.Rows.{StandRight}
+use Rattle.sheet_core.specs.Sheet.{Table}
+use Rattle.word_core.specs.declared.status.Status.{Status}
+use Rattle.word_core.specs.declared.refusal.Refusal.TheVariants.{BadNumber, WrongState, NotLoose, Short}
+use Rattle.word_core.proofs.CheckLemmas.{none-holds}
+use Rattle.sheet_core.proofs.Conditions.{not_false, or_none}
+use Rattle.sheet_core.proofs.RowLemmas.{right-new, right-none, right-number}
 use Rattle.bom_core.specs.Bills.{Bills}
 use Rattle.forest.specs.declared.entry.Kind.TheVariants as kind
 use Rattle.forest.specs.declared.item.Item.{Item}
@@ -269,24 +271,24 @@ module _ (owners : Owners) (day : CivilDay) (parts : Parts) (bills : Bills) (t :
   leaves-transfer : (n l q : ℕ) → first (transfer_checks n l q day t b) ≡ None
       → LeavesOutputs s.items (transfer n l q day b).stock.items
   leaves-transfer n l q e =
-      let holds = none-holds (transfer_checks n l q day t b) e in
-      leaves-carried n q (not_false (is_loose n s) holds.1.1.0) (good-quantity q holds.1.0).0
-      (ltb-false (item_at n s).quantity q holds.1.1.1.0) l
+      let passed = none-holds (transfer_checks n l q day t b) e in
+      leaves-carried n q (not_false (is_loose n s) (passed NotLoose)) (good-quantity q (passed BadNumber)).0
+      (ltb-false (item_at n s).quantity q (passed Short)) l
 
   leaves-install : (n m q : ℕ) → first (install_checks n m q day parts bills t b) ≡ None
       → LeavesOutputs s.items (install n m q day b).stock.items
   leaves-install n m q e =
-      let holds = none-holds (install_checks n m q day parts bills t b) e in
-      let loose = not_false (is_loose n s) (or_none (not (is_loose n s)) _ holds.1.1.1.1.0).0 in
-      leaves-put_in n q loose (good-quantity q holds.1.0).0 (ltb-false (item_at n s).quantity q holds.1.1.1.1.1.1.1.0) m
+      let passed = none-holds (install_checks n m q day parts bills t b) e in
+      let loose = not_false (is_loose n s) (or_none (not (is_loose n s)) _ (passed NotLoose)).0 in
+      leaves-put_in n q loose (good-quantity q (passed BadNumber)).0 (ltb-false (item_at n s).quantity q (passed Short)) m
 
   leaves-disassemble : (n l : ℕ) → first (disassemble_checks n l day t b) ≡ None
       → LeavesOutputs s.items (disassemble n l day b).stock.items
   leaves-disassemble n l e =
-      let holds = none-holds (disassemble_checks n l day t b) e in
+      let passed = none-holds (disassemble_checks n l day t b) e in
       let inside = children_of n s in
       let emptied = prune_each inside l day s in
-      let out = prune-inside n l day b sound.items.stock (not_false (is_loose n s) holds.1.0) in
+      let out = prune-inside n l day b sound.items.stock (not_false (is_loose n s) (passed NotLoose)) in
       leaves-more s.items emptied.items (disassemble n l day b).stock.items
       (leaves-prune_each inside l day s sound.items.stock out.0)
       (leaves-lifted n emptied out.1.sound day out.1.loose (Off Disassembled) refl)
@@ -294,12 +296,12 @@ module _ (owners : Owners) (day : CivilDay) (parts : Parts) (bills : Bills) (t :
   leaves-reinstate : (n l : ℕ) → first (reinstate_checks n l day b) ≡ None
       → LeavesOutputs s.items (reinstate n l day b).stock.items
   leaves-reinstate n l e =
-      let holds = none-holds (reinstate_checks n l day b) e in
+      let passed = none-holds (reinstate_checks n l day b) e in
       let there = (back-checked n l day b e).there in
       let under =
       ap (λ k. table.get s.items (k ∷ [])) (own_number s.items n (item_at n s) sound.items.stock.items there) ∙ there in
       leaves-lift s sound.items.stock.items.own day n under
-      (off-quiet (item_at n s).place (not_false (is_off (item_at n s).place) holds.1.0)) (At l) refl
+      (off-quiet (item_at n s).place (not_false (is_off (item_at n s).place) (passed WrongState))) (At l) refl
 
   pub outputs-stay : (c : StockCommand) → first (checks c day parts bills t b) ≡ None
       → LeavesOutputs s.items (effect c day b).stock.items
@@ -307,25 +309,25 @@ module _ (owners : Owners) (day : CivilDay) (parts : Parts) (bills : Bills) (t :
       leaves-make_new (record { kind = kind.Found; place = At l; part = part }) new day b refl
       sound.items.locations.some sound.items.rows
   outputs-stay (Add n q) e =
-      leaves-grown n s sound.items.stock day (not_false (is_loose n s) (none-holds (add_checks n q day b) e).1.1.0) q
+      leaves-grown n s sound.items.stock day (not_false (is_loose n s) (none-holds (add_checks n q day b) e NotLoose)) q
   outputs-stay (Remove n q) e =
       leaves-removed n s sound.items.stock day
-      (not_false (is_loose n s) (none-holds (remove_checks n q day t b) e).1.1.0) q
+      (not_false (is_loose n s) (none-holds (remove_checks n q day t b) e NotLoose)) q
   outputs-stay (Count n q) e =
       leaves-counted n s sound.items.stock day
-      (not_false (is_loose n s) (none-holds (count_checks n q day t b) e).1.1.0) q
+      (not_false (is_loose n s) (none-holds (count_checks n q day t b) e NotLoose)) q
   outputs-stay (Transfer n l q) e = leaves-transfer n l q e
   outputs-stay (Split n q) e =
-      let loose = not_false (is_loose n s) (none-holds (split_checks n q day t b) e).1.1.0 in
+      let loose = not_false (is_loose n s) (none-holds (split_checks n q day t b) e NotLoose) in
       leaves-cut_off n q None day b sound.items.rows (there-loose n s loose) (at-quiet (item_at n s).place loose)
   outputs-stay (Merge into ns) e = leaves-pour_each owners parts into ns day b up (pourable-checked into ns day t b e)
   outputs-stay (Serialise n q xs) e =
-      let loose = not_false (is_loose n s) (none-holds (serialise_checks n q xs day parts t b) e).1.1.1.0 in
+      let loose = not_false (is_loose n s) (none-holds (serialise_checks n q xs day parts t b) e NotLoose) in
       leaves-cut_each n xs day b sound.items.rows sound.items.locations.some (there-loose n s loose)
       (at-quiet (item_at n s).place loose)
   outputs-stay (SetStatus n status) e =
       leaves-marked n s sound.items.stock day
-      (not_false (is_loose n s) (none-holds (set_status_checks n status day t b) e).1.0) status
+      (not_false (is_loose n s) (none-holds (set_status_checks n status day t b) e NotLoose)) status
   outputs-stay (Install n m q) e = leaves-install n m q e
   outputs-stay (Uninstall n l) e =
       let can = prune-checked n l day b e in

@@ -3,7 +3,7 @@ use Rattle.std.proofs.Common.{◌≡◌, ℕ, ◌≤◌, Bool, true, false, not,
 use Rattle.std.proofs.Common.{List, refl, sym, ap, ◌∙◌, arith, Option, Some, None, eqb-true}
 use Rattle.std.specs.Prelude.{◌==◌, if◌then◌else◌, unwrap_or}
 use Rattle.std.specs.FinMap as table
-use Rattle.part_core.proofs.Conditions.{not_false}
+use Rattle.sheet_core.proofs.Conditions.{not_false}
 use Rattle.forest.specs.declared.item.Item.{Item}
 use Rattle.forest.specs.declared.place.Place.{Place}
 use Rattle.forest.specs.declared.place.Place.TheVariants.{Gone}

@@ -7,6 +7,7 @@ use Rattle.std.specs.Str.{bytes_eq}
 use Rattle.std.specs.Borrow.{Bor}
 use Rattle.std.proofs.lemmas.Bool.{eq-eqb, ltb-true, ltb-false}
 use Rattle.std.proofs.lemmas.Slice.Eq.{bytes_eq-Decides}
+use mathlib.Core.Bool.{or-false}
 use Rattle.part_core.specs.Catalogue.{Parts, family}
 use Rattle.forest.specs.declared.item.Item.{Item}
 use Rattle.forest.specs.Rows.{row_at}
@@ -59,11 +60,7 @@ holds-is parts x f s = go (is_gone x.place) refl x.lot.serial refl
 any-more : (p : Item → Bool) (rows : List (Bor Item)) (i : ℕ) (x : Bor Item) → i < length rows → x ≡ get_or rows i x
     → list_any p (seen (take (suc i) rows)) ≡ (list_any p (seen (take i rows)) || p x.now)
 any-more p [] i x lt e = absurd (omega (arith, lt))
-any-more p (y ∷ ys) zero x lt e = or_none (p y.now) ∙ ap (λ (z : Bor Item). p z.now) (sym e)
-  where
-    or_none : (b : Bool) → (b || false) ≡ b
-    or_none true = refl
-    or_none false = refl
+any-more p (y ∷ ys) zero x lt e = or-false (p y.now) ∙ ap (λ (z : Bor Item). p z.now) (sym e)
 any-more p (y ∷ ys) (suc i) x lt e = go (p y.now) (any-more p ys i x (omega (arith, lt)) e)
   where
     go : (b : Bool) → list_any p (seen (take (suc i) ys)) ≡ (list_any p (seen (take i ys)) || p x.now)
@@ -83,11 +80,7 @@ module _ (parts : Parts) (rows : List (Bor Item)) (i : ℕ) (x : Bor Item) (lt :
   none_step e f s =
       have f s
       ∙ sym (one_more f s.now ∙ ap (λ o. list_any (holds_serial s.now f parts) (seen (take i rows)) || by_key o f s.now)
-      e ∙ or_none (list_any (holds_serial s.now f parts) (seen (take i rows))))
-    where
-      or_none : (b : Bool) → (b || false) ≡ b
-      or_none true = refl
-      or_none false = refl
+      e ∙ or-false (list_any (holds_serial s.now f parts) (seen (take i rows))))
 
   pub some_step : (k : ℕ × Bor (List ℕ)) → held_key parts x.now ≡ Some (seen_key k) → (new : ℕ → Bor (List ℕ) → Bool)
       → ((f : ℕ) (s : Bor (List ℕ)) → new f s ≡ cond (nat_eq k.0 f && bytes_eq k.1.now s.now) true (old f s))

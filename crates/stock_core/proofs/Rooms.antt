@@ -5,16 +5,15 @@ use Rattle.std.specs.Prelude.{◌==◌, IfSome, if◌then◌else◌, nat_lt, unw
 use Rattle.std.specs.FinMap as table
 use Rattle.std.proofs.lemmas.Bool.{ltb-false, ltb-true}
 use Rattle.std.proofs.lemmas.List.{at_drop_more}
-use Rattle.part_core.specs.Counter.{Numbering, drawn, lacks}
-use Rattle.part_core.specs.Day.{CivilDay}
-use Rattle.part_core.specs.Rows.{StandRight}
-use Rattle.part_core.proofs.RowLemmas.{right-insert, right-new, right-none, right-number}
+use Rattle.word_core.specs.Counter.{Numbering, drawn, lacks}
+use Rattle.word_core.specs.Day.{CivilDay}
+use Rattle.sheet_core.specs.Rows.{StandRight}
+use Rattle.sheet_core.proofs.RowLemmas.{right-insert, right-new, right-none, right-number}
 use Rattle.forest.specs.declared.entry.Kind.{Kind}
 use Rattle.forest.specs.declared.item.Item.{Item}
 use Rattle.forest.specs.declared.place.Place.{Place}
-use Rattle.forest.specs.declared.place.Place.TheVariants.{Gone}
 use Rattle.forest.specs.Forest.{Node, is_at, row_of}
-use Rattle.forest.specs.Moves.{cut_change, cut_node, leaf, make_change, place_left, with_quantity}
+use Rattle.forest.specs.Moves.{cut_change, cut_node, leaf, make_change, with_quantity}
 use Rattle.forest.specs.Moves as moves
 use Rattle.forest.specs.Tables.{node_of}
 use Rattle.yard_core.specs.StockBooks.{StockBooks, entries_in, is_full}
@@ -27,6 +26,7 @@ use Rattle.stock_core.specs.Steps.{cut_off, make_one, new_item}
 use Rattle.stock_core.specs.Sound.{AreSoundItems}
 use Rattle.stock_core.proofs.Able.{numbers-left, room-left}
 use Rattle.stock_core.proofs.Uses.{Uses, uses-change_drawn, uses-cut_off}
+use Rattle.stock_core.proofs.Plain.{left-loose}
 
 numbers-rest : (k : ℕ) (c : Numbering) → lacks (1 + k) c ≡ false → lacks k (drawn 1 c) ≡ false
 numbers-rest k c e =
@@ -41,10 +41,6 @@ fewer-numbers k c e = go (lacks 1 c) refl
         absurd (omega
         (arith, ltb-true (c.limits.numbers + 1) (c.next + 1) f, ltb-false (c.limits.numbers + 1) (c.next + (1 + k)) e))
     go false f = refl
-
--- the next number is none past the largest and the one behind it
-pub room-within : (k : ℕ) (b : StockBooks) → HasRoom k b → b.counter.next ≤ b.counter.limits.numbers + 1
-room-within k b room = omega (arith, ltb-false (b.counter.limits.numbers + 1) (b.counter.next + k) room.numbers)
 
 -- an entry at most
 few-made : (k : Kind) (q : Place) (n : Node) → length (make_change k q n).notes ≤ 1
@@ -105,13 +101,6 @@ room-cut n quantity serial day k b new there room sound is =
           (let len = (uses-cut_off n quantity serial day b room.stock.history).len in
           let same = ap (λ (s : StockBooks). entries_in s) is in omega (arith, len, same, room.entries));
     }
-
-left-loose : (q : ℕ) (l : Place) → 1 ≤ q → is_at l ≡ true → is_at (place_left q l) ≡ true
-left-loose q l some loose = go (q == 0) refl
-  where
-    go : (b : Bool) → (q == 0) ≡ b → is_at (if b then Gone else l) ≡ true
-    go true e = absurd (omega (arith, eqb-true q 0 e, some))
-    go false e = loose
 
 -- what is left has a piece for each of the others
 pub whole-cut : (n : ℕ) (serial : Option (List ℕ)) (day : CivilDay) (k : ℕ) (b new : StockBooks) → HasRoom (1 + k) b

@@ -8,10 +8,10 @@ use Rattle.std.proofs.lemmas.Bool.{lt-ltb, ltb-false, ltb-true}
 use Rattle.std.proofs.lemmas.List.{drop_more}
 use mathlib.Core.Bool.{or-true}
 use Rattle.part_core.specs.Catalogue.{Parts}
-use Rattle.part_core.specs.Counter.{lacks, passes_limit}
-use Rattle.part_core.specs.Day.{CivilDay}
-use Rattle.part_core.specs.declared.limits.Limits.{Limits}
-use Rattle.part_core.proofs.Conditions.{or_cases, or_none}
+use Rattle.word_core.specs.Counter.{lacks, passes_limit}
+use Rattle.word_core.specs.Day.{CivilDay}
+use Rattle.word_core.specs.declared.limits.Limits.{Limits}
+use Rattle.sheet_core.proofs.Conditions.{or_cases, or_none}
 use Rattle.alloc_core.specs.Covered.{IsCovered}
 use Rattle.alloc_core.specs.declared.allocation.Allocation.{Allocation}
 use Rattle.yard_core.specs.StockBooks.{StockBooks, entries_in, is_full}

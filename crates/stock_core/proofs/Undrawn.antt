@@ -1,9 +1,9 @@
 -- What is made under numbers that aren't drawn yet.
 use Rattle.std.proofs.Common.{◌≡◌, ℕ, ◌+◌, ◌-◌, ◌≤◌, List, Option, ap, arith}
 use Rattle.std.specs.Prelude.{nat_lt}
-use Rattle.part_core.specs.Counter.{Counting, lacks, numbering_of, resumed}
-use Rattle.part_core.specs.Day.{CivilDay}
-use Rattle.part_core.specs.declared.limits.Limits.{Limits}
+use Rattle.word_core.specs.Counter.{Counting, lacks, numbering_of, resumed}
+use Rattle.word_core.specs.Day.{CivilDay}
+use Rattle.word_core.specs.declared.limits.Limits.{Limits}
 use Rattle.yard_core.specs.Stock.{Stock, cut}
 use Rattle.yard_core.specs.StockBooks.{StockBooks, with_drawn}
 use Rattle.stock_core.specs.Steps.{cut_off}

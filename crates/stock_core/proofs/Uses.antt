@@ -4,9 +4,9 @@ use Rattle.std.proofs.Common.{Option, Some, None, map, refl, sym, ap, ◌∙◌,
 use Rattle.std.specs.Prelude.{◌-◌, filter, if◌then◌else◌, nat_lt, unwrap_or}
 use Rattle.std.specs.FinMap as table
 use Rattle.std.specs.List.{list_any}
-use Rattle.part_core.specs.Counter.{Numbering, drawn, lacks, passes_limit}
-use Rattle.part_core.specs.Day.{CivilDay}
-use Rattle.part_core.proofs.Conditions.{or_none}
+use Rattle.word_core.specs.Counter.{Numbering, drawn, lacks, passes_limit}
+use Rattle.word_core.specs.Day.{CivilDay}
+use Rattle.sheet_core.proofs.Conditions.{or_none}
 use Rattle.forest.specs.declared.item.Item.{Item}
 use Rattle.forest.specs.declared.entry.Note.{Note}
 use Rattle.forest.specs.declared.place.Place.{Place}

@@ -1,10 +1,10 @@
 -- An amount that was found is added to an item.
 use Rattle.std.specs.Prelude.{ℕ, ◌+◌, ◌++◌, not, nat_lt, List, [], ◌∷◌}
-use Rattle.part_core.specs.Checks.{Check}
-use Rattle.part_core.specs.Day.{CivilDay}
-use Rattle.part_core.specs.Quantity.{is_bad_quantity, largest}
-use Rattle.part_core.specs.declared.refusal.Refusal.TheVariants.{NoSuch, BadNumber, NotLoose}
-use Rattle.part_core.specs.declared.refusal.Refusal.TheVariants.{Serialised, TooLarge, Full}
+use Rattle.word_core.specs.Checks.{Check}
+use Rattle.word_core.specs.Day.{CivilDay}
+use Rattle.word_core.specs.Quantity.{is_bad_quantity, largest}
+use Rattle.word_core.specs.declared.refusal.Refusal.TheVariants.{NoSuch, BadNumber, NotLoose}
+use Rattle.word_core.specs.declared.refusal.Refusal.TheVariants.{Serialised, TooLarge, Full}
 use Rattle.yard_core.specs.Stock.{grow}
 use Rattle.stock_core.specs.ItemTests.{is_loose, is_no_item, is_serialised, quantity_at}
 use Rattle.yard_core.specs.StockBooks.{StockBooks, is_full, with_stock}

@@ -1,7 +1,7 @@
 -- When new items can be made, and how many there are.
 use Rattle.std.specs.Prelude.{◌≡◌, ℕ, ◌+◌, ◌<◌, ◌≤◌, ◌^◌, false, List, length, Option, Some, None}
-use Rattle.part_core.specs.Counter.{lacks}
-use Rattle.part_core.specs.Rows.{StandRight}
+use Rattle.word_core.specs.Counter.{lacks}
+use Rattle.sheet_core.specs.Rows.{StandRight}
 use Rattle.forest.specs.Moves as moves
 use Rattle.yard_core.specs.StockBooks.{StockBooks}
 use Rattle.yard_core.specs.Stock.{IsSound, next_entry}

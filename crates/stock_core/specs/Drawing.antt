@@ -1,6 +1,6 @@
 -- What a contract sees of the books while rows are made whose numbers aren't drawn yet.
 use Rattle.std.specs.Prelude.{ℕ}
-use Rattle.part_core.specs.Counter.{Counting, resumed}
+use Rattle.word_core.specs.Counter.{Counting, resumed}
 use Rattle.yard_core.specs.StockBooks.{StockBooks}
 use Rattle.yard_core.specs.YardView.{stock_of}
 use Rattle.yard_core.specs.declared.yard.Yard.{Yard}

@@ -1,9 +1,9 @@
 -- How a command ends whose changes were tried.
 use Rattle.std.specs.Prelude.{◌≡◌, Result, Ok, Err, IsOk, true, false}
-use Rattle.part_core.specs.declared.answer.Answer.{Answer}
-use Rattle.part_core.specs.declared.refusal.CoreFault.{CoreFault}
-use Rattle.part_core.specs.declared.refusal.CoreFault.TheVariants.{Refused, Memory}
-use Rattle.part_core.specs.declared.refusal.Refusal.TheVariants as refusals
+use Rattle.word_core.specs.declared.answer.Answer.{Answer}
+use Rattle.word_core.specs.declared.refusal.CoreFault.{CoreFault}
+use Rattle.word_core.specs.declared.refusal.CoreFault.TheVariants.{Refused, Memory}
+use Rattle.word_core.specs.declared.refusal.Refusal.TheVariants as refusals
 use Rattle.yard_core.specs.StockBooks.{StockBooks, is_full}
 use Rattle.stock_core.specs.declared.halt.Halt.{Halt}
 use Rattle.stock_core.specs.declared.halt.Halt.TheVariants as halts

@@ -1,5 +1,5 @@
 -- What a contract sees of the floor that a command is lent.
-use Rattle.part_core.specs.Sheet.{Table}
+use Rattle.sheet_core.specs.Sheet.{Table}
 use Rattle.alloc_core.specs.AllocationsView.{allocations_before, allocations_now}
 use Rattle.alloc_core.specs.declared.allocation.Allocation.{Allocation}
 use Rattle.yard_core.specs.StockBooks.{StockBooks}

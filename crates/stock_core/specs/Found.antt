@@ -1,11 +1,11 @@
 -- Stock that was found: new items at a location.
 use Rattle.std.specs.Prelude.{ℕ, ◌||◌, is_none, not, List, [], ◌∷◌}
 use Rattle.part_core.specs.Catalogue.{Parts, is_retired, is_trackable, is_virtual, part_in}
-use Rattle.part_core.specs.Checks.{Check}
-use Rattle.part_core.specs.Day.{CivilDay}
-use Rattle.part_core.specs.Quantity.{is_bad_quantity}
-use Rattle.part_core.specs.declared.refusal.Refusal.TheVariants.{NoSuch, BadNumber, WrongFlag, Retired}
-use Rattle.part_core.specs.declared.refusal.Refusal.TheVariants.{SerialCount, SerialTaken, Full}
+use Rattle.word_core.specs.Checks.{Check}
+use Rattle.word_core.specs.Day.{CivilDay}
+use Rattle.word_core.specs.Quantity.{is_bad_quantity}
+use Rattle.word_core.specs.declared.refusal.Refusal.TheVariants.{NoSuch, BadNumber, WrongFlag, Retired}
+use Rattle.word_core.specs.declared.refusal.Refusal.TheVariants.{SerialCount, SerialTaken, Full}
 use Rattle.forest.specs.declared.entry.Kind.TheVariants as kind
 use Rattle.forest.specs.declared.place.Place.TheVariants.{At}
 use Rattle.stock_core.specs.declared.arrivals.NewStock.{NewStock}

@@ -1,7 +1,7 @@
 -- When pieces can be cut off an item.
 use Rattle.std.specs.Prelude.{◌≡◌, ℕ, ◌+◌, ◌<◌, ◌≤◌, ◌^◌, true, false, [], ◌∷◌, List, Option, Some, None}
 use Rattle.std.specs.FinMap as table
-use Rattle.part_core.specs.Counter.{lacks}
+use Rattle.word_core.specs.Counter.{lacks}
 use Rattle.forest.specs.Forest.{is_at}
 use Rattle.yard_core.specs.StockBooks.{StockBooks}
 use Rattle.yard_core.specs.Stock.{CanCutItem, IsSound, item_at, next_entry}

@@ -1,8 +1,8 @@
 -- What was written off comes back.
 use Rattle.std.specs.Prelude.{ℕ, ◌||◌, not, List, [], ◌∷◌}
-use Rattle.part_core.specs.Checks.{Check}
-use Rattle.part_core.specs.Day.{CivilDay}
-use Rattle.part_core.specs.declared.refusal.Refusal.TheVariants.{NoSuch, WrongState, Full}
+use Rattle.word_core.specs.Checks.{Check}
+use Rattle.word_core.specs.Day.{CivilDay}
+use Rattle.word_core.specs.declared.refusal.Refusal.TheVariants.{NoSuch, WrongState, Full}
 use Rattle.forest.specs.declared.place.Place.TheVariants.{At}
 use Rattle.forest.specs.Forest.{is_off}
 use Rattle.yard_core.specs.StockBooks.{StockBooks, is_full, with_stock}

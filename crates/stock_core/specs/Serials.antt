@@ -3,7 +3,7 @@ use Rattle.std.specs.Prelude.{ℕ, Bool, false, ◌==◌, ◌||◌, not, nat_lt,
 use Rattle.std.specs.List.{list_any}
 use Rattle.std.specs.Str.{bytes_eq}
 use Rattle.part_core.specs.Catalogue.{Parts}
-use Rattle.part_core.specs.Twice.{stands_twice}
+use Rattle.word_core.specs.Twice.{stands_twice}
 use Rattle.yard_core.specs.Stock.{Stock, is_serial_free}
 
 -- whether there are serials, and they are so

@@ -1,7 +1,7 @@
 -- The steps that commands are made of, on the books: each draws its number as it goes.
 use Rattle.std.specs.Prelude.{ℕ, if◌then◌else◌, List, [], ◌∷◌, Option, Some, None}
-use Rattle.part_core.specs.Day.{CivilDay}
-use Rattle.part_core.specs.declared.status.Status.TheVariants.{Okay}
+use Rattle.word_core.specs.Day.{CivilDay}
+use Rattle.word_core.specs.declared.status.Status.TheVariants.{Okay}
 use Rattle.forest.specs.declared.item.Item.{Item}
 use Rattle.yard_core.specs.Stock.{cut, make}
 use Rattle.stock_core.specs.declared.arrivals.Arrival.{Arrival}

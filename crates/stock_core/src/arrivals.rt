@@ -2,7 +2,7 @@
 ghost use Rattle.std.specs.Prelude.{◌≡◌, ◌≤◌, ◌+◌, IfOk, IfSome, OnErr, OnOk, length, not};
 ghost use Rattle.part_core.specs.Catalogue.{is_trackable, part_in};
 ghost use Rattle.part_core.specs.CatalogueView.{parts_of};
-ghost use Rattle.part_core.specs.Counter.{numbering_of};
+ghost use Rattle.word_core.specs.Counter.{numbering_of};
 ghost use Rattle.forest.specs.Moves.{largest};
 ghost use Rattle.yard_core.specs.BooksView.{books_before, books_now};
 ghost use Rattle.yard_core.specs.Stock.{IsSound};

@@ -1,6 +1,6 @@
 //! The end of a command that changes rows beside the floor: what it changed stands, or all is taken back.
 ghost use Rattle.std.specs.Prelude.{◌≡◌, Err, IfOk, IsOk, OnErr};
-ghost use Rattle.part_core.specs.declared.refusal.CoreFault.{CoreFault};
+ghost use Rattle.word_core.specs.declared.refusal.CoreFault.{CoreFault};
 ghost use Rattle.yard_core.specs.StockBooks.{answer_of};
 ghost use Rattle.stock_core.specs.Endings.{Ends};
 ghost use Rattle.stock_core.specs.FloorView.{FloorBooks, floor_before, floor_now};

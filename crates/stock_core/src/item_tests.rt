@@ -1,6 +1,6 @@
 //! Tests of items, of which checks are made. An item that isn't there counts as one that is gone.
 ghost use Rattle.std.specs.Prelude.{◌≡◌, is_none};
-ghost use Rattle.part_core.specs.Status.{is_allocatable};
+ghost use Rattle.word_core.specs.Status.{is_allocatable};
 ghost use Rattle.forest.specs.Forest.{is_off};
 ghost use Rattle.forest.specs.Rows.{parent_in};
 ghost use Rattle.yard_core.specs.Stock.{item_at};

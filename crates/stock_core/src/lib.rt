@@ -1,9 +1,22 @@
-//! Commands on stock. Each is refused by the first check that applies, or changes the yard and the counter
-//! as the machine's row of it says, and answers what it drew and wrote.
+//! Commands on stock. Each is refused by the first check that applies, or changes the yard and the counter as the
+//! machine's row of it says, and answers what it drew and wrote.
 //!
 //! A command has a room of its own: `specs/Transfer.antt` says what it does and why it is refused,
-//! `src/commands/transfer.rt` does it, and `proofs/TransferSound.antt` shows that what is sound stays so. Its moves are made in
-//! place and taken back where memory runs out, by `stock_books::conclude`; `stock_command` puts all commands together.
+//! `src/commands/transfer.rt` does it, and `proofs/TransferSound.antt` shows that what is sound stays so. Its moves are
+//! made in place and taken back where memory runs out, by `stock_books::conclude`; `stock_command` puts all commands
+//! together.
+//!
+//! - `stock_command::act`: any command on stock (`does`: `yard_core` `StockBooks.Does`). It asks for sound stock
+//!   (`sound`) and that nothing is pending (`nothing_pending`). Some commands alone ask for sound items
+//!   (`Sound.AreSoundItems`), those that look at the catalogue for sound stock (`Sound.IsSoundStock`).
+//! - `take_away`: what is allocated leaves the stock, piece by piece (`ok`). It is Full only where the whole would pass
+//!   the limits (`full`); nothing is drawn then or where memory runs out (`undrawn`).
+//! - `conclude`, `finish`: what a command of a crate above has done beside the stock is told (`told`) or taken back
+//!   with it (`back`), as `Endings.Ends` says.
+//! - `is_sound_stock`: whether stock is sound; it asks whoever knows orders and builds (`KnowsOwners`).
+//! - `effects_are_sound`: the law that what passes its checks leaves sound stock and allocations sound. Numbers and
+//!   history only grow, no item becomes one of another part, and outputs are left alone
+//!   (`StockMachine.EffectsAreSound`).
 #![tactic(auto)]
 
 mod arrivals;

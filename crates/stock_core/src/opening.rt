@@ -4,7 +4,7 @@
 //! looked for in a set of those before it.
 ghost use Rattle.std.specs.Prelude.{◌≡◌, ◌↔◌, IsTrue, IfOk, map};
 ghost use Rattle.part_core.specs.CatalogueView.{parts_of};
-ghost use Rattle.part_core.specs.Rows.{StandRight};
+ghost use Rattle.sheet_core.specs.Rows.{StandRight};
 ghost use Rattle.stock_core.specs.Opening.{AreSoundRows};
 ghost use Rattle.stock_core.specs.Sound.{AreSoundItems, IsSoundStock};
 ghost use Rattle.yard_core.specs.BooksView.{books_now};

@@ -1,6 +1,6 @@
 //! Pieces that are cut off items.
 ghost use Rattle.std.specs.Prelude.{◌≡◌, ◌+◌, ◌≤◌, true, IfOk, OnErr, OnOk, None, length};
-ghost use Rattle.part_core.specs.Counter.{numbering_of};
+ghost use Rattle.word_core.specs.Counter.{numbering_of};
 ghost use Rattle.yard_core.specs.BooksView.{books_before, books_now};
 ghost use Rattle.yard_core.specs.Stock.{IsSound, next_entry};
 ghost use Rattle.yard_core.specs.YardView.{stock_of};

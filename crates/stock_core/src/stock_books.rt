@@ -1,7 +1,7 @@
 //! The stock books of a command: whether the limits leave room for it, and its end.
 ghost use Rattle.std.specs.Prelude.{◌≡◌, ◌+◌, ◌||◌, nat_lt, Err, IfOk, IsOk, OnErr};
-ghost use Rattle.part_core.specs.Counter.{lacks};
-ghost use Rattle.part_core.specs.declared.refusal.CoreFault.{CoreFault};
+ghost use Rattle.word_core.specs.Counter.{lacks};
+ghost use Rattle.word_core.specs.declared.refusal.CoreFault.{CoreFault};
 ghost use Rattle.yard_core.specs.StockBooks.{answer_of, entries_in, is_full};
 ghost use Rattle.yard_core.specs.BooksView.{books_before, books_now};
 ghost use Rattle.stock_core.specs.Endings.{Closes};

@@ -1,9 +1,11 @@
-//! The commands on stock, as a machine: one call that does any of them, and its laws.
+//! The commands on stock, as a machine: one call that does any of them, and its laws. A command comes from the shop
+//! (`desk_core` `src/shop.rt`) and goes to its own file in `src/commands`, which makes its checks and then the moves of
+//! `yard_core` `src/yard/moves.rt`.
 ghost use Rattle.std.specs.Prelude.{◌≡◌};
 ghost use Rattle.part_core.specs.Catalogue.{no_parts};
 ghost use Rattle.part_core.specs.CatalogueView.{parts_of};
-ghost use Rattle.part_core.specs.Counter.{start};
-ghost use Rattle.part_core.specs.declared.limits.Limits.{Limits};
+ghost use Rattle.word_core.specs.Counter.{start};
+ghost use Rattle.word_core.specs.declared.limits.Limits.{Limits};
 ghost use Rattle.bom_core.specs.BomsView.{bills_of};
 ghost use Rattle.yard_core.specs.StockBooks.{Does};
 ghost use Rattle.yard_core.specs.BooksView.{books_before, books_now};

@@ -2,6 +2,8 @@
 #![tactic(auto)]
 
 #[cfg(test)]
+mod serials;
+#[cfg(test)]
 mod stock;
 #[cfg(test)]
 mod yards;

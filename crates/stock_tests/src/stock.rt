@@ -1,7 +1,7 @@
 //! Stock that is sound, and stock with one fault each.
 ghost use Rattle.std.specs.Prelude.{◌==◌};
 
-use part_core::{Catalogue, Counter, Day, Flags, Id, Limits, Name, Part, Serial, Status};
+use part_core::{Catalogue, Counter, Day, Flags, Id, Limits, Name, Part, Seed, Serial, Status};
 use std::alloc::{AllocError, Global};
 use std::test::Fail;
 use stock_core::{KnowsOwners, is_sound_stock};
@@ -48,7 +48,7 @@ fn catalogue(alloc: Global) -> Result<Catalogue, Fail> {
     for (number, template) in [(5, None), (6, Some(5)), (7, Some(5)), (8, None)] {
         parts.push(part(alloc, number, template)?)?;
     }
-    Ok(Catalogue::assemble(alloc, Vec::new(alloc), parts)?)
+    Ok(Catalogue::assemble(alloc, Seed::new(0), Vec::new(alloc), parts)?)
 }
 
 // A counter that has drawn the numbers below 21.
@@ -107,7 +107,9 @@ fn is_found_sound(
         parent: None,
     };
     let locations = vec![in alloc; shelf]?;
-    let yard = Yard::assemble(alloc, locations, items, history)?.ok_or("entries by number")?;
+    let yard = Yard::assemble(alloc, Seed::new(0), locations, items, history)?.ok_or(
+        "entries by number",
+    )?;
     let catalogue = catalogue(alloc)?;
     let counter = drawn(limits);
     let books = YardBooks {

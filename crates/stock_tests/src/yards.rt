@@ -1,5 +1,5 @@
 //! Yards that are sound, and one for each fault.
-use part_core::{Day, Id, Name, Quantity, Serial, Status};
+use part_core::{Day, Id, Name, Quantity, Seed, Serial, Status};
 use std::alloc::{AllocError, Global};
 use std::test::Fail;
 use yard_core::{Entry, Item, Kind, Location, Lot, Note, Place, Yard};
@@ -17,7 +17,13 @@ fn location(alloc: Global, number: Id, parent: Option<Id>) -> Result<Location, F
 fn are_found_sound(alloc: Global, other: Location) -> Result<bool, Fail> {
     let top = location(alloc, 1, None)?;
     let locations = vec![in alloc; top, other]?;
-    let yard = Yard::assemble(alloc, locations, Vec::new(alloc), Vec::new(alloc))?;
+    let yard = Yard::assemble(
+        alloc,
+        Seed::new(0),
+        locations,
+        Vec::new(alloc),
+        Vec::new(alloc),
+    )?;
     let yard = yard.ok_or("no entries")?;
     Ok(yard.are_locations_sound(10)?)
 }
@@ -95,7 +101,7 @@ fn is_found_sound(
     items: Vec<Item>,
     history: Vec<Entry>,
 ) -> Result<bool, AllocError> {
-    match Yard::assemble(alloc, Vec::new(alloc), items, history)? {
+    match Yard::assemble(alloc, Seed::new(0), Vec::new(alloc), items, history)? {
         None => Ok(false),
         Some(yard) => yard.is_sound(),
     }

@@ -1,7 +1,7 @@
 //! Lines in groups: what one read gives is kept together and answered in one write. However a text is cut into reads, its
 //! answers are the same bytes; where the writer fails, what was run stays and is answered when it is sent again.
-use desk_app::{LineOptions, run_lines};
-use desk_ends::RunEnd;
+use desk_app::{RunOptions, run_lines};
+use desk_core::RunEnd;
 use desk_play::play::lines_in;
 use desk_stops::stops::{Keyed, Sending, stops_in_groups};
 use sqlite::Connection;
@@ -121,14 +121,7 @@ fn told<R: Read>(alloc: Global, reader: &mut R) -> Result<Flushed, Fail> {
     let conn = Connection::open_in_memory(alloc)?;
     let mut desk = created(alloc, conn)?;
     let mut writer = Flushed::new(alloc);
-    match run_lines(
-        alloc,
-        reader,
-        &mut writer,
-        &mut desk,
-        LineOptions::PLAIN,
-        false,
-    ) {
+    match run_lines(alloc, reader, &mut writer, &mut desk, RunOptions::PLAIN) {
         RunEnd::Done(true) => Ok(writer),
         _ => Err(Fail::from("another end")),
     }
@@ -190,8 +183,7 @@ fn cut_at(alloc: Global, room: usize, step: usize) -> Result<(Vec<u8>, usize), F
         &mut Source::new(LINES.as_bytes(), step),
         &mut brim,
         &mut desk,
-        LineOptions::PLAIN,
-        false,
+        RunOptions::PLAIN,
     );
     let kept = match desk.shop() {
         Ok(shop) => shop.answers().len(),
@@ -203,8 +195,7 @@ fn cut_at(alloc: Global, room: usize, step: usize) -> Result<(Vec<u8>, usize), F
         &mut LINES.as_bytes(),
         &mut sink,
         &mut desk,
-        LineOptions::PLAIN,
-        false,
+        RunOptions::PLAIN,
     );
     if end == RunEnd::WriteFailed
         && again == RunEnd::Done(true)

@@ -6,7 +6,7 @@ use crate::tables::tables_text;
 use desk_core::{Request, Shop, answer_line};
 use desk_store::Fault;
 use desk_wire::read_request;
-use part_core::{Answer, Limits};
+use part_core::{Answer, Limits, Seed};
 use sqlite::Files;
 use sqlite_disk::Memory;
 use std::alloc::Global;
@@ -36,7 +36,7 @@ fn keyed(alloc: Global, number: usize, line: &str) -> Result<Request, Fail> {
 
 /// All tables of a shop that ran the requests.
 fn tables_after(alloc: Global, requests: &[Request]) -> Result<String, Fail> {
-    let mut shop = Shop::new(alloc, Limits::LARGEST);
+    let mut shop = Shop::new(alloc, Seed::new(0), Limits::LARGEST);
     let outcomes = shop.run_list(alloc, requests)?;
     holds(
         outcomes.iter().all(|outcome| outcome.is_ok()),

@@ -7,7 +7,7 @@ ghost use Rattle.desk_store.specs.Desks.{IsDesk};
 
 use crate::tables::tables_text;
 use desk_store::Desk;
-use part_core::Limits;
+use part_core::{Limits, Seed};
 use sqlite::{Alter, Connection, FileStore, Files, Options};
 use sqlite_disk::{Crash, Disk, Fuse, Memory};
 use std::alloc::Global;
@@ -25,7 +25,7 @@ pub fn created_within<S: Alter + Drop>(
     requires { HasCleanDisk (state S.Store conn) → (state S.Store conn).in_transaction ≡ false }
     ensures { IfOk result (λ desk. IsDesk S.Store desk) }
 {
-    match Desk::create(alloc, conn, limits) {
+    match Desk::create(alloc, Seed::new(1), conn, limits) {
         Ok(desk) => Ok(desk),
         Err(_) => Err(Fail::from("no desk is made")),
     }
@@ -48,7 +48,7 @@ pub fn fresh(alloc: Global) -> Result<Files<Memory>, Fail> {
     let Ok(conn) = Connection::open_files(alloc, files, Options::new(7)) else {
         return Err(Fail::from("no file is made"));
     };
-    match Desk::create(alloc, conn, Limits::LARGEST) {
+    match Desk::create(alloc, Seed::new(1), conn, Limits::LARGEST) {
         Ok(desk) => Ok(desk.close().into_store().close()),
         Err((_, database)) => {
             drop(database.close());
@@ -110,7 +110,7 @@ pub fn opened<D: Disk + Drop>(
         Ok(conn) => conn,
         Err(left) => return Err(left),
     };
-    match Desk::open(alloc, conn) {
+    match Desk::open(alloc, Seed::new(2), conn) {
         Ok(desk) => Ok(desk),
         Err((_, database)) => Err(database.close()),
     }

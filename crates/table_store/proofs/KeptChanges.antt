@@ -5,12 +5,12 @@ use Rattle.std.specs.Prelude.{All, option_copied}
 use Rattle.std.specs.FinMap.{get, get-insert, get-remove, insert}
 use Rattle.sqlite.specs.Order.{Row}
 use Rattle.sqlite.specs.State.{State}
-use Rattle.part_core.specs.Columns.{AreSmall}
-use Rattle.part_core.specs.Filled.{StandUnderKeys}
-use Rattle.part_core.specs.Sheet.{Table, given, is_listed, IsDifference, IsEachOnce}
-use Rattle.part_core.specs.declared.column.Column.{Column}
-use Rattle.part_core.specs.declared.sheet.Pending.{Pending}
-use Rattle.part_core.proofs.Keys.{key_eq, key_eq-true, keys_total}
+use Rattle.sheet_core.specs.Columns.{AreSmall}
+use Rattle.sheet_core.specs.Filled.{StandUnderKeys}
+use Rattle.sheet_core.specs.Sheet.{Table, given, is_listed, IsDifference, IsEachOnce}
+use Rattle.sheet_core.specs.declared.column.Column.{Column}
+use Rattle.sheet_core.specs.declared.sheet.Pending.{Pending}
+use Rattle.sheet_core.proofs.Keys.{key_eq, key_eq-true, keys_total}
 use Rattle.table_store.specs.Stored.{values_of}
 use Rattle.table_store.specs.Transactions.{StaysInside}
 use Rattle.table_store.specs.Values.{HasTables, HasSet, with_row}

@@ -15,8 +15,8 @@ use Rattle.sqlite_sql.specs.Query.{key_cmp as row_key_cmp}
 use Rattle.sqlite_sql.proofs.QueryLemmas.{key_cmp_total as row_key_cmp_total}
 use Rattle.sqlite_value.specs.Keys.{ascending}
 use Rattle.sqlite_value.proofs.OrderLemmas.{value_cmp-Text, then-Equal}
-use Rattle.part_core.specs.Sheet.{key_cmp}
-use Rattle.part_core.specs.declared.column.Column.{Column}
+use Rattle.sheet_core.specs.Sheet.{key_cmp}
+use Rattle.sheet_core.specs.declared.column.Column.{Column}
 use Rattle.table_store.specs.Stored.{value_of, values_of, AreLoaded}
 use Rattle.table_store.specs.Values.{IsByWord, shown_row}
 use Rattle.table_store.specs.Written.{AreItsRows, IsTableOfNoneOwn, RowsRise, SuitKept}

@@ -24,11 +24,11 @@ use Rattle.sqlite_trees.specs.View.{IsShaped}
 use Rattle.sqlite_trees.specs.declared.store.Shape.TheVariants.{Table as TableShape}
 use Rattle.sqlite_value.specs.Keys.{ascending}
 use Rattle.sqlite_value.proofs.OrderLemmas.{value_cmp-Text, then-Equal}
-use Rattle.part_core.specs.Filled.{StandUnderKeys}
-use Rattle.part_core.specs.Sheet.{Table, key_cmp}
-use Rattle.part_core.specs.declared.column.Column.{Column}
-use Rattle.part_core.proofs.Conditions.{and_parts}
-use Rattle.part_core.proofs.Keys.{key_eq, keys_total}
+use Rattle.sheet_core.specs.Filled.{StandUnderKeys}
+use Rattle.sheet_core.specs.Sheet.{Table, key_cmp}
+use Rattle.sheet_core.specs.declared.column.Column.{Column}
+use Rattle.sheet_core.proofs.Conditions.{and_parts}
+use Rattle.sheet_core.proofs.Keys.{key_eq, keys_total}
 use Rattle.table_store.specs.Stored.{value_of, values_of}
 use Rattle.table_store.specs.Values.{shown_row, with_row}
 use Rattle.table_store.specs.Written.{Holds, SuitKept}

@@ -1,6 +1,6 @@
 -- What the statement that loads a table means, and what it shows.
 use Rattle.std.proofs.Common.{◌≡◌, ◌⊎◌, ◌<◌, inl, inr, ℕ, pos, negsuc, List, [], ◌∷◌, map}
-use Rattle.std.proofs.Common.{codes, false, None, refl, sym, ap, subst, ◌∙◌, arith}
+use Rattle.std.proofs.Common.{false, None, refl, sym, ap, subst, ◌∙◌, arith}
 use Rattle.std.specs.List.{flat_map}
 use Rattle.std.specs.List.Sorted.{IsPermutation}
 use Rattle.sqlite.specs.declared.types.Value.TheVariants.{Null, Int}
@@ -26,7 +26,8 @@ use Rattle.table_store.specs.declared.name.TableName.{TableName}
 use Rattle.table_store.specs.declared.name.TableName.TheVariants.{Meta, Categories, Locations, Parts, Lines}
 use Rattle.table_store.specs.declared.name.TableName.TheVariants.{Substitutes, Items, History, Orders}
 use Rattle.table_store.specs.declared.name.TableName.TheVariants.{OrderLines, Builds, Allocations, Kept, Spent}
-use Rattle.table_store.specs.Schema.{desk_schema, old_schema, position, tree_number}
+use Rattle.sqlite_schema.specs.declared.schema.Column.{Column as TableColumn}
+use Rattle.table_store.specs.Schema.{columns_of, desk_schema, old_schema, position, tree_number}
 use Rattle.table_store.specs.Texts.{load_text}
 use Rattle.table_store.specs.Values.{places, shown_row, IsByWord, IsLoaded, HasTable, HasTables}
 use Rattle.table_store.proofs.Plans.{IsCommand}
@@ -35,26 +36,7 @@ use Rattle.table_store.proofs.Ordered.{in_order, loads}
 
 -- the names of the columns
 abbrev headings : TableName → List (List ℕ)
-headings Meta =
-    codes "one" ∷ codes "version" ∷ codes "next" ∷ codes "entries" ∷ codes "max_numbers" ∷ codes "max_entries" ∷ []
-headings Categories = codes "id" ∷ codes "name" ∷ codes "parent" ∷ []
-headings Locations = codes "id" ∷ codes "name" ∷ codes "parent" ∷ []
-headings Parts = codes "id" ∷ codes "name" ∷ codes "category" ∷ codes "template" ∷ codes "flags" ∷ codes "retired" ∷ []
-headings Lines = codes "id" ∷ codes "assembly" ∷ codes "component" ∷ codes "quantity" ∷ codes "flags" ∷ []
-headings Substitutes = codes "id" ∷ codes "line" ∷ codes "part" ∷ []
-headings Items =
-    codes "id" ∷ codes "part" ∷ codes "batch" ∷ codes "serial" ∷ codes "status" ∷ codes "quantity" ∷ codes "place"
-    ∷ codes "ref" ∷ []
-headings History =
-    codes "n" ∷ codes "day" ∷ codes "kind" ∷ codes "item" ∷ codes "part" ∷ codes "quantity" ∷ codes "place"
-    ∷ codes "ref" ∷ []
-headings Orders = codes "id" ∷ codes "side" ∷ codes "partner" ∷ codes "state" ∷ []
-headings OrderLines = codes "id" ∷ codes "owner" ∷ codes "part" ∷ codes "quantity" ∷ codes "done" ∷ []
-headings Builds = codes "id" ∷ codes "part" ∷ codes "quantity" ∷ codes "state" ∷ codes "done" ∷ []
-headings Allocations =
-    codes "id" ∷ codes "item" ∷ codes "quantity" ∷ codes "side" ∷ codes "owner" ∷ codes "line" ∷ codes "output" ∷ []
-headings Spent = codes "id" ∷ codes "build" ∷ codes "line" ∷ codes "quantity" ∷ []
-headings Kept = codes "word" ∷ codes "command" ∷ codes "answer" ∷ []
+headings table = map (λ (c : TableColumn). c.name) (columns_of table)
 
 abbrev by_word : Query
 by_word = record {
@@ -71,91 +53,31 @@ by_word = record {
 
 abbrev load_query : TableName → Query
 load_query Kept = by_word
-load_query Meta = in_order (tree_number Meta) (map (col 1) (places Meta))
-load_query Categories = in_order (tree_number Categories) (map (col 1) (places Categories))
-load_query Locations = in_order (tree_number Locations) (map (col 1) (places Locations))
-load_query Parts = in_order (tree_number Parts) (map (col 1) (places Parts))
-load_query Lines = in_order (tree_number Lines) (map (col 1) (places Lines))
-load_query Substitutes = in_order (tree_number Substitutes) (map (col 1) (places Substitutes))
-load_query Items = in_order (tree_number Items) (map (col 1) (places Items))
-load_query History = in_order (tree_number History) (map (col 1) (places History))
-load_query Orders = in_order (tree_number Orders) (map (col 1) (places Orders))
-load_query OrderLines = in_order (tree_number OrderLines) (map (col 1) (places OrderLines))
-load_query Builds = in_order (tree_number Builds) (map (col 1) (places Builds))
-load_query Allocations = in_order (tree_number Allocations) (map (col 1) (places Allocations))
-load_query Spent = in_order (tree_number Spent) (map (col 1) (places Spent))
+load_query table = in_order (tree_number table) (map (col 1) (places table))
 
 load_is : (table : TableName) → IsCommand (Select (record { lets = []; body = load_query table }) (headings table))
     (understood desk_schema (load_text table))
 unfolding understood everything
-load_is Meta = (refl, refl, refl)
-load_is Categories = (refl, refl, refl)
-load_is Locations = (refl, refl, refl)
-load_is Parts = (refl, refl, refl)
-load_is Lines = (refl, refl, refl)
-load_is Substitutes = (refl, refl, refl)
-load_is Items = (refl, refl, refl)
-load_is History = (refl, refl, refl)
-load_is Orders = (refl, refl, refl)
-load_is OrderLines = (refl, refl, refl)
-load_is Builds = (refl, refl, refl)
-load_is Allocations = (refl, refl, refl)
-load_is Spent = (refl, refl, refl)
 load_is Kept = (refl, refl, refl)
+load_is _ = (refl, refl, refl)
 
 unlisted : (table : TableName) → reads_listing desk_schema (load_text table) ≡ false
 unfolding understood everything
-unlisted Meta = refl
-unlisted Categories = refl
-unlisted Locations = refl
-unlisted Parts = refl
-unlisted Lines = refl
-unlisted Substitutes = refl
-unlisted Items = refl
-unlisted History = refl
-unlisted Orders = refl
-unlisted OrderLines = refl
-unlisted Builds = refl
-unlisted Allocations = refl
-unlisted Spent = refl
 unlisted Kept = refl
+unlisted _ = refl
 
 -- the text means the same in the tables of version 1
 old_load_is : (table : TableName) → position table < 13
     → IsCommand (Select (record { lets = []; body = load_query table }) (headings table))
     (understood old_schema (load_text table))
 unfolding understood everything
-old_load_is Meta low = (refl, refl, refl)
-old_load_is Categories low = (refl, refl, refl)
-old_load_is Locations low = (refl, refl, refl)
-old_load_is Parts low = (refl, refl, refl)
-old_load_is Lines low = (refl, refl, refl)
-old_load_is Substitutes low = (refl, refl, refl)
-old_load_is Items low = (refl, refl, refl)
-old_load_is History low = (refl, refl, refl)
-old_load_is Orders low = (refl, refl, refl)
-old_load_is OrderLines low = (refl, refl, refl)
-old_load_is Builds low = (refl, refl, refl)
-old_load_is Allocations low = (refl, refl, refl)
-old_load_is Kept low = (refl, refl, refl)
 old_load_is Spent low = absurd (omega (arith, low))
+old_load_is _ low = (refl, refl, refl)
 
 old_unlisted : (table : TableName) → position table < 13 → reads_listing old_schema (load_text table) ≡ false
 unfolding understood everything
-old_unlisted Meta low = refl
-old_unlisted Categories low = refl
-old_unlisted Locations low = refl
-old_unlisted Parts low = refl
-old_unlisted Lines low = refl
-old_unlisted Substitutes low = refl
-old_unlisted Items low = refl
-old_unlisted History low = refl
-old_unlisted Orders low = refl
-old_unlisted OrderLines low = refl
-old_unlisted Builds low = refl
-old_unlisted Allocations low = refl
-old_unlisted Kept low = refl
 old_unlisted Spent low = absurd (omega (arith, low))
+old_unlisted _ low = refl
 
 -- the text reads the table, where the schema has it
 record IsUnderstood (table : TableName) (schema : Schema) : Type 0 where
@@ -212,45 +134,8 @@ pub loads_table : (table : TableName) (old new : State) (rows : List Row) → Ha
     → Shown (load_text table) [] old new rows → IsLoaded table (old.now.trees (tree_number table)) rows
 loads_table Kept old new rows has h =
     loads_kept (old.now.trees 12) rows (overlay old.now.trees []) refl (answer Kept old new rows has h)
-loads_table Meta old new rows has h =
-    loads (tree_number Meta) (map (col 1) (places Meta)) [] (overlay old.now.trees []) rows has.shaped.0
-    (answer Meta old new rows has h)
-loads_table Categories old new rows has h =
-    loads (tree_number Categories) (map (col 1) (places Categories)) [] (overlay old.now.trees []) rows
-    has.shaped.0 (answer Categories old new rows has h)
-loads_table Locations old new rows has h =
-    loads (tree_number Locations) (map (col 1) (places Locations)) [] (overlay old.now.trees []) rows
-    has.shaped.0 (answer Locations old new rows has h)
-loads_table Parts old new rows has h =
-    loads (tree_number Parts) (map (col 1) (places Parts)) [] (overlay old.now.trees []) rows has.shaped.0
-    (answer Parts old new rows has h)
-loads_table Lines old new rows has h =
-    loads (tree_number Lines) (map (col 1) (places Lines)) [] (overlay old.now.trees []) rows has.shaped.0
-    (answer Lines old new rows has h)
-loads_table Substitutes old new rows has h =
-    loads (tree_number Substitutes) (map (col 1) (places Substitutes)) [] (overlay old.now.trees []) rows
-    has.shaped.0 (answer Substitutes old new rows has h)
-loads_table Items old new rows has h =
-    loads (tree_number Items) (map (col 1) (places Items)) [] (overlay old.now.trees []) rows has.shaped.0
-    (answer Items old new rows has h)
-loads_table History old new rows has h =
-    loads (tree_number History) (map (col 1) (places History)) [] (overlay old.now.trees []) rows has.shaped.0
-    (answer History old new rows has h)
-loads_table Orders old new rows has h =
-    loads (tree_number Orders) (map (col 1) (places Orders)) [] (overlay old.now.trees []) rows has.shaped.0
-    (answer Orders old new rows has h)
-loads_table OrderLines old new rows has h =
-    loads (tree_number OrderLines) (map (col 1) (places OrderLines)) [] (overlay old.now.trees []) rows
-    has.shaped.0 (answer OrderLines old new rows has h)
-loads_table Builds old new rows has h =
-    loads (tree_number Builds) (map (col 1) (places Builds)) [] (overlay old.now.trees []) rows has.shaped.0
-    (answer Builds old new rows has h)
-loads_table Allocations old new rows has h =
-    loads (tree_number Allocations) (map (col 1) (places Allocations)) [] (overlay old.now.trees []) rows
-    has.shaped.0 (answer Allocations old new rows has h)
-loads_table Spent old new rows has h =
-    loads (tree_number Spent) (map (col 1) (places Spent)) [] (overlay old.now.trees []) rows
-    has.shaped.0 (answer Spent old new rows has h)
+loads_table table old new rows has h =
+    loads (tree_number table) (map (col 1) (places table)) [] (overlay old.now.trees []) rows has.shaped.0 (answer table old new rows has h)
 
 pub plain : (table : TableName) (s : State) → HasTable table s → IsPlain (understood s.now.schema (load_text table))
 plain table s has = (of_command _ _ (means table s has).command).1

@@ -65,25 +65,8 @@ record Creates (name : TableName) : Type 0 where
 
 creates : (name : TableName) → Creates name
 unfolding understood everything
-creates Meta = record { is = refl; plain = (refl, refl); whole = refl; defines = refl; grows = refl; lacks = refl }
-creates Categories =
-    record { is = refl; plain = (refl, refl); whole = refl; defines = refl; grows = refl; lacks = refl }
-creates Locations = record { is = refl; plain = (refl, refl); whole = refl; defines = refl; grows = refl; lacks = refl }
-creates Parts = record { is = refl; plain = (refl, refl); whole = refl; defines = refl; grows = refl; lacks = refl }
-creates Lines = record { is = refl; plain = (refl, refl); whole = refl; defines = refl; grows = refl; lacks = refl }
-creates Substitutes =
-    record { is = refl; plain = (refl, refl); whole = refl; defines = refl; grows = refl; lacks = refl }
-creates Items = record { is = refl; plain = (refl, refl); whole = refl; defines = refl; grows = refl; lacks = refl }
-creates History = record { is = refl; plain = (refl, refl); whole = refl; defines = refl; grows = refl; lacks = refl }
-creates Orders = record { is = refl; plain = (refl, refl); whole = refl; defines = refl; grows = refl; lacks = refl }
-creates OrderLines =
-    record { is = refl; plain = (refl, refl); whole = refl; defines = refl; grows = refl; lacks = refl }
-creates Builds = record { is = refl; plain = (refl, refl); whole = refl; defines = refl; grows = refl; lacks = refl }
-creates Allocations =
-    record { is = refl; plain = (refl, refl); whole = refl; defines = refl; grows = refl; lacks = refl }
-creates Spent =
-    record { is = refl; plain = (refl, refl); whole = refl; defines = refl; grows = refl; lacks = refl }
 creates Kept = record { is = refl; plain = (refl, refl); whole = refl; defines = refl; grows = refl; lacks = refl }
+creates _ = record { is = refl; plain = (refl, refl); whole = refl; defines = refl; grows = refl; lacks = refl }
 
 one_more : (P : Table → Type 0) (tables : List Table) (table : Table) → AllByRecursion P tables → P table
     → AllByRecursion P (tables ++ table ∷ [])
@@ -185,17 +168,5 @@ module _ (old new : State) where
       stays table low = subst (IsShaped shape.Table) (sym (second.rows table low)) (had.shaped table low)
 
       each : (table : TableName) → IsShaped shape.Table (new.now.trees (tree_number table))
-      each Meta = stays Meta (omega arith)
-      each Categories = stays Categories (omega arith)
-      each Locations = stays Locations (omega arith)
-      each Parts = stays Parts (omega arith)
-      each Lines = stays Lines (omega arith)
-      each Substitutes = stays Substitutes (omega arith)
-      each Items = stays Items (omega arith)
-      each History = stays History (omega arith)
-      each Orders = stays Orders (omega arith)
-      each OrderLines = stays OrderLines (omega arith)
-      each Builds = stays Builds (omega arith)
-      each Allocations = stays Allocations (omega arith)
-      each Kept = stays Kept (omega arith)
       each Spent = subst (IsShaped shape.Table) (sym second.spent) (tt, tt)
+      each table = stays table (omega arith)

@@ -5,10 +5,10 @@ use Rattle.std.specs.Prelude.{All}
 use Rattle.std.specs.FinMap.{insert, values}
 use Rattle.std.proofs.lemmas.List.{drop_all, drop_more}
 use Rattle.std.proofs.lemmas.List.Elements.{All-cons, All-nil}
-use Rattle.part_core.specs.Filled.{StandUnderKeys, filled_onto}
-use Rattle.part_core.specs.Rows.{EachRow}
-use Rattle.part_core.specs.Sheet.{Table}
-use Rattle.part_core.proofs.Standing.{Stands, each-value}
+use Rattle.sheet_core.specs.Filled.{StandUnderKeys, filled_onto}
+use Rattle.sheet_core.specs.Rows.{EachRow}
+use Rattle.sheet_core.specs.Sheet.{Table}
+use Rattle.sheet_core.proofs.Standing.{Stands, each-value}
 use Rattle.sqlite.specs.Order.{Row}
 use Rattle.sqlite.specs.State.{State}
 use Rattle.table_store.specs.Written.{tree_of, given_all}

@@ -4,8 +4,8 @@ use Rattle.std.proofs.Common.{false, slice_index_or, sym, ap, ◌∙◌, arith, 
 use Rattle.std.specs.List.{AllByRecursion}
 use Rattle.std.specs.Ordering.{is_lt}
 use Rattle.std.specs.declared.cmp.Ordering.TheVariants.{Less}
-use Rattle.part_core.specs.Sheet.{key_cmp}
-use Rattle.part_core.proofs.Keys.{keys_total}
+use Rattle.sheet_core.specs.Sheet.{key_cmp}
+use Rattle.sheet_core.proofs.Keys.{keys_total}
 use Rattle.table_store.specs.Written.{RowsRise}
 
 module _ {X : Type 0} (key_of : X → List ℕ) where

@@ -11,19 +11,7 @@ use Rattle.table_store.specs.declared.name.TableName.TheVariants.{OrderLines, Bu
 
 pub keyed_by_number : (name : TableName) (t : Table) → name ≢ Kept → IsKeyed name t ↔ IsNumbered t
 keyed_by_number Kept t other = absurd (other refl)
-keyed_by_number Meta t other = (λ h. h, λ h. h)
-keyed_by_number Categories t other = (λ h. h, λ h. h)
-keyed_by_number Locations t other = (λ h. h, λ h. h)
-keyed_by_number Parts t other = (λ h. h, λ h. h)
-keyed_by_number Lines t other = (λ h. h, λ h. h)
-keyed_by_number Substitutes t other = (λ h. h, λ h. h)
-keyed_by_number Items t other = (λ h. h, λ h. h)
-keyed_by_number History t other = (λ h. h, λ h. h)
-keyed_by_number Orders t other = (λ h. h, λ h. h)
-keyed_by_number OrderLines t other = (λ h. h, λ h. h)
-keyed_by_number Builds t other = (λ h. h, λ h. h)
-keyed_by_number Allocations t other = (λ h. h, λ h. h)
-keyed_by_number Spent t other = (λ h. h, λ h. h)
+keyed_by_number _ t other = (λ h. h, λ h. h)
 
 same_table : (t u : Table) → t.name ≡ u.name → t.tree ≡ u.tree → t.columns ≡ u.columns → t.key ≡ u.key
     → t.primary ≡ u.primary → t.uniques ≡ u.uniques → t.orders ≡ u.orders → t.checks ≡ u.checks
@@ -60,91 +48,19 @@ same_table t u a b c d e f g h i j k l =
 -- ---- the desk's own
 
 rule_free : (name : TableName) → HasNoRule (table_of name)
-rule_free Meta = record { checks = refl; references = refl; computed = refl; stamps = refl; counted = refl }
-rule_free Categories = record { checks = refl; references = refl; computed = refl; stamps = refl; counted = refl }
-rule_free Locations = record { checks = refl; references = refl; computed = refl; stamps = refl; counted = refl }
-rule_free Parts = record { checks = refl; references = refl; computed = refl; stamps = refl; counted = refl }
-rule_free Lines = record { checks = refl; references = refl; computed = refl; stamps = refl; counted = refl }
-rule_free Substitutes = record { checks = refl; references = refl; computed = refl; stamps = refl; counted = refl }
-rule_free Items = record { checks = refl; references = refl; computed = refl; stamps = refl; counted = refl }
-rule_free History = record { checks = refl; references = refl; computed = refl; stamps = refl; counted = refl }
-rule_free Orders = record { checks = refl; references = refl; computed = refl; stamps = refl; counted = refl }
-rule_free OrderLines = record { checks = refl; references = refl; computed = refl; stamps = refl; counted = refl }
-rule_free Builds = record { checks = refl; references = refl; computed = refl; stamps = refl; counted = refl }
-rule_free Allocations = record { checks = refl; references = refl; computed = refl; stamps = refl; counted = refl }
-rule_free Spent = record { checks = refl; references = refl; computed = refl; stamps = refl; counted = refl }
 rule_free Kept = record { checks = refl; references = refl; computed = refl; stamps = refl; counted = refl }
+rule_free _ = record { checks = refl; references = refl; computed = refl; stamps = refl; counted = refl }
 
 own_parts : (name : TableName) → HasParts name (table_of name)
-own_parts Meta = record {
-  named = record { name_is = refl; tree = refl; columns = refl };
-  keyed = record { key = refl; primary = refl; uniques = refl; orders = refl };
-  bare = rule_free Meta;
-}
-own_parts Categories = record {
-  named = record { name_is = refl; tree = refl; columns = refl };
-  keyed = record { key = refl; primary = refl; uniques = refl; orders = refl };
-  bare = rule_free Categories;
-}
-own_parts Locations = record {
-  named = record { name_is = refl; tree = refl; columns = refl };
-  keyed = record { key = refl; primary = refl; uniques = refl; orders = refl };
-  bare = rule_free Locations;
-}
-own_parts Parts = record {
-  named = record { name_is = refl; tree = refl; columns = refl };
-  keyed = record { key = refl; primary = refl; uniques = refl; orders = refl };
-  bare = rule_free Parts;
-}
-own_parts Lines = record {
-  named = record { name_is = refl; tree = refl; columns = refl };
-  keyed = record { key = refl; primary = refl; uniques = refl; orders = refl };
-  bare = rule_free Lines;
-}
-own_parts Substitutes = record {
-  named = record { name_is = refl; tree = refl; columns = refl };
-  keyed = record { key = refl; primary = refl; uniques = refl; orders = refl };
-  bare = rule_free Substitutes;
-}
-own_parts Items = record {
-  named = record { name_is = refl; tree = refl; columns = refl };
-  keyed = record { key = refl; primary = refl; uniques = refl; orders = refl };
-  bare = rule_free Items;
-}
-own_parts History = record {
-  named = record { name_is = refl; tree = refl; columns = refl };
-  keyed = record { key = refl; primary = refl; uniques = refl; orders = refl };
-  bare = rule_free History;
-}
-own_parts Orders = record {
-  named = record { name_is = refl; tree = refl; columns = refl };
-  keyed = record { key = refl; primary = refl; uniques = refl; orders = refl };
-  bare = rule_free Orders;
-}
-own_parts OrderLines = record {
-  named = record { name_is = refl; tree = refl; columns = refl };
-  keyed = record { key = refl; primary = refl; uniques = refl; orders = refl };
-  bare = rule_free OrderLines;
-}
-own_parts Builds = record {
-  named = record { name_is = refl; tree = refl; columns = refl };
-  keyed = record { key = refl; primary = refl; uniques = refl; orders = refl };
-  bare = rule_free Builds;
-}
-own_parts Allocations = record {
-  named = record { name_is = refl; tree = refl; columns = refl };
-  keyed = record { key = refl; primary = refl; uniques = refl; orders = refl };
-  bare = rule_free Allocations;
-}
-own_parts Spent = record {
-  named = record { name_is = refl; tree = refl; columns = refl };
-  keyed = record { key = refl; primary = refl; uniques = refl; orders = refl };
-  bare = rule_free Spent;
-}
 own_parts Kept = record {
   named = record { name_is = refl; tree = refl; columns = refl };
   keyed = record { key = refl; primary = refl; uniques = refl; orders = refl };
   bare = rule_free Kept;
+}
+own_parts name = record {
+  named = record { name_is = refl; tree = refl; columns = refl };
+  keyed = record { key = refl; primary = refl; uniques = refl; orders = refl };
+  bare = rule_free name;
 }
 
 numbered_is : (t u : Table) → IsNumbered t → IsNumbered u → HasNoRule t → HasNoRule u → t.name ≡ u.name
@@ -165,45 +81,8 @@ parts_are : (name : TableName) (t : Table) → HasParts name t → t ≡ table_o
 parts_are Kept t h =
     worded_is t (table_of Kept) h.keyed (own_parts Kept).keyed h.bare (rule_free Kept) h.named.name_is h.named.tree
     h.named.columns
-parts_are Meta t h =
-    numbered_is t (table_of Meta) h.keyed (own_parts Meta).keyed h.bare (rule_free Meta) h.named.name_is h.named.tree
-    h.named.columns
-parts_are Categories t h =
-    numbered_is t (table_of Categories) h.keyed (own_parts Categories).keyed h.bare (rule_free Categories)
-    h.named.name_is h.named.tree h.named.columns
-parts_are Locations t h =
-    numbered_is t (table_of Locations) h.keyed (own_parts Locations).keyed h.bare (rule_free Locations) h.named.name_is
-    h.named.tree h.named.columns
-parts_are Parts t h =
-    numbered_is t (table_of Parts) h.keyed (own_parts Parts).keyed h.bare (rule_free Parts) h.named.name_is h.named.tree
-    h.named.columns
-parts_are Lines t h =
-    numbered_is t (table_of Lines) h.keyed (own_parts Lines).keyed h.bare (rule_free Lines) h.named.name_is h.named.tree
-    h.named.columns
-parts_are Substitutes t h =
-    numbered_is t (table_of Substitutes) h.keyed (own_parts Substitutes).keyed h.bare (rule_free Substitutes)
-    h.named.name_is h.named.tree h.named.columns
-parts_are Items t h =
-    numbered_is t (table_of Items) h.keyed (own_parts Items).keyed h.bare (rule_free Items) h.named.name_is h.named.tree
-    h.named.columns
-parts_are History t h =
-    numbered_is t (table_of History) h.keyed (own_parts History).keyed h.bare (rule_free History) h.named.name_is
-    h.named.tree h.named.columns
-parts_are Orders t h =
-    numbered_is t (table_of Orders) h.keyed (own_parts Orders).keyed h.bare (rule_free Orders) h.named.name_is
-    h.named.tree h.named.columns
-parts_are OrderLines t h =
-    numbered_is t (table_of OrderLines) h.keyed (own_parts OrderLines).keyed h.bare (rule_free OrderLines)
-    h.named.name_is h.named.tree h.named.columns
-parts_are Builds t h =
-    numbered_is t (table_of Builds) h.keyed (own_parts Builds).keyed h.bare (rule_free Builds) h.named.name_is
-    h.named.tree h.named.columns
-parts_are Allocations t h =
-    numbered_is t (table_of Allocations) h.keyed (own_parts Allocations).keyed h.bare (rule_free Allocations)
-    h.named.name_is h.named.tree h.named.columns
-parts_are Spent t h =
-    numbered_is t (table_of Spent) h.keyed (own_parts Spent).keyed h.bare (rule_free Spent)
-    h.named.name_is h.named.tree h.named.columns
+parts_are table t h =
+    numbered_is t (table_of table) h.keyed (own_parts table).keyed h.bare (rule_free table) h.named.name_is h.named.tree h.named.columns
 
 pub table_by_parts : (name : TableName) (t : Table) → HasParts name t ↔ (t ≡ table_of name)
 table_by_parts name t = (parts_are name t, λ e. subst (HasParts name) (sym e) (own_parts name))
@@ -211,20 +90,8 @@ table_by_parts name t = (parts_are name t, λ e. subst (HasParts name) (sym e) (
 -- ---- the places of the tables
 
 own_place : (name : TableName) → get_or all_names (position name) Meta ≡ name
-own_place Meta = refl
-own_place Categories = refl
-own_place Locations = refl
-own_place Parts = refl
-own_place Lines = refl
-own_place Substitutes = refl
-own_place Items = refl
-own_place History = refl
-own_place Orders = refl
-own_place OrderLines = refl
-own_place Builds = refl
-own_place Allocations = refl
 own_place Kept = refl
-own_place Spent = refl
+own_place _ = refl
 
 -- among the first so many tables each stands at its own place
 pub at_place : (name : TableName) (count place : ℕ) (d : Table) → position name ≡ place → place < count → count ≤ 14

@@ -3,9 +3,9 @@ use Rattle.std.proofs.Common.{◌≡◌, ℕ, List, [], Result, Ok, Err, OnOk}
 use Rattle.std.specs.Prelude.{Option}
 use Rattle.std.specs.FinMap.{insert, remove, empty}
 use Rattle.sqlite.specs.Order.{Row}
-use Rattle.part_core.specs.Sheet.{Table}
-use Rattle.part_core.specs.declared.column.Column.{Column}
-use Rattle.part_core.proofs.RowLemmas.{each-insert, each-empty, get-remove_cases}
+use Rattle.sheet_core.specs.Sheet.{Table}
+use Rattle.sheet_core.specs.declared.column.Column.{Column}
+use Rattle.sheet_core.proofs.RowLemmas.{each-insert, each-empty, get-remove_cases}
 use Rattle.table_store.specs.declared.name.TableName.{TableName}
 use Rattle.table_store.specs.Written.{Holds, IsRead, IsTableOf}
 use Rattle.table_store.proofs.Fillings.{holds-empty}

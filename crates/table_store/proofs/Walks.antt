@@ -16,7 +16,7 @@ use Rattle.sqlite.proofs.Callers.{given_begin, begins_shown, begun_plain, unchan
 use Rattle.sqlite_trees.specs.View.{IsShaped}
 use Rattle.sqlite_trees.specs.declared.store.Shape.TheVariants as shape
 use Rattle.sqlite_trees.specs.declared.store.Store.{Ghosts}
-use Rattle.part_core.specs.declared.column.Column.{Column}
+use Rattle.sheet_core.specs.declared.column.Column.{Column}
 use Rattle.table_store.specs.Schema.{desk_schema, old_schema, position, tree_number}
 use Rattle.table_store.specs.Stored.{row_of, values_of, FailsToLoad, FailsToRead, HasBadRow}
 use Rattle.table_store.specs.Texts.{load_text}

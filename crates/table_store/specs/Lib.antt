@@ -1,4 +1,5 @@
 pub mod Schema
+pub mod Named
 pub mod Faults
 pub mod Shape
 pub mod Texts

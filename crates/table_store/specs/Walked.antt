@@ -2,7 +2,7 @@
 use Rattle.std.specs.Prelude.{◌≡◌, ◌⊎◌, List, ◌++◌, map, Option, Some}
 use Rattle.std.specs.List.{FoldsTo}
 use Rattle.sqlite.specs.Order.{Row}
-use Rattle.part_core.specs.declared.column.Column.{Column}
+use Rattle.sheet_core.specs.declared.column.Column.{Column}
 use Rattle.table_store.specs.Stored.{row_of, values_of, AreLoaded}
 use Rattle.table_store.specs.Values.{IsLoaded}
 use Rattle.table_store.specs.declared.name.TableName.{TableName}

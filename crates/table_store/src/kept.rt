@@ -3,9 +3,9 @@ ghost use Rattle.std.specs.Prelude.{◌≡◌, IfErr, IfOk, OnOk, OnErr, All, No
 ghost use Rattle.std.specs.FinMap.{get, insert};
 ghost use Rattle.sqlite.specs.Held.{state};
 ghost use Rattle.sqlite.specs.State.{HasCleanDisk, KeepsCommit, Survives};
-ghost use Rattle.part_core.specs.Columns.{IsSmall, AreSmall};
-ghost use Rattle.part_core.specs.Filled.{StandUnderKeys};
-ghost use Rattle.part_core.specs.Sheet.{Table, given, now_of};
+ghost use Rattle.sheet_core.specs.Columns.{IsSmall, AreSmall};
+ghost use Rattle.sheet_core.specs.Filled.{StandUnderKeys};
+ghost use Rattle.sheet_core.specs.Sheet.{Table, given, now_of};
 ghost use Rattle.table_store.specs.Transactions.{IsOfMemoryOrStore, MayUndo};
 ghost use Rattle.table_store.specs.declared.name.TableName.TheVariants.{Kept};
 ghost use Rattle.table_store.specs.Written.{tree_of, IsReady, IsTableOf, MayStop, Writes, SuitKept};
@@ -15,7 +15,7 @@ use crate::fault::TableFault;
 use crate::name::TableName;
 use crate::rows::put_row;
 use crate::write::values_of;
-use part_core::{Pending, Sheet, Stored};
+use sheet_core::{Pending, Sheet, Stored};
 use sqlite::{Alter, Connection};
 use std::alloc::Global;
 

@@ -12,7 +12,7 @@ ghost use Rattle.table_store.specs.Written.{tree_of};
 use crate::fault::{Failed, TableFault};
 use crate::name::TableName;
 use crate::read::row_of;
-use part_core::{ColumnFault, Stored};
+use sheet_core::{ColumnFault, Stored};
 use sqlite::{Alter, Connection, Error, ErrorCode, Row};
 use std::alloc::{AllocError, Global};
 

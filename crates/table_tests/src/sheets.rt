@@ -4,10 +4,10 @@ ghost use Rattle.std.specs.FinMap.{empty};
 ghost use Rattle.sqlite.specs.Held.{state};
 ghost use Rattle.sqlite.specs.State.{HasCleanDisk};
 ghost use Rattle.part_core.specs.NamedRows.{named_columns, named_from};
-ghost use Rattle.part_core.specs.Columns.{IsSmall, AreSmall};
-ghost use Rattle.part_core.specs.Filled.{StandUnderKeys};
-ghost use Rattle.part_core.specs.Rows.{StayThere};
-ghost use Rattle.part_core.specs.Sheet.{now_of};
+ghost use Rattle.sheet_core.specs.Columns.{IsSmall, AreSmall};
+ghost use Rattle.sheet_core.specs.Filled.{StandUnderKeys};
+ghost use Rattle.sheet_core.specs.Rows.{StayThere};
+ghost use Rattle.sheet_core.specs.Sheet.{now_of};
 ghost use Rattle.table_store.specs.Making.{IsFresh};
 ghost use Rattle.table_store.specs.Schema.{schema_up_to};
 ghost use Rattle.table_store.specs.Values.{HasTables};
@@ -15,7 +15,7 @@ ghost use Rattle.table_store.specs.Written.{tree_of, IsReady, IsTableOf};
 ghost use Rattle.table_store.specs.declared.name.TableName.TheVariants.{Categories};
 
 use crate::tables::{committed, holds, location, made};
-use part_core::{Category, Log, Name, Sheet};
+use part_core::{Category, Log, Name, Seed, Sheet};
 use sqlite::{Alter, Connection};
 use sqlite_value::value::ValueRef;
 use std::alloc::{AllocError, Global};
@@ -62,7 +62,7 @@ fn categories(alloc: Global) -> Result<Sheet<Category>, Fail>
     ensures small { IfOk result (λ sheet. AreSmall named_columns (now_of sheet)) }
     ensures before { IfOk result (λ sheet. sheet.before ≡ empty) }
 {
-    let mut sheet = Sheet::new(alloc);
+    let mut sheet = Sheet::new(alloc, Seed::new(0));
     let later = category(alloc, 20, "Screws")?;
     let first = category(alloc, 10, "Screws")?;
     sheet.put(later)?;

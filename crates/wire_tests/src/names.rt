@@ -5,7 +5,7 @@ ghost use Rattle.desk_core.specs.ShopView.{state_of};
 
 use desk_core::Shop;
 use desk_wire::{ReadError, Wish, answer_text, fault_text, read_line, refused_text, report_text};
-use part_core::{CoreFault, Limits};
+use part_core::{CoreFault, Limits, Seed};
 use report_core::report;
 use std::alloc::Global;
 use std::process::Abort;
@@ -360,7 +360,11 @@ fn expect_faults(
 fn shop(rt: &impl Abort, alloc: Global) -> Result<Shop, Fail>
     ensures { IfOk result (λ shop. IsSoundState (state_of shop)) }
 {
-    let mut shop = Shop::new(alloc, Limits::new(1_000, 1_000).ok_or("limits")?);
+    let mut shop = Shop::new(
+        alloc,
+        Seed::new(0),
+        Limits::new(1_000, 1_000).ok_or("limits")?,
+    );
     expect_answers(rt, alloc, &mut shop, &SHOP)?;
     Ok(shop)
 }

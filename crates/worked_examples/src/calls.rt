@@ -6,7 +6,7 @@ ghost use Rattle.desk_core.specs.ShopView.{state_of};
 use crate::example::Example;
 use desk_core::Shop;
 use desk_play::play::plays_on_shop;
-use part_core::Limits;
+use part_core::{Limits, Seed};
 use std::alloc::Global;
 use std::test::Fail;
 use store_play::outcomes::holds;
@@ -15,7 +15,7 @@ use store_play::outcomes::holds;
 fn shop_after(alloc: Global, example: &Example) -> Result<Shop, Fail>
     ensures { IfOk result (λ shop. IsSoundState (state_of shop)) }
 {
-    let mut shop = Shop::new(alloc, Limits::LARGEST);
+    let mut shop = Shop::new(alloc, Seed::new(0), Limits::LARGEST);
     plays_on_shop(
         alloc,
         &mut shop,

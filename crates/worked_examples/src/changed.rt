@@ -3,6 +3,7 @@
 use crate::example::Example;
 use desk_play::play::filled;
 use desk_store::{Desk, OpenFault};
+use part_core::Seed;
 use sqlite::{Connection, FileStore, Files};
 use sqlite_disk::Memory;
 use std::alloc::{AllocError, Global};
@@ -29,7 +30,7 @@ fn refused(
     alloc: Global,
     conn: Connection<FileStore<Memory>>,
 ) -> Result<(OpenFault, Files<Memory>), Fail> {
-    match Desk::open(alloc, conn) {
+    match Desk::open(alloc, Seed::new(2), conn) {
         Ok(_) => Err(Fail::from("changed tables are opened")),
         Err((fault, database)) => Ok((fault, database.close())),
     }
@@ -37,7 +38,7 @@ fn refused(
 
 /// All tables of the desk that is opened.
 fn opened(alloc: Global, conn: Connection<FileStore<Memory>>) -> Result<String, Fail> {
-    match Desk::open(alloc, conn) {
+    match Desk::open(alloc, Seed::new(2), conn) {
         Ok(desk) => tables_of(alloc, &desk),
         Err(_) => Err(Fail::from("tables that aren't as they were")),
     }

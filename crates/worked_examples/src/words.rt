@@ -1,5 +1,5 @@
 //! The words that the program is called with, and what they ask for.
-use desk_cli::{ReportOf, Task, early_status, read_words};
+use desk_cli::{LookAt, ReportOf, RowsFile, RunWords, ServeWords, SheetFile, Task, read_words};
 use desk_wire::{FileReading, Sheet};
 use std::alloc::{AllocError, Global};
 use std::fs;
@@ -41,90 +41,86 @@ fn told_beside(alloc: Global, sheet: &Sheet<'_>) -> Result<String, AllocError> {
     Ok(text)
 }
 
-/// What is asked for, on one line.
-fn told(alloc: Global, task: &Task<'_>) -> Result<String, AllocError> {
-    match task {
-        Task::Run {
-            file,
-            names,
-            stop,
-            check,
-            explain,
-            journal,
-        } => {
-            let (named, stops, checks) = (named(*names), stops(*stop), checks(*check));
-            let (explains, journals) = (explains(*explain), journals(*journal));
-            match file {
-                None => format!(in alloc; "run{named}{stops}{checks}{explains}{journals}"),
-                Some(file) => {
-                    format!(in alloc; "run{named}{stops}{checks}{explains}{journals} {file}")
-                }
-            }
-        }
-        Task::Report { file, name, of } => match of {
+/// How something is shown.
+fn shown(csv: bool) -> &'static str {
+    if csv { " for a spreadsheet" } else { "" }
+}
+
+/// What is asked of a run, on one line.
+fn told_run(alloc: Global, file: Option<&str>, options: &RunWords) -> Result<String, AllocError> {
+    let (named, stops) = (named(options.names), stops(options.stop));
+    let (checks, explains) = (checks(options.check), explains(options.explain));
+    let journals = journals(options.journal);
+    match file {
+        None => format!(in alloc; "run{named}{stops}{checks}{explains}{journals}"),
+        Some(file) => format!(in alloc; "run{named}{stops}{checks}{explains}{journals} {file}"),
+    }
+}
+
+/// What is looked at in a file, on one line.
+fn told_look(alloc: Global, file: &str, look: &LookAt<'_>) -> Result<String, AllocError> {
+    match look {
+        LookAt::Report { name, of } => match of {
             ReportOf::Number(number) => format!(in alloc; "report {file} {name:?} {number}"),
             ReportOf::Word(word) => format!(in alloc; "report {file} {name:?} called {word}"),
         },
-        Task::Export(file, table) => format!(in alloc; "export {file} {table:?}"),
-        Task::Dump(file) => format!(in alloc; "dump {file}"),
-        Task::Show { file, list, csv } => {
-            let how = if *csv { " for a spreadsheet" } else { "" };
+        LookAt::Export(table) => format!(in alloc; "export {file} {table:?}"),
+        LookAt::Dump => format!(in alloc; "dump {file}"),
+        LookAt::Show { list, csv } => {
+            let how = shown(*csv);
             format!(in alloc; "show{how} {file} {list:?}")
         }
-        Task::Low { file, levels, csv } => {
-            let how = if *csv { " for a spreadsheet" } else { "" };
+        LookAt::Low { levels, csv } => {
+            let how = shown(*csv);
             format!(in alloc; "show low{how} {file} {levels}")
         }
+    }
+}
+
+/// What is asked of an import, on one line.
+fn told_rows(alloc: Global, file: &str, rows: &RowsFile<'_>) -> Result<String, AllocError> {
+    let (kind, document, day) = (rows.kind, rows.document.as_str(), rows.day.text(alloc)?);
+    let (named, explains, path) = (named(rows.names), explains(rows.explain), rows.path);
+    let loosely = match rows.reading {
+        FileReading::Strict => "",
+        FileReading::Loose => " loosely",
+        FileReading::Unchanged => " loosely unless changed",
+    };
+    format!(in alloc; "import{named}{loosely}{explains} {file} {kind:?} {document} {day} {path}")
+}
+
+/// What is asked of an import of a file of a command, on one line.
+fn told_sheet(alloc: Global, file: &str, lines: &SheetFile<'_>) -> Result<String, AllocError> {
+    let (told, path) = (told_beside(alloc, &lines.sheet)?, lines.path);
+    let (stops, explains) = (stops(lines.stop), explains(lines.explain));
+    format!(in alloc; "import{stops}{explains} {file} {told} {path}")
+}
+
+/// What is asked of a serving, on one line.
+fn told_serving(
+    alloc: Global,
+    file: Option<&str>,
+    options: &ServeWords<'_>,
+) -> Result<String, AllocError> {
+    let (named, journals) = (named(options.names), journals(options.journal));
+    let paged = if options.page { " with a page" } else { "" };
+    let (port, count, token) = (options.port, options.count, options.token);
+    format!(in alloc; "serve{named}{journals}{paged} {file:?} {port} {count:?} {token:?}")
+}
+
+/// What is asked for, on one line.
+fn told(alloc: Global, task: &Task<'_>) -> Result<String, AllocError> {
+    match task {
+        Task::Run { file, options } => told_run(alloc, *file, options),
+        Task::Look { file, look } => told_look(alloc, file, look),
         Task::Migrate(file) => format!(in alloc; "migrate {file}"),
-        Task::Import {
-            file,
-            kind,
-            document,
-            day,
-            path,
-            names,
-            reading,
-            explain,
-        } => {
-            let (document, day) = (document.as_str(), day.text(alloc)?);
-            let (named, explains) = (named(*names), explains(*explain));
-            let loosely = match reading {
-                FileReading::Strict => "",
-                FileReading::Loose => " loosely",
-                FileReading::Unchanged => " loosely unless changed",
-            };
-            format!(in alloc;
-                "import{named}{loosely}{explains} {file} {kind:?} {document} {day} {path}"
-            )
-        }
-        Task::Sheet {
-            file,
-            sheet,
-            path,
-            stop,
-            explain,
-        } => {
-            let (told, stops) = (told_beside(alloc, sheet)?, stops(*stop));
-            let explains = explains(*explain);
-            format!(in alloc; "import{stops}{explains} {file} {told} {path}")
-        }
+        Task::Import { file, rows } => told_rows(alloc, file, rows),
+        Task::Sheet { file, lines } => told_sheet(alloc, file, lines),
         Task::Lines { sheet, path } => {
             let told = told_beside(alloc, sheet)?;
             format!(in alloc; "lines {told} {path}")
         }
-        Task::Serve {
-            file,
-            port,
-            count,
-            token,
-            names,
-            page,
-            journal,
-        } => {
-            let (named, journals) = (named(*names), journals(*journal));
-            let paged = if *page { " with a page" } else { "" };
-            format!(in alloc; "serve{named}{journals}{paged} {file:?} {port} {count:?} {token:?}")
-        }
+        Task::Serve { file, options } => told_serving(alloc, *file, options),
         Task::Guide(topic) => format!(in alloc; "help on {topic}"),
         Task::At { port, token, asked } => format!(in alloc; "at {port} {token:?} {asked:?}"),
         Task::Help(text) | Task::Wrong(text) => {
@@ -133,6 +129,16 @@ fn told(alloc: Global, task: &Task<'_>) -> Result<String, AllocError> {
         }
         Task::Unreadable => format!(in alloc; "unreadable"),
         Task::Memory => format!(in alloc; "memory"),
+    }
+}
+
+/// The status that the program ends with at once, where the words ask for no desk.
+fn early_status(task: &Task<'_>) -> Option<u8> {
+    match task {
+        Task::Guide(_) | Task::Help(_) => Some(0),
+        Task::Wrong(_) | Task::Unreadable => Some(2),
+        Task::Memory => Some(4),
+        _ => None,
     }
 }
 

@@ -4,10 +4,10 @@ use Rattle.std.specs.Prelude.{◌↔◌}
 use Rattle.std.specs.Borrow.{Bor}
 use Rattle.std.specs.FinMap as table
 use Rattle.std.specs.List.{All}
-use Rattle.part_core.specs.Rows.{EachRow}
-use Rattle.part_core.specs.Sheet.{Table}
-use Rattle.part_core.proofs.FilledTables.{each-iff}
-use Rattle.part_core.proofs.Standing.{Stands}
+use Rattle.sheet_core.specs.Rows.{EachRow}
+use Rattle.sheet_core.specs.Sheet.{Table}
+use Rattle.sheet_core.proofs.FilledTables.{each-iff}
+use Rattle.sheet_core.proofs.Standing.{Stands}
 use Rattle.forest.specs.declared.item.Item.{Item}
 use Rattle.yard_core.specs.Stock.{AreHeld, AreItems, IsHeld, IsItem}
 use Rattle.yard_core.proofs.Below.{seen}

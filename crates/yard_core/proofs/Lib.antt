@@ -26,6 +26,7 @@ pub mod OwnKeys
 pub mod ByIndex
 pub mod Opened
 pub mod Filed
+pub mod Families
 pub mod Quiet
 pub mod QuietMoves
 pub mod Marking

@@ -6,11 +6,11 @@ use Rattle.std.proofs.lemmas.List.{append_assoc, append-nil, map-append, length-
 use Rattle.std.specs.Cmp.{nat_cmp_is}
 use Rattle.std.specs.Ordering.{ordering_then}
 use Rattle.std.specs.declared.cmp.Ordering.TheVariants.{Less, Equal}
-use Rattle.part_core.specs.Day.{CivilDay}
-use Rattle.part_core.specs.Sheet.{Table, key_cmp}
-use Rattle.part_core.proofs.Keys.{keys_total}
-use Rattle.part_core.proofs.Ends.{IsPast, put-last}
-use Rattle.part_core.proofs.Logs.{above}
+use Rattle.word_core.specs.Day.{CivilDay}
+use Rattle.sheet_core.specs.Sheet.{Table, key_cmp}
+use Rattle.sheet_core.proofs.Keys.{keys_total}
+use Rattle.sheet_core.proofs.Ends.{IsPast, put-last}
+use Rattle.sheet_core.proofs.Logs.{above}
 use Rattle.forest.specs.declared.entry.Entry.{Entry}
 use Rattle.forest.specs.declared.entry.Note.{Note}
 use Rattle.yard_core.specs.Stock.{Stock, notes, next_entry, numbered, put_all, recorded_in, keyed, IsRun, IsHistory}

@@ -1,21 +1,19 @@
 -- Tables whose rows stand under their own numbers.
 use Rattle.std.proofs.Common.{◌≡◌, ℕ, Bool, true, false, cond, List, [], ◌∷◌, map, Some, None, refl, sym, ap, ◌∙◌}
-use Rattle.std.specs.Prelude.{T}
 use Rattle.std.specs.FinMap as table
 use Rattle.std.specs.Ordering.{is_eq}
-use Rattle.part_core.specs.Filled.{StandUnderKeys}
-use Rattle.part_core.specs.Sheet.{Table}
-use Rattle.part_core.proofs.Entries.{find_in}
-use Rattle.part_core.proofs.Keys.{key_eq, key_eq-self, key_eq-true}
-use Rattle.part_core.proofs.Selects.{AreAbove, Rises, Rises-from}
+use Rattle.std.proofs.lemmas.Option.{same_Some}
+use Rattle.sheet_core.specs.Filled.{StandUnderKeys}
+use Rattle.sheet_core.specs.Sheet.{Table}
+use Rattle.sheet_core.proofs.Entries.{find_in}
+use Rattle.sheet_core.proofs.Keys.{key_eq, key_eq-self, key_eq-true}
+use Rattle.sheet_core.proofs.Selects.{AreAbove, Rises, Rises-from}
+use Rattle.sheet_core.proofs.Conditions.{is_true}
 use Rattle.yard_core.specs.Stock.{keyed}
 
 module _ {X : Type 0} where
   abbrev any : X → Bool
   any x = true
-
-  same : (a b : X) → Some a ≡ Some b → a ≡ b
-  same a b e = cc
 
   none_below : (k : List ℕ) (es : List (List ℕ × X)) → AreAbove any k es → find_in k es ≡ None
   none_below k [] a = refl
@@ -34,11 +32,7 @@ module _ {X : Type 0} where
       ] refl
 
   rises : (t : Table X) → Rises any (table.entries t)
-  rises t = Rises-from any (table.entries t) (sorted_is _ (table.entries_sorted t))
-    where
-      sorted_is : (b : Bool) → T b → b ≡ true
-      sorted_is true h = refl
-      sorted_is false h = absurd h
+  rises t = Rises-from any (table.entries t) (is_true _ (table.entries_sorted t))
 
   module _ (number : X → ℕ) where
     abbrev own_key : X → List ℕ
@@ -61,7 +55,7 @@ module _ {X : Type 0} where
     found-own (y ∷ ys) k x e =
         elim (key_eq k (own_key y))
         as (λ b. key_eq k (own_key y) ≡ b → cond b (Some y) (find_in k (keyed number ys)) ≡ Some x → k ≡ own_key x) [
-          | true ↦ λ t h. key_eq-true k (own_key y) t ∙ ap own_key (same y x h)
+          | true ↦ λ t h. key_eq-true k (own_key y) t ∙ ap own_key (same_Some y x h)
           | false ↦ λ t h. found-own ys k x h
         ] refl e
 

@@ -4,8 +4,8 @@ use Rattle.std.proofs.Common.{Some, None, refl, sym, ap, ◌∙◌, arith, eqb-t
 use Rattle.std.specs.Prelude.{◌==◌, if◌then◌else◌, sum_by, unwrap_or}
 use Rattle.std.specs.FinMap as table
 use Rattle.std.proofs.lemmas.List.Sums.{sum_by-cons}
-use Rattle.part_core.specs.Sheet.{Table}
-use Rattle.part_core.proofs.Totals.{sum-insert_new}
+use Rattle.sheet_core.specs.Sheet.{Table}
+use Rattle.sheet_core.proofs.Totals.{sum-insert_new}
 use Rattle.forest.specs.declared.item.Item.{Item}
 use Rattle.forest.specs.declared.place.Place.{Place}
 use Rattle.forest.specs.declared.place.Place.TheVariants.{At, In, Output, Sent, Used, Off, Gone}

@@ -3,10 +3,10 @@ use Rattle.std.proofs.Common.{◌≡◌, ℕ, ◌+◌, ◌-◌, Bool, true, fals
 use Rattle.std.proofs.Common.{Option, Some, None, refl, sym, ap, ◌∙◌, eqb-true}
 use Rattle.std.specs.Prelude.{◌==◌, if◌then◌else◌}
 use Rattle.std.specs.FinMap as table
-use Rattle.part_core.specs.Day.{CivilDay}
-use Rattle.part_core.specs.Rows.{StandRight}
-use Rattle.part_core.specs.Sheet.{Table}
-use Rattle.part_core.specs.declared.status.Status.{Status}
+use Rattle.word_core.specs.Day.{CivilDay}
+use Rattle.sheet_core.specs.Rows.{StandRight}
+use Rattle.sheet_core.specs.Sheet.{Table}
+use Rattle.word_core.specs.declared.status.Status.{Status}
 use Rattle.forest.specs.declared.entry.Kind.{Kind}
 use Rattle.forest.specs.declared.entry.Kind.TheVariants.{Installed, Marked, TakenOut}
 use Rattle.forest.specs.declared.entry.Note.{Note}

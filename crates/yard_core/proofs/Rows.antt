@@ -1,22 +1,23 @@
 -- The rows of a table of items, after one of them was changed and after a new one.
 use Rattle.std.proofs.Common.{◌≡◌, ◌≢◌, ℕ, Bool, true, false, cond, List, [], ◌∷◌, map, refl}
 use Rattle.std.proofs.Common.{sym, ap, ◌∙◌, subst, arith, Option, Some, None, eqb-true, get_or}
-use Rattle.std.specs.Prelude.{◌==◌, nat_lt, if◌then◌else◌, T}
+use Rattle.std.specs.Prelude.{◌==◌, nat_lt, if◌then◌else◌}
 use Rattle.std.specs.FinMap as table
 use Rattle.std.specs.FinMap.Entries.{put, by_order}
 use Rattle.std.proofs.lemmas.Bool.{eqb-false, ltb-true, ltb-false}
 use Rattle.std.specs.Ordering.{is_eq}
 use Rattle.std.specs.Cmp.{tied_itself}
 use Rattle.std.specs.declared.cmp.Ordering.TheVariants.{Less, Equal, Greater}
-use Rattle.part_core.specs.Sheet.{Table, key_cmp}
-use Rattle.part_core.proofs.Keys.{key_eq, key_eq-same, key_eq-other, keys_total}
-use Rattle.part_core.proofs.Entries.{find_in}
-use Rattle.part_core.proofs.Selects.{AreAbove, Rises, Rises-from}
+use Rattle.sheet_core.specs.Sheet.{Table, key_cmp}
+use Rattle.sheet_core.proofs.Keys.{key_eq, key_eq-same, key_eq-other, keys_total}
+use Rattle.sheet_core.proofs.Entries.{find_in}
+use Rattle.sheet_core.proofs.Selects.{AreAbove, Rises, Rises-from}
 use Rattle.forest.specs.declared.item.Item.{Item}
 use Rattle.forest.specs.Forest.{insert_row}
 use Rattle.forest.specs.Rows.{row_at, set_row}
 use Rattle.yard_core.specs.Stock.{keyed}
-use Rattle.part_core.proofs.Logs.{above}
+use Rattle.sheet_core.proofs.Logs.{above}
+use Rattle.sheet_core.proofs.Conditions.{is_true}
 use Rattle.yard_core.proofs.Notes.{values-keyed, below}
 
 greater : (k q : List ℕ) → key_eq k q ≡ false → (key_cmp k q ≢ Less) → key_cmp k q ≡ Greater
@@ -114,11 +115,7 @@ put-changed x (y ∷ ys) old r e = go (y.number == x.number) refl e (put-changed
 
 pub by_number-rises : (t : Table Item) → table.entries t ≡ by_number (table.values t)
     → Rises any (by_number (table.values t))
-by_number-rises t own = subst (Rises any) own (Rises-from any (table.entries t) (sorted_is _ (table.entries_sorted t)))
-  where
-    sorted_is : (b : Bool) → T b → b ≡ true
-    sorted_is true h = refl
-    sorted_is false h = absurd h
+by_number-rises t own = subst (Rises any) own (Rises-from any (table.entries t) (is_true _ (table.entries_sorted t)))
 
 -- one row in the place of another of its number
 module _ (x old : Item) (t : Table Item) (own : table.entries t ≡ by_number (table.values t))

@@ -1,12 +1,12 @@
 -- What passes its checks leaves the locations sound.
 use Rattle.std.proofs.Common.{◌≡◌, ◌≤◌, ◌<◌, ◌+◌, ℕ, [], ◌∷◌, List, Option, None, refl, arith}
 use Rattle.std.specs.FinMap as table
-use Rattle.part_core.specs.Checks.{first}
+use Rattle.word_core.specs.Checks.{first}
 use Rattle.part_core.specs.NamedRows.{HasParent}
-use Rattle.part_core.proofs.Conditions.{none-holds}
+use Rattle.word_core.proofs.CheckLemmas.{none-holds}
 use Rattle.part_core.proofs.NamedRows.{parents-new}
-use Rattle.part_core.proofs.RowLemmas.{right-empty, right-later, right-new}
-use Rattle.part_core.proofs.RowLemmas.{there, each-empty}
+use Rattle.sheet_core.proofs.RowLemmas.{right-empty, right-later, right-new}
+use Rattle.sheet_core.proofs.RowLemmas.{there, each-empty}
 use Rattle.part_core.proofs.SoundRows.{named_there}
 use Rattle.yard_core.specs.AddLocation.{add_location, add_location_checks}
 use Rattle.yard_core.specs.StockBooks.{StockBooks}
@@ -14,6 +14,7 @@ use Rattle.yard_core.specs.SoundLocations.{AreSoundLocations}
 use Rattle.yard_core.specs.Stock.{Stock, empty_stock, has_location}
 use Rattle.yard_core.specs.YardMachine.{checks, effect}
 use Rattle.part_core.specs.declared.named_row.NamedRow.{NamedRow as Location}
+use Rattle.word_core.specs.declared.refusal.Refusal.TheVariants.{NoSuch}
 use Rattle.yard_core.specs.declared.yard_command.YardCommand.{YardCommand}
 use Rattle.yard_core.specs.declared.yard_command.YardCommand.TheVariants.{AddLocation}
 
@@ -44,7 +45,7 @@ module _ (name : List ℕ) (parent : Option ℕ) (b : StockBooks) (sound : AreSo
     rows = right-new (λ (l : Location). l.number) b.counter.next row b.stock.locations refl sound.some sound.rows;
     parents = parents-new b.counter.next name parent b.stock.locations sound.rows
         (λ n is. let x =
-        named_there parent (λ m. has_location m b.stock) n is (none-holds (add_location_checks name parent b) e).0 in
+        named_there parent (λ m. has_location m b.stock) n is (none-holds (add_location_checks name parent b) e NoSuch) in
         there b.stock.locations n x.0 x.1)
         sound.parents;
   }

@@ -1,10 +1,10 @@
 -- No step on the stock takes a row away.
 use Rattle.std.proofs.Common.{List, [], ◌∷◌, ◌++◌, map}
 use Rattle.std.specs.FinMap as table
-use Rattle.part_core.specs.Day.{CivilDay}
-use Rattle.part_core.specs.Rows.{StayThere}
-use Rattle.part_core.specs.Sheet.{Table}
-use Rattle.part_core.proofs.RowLemmas.{stay-insert}
+use Rattle.word_core.specs.Day.{CivilDay}
+use Rattle.sheet_core.specs.Rows.{StayThere}
+use Rattle.sheet_core.specs.Sheet.{Table}
+use Rattle.sheet_core.proofs.RowLemmas.{stay-insert}
 use Rattle.forest.specs.declared.entry.Entry.{Entry}
 use Rattle.forest.specs.declared.entry.Note.{Note}
 use Rattle.forest.specs.declared.item.Item.{Item}

@@ -4,7 +4,7 @@ use Rattle.std.proofs.Common.{◌++◌, map, refl, sym, ap, ◌∙◌, arith, Op
 use Rattle.std.specs.Prelude.{nat_lt, if◌then◌else◌, sum_by, unwrap_or}
 use Rattle.std.specs.FinMap as table
 use Rattle.std.proofs.lemmas.List.Sums.{sum_by-cons}
-use Rattle.part_core.specs.Sheet.{Table}
+use Rattle.sheet_core.specs.Sheet.{Table}
 use Rattle.forest.specs.declared.item.Item.{Item}
 use Rattle.forest.specs.declared.entry.Entry.{Entry}
 use Rattle.forest.specs.declared.entry.Kind.{Kind}

@@ -2,10 +2,10 @@
 use Rattle.std.specs.Prelude.{ℕ, List, [], ◌∷◌, Option}
 use Rattle.std.specs.FinMap as table
 use Rattle.part_core.specs.Catalogue.{is_missing}
-use Rattle.part_core.specs.Checks.{Check}
-use Rattle.part_core.specs.Counter.{passes_limit}
+use Rattle.word_core.specs.Checks.{Check}
+use Rattle.word_core.specs.Counter.{passes_limit}
 use Rattle.part_core.specs.NamedRows.{is_named}
-use Rattle.part_core.specs.declared.refusal.Refusal.TheVariants.{NoSuch, NameTaken, Full}
+use Rattle.word_core.specs.declared.refusal.Refusal.TheVariants.{NoSuch, NameTaken, Full}
 use Rattle.yard_core.specs.StockBooks.{StockBooks, with_drawn}
 use Rattle.yard_core.specs.Stock.{Stock, has_location}
 

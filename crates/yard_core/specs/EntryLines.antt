@@ -1,6 +1,6 @@
 -- The line of an entry: what stands in its fields.
 use Rattle.std.specs.Prelude.{ℕ, List, [], ◌∷◌, ◌++◌, codes, decimal}
-use Rattle.part_core.specs.Day.{day_text}
+use Rattle.word_core.specs.Day.{day_text}
 use Rattle.forest.specs.declared.entry.Entry.{Entry}
 use Rattle.forest.specs.declared.entry.Kind.{Kind}
 use Rattle.forest.specs.declared.entry.Kind.TheVariants.{Received, Found, Built, Consumed, Shipped, Returned}

@@ -1,6 +1,6 @@
 -- What holds of the rows of a sound yard, in order of number, beside that the entries are numbered.
 use Rattle.std.specs.Prelude.{List}
-use Rattle.part_core.specs.Sheet.{Table}
+use Rattle.sheet_core.specs.Sheet.{Table}
 use Rattle.forest.specs.declared.entry.Entry.{Entry}
 use Rattle.forest.specs.declared.item.Item.{Item}
 use Rattle.forest.specs.Tables.{IsTable}

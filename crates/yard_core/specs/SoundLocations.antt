@@ -1,7 +1,7 @@
 -- What always holds of the locations.
 use Rattle.std.specs.Prelude.{◌<◌, ◌≤◌, ℕ}
 use Rattle.part_core.specs.NamedRows.{HasParent}
-use Rattle.part_core.specs.Rows.{EachRow, StandRight}
+use Rattle.sheet_core.specs.Rows.{EachRow, StandRight}
 use Rattle.yard_core.specs.Stock.{Stock}
 use Rattle.part_core.specs.declared.named_row.NamedRow.{NamedRow as Location}
 

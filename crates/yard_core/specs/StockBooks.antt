@@ -2,12 +2,12 @@
 -- their numbers from.
 use Rattle.std.specs.Prelude.{ℕ, ◌-◌, ◌||◌, Bool, nat_lt, List, Result}
 use Rattle.std.specs.FinMap as table
-use Rattle.part_core.specs.Acts.{Acts}
-use Rattle.part_core.specs.Checks.{Check}
-use Rattle.part_core.specs.Counter.{Counting, Numbering, drawn, numbering_before}
-use Rattle.part_core.specs.Counter.{numbering_of, numbers_between, passes_limit}
-use Rattle.part_core.specs.declared.answer.Answer.{Answer}
-use Rattle.part_core.specs.declared.refusal.CoreFault.{CoreFault}
+use Rattle.word_core.specs.Acts.{Acts}
+use Rattle.word_core.specs.Checks.{Check}
+use Rattle.word_core.specs.Counter.{Counting, Numbering, drawn, numbering_before}
+use Rattle.word_core.specs.Counter.{numbering_of, numbers_between, passes_limit}
+use Rattle.word_core.specs.declared.answer.Answer.{Answer}
+use Rattle.word_core.specs.declared.refusal.CoreFault.{CoreFault}
 use Rattle.yard_core.specs.Stock.{Stock}
 use Rattle.yard_core.specs.YardView.{stock_before, stock_of}
 use Rattle.yard_core.specs.declared.yard.Yard.{Yard}

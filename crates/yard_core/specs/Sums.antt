@@ -1,7 +1,7 @@
 -- The sums over one part.
 use Rattle.std.specs.Prelude.{ℕ, Bool, if◌then◌else◌, sum_by}
 use Rattle.std.specs.FinMap as table
-use Rattle.part_core.specs.Sheet.{Table}
+use Rattle.sheet_core.specs.Sheet.{Table}
 use Rattle.forest.specs.declared.item.Item.{Item}
 use Rattle.forest.specs.declared.place.Place.{Place}
 use Rattle.forest.specs.declared.entry.Kind.TheVariants.{Received, Found, Built, Consumed, Shipped, Returned, Written}

@@ -4,7 +4,7 @@
 //! by the hash of its number, and what is summed is summed part by part.
 ghost use Rattle.std.specs.Prelude.{◌≡◌, ◌↔◌, IsTrue, IfOk, map};
 ghost use Rattle.std.specs.FinMap as table;
-ghost use Rattle.part_core.specs.Sheet.{now_of};
+ghost use Rattle.sheet_core.specs.Sheet.{now_of};
 ghost use Rattle.yard_core.specs.Climbs.{IsByNumber};
 ghost use Rattle.yard_core.specs.Opening.{AreSoundRows};
 

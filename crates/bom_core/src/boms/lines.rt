@@ -1,10 +1,10 @@
 //! Lines come into bills and go: `add_line` and `drop_line`.
 ghost use Rattle.std.specs.Prelude.{◌≡◌, ◌≢◌, ◌∷◌, [], true, false, IfOk, OnOk, Err, map};
-ghost use Rattle.part_core.specs.Acts.{Acts};
+ghost use Rattle.word_core.specs.Acts.{Acts};
 ghost use Rattle.part_core.specs.CatalogueView.{parts_of};
-ghost use Rattle.part_core.specs.Rows.{IsThere};
-ghost use Rattle.part_core.specs.Sheet.{now_of};
-ghost use Rattle.part_core.specs.declared.refusal.Refusal.{Refusal};
+ghost use Rattle.sheet_core.specs.Rows.{IsThere};
+ghost use Rattle.sheet_core.specs.Sheet.{now_of};
+ghost use Rattle.word_core.specs.declared.refusal.Refusal.{Refusal};
 ghost use Rattle.bom_core.specs.BomsView.{bill_books, bill_books_before, bills_before, bills_of};
 ghost use Rattle.bom_core.specs.Lines.{add_line, add_line_checks, drop_line_checks};
 ghost use Rattle.bom_core.specs.Lines.{removed_all, substitutes_of, with_line, without_line};

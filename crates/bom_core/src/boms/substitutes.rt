@@ -1,10 +1,10 @@
 //! Substitutes come onto lines and go: `add_substitute` and `drop_substitute`.
 ghost use Rattle.std.specs.Prelude.{◌≡◌, true, false, OnOk, Err};
-ghost use Rattle.part_core.specs.Acts.{Acts};
+ghost use Rattle.word_core.specs.Acts.{Acts};
 ghost use Rattle.part_core.specs.CatalogueView.{parts_of};
-ghost use Rattle.part_core.specs.Checks.{first};
-ghost use Rattle.part_core.specs.Rows.{IsThere};
-ghost use Rattle.part_core.specs.declared.refusal.Refusal.{Refusal};
+ghost use Rattle.word_core.specs.Checks.{first};
+ghost use Rattle.sheet_core.specs.Rows.{IsThere};
+ghost use Rattle.word_core.specs.declared.refusal.Refusal.{Refusal};
 ghost use Rattle.bom_core.specs.BomsView.{bill_books, bill_books_before, bills_before, bills_of};
 ghost use Rattle.bom_core.specs.Changes.{has_row, is_line_open, row_is};
 ghost use Rattle.bom_core.specs.Sound.{IsSoundBill};

@@ -2,8 +2,8 @@
 ghost use Rattle.std.specs.Prelude.{◌≡◌, ◌+◌, ◌≤◌, ◌∷◌, [], IfSome, OnOk, None, false, nat_lt};
 ghost use Rattle.std.specs.FinMap as table;
 ghost use Rattle.part_core.specs.CatalogueView.{parts_of};
-ghost use Rattle.part_core.specs.Checks.{first};
-ghost use Rattle.part_core.specs.Counter.{drawn, lacks, numbering_before, numbering_of};
+ghost use Rattle.word_core.specs.Checks.{first};
+ghost use Rattle.word_core.specs.Counter.{drawn, lacks, numbering_before, numbering_of};
 ghost use Rattle.bom_core.specs.BomsView.{bills_of};
 ghost use Rattle.alloc_core.specs.AllocationsView.{allocations_before, allocations_now};
 ghost use Rattle.alloc_core.specs.Allotting.{new_allocation};

@@ -1,6 +1,6 @@
 //! What is allocated for an untracked line of a build in production is used up before the build is complete.
 ghost use Rattle.std.specs.Prelude.{◌≡◌, ◌+◌, ◌<◌, ◌^◌, Err, not, OnOk, Some, None, false, true};
-ghost use Rattle.part_core.specs.Checks.{first};
+ghost use Rattle.word_core.specs.Checks.{first};
 ghost use Rattle.yard_core.specs.BooksView.{books_now};
 ghost use Rattle.yard_core.specs.StockBooks.{is_full};
 ghost use Rattle.build_core.specs.BuildBooks.{AreSoundSomehow, Does, build_books, build_books_before};

@@ -2,8 +2,8 @@
 ghost use Rattle.std.specs.Prelude.{ℕ, ◌≡◌, ◌+◌, IfOk, OnOk, None, nat_lt};
 ghost use Rattle.part_core.specs.Catalogue.{Parts};
 ghost use Rattle.part_core.specs.CatalogueView.{parts_of};
-ghost use Rattle.part_core.specs.Checks.{first};
-ghost use Rattle.part_core.specs.Day.{CivilDay};
+ghost use Rattle.word_core.specs.Checks.{first};
+ghost use Rattle.word_core.specs.Day.{CivilDay};
 ghost use Rattle.bom_core.specs.Bills.{Bills};
 ghost use Rattle.bom_core.specs.BomsView.{bills_of};
 ghost use Rattle.yard_core.specs.StockBooks.{is_full};

@@ -1,7 +1,7 @@
 //! An output is done, and written off.
 ghost use Rattle.std.specs.Prelude.{◌≡◌, IfOk, OnOk, None};
-ghost use Rattle.part_core.specs.Checks.{first};
-ghost use Rattle.part_core.specs.Day.{CivilDay};
+ghost use Rattle.word_core.specs.Checks.{first};
+ghost use Rattle.word_core.specs.Day.{CivilDay};
 ghost use Rattle.yard_core.specs.BooksView.{books_now};
 ghost use Rattle.yard_core.specs.StockBooks.{is_full};
 ghost use Rattle.yard_core.specs.Stock.{IsThere};

@@ -1,6 +1,6 @@
 //! Fields as JSON, which a writer writes.
 ghost use Rattle.std.specs.Prelude.{map};
-ghost use Rattle.part_core.specs.Flags.{flag_words};
+ghost use Rattle.word_core.specs.Flags.{flag_words};
 ghost use Rattle.desk_core.specs.DataOf.{data_of, maybe_string, maybe_strings, maybe_whole, strings, wholes};
 ghost use Rattle.desk_core.specs.TextWriting.{Adds};
 

@@ -1,6 +1,6 @@
 //! A new category of parts, under a parent or at the top.
 ghost use Rattle.std.specs.Prelude.{◌≡◌};
-ghost use Rattle.part_core.specs.Acts.{Acts};
+ghost use Rattle.word_core.specs.Acts.{Acts};
 ghost use Rattle.part_core.specs.AddCategory.{add_category, add_category_checks};
 ghost use Rattle.part_core.specs.CatalogueView.{parts_of, register_before, register_of};
 

@@ -1,15 +1,14 @@
 //! A part is retired, once and for good.
 ghost use Rattle.std.specs.Prelude.{◌≡◌, ◌∷◌, [], IfSome, IsSome, OnOk, OnErr};
 ghost use Rattle.std.specs.FinMap as table;
-ghost use Rattle.part_core.specs.Acts.{Acts};
+ghost use Rattle.word_core.specs.Acts.{Acts};
 ghost use Rattle.part_core.specs.CatalogueView.{parts_before, parts_of};
 ghost use Rattle.part_core.specs.RetirePart.{retire_part, retire_part_checks, retired_part};
-ghost use Rattle.part_core.specs.Sheet.{now_of};
+ghost use Rattle.sheet_core.specs.Sheet.{now_of};
 
 use crate::catalogue::Catalogue;
 use crate::part::Part;
-use crate::row::Row;
-use crate::{CoreFault, Id, IndexedSheet, Refusal};
+use crate::{CoreFault, Id, IndexedSheet, Refusal, Row};
 use std::alloc::{AllocError, Global};
 
 /// Retires the part of that number.

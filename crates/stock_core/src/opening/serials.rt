@@ -22,8 +22,8 @@ fn held_key<'a>(catalogue: &Catalogue, item: &'a Item) -> Option<(Id, &'a str)>
     }
 }
 
-/// Whether no two items that aren't gone hold one serial in one family. It keeps each serial with its family. An error
-/// is one of memory.
+/// Whether no two items that aren't gone hold one serial in one family. It keeps each serial with its family, by hashes that
+/// begin with the seed of the catalogue. An error is one of memory.
 pub fn serials_stand_once(
     alloc: Global,
     catalogue: &Catalogue,
@@ -33,7 +33,7 @@ pub fn serials_stand_once(
     ensures { IfOk result (λ once. IsTrue once
         ↔ SerialsOnce (parts_of catalogue.now) (map (λ x. x.now) rows.now)) }
 {
-    let mut taken = HashSet::new(alloc);
+    let mut taken = HashSet::with_hasher(alloc, catalogue.seed());
     for i in 0..rows.len() {
         match held_key(catalogue, rows[i]) {
             None => {}

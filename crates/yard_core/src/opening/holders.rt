@@ -1,6 +1,6 @@
 //! Whether what items lie in may hold others.
 ghost use Rattle.std.specs.Prelude.{◌≡◌, ◌↔◌, IsTrue, map};
-ghost use Rattle.part_core.specs.Sheet.{now_of};
+ghost use Rattle.sheet_core.specs.Sheet.{now_of};
 ghost use Rattle.yard_core.specs.Stock.{AreHeld, IsHeld, IsHolder, may_hold};
 
 use forest::{Item, Place};

@@ -9,7 +9,7 @@ use crate::Location;
 use crate::opening::{are_sound_rows, rows_in_order};
 use crate::yard::Yard;
 use forest::{Entry, Item};
-use part_core::{Id, IndexedSheet, Log, has_parent};
+use part_core::{Id, IndexedSheet, Log, Seed, has_parent};
 use std::alloc::{AllocError, Global};
 
 impl Yard {
@@ -17,6 +17,7 @@ impl Yard {
     /// error is one of memory.
     pub fn assemble(
         alloc: Global,
+        seed: Seed,
         locations: Vec<Location>,
         items: Vec<Item>,
         history: Vec<Entry>,
@@ -30,8 +31,8 @@ impl Yard {
         let Some(history) = Log::filled(alloc, history)? else {
             return Ok(None);
         };
-        let locations = IndexedSheet::filled(alloc, locations)?;
-        let items = IndexedSheet::filled(alloc, items)?;
+        let locations = IndexedSheet::filled(alloc, seed, locations)?;
+        let items = IndexedSheet::filled(alloc, seed, items)?;
         Ok(Some(Yard {
             locations,
             items,

@@ -4,7 +4,7 @@ ghost use Rattle.std.specs.Prelude.{◌≡◌, ◌==◌, ◌&&◌, IfOk, filter,
 ghost use Rattle.std.specs.FinMap as table;
 ghost use Rattle.part_core.specs.Names.{child_named};
 ghost use Rattle.part_core.specs.declared.found.Found.TheVariants.{Nothing};
-ghost use Rattle.part_core.specs.Sheet.{now_of};
+ghost use Rattle.sheet_core.specs.Sheet.{now_of};
 ghost use Rattle.forest.specs.Rows.{is_output_of};
 ghost use Rattle.yard_core.specs.Outputs.{amount_out, has_output, outputs_of, quantity_out};
 ghost use Rattle.yard_core.specs.Stock.{has_serial};
@@ -13,7 +13,7 @@ ghost use Rattle.yard_core.specs.YardView.{stock_of};
 
 use super::Yard;
 use crate::walks::numbers_of;
-use forest::{Item, Place, output_key, part_key, serial_key};
+use forest::{Item, Place, output_key, part_key, piece_key};
 use part_core::{Found, Id, IndexedSheet, Serial, child_named};
 use std::alloc::AllocError;
 
@@ -82,12 +82,13 @@ impl Yard {
         child_named(&self.locations, parent, name)
     }
 
-    /// The newest item of the part that has the serial, of those that aren't gone where there is one. It looks at items
-    /// that have the serial. An error is one of memory.
+    /// The newest item of the part that has the serial, of those that aren't gone where there is one. It looks at the
+    /// items that have both. An error is one of memory.
+    #[tactic(auto, using(crate::proofs::Filed::piece_filed))]
     pub fn item_named(&self, part: Id, serial: &Serial) -> Result<Found, AllocError>
         ensures { IfOk result (λ found. found ≡ item_named part serial.now (stock_of self.now)) }
     {
-        let found = self.items.select_under(serial_key(serial), |item| {
+        let found = self.items.select_under(piece_key(part, serial), |item| {
             has_serial(serial, item) && item.part == part
         })?;
         Ok(newest_left(&found))

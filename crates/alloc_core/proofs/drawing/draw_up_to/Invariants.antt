@@ -1,5 +1,5 @@
 use Rattle.std.proofs.Common.{◌≡◌}
-use Rattle.part_core.specs.Counter.{numbering_before, numbering_of, resumed}
+use Rattle.word_core.specs.Counter.{numbering_before, numbering_of, resumed}
 use Rattle.alloc_core.proofs.drawing.draw_up_to.Given as goal
 
 -- the numbers up to here are drawn

@@ -1,5 +1,5 @@
 use Rattle.std.proofs.Common.{◌∙◌, cond, sym, ap}
-use Rattle.part_core.specs.Sheet.{now_of}
+use Rattle.sheet_core.specs.Sheet.{now_of}
 use Rattle.yard_core.proofs.Changing.{on_ok}
 use Rattle.alloc_core.specs.ShareSums.{is_same_share, sum_at}
 use Rattle.alloc_core.proofs.KeptSums.{sum-gone, sum-put}

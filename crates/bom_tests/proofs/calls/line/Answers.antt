@@ -1,7 +1,7 @@
 use Rattle.std.proofs.Common.{ℕ, true, false, [], sym, ap, ◌∙◌, subst}
 use Rattle.part_core.specs.Catalogue.{Register}
 use Rattle.part_core.specs.CatalogueView.{parts_of}
-use Rattle.part_core.specs.Counter.{Numbering}
+use Rattle.word_core.specs.Counter.{Numbering}
 use Rattle.bom_core.specs.BomsView.{bill_books}
 use Rattle.bom_core.specs.declared.line.NewLine.{NewLine}
 use Rattle.bom_core.specs.Sound.{IsSoundBill}

@@ -1,6 +1,6 @@
 use Rattle.std.proofs.Common.{sym, ap, ◌∙◌, subst}
 use Rattle.part_core.specs.CatalogueView.{register_of}
-use Rattle.part_core.specs.Counter.{Numbering}
+use Rattle.word_core.specs.Counter.{Numbering}
 use Rattle.bom_core.specs.BomsView.{bills_of}
 use Rattle.bom_core.specs.Changes.{BillBooks}
 use Rattle.bom_core.specs.Sound.{IsSoundBill}

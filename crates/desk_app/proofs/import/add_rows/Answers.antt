@@ -3,7 +3,7 @@ use Rattle.desk_core.specs.Machine.{step}
 use Rattle.desk_core.specs.declared.command.Request.{Request}
 use Rattle.desk_app.specs.Runs.{IsOfBooks, by_outcome}
 use Rattle.desk_app.specs.ImportRuns.{RanFront}
-use Rattle.desk_ends.specs.declared.end.Stop.TheVariants.{Memory}
+use Rattle.desk_core.specs.declared.end.Stop.TheVariants.{Memory}
 use Rattle.desk_app.proofs.Rows.{rows_next, rows_start, rows_end, untold_front, cut_front, memory_front}
 use Rattle.desk_app.proofs.Rows.{unasked_front, unkept_front, rows_same}
 use Rattle.desk_app.proofs.Rows.{group_begins, left_before, left_cut, left_unkept, left_untold, left_waiting}

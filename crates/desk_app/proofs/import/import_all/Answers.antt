@@ -1,8 +1,6 @@
 use Rattle.std.proofs.Common.{string_bytes}
-use Rattle.desk_wire.specs.Imports.{import_by}
-use Rattle.desk_app.specs.ImportRuns.{ImportStopped}
-use Rattle.desk_app.specs.Runs.{naming}
-use Rattle.desk_ends.specs.declared.end.Stop.TheVariants.{WriteFailed}
+use Rattle.desk_app.specs.ImportRuns.{file_rows, shown_import, ImportStopped}
+use Rattle.desk_core.specs.declared.end.Stop.TheVariants.{WriteFailed}
 use Rattle.desk_app.proofs.Rows.{import_written}
 use Rattle.desk_app.proofs.Running.{if_err_as}
 use Rattle.desk_app.proofs.import.import_all.Goals as goal
@@ -10,8 +8,7 @@ use Rattle.desk_app.proofs.import.import_all.Goals as goal
 pub returns-in_err-send-clause-stopped : goal.returns-in_err-send-clause-stopped
 returns-in_err-send-clause-stopped g c =
     let sent = rw c.as_bytes.ensures.value at c.in_err-send.ensures.front in
-    let reading = import_by c.args.reading (g.B.Books.state_in c.args.books.now) (naming c.args.names
-    (g.B.Books.state_in c.args.books.now)) c.args.kind c.args.document.now c.args.day c.args.bytes.now in
+    let reading = file_rows (shown_import c.args.asked.now) (g.B.Books.state_in c.args.books.now) c.args.bytes.now in
     if_err_as
     (λ stop. ImportStopped stop reading (g.W.Write.contents c.args.writer.now) (g.W.Write.contents c.send.new.writer)
     (g.B.Books.state_in c.args.books.now) (g.B.Books.state_in c.tell_import.new.books))

@@ -2,7 +2,7 @@ use Rattle.std.proofs.Common.{◌≡◌, subst, sym}
 use Rattle.std.specs.Prelude.{IfOk}
 use Rattle.desk_core.specs.ShopView.{state_of}
 use Rattle.desk_wire.specs.Steps.{Fails}
-use Rattle.desk_ends.specs.Lists.{listing_by}
+use Rattle.list_words.specs.Lists.{listing_by}
 use Rattle.desk_http.specs.Services.{reply_view}
 use Rattle.desk_app.specs.Services.{by_listed}
 use Rattle.desk_app.proofs.ListReplies.{found, unfound}

@@ -1,6 +1,6 @@
 use Rattle.std.proofs.Common.{◌≡◌, ◌∙◌, ap, List, ℕ}
 use Rattle.std.proofs.lemmas.Result.{IfOk-weaker}
-use Rattle.desk_ends.specs.Escaped.{escaped}
+use Rattle.report_core.specs.Escaped.{escaped}
 use Rattle.desk_app.specs.Reasons.{fault_words, place_text}
 use Rattle.desk_app.specs.declared.undone.Place.TheVariants.{Line}
 use Rattle.desk_app.proofs.reasons.why_faulty_line.Goals as goal

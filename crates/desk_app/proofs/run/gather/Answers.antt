@@ -2,7 +2,7 @@ use Rattle.std.proofs.Common.{◌≡◌, ◌+◌, ◌&&◌, ◌∙◌, true, fal
 use Rattle.std.specs.Prelude.{None}
 use Rattle.desk_app.specs.Cuts.{left}
 use Rattle.desk_app.specs.Runs.{is_fine, Halts, IsOfSettling}
-use Rattle.desk_ends.specs.declared.end.Stop.TheVariants.{Memory, ReadFailed, WriteFailed}
+use Rattle.desk_core.specs.declared.end.Stop.TheVariants.{Memory, ReadFailed, WriteFailed}
 use Rattle.desk_app.proofs.Running.{Running, running_due, running_line, running_start, kept_start, gathered}
 use Rattle.desk_app.proofs.Running.{gathered_there, halting, halts_line}
 use Rattle.desk_app.proofs.Running.{halts_reading, halts_start, halts_unsettled, if_err, if_err_as, line_settles, line_writes}
@@ -10,18 +10,18 @@ use Rattle.desk_app.proofs.Running.{reading_settles, reading_writes, stays_readi
 use Rattle.desk_app.proofs.run.gather.Given.{Over}
 use Rattle.desk_app.proofs.run.gather.Goals as goal
 use Rattle.desk_app.proofs.run.gather.Goals.{Joined-all, then-all, else-all}
-use Rattle.desk_app.proofs.run.gather.Goals.{else-stop-via-then-stop+else-not-all, else-stop-via-else-stop}
+use Rattle.desk_app.proofs.run.gather.Goals.{else-options-via-then-options+else-not-all, else-options-via-else-options}
 
 pub returns-in_err-lines-clause-stopped : goal.returns-in_err-lines-clause-stopped
 returns-in_err-lines-clause-stopped g c =
     if_err (λ stop. stop ≡ Memory)
-    (λ why. Halts c.args.options c.args.stop why (g.R.Read.remaining c.args.reader.now)
+    (λ why. Halts c.args.options why (g.R.Read.remaining c.args.reader.now)
     (g.W.Write.contents c.args.writer.now)
     (g.W.Write.contents c.args.writer.now) (g.B.Books.state_in c.args.books.now) (g.B.Books.state_in c.args.books.now)
     c.args.text.now.items
     (λ trees. (g.B.Books.failure_of c.args.books.now ≡ None) × g.B.Books.may_leave c.args.books.now trees))
     c.from_residual.result
-    (λ why e. halts_start c.args.options c.args.stop why (g.R.Read.remaining c.args.reader.now)
+    (λ why e. halts_start c.args.options why (g.R.Read.remaining c.args.reader.now)
     (g.W.Write.contents c.args.writer.now)
     (g.B.Books.state_in c.args.books.now) c.args.text.now.items _ e c.requires.none
     (λ trees may. g.met.B.Books.leave_their_tables c.args.books.now c.requires.kept may.0 trees may.1))
@@ -30,7 +30,7 @@ returns-in_err-lines-clause-stopped g c =
 pub loop-number-init : goal.loop-number-init
 loop-number-init g c = record {
   running =
-      running_start c.args.options c.args.stop (g.R.Read.remaining c.args.reader.now) _
+      running_start c.args.options (g.R.Read.remaining c.args.reader.now) _
       (g.W.Write.contents c.args.writer.now)
       (g.B.Books.state_in c.args.books.now) c.args.text.now.items _
       (kept_start (g.R.Read.remaining c.args.reader.now) _ c.in_ok-lines.ensures.empty) c.requires.none
@@ -44,14 +44,14 @@ loop-number-init g c = record {
 pub returns-in_err-settle_if_due-clause-stopped : goal.returns-in_err-settle_if_due-clause-stopped
 returns-in_err-settle_if_due-clause-stopped g c =
     if_err_as
-    (λ why. Halts c.args.options c.args.stop why (g.R.Read.remaining c.args.reader.now)
+    (λ why. Halts c.args.options why (g.R.Read.remaining c.args.reader.now)
     (g.W.Write.contents c.args.writer.now)
     (g.W.Write.contents c.settle_if_due.new.writer) (g.B.Books.state_in c.args.books.now)
     (g.B.Books.state_in c.settle_if_due.new.books) c.settle_if_due.new.text.items
     (λ trees. (g.B.Books.failure_of c.args.books.now ≡ None) × g.B.Books.may_leave c.settle_if_due.new.books trees))
     c.from_residual-in_err-settle_if_due.result c.in_err-settle_if_due.field-0.0
     c.from_residual-in_err-settle_if_due.ensures.1
-    (halts_unsettled c.args.options c.args.stop c.in_err-settle_if_due.field-0.0 (g.R.Read.remaining c.args.reader.now) _
+    (halts_unsettled c.args.options c.in_err-settle_if_due.field-0.0 (g.R.Read.remaining c.args.reader.now) _
     (g.W.Write.contents c.args.writer.now) (g.W.Write.contents c.loop-number.writer)
     (g.W.Write.contents c.settle_if_due.new.writer) (g.B.Books.state_in c.args.books.now)
     (g.B.Books.state_in c.loop-number.books) (g.B.Books.state_in c.settle_if_due.new.books)
@@ -71,17 +71,17 @@ returns-in_err-settle_if_due-clause-kept g c =
 pub returns-in_err-next_line-clause-stopped : goal.returns-in_err-next_line-clause-stopped
 returns-in_err-next_line-clause-stopped g c =
     if_err_as
-    (λ why. Halts c.args.options c.args.stop why (g.R.Read.remaining c.args.reader.now)
+    (λ why. Halts c.args.options why (g.R.Read.remaining c.args.reader.now)
     (g.W.Write.contents c.args.writer.now)
     (g.W.Write.contents c.settle_if_due.new.writer) (g.B.Books.state_in c.args.books.now)
     (g.B.Books.state_in c.settle_if_due.new.books) c.settle_if_due.new.text.items
     (λ trees. (g.B.Books.failure_of c.args.books.now ≡ None) × g.B.Books.may_leave c.settle_if_due.new.books trees))
     c.from_residual-in_err-next_line.result c.in_err-next_line.field-0.0 c.from_residual-in_err-next_line.ensures.1
-    (halts_reading c.args.options c.args.stop c.in_err-next_line.field-0.0 (g.R.Read.remaining c.args.reader.now) _
+    (halts_reading c.args.options c.in_err-next_line.field-0.0 (g.R.Read.remaining c.args.reader.now) _
     (g.W.Write.contents c.args.writer.now) (g.W.Write.contents c.settle_if_due.new.writer)
     (g.B.Books.state_in c.args.books.now) (g.B.Books.state_in c.settle_if_due.new.books) c.loop-number.number
     c.loop-number.all c.settle_if_due.new.text.items _ c.in_err-next_line.ensures.reading
-    (running_due c.args.options c.args.stop g.B.Books.state_in g.B.Books.are_kept g.B.Books.failure_of g.B.Books.may_leave
+    (running_due c.args.options g.B.Books.state_in g.B.Books.are_kept g.B.Books.failure_of g.B.Books.may_leave
     g.met.B.Books.leave_their_tables (g.B.Books.failure_of c.args.books.now) _ _ _ _ _ _ _ _ _ _ _ _
     c.loop-number.invariant.running c.in_ok-settle_if_due.ensures.ok
     (λ before. c.in_ok-settle_if_due.ensures.stays_open (c.loop-number.invariant.stays_open before))))
@@ -103,12 +103,12 @@ returns-in_err-next_line-clause-stays_open g c =
 pub returns-then-not-branch-clause-done : goal.returns-then-not-branch-clause-done
 returns-then-not-branch-clause-done g c =
     let takes = rw c.if-not-branch.true at c.in_ok-next_line.ensures.takes in
-    gathered c.args.options c.args.stop (g.R.Read.remaining c.args.reader.now) _
+    gathered c.args.options (g.R.Read.remaining c.args.reader.now) _
     (left (g.R.Read.remaining c.next_line.new.reader) c.next_line.new.self)
     (g.W.Write.contents c.args.writer.now) (g.W.Write.contents c.settle_if_due.new.writer)
     (g.B.Books.state_in c.args.books.now) (g.B.Books.state_in c.settle_if_due.new.books) c.loop-number.number
     c.loop-number.all c.next_line.new.line.items c.settle_if_due.new.text.items _
-    (running_due c.args.options c.args.stop g.B.Books.state_in g.B.Books.are_kept g.B.Books.failure_of g.B.Books.may_leave
+    (running_due c.args.options g.B.Books.state_in g.B.Books.are_kept g.B.Books.failure_of g.B.Books.may_leave
     g.met.B.Books.leave_their_tables (g.B.Books.failure_of c.args.books.now) _ _ _ _ _ _ _ _ _ _ _ _
     c.loop-number.invariant.running c.in_ok-settle_if_due.ensures.ok
     (λ before. c.in_ok-settle_if_due.ensures.stays_open (c.loop-number.invariant.stays_open before)))
@@ -119,19 +119,19 @@ returns-in_err-fine-clause-stopped g c =
     let takes = rw c.if-not-branch.false at c.in_ok-next_line.ensures.takes in
     let cut = rw c.deref.ensures.value at c.in_err-fine.ensures.cut in
     if_err_as
-    (λ why. Halts c.args.options c.args.stop why (g.R.Read.remaining c.args.reader.now)
+    (λ why. Halts c.args.options why (g.R.Read.remaining c.args.reader.now)
     (g.W.Write.contents c.args.writer.now)
     (g.W.Write.contents c.settle_if_due.new.writer) (g.B.Books.state_in c.args.books.now)
     (g.B.Books.state_in c.add_line.new.books) c.add_line.new.text.items
     (λ trees. (g.B.Books.failure_of c.args.books.now ≡ None) × g.B.Books.may_leave c.add_line.new.books trees))
     c.from_residual-in_err-fine.result c.in_err-fine.field-0.0 c.from_residual-in_err-fine.ensures.1
-    (halts_line c.args.options c.args.stop c.in_err-fine.field-0.0 (g.R.Read.remaining c.args.reader.now) _
+    (halts_line c.args.options c.in_err-fine.field-0.0 (g.R.Read.remaining c.args.reader.now) _
     (left (g.R.Read.remaining c.next_line.new.reader) c.next_line.new.self)
     (g.W.Write.contents c.args.writer.now) (g.W.Write.contents c.settle_if_due.new.writer)
     (g.B.Books.state_in c.args.books.now) (g.B.Books.state_in c.settle_if_due.new.books)
     (g.B.Books.state_in c.add_line.new.books) c.loop-number.number c.loop-number.all c.next_line.new.line.items
     c.settle_if_due.new.text.items c.add_line.new.text.items _ _
-    (running_due c.args.options c.args.stop g.B.Books.state_in g.B.Books.are_kept g.B.Books.failure_of g.B.Books.may_leave
+    (running_due c.args.options g.B.Books.state_in g.B.Books.are_kept g.B.Books.failure_of g.B.Books.may_leave
     g.met.B.Books.leave_their_tables (g.B.Books.failure_of c.args.books.now) _ _ _ _ _ _ _ _ _ _ _ _
     c.loop-number.invariant.running c.in_ok-settle_if_due.ensures.ok
     (λ before. c.in_ok-settle_if_due.ensures.stays_open (c.loop-number.invariant.stays_open before)))
@@ -144,7 +144,7 @@ returns-in_err-fine-clause-kept g c =
     let cut = rw c.deref.ensures.value at c.in_err-fine.ensures.cut in
     if_err_as (λ stop. IsOfSettling stop → g.B.Books.are_kept c.add_line.new.books)
     c.from_residual-in_err-fine.result c.in_err-fine.field-0.0 c.from_residual-in_err-fine.ensures.1
-    (line_settles c.args.options c.in_err-fine.field-0.0 (g.B.Books.state_in c.settle_if_due.new.books)
+    (line_settles c.args.options.lines c.in_err-fine.field-0.0 (g.B.Books.state_in c.settle_if_due.new.books)
     (g.B.Books.state_in c.add_line.new.books) c.loop-number.number c.next_line.new.line.items
     (g.B.Books.failure_of c.settle_if_due.new.books) (g.B.Books.failure_of c.add_line.new.books) cut
     c.in_err-fine.ensures.stays_open
@@ -152,7 +152,7 @@ returns-in_err-fine-clause-kept g c =
 
 -- the run after the line that was taken
 ran_line : (g : Over) (c : Joined-all g)
-    → Running c.args.options c.args.stop (g.R.Read.remaining c.args.reader.now)
+    → Running c.args.options (g.R.Read.remaining c.args.reader.now)
     (left (g.R.Read.remaining c.next_line.new.reader) c.next_line.new.self) (g.W.Write.contents c.args.writer.now)
     (g.W.Write.contents c.settle_if_due.new.writer) (g.B.Books.state_in c.args.books.now)
     (g.B.Books.state_in c.add_line.new.books) (c.loop-number.number + 1) c.if-all.all c.add_line.new.text.items
@@ -163,19 +163,19 @@ ran_line g c =
     let out = rw c.deref.ensures.value at c.in_ok-fine.ensures.text in
     let fine = rw c.deref.ensures.value at c.in_ok-fine.ensures.fine in
     let both : c.if-all.all ≡ (c.loop-number.all
-    && is_fine c.args.options
+    && is_fine c.args.options.lines
     (g.B.Books.state_in c.settle_if_due.new.books) c.loop-number.number c.next_line.new.line.items) =
     elim c.if-all.branch [
       | then-all w ↦ rw w.if-all.true (w.all-is ∙ fine)
       | else-all w ↦ rw w.if-all.false (w.all-is ∙ w.if-all.false)
     ] in
-    running_line c.args.options c.args.stop (g.R.Read.remaining c.args.reader.now) _
+    running_line c.args.options (g.R.Read.remaining c.args.reader.now) _
     (left (g.R.Read.remaining c.next_line.new.reader) c.next_line.new.self)
     (g.W.Write.contents c.args.writer.now) (g.W.Write.contents c.settle_if_due.new.writer)
     (g.B.Books.state_in c.args.books.now) (g.B.Books.state_in c.settle_if_due.new.books)
     (g.B.Books.state_in c.add_line.new.books) c.loop-number.number c.loop-number.all c.if-all.all
     c.next_line.new.line.items c.settle_if_due.new.text.items c.add_line.new.text.items _ _
-    (running_due c.args.options c.args.stop g.B.Books.state_in g.B.Books.are_kept g.B.Books.failure_of g.B.Books.may_leave
+    (running_due c.args.options g.B.Books.state_in g.B.Books.are_kept g.B.Books.failure_of g.B.Books.may_leave
     g.met.B.Books.leave_their_tables (g.B.Books.failure_of c.args.books.now) _ _ _ _ _ _ _ _ _ _ _ _
     c.loop-number.invariant.running c.in_ok-settle_if_due.ensures.ok
     (λ before. c.in_ok-settle_if_due.ensures.stays_open (c.loop-number.invariant.stays_open before)))
@@ -185,8 +185,8 @@ ran_line g c =
 
 pub returns-then-not-all-clause-done : goal.returns-then-not-all-clause-done
 returns-then-not-all-clause-done g c =
-    gathered_there c.args.options c.args.stop _ _ _ _ _ _ _ _ _ _
-    (ran_line g (goal.at.returns-then-not-all-clause-done g c).Joined-all) c.if-stop.true c.if-not-all.true
+    gathered_there c.args.options _ _ _ _ _ _ _ _ _ _
+    (ran_line g (goal.at.returns-then-not-all-clause-done g c).Joined-all) c.if-options.true c.if-not-all.true
 
 pub returns-then-not-all-clause-stays_open : goal.returns-then-not-all-clause-stays_open
 returns-then-not-all-clause-stays_open g c before =
@@ -202,9 +202,9 @@ pub loop-number-preserved : goal.loop-number-preserved
 loop-number-preserved g c =
     record {
       running = ran_line g (goal.at.loop-number-preserved g c).Joined-all;
-      going = λ stops. elim c.else-stop.branch [
-        | else-stop-via-then-stop+else-not-all w ↦ w.if-not-all.false
-        | else-stop-via-else-stop w ↦ absurd (let e : true ≡ false = sym stops ∙ w.if-stop.false in cc)
+      going = λ stops. elim c.else-options.branch [
+        | else-options-via-then-options+else-not-all w ↦ w.if-not-all.false
+        | else-options-via-else-options w ↦ absurd (let e : true ≡ false = sym stops ∙ w.if-options.false in cc)
       ];
       grouping = c.in_ok-fine.ensures.grouping;
       stays_open = λ before.
@@ -216,7 +216,7 @@ loop-number-preserved g c =
     }
 
 pub returns-clause-stopped : goal.returns-clause-stopped
-returns-clause-stopped g c = halting c.args.options c.args.stop _ _ _ _ _ _ _ _ _ _ c.loop-number.invariant.running
+returns-clause-stopped g c = halting c.args.options _ _ _ _ _ _ _ _ _ _ c.loop-number.invariant.running
 
 pub returns-clause-kept : goal.returns-clause-kept
 returns-clause-kept g c settles = absurd settles
@@ -244,7 +244,7 @@ returns-in_err-fine-clause-open g c =
     let cut = rw c.deref.ensures.value at c.in_err-fine.ensures.cut in
     if_err_as (λ stop. stop ≡ WriteFailed → g.B.Books.failure_of c.add_line.new.books ≡ None)
     c.from_residual-in_err-fine.result c.in_err-fine.field-0.0 c.from_residual-in_err-fine.ensures.1
-    (line_writes c.args.options c.in_err-fine.field-0.0 (g.B.Books.state_in c.settle_if_due.new.books)
+    (line_writes c.args.options.lines c.in_err-fine.field-0.0 (g.B.Books.state_in c.settle_if_due.new.books)
     (g.B.Books.state_in c.add_line.new.books) c.loop-number.number c.next_line.new.line.items cut)
 
 pub returns-clause-open : goal.returns-clause-open

@@ -3,7 +3,7 @@ use Rattle.desk_app.proofs.run.run_lines.Goals as goal
 
 pub returns-in-Ok-clause-answered : goal.returns-in-Ok-clause-answered
 returns-in-Ok-clause-answered g c =
-    answered_finished c.args.options c.args.stop (g.R.Read.remaining c.args.reader.now)
+    answered_finished c.args.options (g.R.Read.remaining c.args.reader.now)
     (g.W.Write.contents c.args.writer.now)
     (g.W.Write.contents c.answer_all.new.writer) (g.B.Books.state_in c.args.books.now)
     (g.B.Books.state_in c.answer_all.new.books) c.in-Ok.all _ c.in-Ok.ensures.done
@@ -13,7 +13,7 @@ returns-in-Ok-clause-answered g c =
 
 pub returns-in-Err-clause-answered : goal.returns-in-Err-clause-answered
 returns-in-Err-clause-answered g c =
-    answered_stopped c.args.options c.args.stop c.in-Err.why (g.R.Read.remaining c.args.reader.now)
+    answered_stopped c.args.options c.in-Err.why (g.R.Read.remaining c.args.reader.now)
     (g.W.Write.contents c.args.writer.now)
     (g.W.Write.contents c.answer_all.new.writer) (g.B.Books.state_in c.args.books.now)
     (g.B.Books.state_in c.answer_all.new.books) _ c.in-Err.ensures.stopped

@@ -1,12 +1,10 @@
-use Rattle.desk_wire.specs.Imports.{import}
-use Rattle.desk_app.specs.Runs.{naming}
-use Rattle.desk_app.specs.Services.{import_kind}
+use Rattle.desk_app.specs.Services.{rows_sent}
 use Rattle.desk_app.proofs.Rows.{left_alone}
 use Rattle.desk_app.proofs.service.reply_to_named_file.Goals as goal
 
 pub returns-in-Err-clause-left : goal.returns-in-Err-clause-left
 returns-in-Err-clause-left g c before trees there =
-    left_alone (import c.args.loose (naming c.args.names (g.B.Books.state_in c.args.books.now))
-    (import_kind c.args.kind) c.args.document.now c.args.day c.args.rows.now)
+    left_alone (rows_sent c.args.names (g.B.Books.state_in c.args.books.now) c.args.said.now.loose c.args.said.now.kind
+    c.args.said.now.document.now c.args.said.now.day c.args.rows.now)
     (g.B.Books.state_in c.args.books.now) trees
     (g.met.B.Books.leave_their_tables c.args.books.now c.requires.kept before trees there)

@@ -5,7 +5,7 @@ use Rattle.desk_core.specs.ShopView.{state_of}
 use Rattle.desk_store.specs.Exports.{AppendsFront}
 use Rattle.report_core.specs.History.{history_lines}
 use Rattle.report_core.specs.Lines.{Lines}
-use Rattle.desk_ends.specs.Printed.{printed}
+use Rattle.desk_wire.specs.Printed.{printed}
 use Rattle.desk_cli.proofs.file.print_history.Goals as goal
 
 -- what is written behind bytes that stayed as they were

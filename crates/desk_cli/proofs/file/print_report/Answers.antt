@@ -3,7 +3,7 @@ use Rattle.desk_core.specs.ShopView.{state_of}
 use Rattle.desk_store.specs.Exports.{AppendsFront}
 use Rattle.report_core.specs.Reports.{report_lines}
 use Rattle.report_core.specs.declared.name.ReportName.{ReportName}
-use Rattle.desk_ends.specs.Printed.{printed}
+use Rattle.desk_wire.specs.Printed.{printed}
 use Rattle.desk_cli.proofs.file.print_report.Goals as goal
 
 pub returns-in-History-clause-front : goal.returns-in-History-clause-front

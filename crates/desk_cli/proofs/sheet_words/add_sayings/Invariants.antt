@@ -1,5 +1,5 @@
 use Rattle.std.proofs.Common.{◌≡◌, drop, map, cond}
-use Rattle.part_core.specs.Forms.{shown}
+use Rattle.word_core.specs.Forms.{shown}
 use Rattle.desk_wire.specs.Sheets.{Said, always, headed}
 use Rattle.desk_wire.specs.SheetViews.{shown_sayings}
 use Rattle.desk_cli.specs.SheetWords.{with_sayings}

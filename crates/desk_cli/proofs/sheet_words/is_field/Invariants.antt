@@ -1,5 +1,5 @@
 use Rattle.std.proofs.Common.{◌≡◌, drop}
-use Rattle.part_core.specs.Forms.{is_among, names_of, shown_fields}
+use Rattle.word_core.specs.Forms.{is_among, names_of, shown_fields}
 use Rattle.desk_cli.proofs.sheet_words.is_field.Given as goal
 
 abbrev pub invariant-loop-field : goal.invariant-loop-field

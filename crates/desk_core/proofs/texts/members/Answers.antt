@@ -1,6 +1,6 @@
 use Rattle.std.proofs.Common.{sym, ◌∙◌, drop}
 use Rattle.std.specs.Vec.Iter.{into_iter_items}
-use Rattle.part_core.specs.Forms.{shown_fields}
+use Rattle.word_core.specs.Forms.{shown_fields}
 use Rattle.desk_core.specs.TextWriting.{in_order}
 use Rattle.desk_core.proofs.NoneLeft.{none_left}
 use Rattle.desk_core.proofs.texts.members.Goals as goal

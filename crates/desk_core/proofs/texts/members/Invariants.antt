@@ -2,7 +2,7 @@ use Rattle.std.proofs.Common.{◌≡◌, drop, length}
 use Rattle.std.specs.Prelude.{codes}
 use Rattle.std.specs.Vec.Iter.{into_iter_items, into_iter_len}
 use Rattle.serde_json.specs.Data.{string, put, no_members}
-use Rattle.part_core.specs.Forms.{shown_fields}
+use Rattle.word_core.specs.Forms.{shown_fields}
 use Rattle.desk_core.specs.CommandText.{with_fields}
 use Rattle.desk_core.specs.TextWriting.{in_order}
 use Rattle.desk_core.proofs.texts.members.Given as goal

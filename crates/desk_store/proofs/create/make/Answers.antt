@@ -4,8 +4,8 @@ use Rattle.std.specs.Prelude.{All}
 use Rattle.sqlite.specs.Held.{state}
 use Rattle.sqlite.specs.State.{HasCleanDisk}
 use Rattle.sqlite.proofs.StateLemmas.{survives_then}
-use Rattle.part_core.specs.Columns.{IsSmall}
-use Rattle.part_core.proofs.FilledTables.{filled-own}
+use Rattle.sheet_core.specs.Columns.{IsSmall}
+use Rattle.sheet_core.proofs.FilledTables.{filled-own}
 use Rattle.desk_core.specs.Machine.{start}
 use Rattle.desk_core.specs.ShopView.{state_of}
 use Rattle.desk_store.specs.MetaColumns.{meta_columns, meta_from, meta_of, only}

@@ -1,6 +1,6 @@
 use Rattle.std.proofs.Common.{Err, ap, map-id, refl, rules, subst, ◌∙◌}
 use Rattle.std.specs.Io.KnownBytes.{Appends}
-use Rattle.part_core.specs.Sheet.{now_of}
+use Rattle.sheet_core.specs.Sheet.{now_of}
 use Rattle.desk_store.specs.Exports.{Sends, rows_of}
 use Rattle.desk_store.specs.RowForms.{line_in, lines_in, text_in}
 use Rattle.desk_store.proofs.Exporting.{all-sent, front-of, next-sent, none-sent, same-text, sends-front}

@@ -1,6 +1,6 @@
 use Rattle.std.proofs.Common.{Err, ap, map, rules, ◌∙◌}
 use Rattle.std.specs.Borrow.{Bor}
-use Rattle.part_core.specs.Sheet.{now_of}
+use Rattle.sheet_core.specs.Sheet.{now_of}
 use Rattle.desk_store.specs.Exports.{Sends, rows_of}
 use Rattle.desk_store.specs.RowForms.{lines_in, text_in}
 use Rattle.desk_store.specs.declared.export.ExportFault.TheVariants.{Memory}

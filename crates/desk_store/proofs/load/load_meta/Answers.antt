@@ -1,6 +1,6 @@
 use Rattle.std.proofs.Common.{List, [], ◌∷◌, subst, sym}
 use Rattle.sqlite.specs.Held.{state}
-use Rattle.part_core.specs.RowKeys.{number_digits}
+use Rattle.sheet_core.specs.RowKeys.{number_digits}
 use Rattle.desk_store.proofs.Metas.{meta-read, meta-unread}
 use Rattle.desk_store.proofs.Readings.{fails_to_load}
 use Rattle.desk_store.proofs.Suiting.{meta-suits}

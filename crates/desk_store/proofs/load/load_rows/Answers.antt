@@ -1,6 +1,6 @@
 use Rattle.std.proofs.Common.{sym, subst}
 use Rattle.sqlite.specs.Held.{state}
-use Rattle.part_core.specs.RowKeys.{number_digits}
+use Rattle.sheet_core.specs.RowKeys.{number_digits}
 use Rattle.desk_store.specs.Opening.{WhyUnread}
 use Rattle.desk_store.proofs.Breaking.{of-reading, why-broken}
 use Rattle.desk_store.proofs.Readings.{fails_to_load}

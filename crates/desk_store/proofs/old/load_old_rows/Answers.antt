@@ -1,6 +1,6 @@
 use Rattle.std.proofs.Common.{inl, refl, arith}
 use Rattle.sqlite.specs.Held.{state}
-use Rattle.part_core.specs.RowKeys.{number_digits}
+use Rattle.sheet_core.specs.RowKeys.{number_digits}
 use Rattle.desk_store.proofs.Olds.{bad-read, none-read, old-meta, old-read, other-read}
 use Rattle.desk_store.proofs.Suiting.{meta-suits}
 use Rattle.desk_store.proofs.old.load_old_rows.Goals as goal

@@ -2,7 +2,7 @@ use Rattle.std.proofs.Common.{subst, sym, arith}
 use Rattle.std.specs.Prelude.{All}
 use Rattle.sqlite.specs.Held.{state}
 use Rattle.sqlite.specs.State.{HasCleanDisk}
-use Rattle.part_core.specs.Columns.{IsSmall}
+use Rattle.sheet_core.specs.Columns.{IsSmall}
 use Rattle.desk_core.specs.ShopView.{state_before, state_of}
 use Rattle.desk_store.specs.MetaColumns.{meta_columns, only}
 use Rattle.desk_store.specs.StateTables.{HasOneRow}

@@ -1,5 +1,5 @@
 use Rattle.std.proofs.Common.{◌∙◌}
-use Rattle.part_core.proofs.SlotLemmas.{IfOk-map}
+use Rattle.sheet_core.proofs.SlotLemmas.{IfOk-map}
 use Rattle.desk_core.specs.ShopView.{state_of}
 use Rattle.desk_store.specs.Shown.{book_names, books_data, books_text}
 use Rattle.desk_store.proofs.Showing.{line_written}

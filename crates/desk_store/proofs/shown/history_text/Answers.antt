@@ -1,7 +1,7 @@
 use Rattle.std.proofs.Common.{◌∙◌, ap, take, filter, nat_le}
 use Rattle.std.specs.FinMap.{values}
-use Rattle.part_core.specs.Sheet.{now_of}
-use Rattle.part_core.proofs.SlotLemmas.{IfOk-map}
+use Rattle.sheet_core.specs.Sheet.{now_of}
+use Rattle.sheet_core.proofs.SlotLemmas.{IfOk-map}
 use Rattle.desk_store.specs.Shown.{entries_data, history_text, line_of_data}
 use Rattle.desk_store.proofs.Showing.{line_written}
 use Rattle.desk_store.proofs.shown.history_text.Goals as goal

@@ -1,6 +1,6 @@
 use Rattle.std.proofs.Common.{◌≡◌, drop}
 use Rattle.serde_json.specs.View.{items_view}
-use Rattle.part_core.specs.Flags.{no_flags}
+use Rattle.word_core.specs.Flags.{no_flags}
 use Rattle.desk_wire.specs.Fields.{with_words}
 use Rattle.desk_wire.proofs.fields.with_words.Given as goal
 

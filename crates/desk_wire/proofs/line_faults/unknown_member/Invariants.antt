@@ -1,6 +1,6 @@
 use Rattle.std.proofs.Common.{◌≡◌, ◌++◌, map}
 use Rattle.serde_json.specs.View.{view, members_view}
-use Rattle.part_core.specs.Forms.{names_of, shown_fields}
+use Rattle.word_core.specs.Forms.{names_of, shown_fields}
 use Rattle.desk_wire.specs.WrongFields.{first_unknown, unknown_in}
 use Rattle.desk_wire.proofs.line_faults.unknown_member.Given as goal
 

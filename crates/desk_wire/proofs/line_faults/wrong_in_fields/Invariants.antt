@@ -1,7 +1,7 @@
 use Rattle.std.proofs.Common.{◌≡◌, drop}
 use Rattle.std.specs.Prelude.{option_map}
 use Rattle.serde_json.specs.View.{view}
-use Rattle.part_core.specs.Forms.{shown_fields}
+use Rattle.word_core.specs.Forms.{shown_fields}
 use Rattle.desk_wire.specs.WrongFields.{wrong_field}
 use Rattle.desk_wire.proofs.line_faults.wrong_in_fields.Given as goal
 

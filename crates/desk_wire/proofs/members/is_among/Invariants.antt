@@ -1,5 +1,5 @@
 use Rattle.std.proofs.Common.{◌≡◌, map, drop}
-use Rattle.part_core.specs.Forms.{is_among}
+use Rattle.word_core.specs.Forms.{is_among}
 use Rattle.desk_wire.proofs.members.is_among.Given as goal
 
 abbrev pub invariant-loop-known : goal.invariant-loop-known

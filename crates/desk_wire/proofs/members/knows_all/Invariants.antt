@@ -1,6 +1,6 @@
 use Rattle.std.proofs.Common.{◌≡◌, ◌++◌, map}
 use Rattle.serde_json.specs.View.{view}
-use Rattle.part_core.specs.Forms.{names_of, shown_fields}
+use Rattle.word_core.specs.Forms.{names_of, shown_fields}
 use Rattle.desk_wire.specs.Members.{knows_all}
 use Rattle.desk_wire.proofs.MemberNames.{all_keys}
 use Rattle.desk_wire.proofs.members.knows_all.Given as goal

@@ -3,7 +3,7 @@ use Rattle.std.specs.List.{slice_split}
 use Rattle.std.proofs.lemmas.List.{at_drop_all, length_push}
 use Rattle.std.proofs.lemmas.Iterator.Consumers.{YieldsList-turn, YieldsList-end}
 use Rattle.std.proofs.lemmas.Iterator.Splits.{YieldsList-from_str_split}
-use Rattle.part_core.specs.Serials.{element_serials}
+use Rattle.word_core.specs.Serials.{element_serials}
 use Rattle.desk_wire.proofs.SerialLists.{rest_good, element_turn, element_bad, element_over, element_good}
 use Rattle.desk_wire.proofs.serial_count.lists_serials.Goals as goal
 

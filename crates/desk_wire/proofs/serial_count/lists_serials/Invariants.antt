@@ -1,7 +1,7 @@
 use Rattle.std.proofs.Common.{◌≡◌, ◌≤◌, drop, length, map, eqb}
 use Rattle.std.specs.Prelude.{is_ok}
 use Rattle.std.specs.List.{slice_split}
-use Rattle.part_core.specs.Serials.{serials_in, element_serials}
+use Rattle.word_core.specs.Serials.{serials_in, element_serials}
 use Rattle.desk_wire.proofs.SerialLists.{rest_good}
 use Rattle.desk_wire.proofs.serial_count.lists_serials.Given as goal
 

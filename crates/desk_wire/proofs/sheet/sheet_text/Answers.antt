@@ -1,7 +1,7 @@
 use Rattle.std.proofs.Common.{ℕ, ◌∙◌, refl, sym, ap}
 use Rattle.std.specs.Prelude.{option_map}
 use Rattle.csv.specs.Reading.{strip_bom}
-use Rattle.part_core.specs.Forms.{shown}
+use Rattle.word_core.specs.Forms.{shown}
 use Rattle.desk_wire.specs.Imports.{separators}
 use Rattle.desk_wire.specs.Sheets.{SheetColumns, first_columns}
 use Rattle.desk_wire.specs.SheetViews.{shown_columns, shown_layout, shown_sayings}

@@ -1,6 +1,6 @@
 use Rattle.std.proofs.Common.{◌≡◌, drop}
 use Rattle.csv.specs.Records.{fields_of}
-use Rattle.part_core.specs.Forms as forms
+use Rattle.word_core.specs.Forms as forms
 use Rattle.desk_wire.specs.Sheets.{field_places}
 use Rattle.desk_wire.specs.SheetViews.{shown_fields, shown_sayings}
 use Rattle.desk_wire.proofs.SheetFacts.{after}

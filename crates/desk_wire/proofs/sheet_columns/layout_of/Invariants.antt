@@ -1,6 +1,6 @@
 use Rattle.std.proofs.Common.{◌≡◌, drop}
 use Rattle.csv.specs.Reading.{strip_bom}
-use Rattle.part_core.specs.Forms.{shown}
+use Rattle.word_core.specs.Forms.{shown}
 use Rattle.desk_wire.specs.Imports.{separators}
 use Rattle.desk_wire.specs.Sheets.{layout_by}
 use Rattle.desk_wire.specs.SheetViews.{shown_sayings}

@@ -1,6 +1,6 @@
 use Rattle.std.proofs.Common.{◌++◌, ◌∷◌, [], ap, ◌∙◌}
 use Rattle.serde_json.specs.Written.{compact_text, has_float}
-use Rattle.part_core.proofs.SlotLemmas.{IfOk-map}
+use Rattle.sheet_core.proofs.SlotLemmas.{IfOk-map}
 use Rattle.desk_wire.specs.Writing.{report_object}
 use Rattle.desk_wire.proofs.Spelled.{no_float}
 use Rattle.desk_wire.proofs.write.report_text.Goals as goal

@@ -7,4 +7,4 @@ returns-in-Err g c = inl (c.in-Err.ensures, Keeps-refl _)
 
 pub returns : goal.returns
 returns g c =
-    inr (c.deref.result.now, c.is_terminal-person.result, c.told_columns-most.result, c.print_levels.ensures)
+    inr (c.deref.result.now, c.is_terminal.result, c.told_columns.result, c.print_levels.ensures)

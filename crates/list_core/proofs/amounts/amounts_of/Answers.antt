@@ -2,7 +2,7 @@ use Rattle.std.proofs.Common.{◌≡◌, ◌==◌, ◌∙◌, ℕ, List, Bor, ap
 use Rattle.std.specs.Prelude.{sum_by}
 use Rattle.std.specs.FinMap as table
 use Rattle.forest.specs.declared.item.Item.{Item}
-use Rattle.part_core.proofs.SlotLemmas.{IfOk-map}
+use Rattle.sheet_core.proofs.SlotLemmas.{IfOk-map}
 use Rattle.yard_core.specs.Stock.{is_gone}
 use Rattle.yard_core.specs.YardView.{stock_of}
 use Rattle.yard_core.specs.declared.yard.Yard.{Yard}

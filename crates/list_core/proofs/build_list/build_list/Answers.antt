@@ -1,6 +1,6 @@
 use Rattle.std.proofs.Common.{◌≡◌, ◌∙◌, ◌∷◌, ◌||◌, ap, not, Bor, List, filter, flat_map, map}
 use Rattle.std.specs.FinMap as table
-use Rattle.part_core.specs.Sheet.{Rows, now_of}
+use Rattle.sheet_core.specs.Sheet.{Rows, now_of}
 use Rattle.build_core.specs.Builds.{is_open}
 use Rattle.build_core.specs.declared.build.Build.{Build}
 use Rattle.build_core.specs.declared.builds.Builds.{Builds}

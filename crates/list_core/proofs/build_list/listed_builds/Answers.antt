@@ -1,5 +1,5 @@
 use Rattle.std.proofs.Common.{◌||◌, not, rules}
-use Rattle.part_core.proofs.SlotLemmas.{IfOk-map}
+use Rattle.sheet_core.proofs.SlotLemmas.{IfOk-map}
 use Rattle.build_core.specs.Builds.{is_open}
 use Rattle.list_core.proofs.build_list.listed_builds.Goals as goal
 

@@ -1,5 +1,5 @@
 use Rattle.std.proofs.Common.{◌≡◌, ◌∙◌, None, Bor, ap, map}
-use Rattle.part_core.proofs.SlotLemmas.{IfOk-map}
+use Rattle.sheet_core.proofs.SlotLemmas.{IfOk-map}
 use Rattle.order_core.specs.declared.line.OrderLine.{OrderLine}
 use Rattle.desk_core.specs.ShopView.{state_of}
 use Rattle.list_core.specs.Coming.{coming_by, coming_in}

@@ -3,7 +3,7 @@ use Rattle.std.specs.Prelude.{◌⊎◌}
 use Rattle.std.specs.Iterator.Adapters.{zip_first, zip_second}
 use Rattle.std.specs.Slice.Iter.{iter_rest}
 use Rattle.std.proofs.lemmas.Slice.Zip.{Zip-so_far, either_empty_from_Zip}
-use Rattle.part_core.specs.Forms.{shown_fields}
+use Rattle.word_core.specs.Forms.{shown_fields}
 use Rattle.desk_core.specs.ShopView.{state_of}
 use Rattle.list_core.specs.Facts.{facts_from}
 use Rattle.report_core.specs.Lines.{fields_of}

@@ -1,5 +1,5 @@
 use Rattle.std.proofs.Common.{◌≡◌, ◌++◌, drop, length}
-use Rattle.part_core.specs.Forms.{shown_fields}
+use Rattle.word_core.specs.Forms.{shown_fields}
 use Rattle.desk_core.specs.ShopView.{state_of}
 use Rattle.list_core.specs.Facts.{facts_from}
 use Rattle.report_core.specs.Lines.{fields_of}

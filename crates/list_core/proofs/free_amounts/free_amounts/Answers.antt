@@ -1,5 +1,5 @@
 use Rattle.std.proofs.Common.{subst, sym}
-use Rattle.part_core.specs.Sheet.{Table, now_of}
+use Rattle.sheet_core.specs.Sheet.{Table, now_of}
 use Rattle.desk_core.specs.ShopView.{state_of}
 use Rattle.list_core.specs.FreeAmounts.{AreFree}
 use Rattle.list_core.specs.declared.free_amounts.FreeAmount.{FreeAmount}

@@ -1,4 +1,4 @@
-use Rattle.part_core.specs.Sheet.{now_of}
+use Rattle.sheet_core.specs.Sheet.{now_of}
 use Rattle.desk_core.specs.ShopView.{state_of}
 use Rattle.list_core.specs.FreeAmounts.{AreFree}
 use Rattle.list_core.proofs.free_amounts.free_amounts.Given as goal

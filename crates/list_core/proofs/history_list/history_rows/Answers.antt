@@ -1,5 +1,5 @@
 use Rattle.std.proofs.Common.{◌∙◌, Global, String, Vec, ap, sym}
-use Rattle.part_core.specs.Sheet.{now_of}
+use Rattle.sheet_core.specs.Sheet.{now_of}
 use Rattle.desk_core.specs.ShopView.{state_of}
 use Rattle.report_core.specs.Lines.{fields_of}
 use Rattle.list_core.specs.HistoryList.{history_row, history_rows, is_listed, span_of}

@@ -1,5 +1,5 @@
 use Rattle.std.proofs.Common.{◌≡◌, Some, rules, string_bytes}
-use Rattle.part_core.proofs.SlotLemmas.{IfOk-map}
+use Rattle.sheet_core.proofs.SlotLemmas.{IfOk-map}
 use Rattle.part_core.specs.Catalogue.{part_in}
 use Rattle.desk_core.specs.ShopView.{state_of}
 use Rattle.report_core.specs.Fields.{name_of}

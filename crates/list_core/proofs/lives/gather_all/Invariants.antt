@@ -1,5 +1,5 @@
 use Rattle.std.proofs.Common.{◌≡◌, drop}
-use Rattle.part_core.specs.Sheet.{now_of}
+use Rattle.sheet_core.specs.Sheet.{now_of}
 use Rattle.list_core.specs.Lives.{with_entries}
 use Rattle.list_core.proofs.lives.gather_all.Given as goal
 

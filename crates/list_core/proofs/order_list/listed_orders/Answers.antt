@@ -1,5 +1,5 @@
 use Rattle.std.proofs.Common.{◌||◌, not, rules}
-use Rattle.part_core.proofs.SlotLemmas.{IfOk-map}
+use Rattle.sheet_core.proofs.SlotLemmas.{IfOk-map}
 use Rattle.order_core.specs.Orders.{is_open}
 use Rattle.list_core.proofs.order_list.listed_orders.Goals as goal
 

@@ -1,6 +1,6 @@
 use Rattle.std.proofs.Common.{◌≡◌, ◌∙◌, ◌∷◌, ◌||◌, ap, not, Bor, List, filter, flat_map, map}
 use Rattle.std.specs.FinMap as table
-use Rattle.part_core.specs.Sheet.{Rows, now_of}
+use Rattle.sheet_core.specs.Sheet.{Rows, now_of}
 use Rattle.order_core.specs.Orders.{is_open}
 use Rattle.order_core.specs.declared.order.Order.{Order}
 use Rattle.order_core.specs.declared.orders.Orders.{Orders}

@@ -2,7 +2,7 @@ use Rattle.std.proofs.Common.{◌≡◌, ◌∙◌, ap, subst, sym, take, length
 use Rattle.std.proofs.Math.Nat.{min_comm}
 use Rattle.std.proofs.lemmas.List.{take_min}
 use Rattle.std.specs.Str.{IsUtf8}
-use Rattle.part_core.specs.Day.{day_of}
+use Rattle.word_core.specs.Day.{day_of}
 use Rattle.desk_core.specs.Key.{is_key}
 use Rattle.list_core.specs.Origins.{key_day}
 use Rattle.list_core.proofs.KeyFronts.{front_is_text}

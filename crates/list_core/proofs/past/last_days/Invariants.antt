@@ -1,6 +1,6 @@
 use Rattle.std.proofs.Common.{◌≡◌, drop}
 use Rattle.std.specs.FinMap as table
-use Rattle.part_core.specs.Sheet.{now_of}
+use Rattle.sheet_core.specs.Sheet.{now_of}
 use Rattle.desk_core.specs.ShopView.{state_of}
 use Rattle.list_core.specs.Past.{gathered_days, number_of}
 use Rattle.list_core.proofs.past.last_days.Given as goal

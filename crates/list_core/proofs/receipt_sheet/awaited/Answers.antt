@@ -1,7 +1,7 @@
 use Rattle.std.proofs.Common.{◌∙◌, ap, filter, rules}
 use Rattle.std.specs.FinMap as table
-use Rattle.part_core.specs.Sheet.{now_of}
-use Rattle.part_core.proofs.SlotLemmas.{IfOk-map}
+use Rattle.sheet_core.specs.Sheet.{now_of}
+use Rattle.sheet_core.proofs.SlotLemmas.{IfOk-map}
 use Rattle.order_core.specs.declared.orders.Orders.{Orders}
 use Rattle.desk_core.specs.ShopView.{state_of}
 use Rattle.list_core.specs.ReceiptSheet.{is_awaited}

@@ -1,6 +1,6 @@
 use Rattle.std.proofs.Common.{◌∷◌, ap, filter, map, ◌∙◌}
 use Rattle.std.specs.FinMap as table
-use Rattle.part_core.proofs.SlotLemmas.{IfOk-map}
+use Rattle.sheet_core.proofs.SlotLemmas.{IfOk-map}
 use Rattle.yard_core.specs.YardView.{stock_of}
 use Rattle.yard_core.specs.declared.yard.Yard.{Yard}
 use Rattle.desk_core.specs.ShopView.{state_of}

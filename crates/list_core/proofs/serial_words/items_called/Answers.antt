@@ -1,7 +1,7 @@
 use Rattle.std.proofs.Common.{◌&&◌, ◌∙◌, ap, filter, not, rules}
 use Rattle.std.specs.FinMap as table
-use Rattle.part_core.specs.Sheet.{now_of}
-use Rattle.part_core.proofs.SlotLemmas.{IfOk-map}
+use Rattle.sheet_core.specs.Sheet.{now_of}
+use Rattle.sheet_core.proofs.SlotLemmas.{IfOk-map}
 use Rattle.forest.specs.declared.item.Item.{Item}
 use Rattle.yard_core.specs.Stock.{is_gone}
 use Rattle.yard_core.specs.declared.yard.Yard.{Yard}

@@ -1,5 +1,5 @@
 use Rattle.std.proofs.Common.{◌≡◌, drop}
-use Rattle.part_core.specs.Sheet.{now_of}
+use Rattle.sheet_core.specs.Sheet.{now_of}
 use Rattle.list_core.specs.Gathered.{gathered}
 use Rattle.list_core.proofs.shortage_list.gather_all.Given as goal
 

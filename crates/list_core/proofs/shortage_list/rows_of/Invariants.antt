@@ -1,5 +1,5 @@
 use Rattle.std.proofs.Common.{◌≡◌, ◌++◌, ◌∷◌, ℕ, List, drop, filter, map}
-use Rattle.part_core.specs.Sheet.{now_of}
+use Rattle.sheet_core.specs.Sheet.{now_of}
 use Rattle.part_core.specs.declared.part.Part.{Part}
 use Rattle.desk_core.specs.ShopView.{state_of}
 use Rattle.list_core.specs.Gathered.{gathered_row, is_lacking, want_in}

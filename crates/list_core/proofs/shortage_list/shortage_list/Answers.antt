@@ -2,7 +2,7 @@ use Rattle.std.proofs.Common.{◌≡◌, ◌∙◌, ◌∷◌, List, Bor, ap, fi
 use Rattle.std.specs.FinMap as table
 use Rattle.part_core.specs.Catalogue.{Parts}
 use Rattle.part_core.specs.CatalogueView.{parts_of}
-use Rattle.part_core.specs.Sheet.{Rows, now_of}
+use Rattle.sheet_core.specs.Sheet.{Rows, now_of}
 use Rattle.part_core.specs.declared.part.Part.{Part}
 use Rattle.bom_core.specs.Bills.{part_rows}
 use Rattle.desk_core.specs.ShopView.{state_of}

@@ -1,7 +1,7 @@
 use Rattle.std.proofs.Common.{◌≡◌, drop, map}
 use Rattle.std.specs.Prelude.{flat_map}
 use Rattle.std.specs.FinMap as table
-use Rattle.part_core.specs.Sheet.{now_of}
+use Rattle.sheet_core.specs.Sheet.{now_of}
 use Rattle.desk_core.specs.ShopView.{state_of}
 use Rattle.list_core.specs.BuildList.{wants_of}
 use Rattle.list_core.specs.Gathered.{gathered}

@@ -1,6 +1,6 @@
 use Rattle.std.proofs.Common.{◌≡◌, ◌∙◌, ◌+◌, ◌-◌, None, Some, ap, arith, sym}
 use Rattle.std.specs.FinMap as table
-use Rattle.part_core.specs.Sheet.{now_of}
+use Rattle.sheet_core.specs.Sheet.{now_of}
 use Rattle.list_core.specs.Ways.{parent_of}
 use Rattle.list_core.proofs.Climbing.{meets-here, meets-none, meets-on, meets-zero}
 use Rattle.list_core.proofs.ways.is_under.Goals as goal

@@ -1,6 +1,6 @@
 use Rattle.std.proofs.Common.{◌≡◌, ◌-◌, Some}
 use Rattle.std.specs.FinMap as table
-use Rattle.part_core.specs.Sheet.{now_of}
+use Rattle.sheet_core.specs.Sheet.{now_of}
 use Rattle.list_core.specs.Ways.{is_under}
 use Rattle.list_core.proofs.Climbing.{meets}
 use Rattle.list_core.proofs.ways.is_under.Given as goal

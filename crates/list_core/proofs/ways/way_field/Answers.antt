@@ -1,7 +1,7 @@
 use Rattle.std.proofs.Common.{◌≡◌, ◌∙◌, ◌<◌, ◌+◌, ◌-◌, ◌∷◌, arith, sym}
 use Rattle.std.specs.FinMap as table
 use Rattle.std.specs.String.{string_bytes}
-use Rattle.part_core.specs.Sheet.{now_of}
+use Rattle.sheet_core.specs.Sheet.{now_of}
 use Rattle.list_core.specs.Ways.{as_names, joined}
 use Rattle.list_core.proofs.Climbing.{filled, way_on-missing, way_on-none, way_on-some, way_on-zero}
 use Rattle.list_core.proofs.ways.way_field.Goals as goal

@@ -1,7 +1,7 @@
 use Rattle.std.proofs.Common.{◌≡◌, ◌-◌}
 use Rattle.std.specs.FinMap as table
 use Rattle.std.specs.String.{string_bytes}
-use Rattle.part_core.specs.Sheet.{now_of}
+use Rattle.sheet_core.specs.Sheet.{now_of}
 use Rattle.list_core.specs.Ways.{way_text}
 use Rattle.list_core.proofs.Climbing.{way_on}
 use Rattle.list_core.proofs.ways.way_field.Given as goal

@@ -1,5 +1,5 @@
 use Rattle.std.specs.FinMap as table
-use Rattle.part_core.proofs.SlotLemmas.{IfOk-map}
+use Rattle.sheet_core.proofs.SlotLemmas.{IfOk-map}
 use Rattle.yard_core.specs.YardView.{stock_of}
 use Rattle.report_core.proofs.Selected.{lines_left}
 use Rattle.report_core.proofs.stock.part_lines.Goals as goal

@@ -1,7 +1,7 @@
 use Rattle.std.proofs.Common.{ap}
 use Rattle.part_core.specs.CatalogueView.{parts_of}
 use Rattle.part_core.specs.declared.part.Part.{Part}
-use Rattle.part_core.proofs.SlotLemmas.{IfOk-map}
+use Rattle.sheet_core.proofs.SlotLemmas.{IfOk-map}
 use Rattle.bom_core.specs.BomsView.{bills_of}
 use Rattle.desk_core.specs.ShopView.{state_of}
 use Rattle.report_core.proofs.Uses.{used_rows_lent}

@@ -1,7 +1,7 @@
 use Rattle.std.proofs.Common.{◌+◌, ◌||◌, sym, ap, ◌∙◌, arith}
 use Rattle.std.specs.Prelude.{nat_lt}
 use Rattle.std.specs.FinMap as table
-use Rattle.part_core.specs.Counter.{Counting, Numbering, lacks}
+use Rattle.word_core.specs.Counter.{Counting, Numbering, lacks}
 use Rattle.yard_core.specs.StockBooks.{entries_in, is_full}
 use Rattle.yard_core.specs.Stock.{Stock}
 use Rattle.yard_core.specs.YardView.{stock_of}

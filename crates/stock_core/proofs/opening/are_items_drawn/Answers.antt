@@ -1,7 +1,7 @@
 use Rattle.std.proofs.Common.{◌≡◌, map, ap, ◌∙◌}
 use Rattle.std.specs.Borrow.{Bor}
 use Rattle.std.specs.FinMap as table
-use Rattle.part_core.specs.Sheet.{now_of}
+use Rattle.sheet_core.specs.Sheet.{now_of}
 use Rattle.forest.specs.declared.item.Item.{Item}
 use Rattle.yard_core.specs.YardView.{stock_of}
 use Rattle.stock_core.proofs.Opened.{drawn_from}

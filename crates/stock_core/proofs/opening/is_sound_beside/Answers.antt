@@ -2,7 +2,7 @@ use Rattle.std.proofs.Common.{◌≡◌, map, sym, ap, ◌∙◌, subst}
 use Rattle.std.specs.Borrow.{Bor}
 use Rattle.std.specs.FinMap as table
 use Rattle.part_core.specs.CatalogueView.{parts_of}
-use Rattle.part_core.specs.Sheet.{now_of}
+use Rattle.sheet_core.specs.Sheet.{now_of}
 use Rattle.forest.specs.declared.item.Item.{Item}
 use Rattle.yard_core.specs.BooksView.{books_now}
 use Rattle.yard_core.specs.Climbs.{IsByNumber}

@@ -1,7 +1,7 @@
 use Rattle.std.proofs.Common.{◌≡◌, ◌∙◌, Bool, true, false, refl, sym}
 use Rattle.std.specs.Prelude.{◌||◌}
 use Rattle.std.specs.Str.{bytes_eq}
-use Rattle.part_core.specs.Twice.{stands_twice}
+use Rattle.word_core.specs.Twice.{stands_twice}
 use Rattle.stock_core.proofs.serials.are_taken.Goals as goal
 
 or_one : (a b : Bool) → true ≡ b → true ≡ (a || b)

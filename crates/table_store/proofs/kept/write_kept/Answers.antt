@@ -1,7 +1,7 @@
 use Rattle.std.proofs.Common.{sym, subst, arith}
 use Rattle.std.specs.Prelude.{All}
 use Rattle.sqlite.specs.Held.{state}
-use Rattle.part_core.specs.Sheet.{now_of}
+use Rattle.sheet_core.specs.Sheet.{now_of}
 use Rattle.table_store.specs.Written.{tree_of, IsTableOf, MayStop, KeptTakes, AreNew, changes_of}
 use Rattle.table_store.specs.declared.name.TableName.TheVariants.{Kept}
 use Rattle.table_store.specs.declared.fault.TableFault.TheVariants.{Memory}

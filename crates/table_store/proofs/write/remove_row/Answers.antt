@@ -1,7 +1,7 @@
 use Rattle.std.proofs.Common.{◌∷◌, [], to_z, w64}
 use Rattle.std.proofs.lemmas.Int.{to_z_pos}
 use Rattle.sqlite.specs.Held.{state}
-use Rattle.part_core.specs.RowKeys.{number_digits}
+use Rattle.sheet_core.specs.RowKeys.{number_digits}
 use Rattle.table_store.specs.Written.{tree_of}
 use Rattle.table_store.proofs.Changes.{writes, row-removed}
 use Rattle.table_store.proofs.Tables.{table-removed}

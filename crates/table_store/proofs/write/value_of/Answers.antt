@@ -1,6 +1,6 @@
 use Rattle.std.proofs.Common.{sym, subst, ap, ◌∙◌}
 use Rattle.std.proofs.lemmas.Str.{is_utf8-from_IsUtf8}
-use Rattle.part_core.specs.declared.column.Column.TheVariants.{Text}
+use Rattle.sheet_core.specs.declared.column.Column.TheVariants.{Text}
 use Rattle.table_store.proofs.Columns.{IsKept, text_kept}
 use Rattle.table_store.proofs.write.value_of.Goals as goal
 

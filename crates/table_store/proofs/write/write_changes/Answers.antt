@@ -2,7 +2,7 @@ use Rattle.std.proofs.Common.{◌+◌, drop, option_copied, subst, arith, rules}
 use Rattle.sqlite.specs.Held.{state}
 use Rattle.sqlite.specs.State.{HasCleanDisk}
 use Rattle.sqlite.proofs.StateLemmas.{survives_then}
-use Rattle.part_core.specs.RowKeys.{number_digits}
+use Rattle.sheet_core.specs.RowKeys.{number_digits}
 use Rattle.table_store.specs.Written.{IsTableOf, Takes, changes_of}
 use Rattle.table_store.proofs.Changes.{IsMidway, midway-start, midway-more, midway-writes, left-more, holds-at, stopped}
 use Rattle.table_store.proofs.write.write_changes.Goals as goal

@@ -1,7 +1,7 @@
 use Rattle.std.proofs.Common.{drop}
 use Rattle.sqlite.specs.Held.{state}
 use Rattle.sqlite.specs.State.{HasCleanDisk, Survives}
-use Rattle.part_core.specs.RowKeys.{number_digits}
+use Rattle.sheet_core.specs.RowKeys.{number_digits}
 use Rattle.table_store.specs.Written.{IsTableOf, changes_of}
 use Rattle.table_store.proofs.Changes.{IsMidway}
 use Rattle.table_store.proofs.write.write_changes.Given as goal

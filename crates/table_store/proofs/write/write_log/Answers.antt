@@ -1,8 +1,8 @@
 use Rattle.std.proofs.Common.{OnOk, sym, subst, arith}
 use Rattle.std.specs.Prelude.{All}
 use Rattle.sqlite.specs.Held.{state}
-use Rattle.part_core.specs.Columns.{IsSmall}
-use Rattle.part_core.specs.Sheet.{now_of}
+use Rattle.sheet_core.specs.Columns.{IsSmall}
+use Rattle.sheet_core.specs.Sheet.{now_of}
 use Rattle.table_store.specs.Written.{tree_of, IsTableOf}
 use Rattle.table_store.proofs.Puts.{all-behind}
 use Rattle.table_store.proofs.write.write_log.Goals as goal

@@ -1,8 +1,8 @@
 use Rattle.std.proofs.Common.{sym, subst, arith}
 use Rattle.std.specs.Prelude.{All}
 use Rattle.sqlite.specs.Held.{state}
-use Rattle.part_core.specs.RowKeys.{number_digits}
-use Rattle.part_core.specs.Sheet.{now_of}
+use Rattle.sheet_core.specs.RowKeys.{number_digits}
+use Rattle.sheet_core.specs.Sheet.{now_of}
 use Rattle.table_store.specs.Written.{tree_of, IsTableOf, MayStop, Takes, changes_of}
 use Rattle.table_store.specs.declared.fault.TableFault.TheVariants.{Memory}
 use Rattle.table_store.proofs.Changes.{if_err_as, nothing-written, takes-all, now-held}

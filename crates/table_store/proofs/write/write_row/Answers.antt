@@ -1,7 +1,7 @@
 use Rattle.std.proofs.Common.{◌≡◌, ap, sym, subst, map, ◌∙◌, Some, arith}
 use Rattle.sqlite.specs.Held.{state}
 use Rattle.sqlite.specs.Values.{bound}
-use Rattle.part_core.specs.RowKeys.{number_digits}
+use Rattle.sheet_core.specs.RowKeys.{number_digits}
 use Rattle.table_store.specs.Stored.{value_of}
 use Rattle.table_store.specs.Written.{tree_of, IsRead}
 use Rattle.table_store.proofs.Changes.{writes, row-put}

@@ -3,7 +3,7 @@ use Rattle.std.specs.Prelude.{All}
 use Rattle.sqlite.specs.Held.{state}
 use Rattle.sqlite.specs.State.{HasCleanDisk}
 use Rattle.sqlite.proofs.StateLemmas.{survives_then}
-use Rattle.part_core.specs.Columns.{IsSmall}
+use Rattle.sheet_core.specs.Columns.{IsSmall}
 use Rattle.table_store.specs.Written.{IsTableOf}
 use Rattle.table_store.proofs.Changes.{IsMidway, midway-start, midway-more, midway-writes, stopped}
 use Rattle.table_store.proofs.Puts.{puts-done, puts-more, puts_of}

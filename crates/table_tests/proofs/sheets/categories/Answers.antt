@@ -2,12 +2,12 @@ use Rattle.std.proofs.Common.{ℕ, List, [], ◌∷◌, sym, subst}
 use Rattle.std.specs.Prelude.{All}
 use Rattle.part_core.specs.declared.named_row.NamedRow.{NamedRow as Category}
 use Rattle.part_core.specs.NamedRows.{named_columns}
-use Rattle.part_core.specs.Columns.{IsSmall}
-use Rattle.part_core.specs.Filled.{StandUnderKeys}
-use Rattle.part_core.specs.Rows.{EachRow}
-use Rattle.part_core.specs.Sheet.{now_of}
-use Rattle.part_core.proofs.FilledTables.{filled-own}
-use Rattle.part_core.proofs.RowLemmas.{each-insert, each-empty}
+use Rattle.sheet_core.specs.Columns.{IsSmall}
+use Rattle.sheet_core.specs.Filled.{StandUnderKeys}
+use Rattle.sheet_core.specs.Rows.{EachRow}
+use Rattle.sheet_core.specs.Sheet.{now_of}
+use Rattle.sheet_core.proofs.FilledTables.{filled-own}
+use Rattle.sheet_core.proofs.RowLemmas.{each-insert, each-empty}
 use Rattle.table_store.proofs.Holding.{own-put}
 use Rattle.table_tests.proofs.sheets.categories.Goals as goal
 

@@ -3,10 +3,10 @@ use Rattle.std.specs.Prelude.{All}
 use Rattle.std.specs.FinMap as table
 use Rattle.part_core.specs.declared.named_row.NamedRow.{NamedRow as Category}
 use Rattle.part_core.specs.NamedRows.{named_columns}
-use Rattle.part_core.specs.Columns.{IsSmall}
-use Rattle.part_core.specs.Rows.{EachRow}
-use Rattle.part_core.specs.Sheet.{Table, key_cmp, now_of}
-use Rattle.part_core.proofs.RowLemmas.{each-insert, each-empty}
+use Rattle.sheet_core.specs.Columns.{IsSmall}
+use Rattle.sheet_core.specs.Rows.{EachRow}
+use Rattle.sheet_core.specs.Sheet.{Table, key_cmp, now_of}
+use Rattle.sheet_core.proofs.RowLemmas.{each-insert, each-empty}
 use Rattle.table_tests.proofs.sheets.log_of_one.Goals as goal
 
 pub put-requires : goal.put-requires

@@ -3,11 +3,11 @@ use Rattle.std.specs.Prelude.{All}
 use Rattle.std.specs.FinMap.{insert}
 use Rattle.part_core.specs.declared.named_row.NamedRow.{NamedRow as Category}
 use Rattle.part_core.specs.NamedRows.{named_columns}
-use Rattle.part_core.specs.Columns.{IsSmall}
-use Rattle.part_core.specs.Filled.{StandUnderKeys}
-use Rattle.part_core.specs.Rows.{EachRow, StayThere}
-use Rattle.part_core.specs.Sheet.{Table, now_of}
-use Rattle.part_core.proofs.RowLemmas.{each-insert, stay-insert}
+use Rattle.sheet_core.specs.Columns.{IsSmall}
+use Rattle.sheet_core.specs.Filled.{StandUnderKeys}
+use Rattle.sheet_core.specs.Rows.{EachRow, StayThere}
+use Rattle.sheet_core.specs.Sheet.{Table, now_of}
+use Rattle.sheet_core.proofs.RowLemmas.{each-insert, stay-insert}
 use Rattle.table_store.proofs.Holding.{own-put}
 use Rattle.table_tests.proofs.sheets.renamed.Goals as goal
 

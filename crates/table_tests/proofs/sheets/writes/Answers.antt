@@ -4,12 +4,12 @@ use Rattle.std.specs.FinMap.{empty, get, get-empty}
 use Rattle.sqlite.specs.Held.{state}
 use Rattle.part_core.specs.declared.named_row.NamedRow.{NamedRow as Category}
 use Rattle.part_core.specs.NamedRows.{named_columns, named_from}
-use Rattle.part_core.specs.Columns.{IsSmall}
-use Rattle.part_core.specs.Filled.{StandUnderKeys}
-use Rattle.part_core.specs.Rows.{EachRow}
-use Rattle.part_core.specs.Sheet.{Table, key_cmp}
-use Rattle.part_core.proofs.FilledTables.{filled-own}
-use Rattle.part_core.proofs.RowLemmas.{each-empty}
+use Rattle.sheet_core.specs.Columns.{IsSmall}
+use Rattle.sheet_core.specs.Filled.{StandUnderKeys}
+use Rattle.sheet_core.specs.Rows.{EachRow}
+use Rattle.sheet_core.specs.Sheet.{Table, key_cmp}
+use Rattle.sheet_core.proofs.FilledTables.{filled-own}
+use Rattle.sheet_core.proofs.RowLemmas.{each-empty}
 use Rattle.table_store.specs.Written.{tree_of, IsTableOf}
 use Rattle.table_store.specs.declared.name.TableName.TheVariants.{Categories}
 use Rattle.table_store.proofs.Tables.{table-empty}

@@ -2,8 +2,8 @@ use Rattle.std.proofs.Common.{ℕ, List, [], ◌∷◌, sym, subst}
 use Rattle.sqlite.specs.Held.{state}
 use Rattle.part_core.specs.declared.named_row.NamedRow.{NamedRow as Category}
 use Rattle.part_core.specs.NamedRows.{named_columns, named_from}
-use Rattle.part_core.specs.Filled.{StandUnderKeys}
-use Rattle.part_core.proofs.FilledTables.{filled-own}
+use Rattle.sheet_core.specs.Filled.{StandUnderKeys}
+use Rattle.sheet_core.proofs.FilledTables.{filled-own}
 use Rattle.table_store.specs.Written.{tree_of, IsTableOf}
 use Rattle.table_store.specs.declared.name.TableName.TheVariants.{Categories}
 use Rattle.table_store.proofs.Tables.{table-empty}

@@ -1,7 +1,7 @@
 use Rattle.std.proofs.Common.{ℕ, false, [], ◌∷◌, Option, Some, None, inr, refl}
 use Rattle.sqlite.specs.Kind.TheVariants.{Integer}
-use Rattle.part_core.specs.declared.column.Column.TheVariants.{Text}
-use Rattle.part_core.specs.Columns.{number_or_absent}
+use Rattle.sheet_core.specs.declared.column.Column.TheVariants.{Text}
+use Rattle.sheet_core.specs.Columns.{number_or_absent}
 use Rattle.table_store.specs.Stored.{value_of}
 use Rattle.table_store.specs.Values.{Takes}
 use Rattle.table_tests.proofs.sheets.written.Goals as goal

@@ -1,6 +1,6 @@
 use Rattle.std.proofs.Common.{true, ◌∙◌, rules}
-use Rattle.part_core.proofs.SlotLemmas.{IfOk-map}
-use Rattle.part_core.proofs.Standing.{filter_all}
+use Rattle.sheet_core.proofs.SlotLemmas.{IfOk-map}
+use Rattle.sheet_core.proofs.Standing.{filter_all}
 use Rattle.yard_core.proofs.opening.rows_in_order.Goals as goal
 
 pub returns : goal.returns

@@ -1,6 +1,6 @@
 use Rattle.std.proofs.Common.{◌≡◌, [], ◌∷◌}
-use Rattle.part_core.specs.Filled.{filled_onto}
-use Rattle.part_core.specs.Sheet.{now_of}
+use Rattle.sheet_core.specs.Filled.{filled_onto}
+use Rattle.sheet_core.specs.Sheet.{now_of}
 use Rattle.alloc_core.specs.AllocationsView.{allocations_from}
 use Rattle.alloc_core.proofs.allocation_rows.AllocationRows.filled.Given as goal
 

@@ -1,4 +1,4 @@
-use Rattle.part_core.specs.Sheet.{now_of}
+use Rattle.sheet_core.specs.Sheet.{now_of}
 use Rattle.alloc_core.proofs.KeptSums.{sums-none}
 use Rattle.alloc_core.proofs.allocation_rows.AllocationRows.new.Goals as goal
 

@@ -1,6 +1,6 @@
 use Rattle.std.proofs.Common.{[], ◌∷◌, ◌∙◌, ap, subst, sym}
 use Rattle.std.specs.Prelude.{◌-◌}
-use Rattle.part_core.specs.Sheet.{now_of}
+use Rattle.sheet_core.specs.Sheet.{now_of}
 use Rattle.alloc_core.specs.ShareSums.{AreSums, counted_in, sum_at}
 use Rattle.alloc_core.proofs.KeptSums.{sums-inserted, sums-removed, sums-stay}
 use Rattle.alloc_core.proofs.allocation_rows.AllocationRows.put.Goals as goal

@@ -1,5 +1,5 @@
 use Rattle.std.proofs.Common.{◌≡◌, true, false, sym, ◌∙◌, subst}
-use Rattle.part_core.specs.Rows.{StandRight}
+use Rattle.sheet_core.specs.Rows.{StandRight}
 use Rattle.yard_core.specs.YardView.{stock_of}
 use Rattle.alloc_core.specs.AllocationsView.{allocations_now}
 use Rattle.alloc_core.specs.declared.allocation.Allocation.{Allocation}

@@ -1,8 +1,8 @@
 use Rattle.std.proofs.Common.{refl, sym, [], ◌∷◌}
 use Rattle.part_core.specs.CatalogueView.{parts_of}
-use Rattle.part_core.specs.Counter.{passes_limit}
-use Rattle.part_core.specs.declared.refusal.Refusal.TheVariants.{Cycle, Full}
-use Rattle.part_core.proofs.Conditions.{first-before}
+use Rattle.word_core.specs.Counter.{passes_limit}
+use Rattle.word_core.specs.declared.refusal.Refusal.TheVariants.{Cycle, Full}
+use Rattle.word_core.proofs.CheckLemmas.{first-before}
 use Rattle.bom_core.specs.BomsView.{bill_books}
 use Rattle.bom_core.specs.Lines.{add_line, line_row_checks}
 use Rattle.bom_core.specs.Walks.{contains_itself}

@@ -3,7 +3,7 @@ use Rattle.std.specs.Borrow.{Bor}
 use Rattle.std.specs.FinMap as table
 use Rattle.std.specs.HashMap.{get}
 use Rattle.part_core.proofs.RowTests.{each-tested}
-use Rattle.part_core.proofs.Standing.{filter_all}
+use Rattle.sheet_core.proofs.Standing.{filter_all}
 use Rattle.bom_core.specs.BomsView.{bills_of}
 use Rattle.bom_core.specs.RowTests.{AreNumbersOf, is_number_found, same_pair}
 use Rattle.bom_core.specs.declared.substitute.Substitute.{Substitute}

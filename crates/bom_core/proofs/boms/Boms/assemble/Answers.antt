@@ -1,5 +1,5 @@
 use Rattle.bom_core.proofs.LookUps.{numbered-same}
-use Rattle.part_core.proofs.FilledTables.{filled-own}
+use Rattle.sheet_core.proofs.FilledTables.{filled-own}
 use Rattle.std.proofs.Common.{[], ◌∷◌}
 use Rattle.bom_core.specs.declared.line.Line.{Line}
 use Rattle.bom_core.proofs.boms.Boms.assemble.Goals as goal

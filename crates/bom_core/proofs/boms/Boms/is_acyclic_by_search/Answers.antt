@@ -2,7 +2,7 @@ use Rattle.std.proofs.Common.{◌≡◌, true, false, refl, sym, ap, map, ◌∙
 use Rattle.std.specs.Borrow.{Bor}
 use Rattle.part_core.specs.CatalogueView.{parts_of}
 use Rattle.part_core.specs.declared.part.Part.{Part}
-use Rattle.part_core.proofs.Standing.{Stands, filter_all}
+use Rattle.sheet_core.proofs.Standing.{Stands, filter_all}
 use Rattle.bom_core.specs.Bills.{part_rows}
 use Rattle.bom_core.specs.BomsView.{bills_of}
 use Rattle.bom_core.specs.Walks.{HasWalk}

@@ -1,4 +1,4 @@
-use Rattle.part_core.proofs.SlotLemmas.{IfOk-map}
+use Rattle.sheet_core.proofs.SlotLemmas.{IfOk-map}
 use Rattle.bom_core.proofs.boms.Boms.is_sound.Goals as goal
 
 pub returns : goal.returns

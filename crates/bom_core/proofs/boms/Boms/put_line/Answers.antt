@@ -2,7 +2,7 @@ use Rattle.std.proofs.Common.{◌≡◌, true}
 use Rattle.part_core.specs.CatalogueView.{parts_of}
 use Rattle.bom_core.specs.BomsView.{bills_of}
 use Rattle.bom_core.proofs.Edges.{line-cycles}
-use Rattle.part_core.proofs.Conditions.{not_true}
+use Rattle.sheet_core.proofs.Conditions.{not_true}
 use Rattle.bom_core.proofs.LookUps.{numbered-put, numbered-same}
 use Rattle.bom_core.proofs.boms.Boms.put_line.Goals as goal
 

@@ -2,7 +2,7 @@ use Rattle.std.proofs.Common.{◌≡◌, true, sym}
 use Rattle.part_core.specs.CatalogueView.{parts_of}
 use Rattle.bom_core.specs.BomsView.{bills_of}
 use Rattle.bom_core.proofs.Edges.{substitute-cycles}
-use Rattle.part_core.proofs.Conditions.{not_true}
+use Rattle.sheet_core.proofs.Conditions.{not_true}
 use Rattle.bom_core.proofs.boms.Boms.put_substitute.Goals as goal
 
 pub returns-then-branch-clause-refused : goal.returns-then-branch-clause-refused

@@ -1,5 +1,5 @@
 use Rattle.std.proofs.Common.{◌≡◌, drop}
-use Rattle.part_core.specs.Sheet.{now_of}
+use Rattle.sheet_core.specs.Sheet.{now_of}
 use Rattle.bom_core.specs.Lines.{removed_all}
 use Rattle.bom_core.proofs.boms.lines.remove_all.Given as goal
 

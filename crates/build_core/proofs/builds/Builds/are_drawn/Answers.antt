@@ -1,5 +1,5 @@
 use Rattle.std.proofs.Common.{rules, not}
-use Rattle.part_core.specs.RowTests.{is_drawn}
+use Rattle.word_core.specs.Numbered.{is_drawn}
 use Rattle.part_core.proofs.RowTests.{drawn-right}
 use Rattle.build_core.proofs.builds.Builds.are_drawn.Goals as goal
 

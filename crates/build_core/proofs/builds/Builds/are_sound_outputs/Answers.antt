@@ -3,8 +3,8 @@ use Rattle.std.specs.Borrow.{Bor}
 use Rattle.std.specs.FinMap as table
 use Rattle.std.specs.List.{All}
 use Rattle.part_core.specs.CatalogueView.{parts_of}
-use Rattle.part_core.specs.Rows.{EachRow}
-use Rattle.part_core.specs.Sheet.{now_of}
+use Rattle.sheet_core.specs.Rows.{EachRow}
+use Rattle.sheet_core.specs.Sheet.{now_of}
 use Rattle.bom_core.specs.BomsView.{bills_of}
 use Rattle.forest.specs.declared.item.Item.{Item}
 use Rattle.yard_core.specs.YardView.{stock_of}

@@ -1,6 +1,6 @@
 use Rattle.std.proofs.Common.{◌≡◌, drop}
 use Rattle.part_core.specs.CatalogueView.{parts_of}
-use Rattle.part_core.specs.Counter.{numbering_before}
+use Rattle.word_core.specs.Counter.{numbering_before}
 use Rattle.bom_core.specs.BomsView.{bills_of}
 use Rattle.yard_core.specs.YardView.{stock_of}
 use Rattle.alloc_core.specs.AllocationsView.{allocations_before}

@@ -1,6 +1,6 @@
 use Rattle.std.proofs.Common.{ap, ◌∙◌, ◌||◌, ◌+◌}
 use Rattle.std.specs.Prelude.{nat_lt}
-use Rattle.part_core.specs.Counter.{lacks}
+use Rattle.word_core.specs.Counter.{lacks}
 use Rattle.yard_core.specs.BooksView.{books_now}
 use Rattle.yard_core.specs.StockBooks.{entries_in}
 use Rattle.stock_core.proofs.Uses.{full-used}

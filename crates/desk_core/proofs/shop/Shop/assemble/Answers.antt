@@ -1,5 +1,5 @@
 use Rattle.std.proofs.Common.{rules, ◌≡◌, ◌∷◌, [], IsSome, IsTrue, false, is_some, length, refl, sym, ap, subst}
-use Rattle.part_core.specs.Filled.{StandUnderKeys}
+use Rattle.sheet_core.specs.Filled.{StandUnderKeys}
 use Rattle.order_core.specs.declared.order.Order.{Order}
 use Rattle.desk_core.specs.Assembled.{HasSoundBooks}
 use Rattle.desk_core.specs.Machine.{State}

@@ -1,6 +1,6 @@
 use Rattle.std.proofs.Common.{rules, not}
-use Rattle.part_core.specs.RowTests.{is_drawn}
-use Rattle.part_core.specs.Sheet.{now_of}
+use Rattle.word_core.specs.Numbered.{is_drawn}
+use Rattle.sheet_core.specs.Sheet.{now_of}
 use Rattle.part_core.proofs.RowTests.{drawn-right}
 use Rattle.order_core.proofs.orders.Orders.are_lines_drawn.Goals as goal
 

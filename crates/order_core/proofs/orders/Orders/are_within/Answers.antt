@@ -1,5 +1,5 @@
 use Rattle.std.proofs.Common.{rules, not}
-use Rattle.part_core.specs.Sheet.{now_of}
+use Rattle.sheet_core.specs.Sheet.{now_of}
 use Rattle.part_core.proofs.RowTests.{each-tested}
 use Rattle.alloc_core.specs.AllocationsView.{allocations_now}
 use Rattle.order_core.specs.RowTests.{is_within}

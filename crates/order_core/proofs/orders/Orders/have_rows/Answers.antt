@@ -1,6 +1,6 @@
 use Rattle.std.proofs.Common.{rules, not}
 use Rattle.part_core.specs.CatalogueView.{parts_of}
-use Rattle.part_core.specs.Sheet.{now_of}
+use Rattle.sheet_core.specs.Sheet.{now_of}
 use Rattle.part_core.proofs.RowTests.{each-tested}
 use Rattle.order_core.specs.RowTests.{has_rows}
 use Rattle.order_core.proofs.Opened.{has_rows-is}

@@ -1,7 +1,7 @@
 use Rattle.std.proofs.Common.{◌≡◌, ◌+◌, ◌≤◌, true, false, sym, ◌∙◌, subst}
 use Rattle.part_core.specs.CatalogueView.{parts_of}
-use Rattle.part_core.specs.Rows.{EachRow, StandRight}
-use Rattle.part_core.specs.Sheet.{now_of}
+use Rattle.sheet_core.specs.Rows.{EachRow, StandRight}
+use Rattle.sheet_core.specs.Sheet.{now_of}
 use Rattle.alloc_core.specs.Allocations.{allocated_for_sale_line}
 use Rattle.alloc_core.specs.AllocationsView.{allocations_now}
 use Rattle.order_core.specs.RowTests.{HasRows}

@@ -2,7 +2,7 @@ use Rattle.std.proofs.Common.{◌∙◌, refl}
 use Rattle.yard_core.specs.StockBooks.{stock_books_of}
 use Rattle.std.proofs.Common.{ap, ◌||◌, ◌+◌}
 use Rattle.std.specs.Prelude.{nat_lt}
-use Rattle.part_core.specs.Counter.{lacks}
+use Rattle.word_core.specs.Counter.{lacks}
 use Rattle.forest.specs.declared.entry.Kind.TheVariants as kind
 use Rattle.forest.specs.declared.place.Place.TheVariants.{At}
 use Rattle.yard_core.specs.StockBooks.{entries_in}

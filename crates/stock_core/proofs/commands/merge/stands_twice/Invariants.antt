@@ -1,6 +1,6 @@
 use Rattle.std.proofs.Common.{◌≡◌, drop}
 use Rattle.std.specs.Prelude.{◌==◌}
-use Rattle.part_core.specs.Twice.{stands_twice}
+use Rattle.word_core.specs.Twice.{stands_twice}
 use Rattle.stock_core.proofs.commands.merge.stands_twice.Given as goal
 
 abbrev pub invariant-loop-i : goal.invariant-loop-i

@@ -1,7 +1,7 @@
 use Rattle.std.proofs.Common.{◌≡◌, map, ap, ◌∙◌, arith}
 use Rattle.std.specs.Borrow.{Bor}
 use Rattle.std.specs.FinMap as table
-use Rattle.part_core.specs.Sheet.{now_of}
+use Rattle.sheet_core.specs.Sheet.{now_of}
 use Rattle.yard_core.specs.YardView.{stock_of}
 use Rattle.part_core.specs.declared.named_row.NamedRow.{NamedRow as Location}
 use Rattle.yard_core.proofs.Opened.{locations_from}

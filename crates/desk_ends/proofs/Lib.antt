@@ -1,4 +1,0 @@
-pub mod Empty
-pub mod Escaping
-pub mod Cutting
-pub mod Listing

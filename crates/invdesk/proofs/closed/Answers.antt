@@ -1,4 +1,0 @@
-use Rattle.invdesk.proofs.closed.Goals as goal
-
-pub returns : goal.returns
-returns c = record { told = c.end_of_work-end.ensures.told; alone = c.end_of_work-end.ensures.alone }

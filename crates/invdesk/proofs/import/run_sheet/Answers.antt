@@ -1,0 +1,14 @@
+use Rattle.std.proofs.Common.{inl, inr, refl}
+use Rattle.invdesk.proofs.import.run_sheet.Goals as goal
+
+pub returns-in-Ok-clause-imports : goal.returns-in-Ok-clause-imports
+returns-in-Ok-clause-imports g c =
+    inr (c.in-Ok.bytes.items, rw c.deref.ensures.value at c.import_sheet.ensures.runs)
+
+pub returns-in-Err-clause-imports : goal.returns-in-Err-clause-imports
+returns-in-Err-clause-imports g c = inl (record {
+  why = c.in-Err.ensures;
+  same = refl;
+  still = refl;
+  left = λ unshut trees may. g.met.B.Books.leave_their_tables c.args.books.now c.requires unshut trees may;
+})

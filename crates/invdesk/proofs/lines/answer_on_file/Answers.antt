@@ -1,0 +1,17 @@
+use Rattle.desk_core.proofs.InOrder.{in_order}
+use Rattle.invdesk.proofs.lines.answer_on_file.Goals as goal
+
+pub returns-clause-acts : goal.returns-clause-acts
+returns-clause-acts c = (
+  c.close_desk.ensures.0,
+  record {
+    before = c.in_ok-desk.desk;
+    after = c.answer_on-desk.result.0;
+    worked = c.answer_on-desk.result.1;
+    is_open = c.in_ok-desk.ensures.open;
+    comes = c.in_ok-desk.ensures.found;
+    does = c.answer_on-desk.ensures.answers;
+    in_order = in_order _ c.answer_on-desk.ensures.desk.sound;
+    closed = c.close_desk.ensures.1;
+  },
+)

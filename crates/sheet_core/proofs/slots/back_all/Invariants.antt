@@ -1,0 +1,18 @@
+use Rattle.std.proofs.Common.{◌≡◌, length}
+use Rattle.std.specs.List.Sorted.{IsNonDecreasing}
+use Rattle.sheet_core.specs.Slots.{AreSlots, row_before, slots_of, table_by}
+use Rattle.sheet_core.proofs.slots.back_all.Given as goal
+
+-- the places that are left rise
+abbrev pub invariant-loop-i : goal.invariant-loop-i
+invariant-loop-i g l =
+    record {
+      slots : AreSlots (slots_of g.R.Key.RowKey.digits l.slots.entries) l.changed.items;
+      up : IsNonDecreasing l.changed.items;
+      rows :
+          table_by row_before (slots_of g.R.Key.RowKey.digits l.slots.entries)
+          ≡ table_by row_before (slots_of g.R.Key.RowKey.digits l.fn.slots.entries);
+    }
+
+abbrev pub decreases-loop-i : goal.decreases-loop-i
+decreases-loop-i g l = length l.changed.items

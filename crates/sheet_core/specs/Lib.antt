@@ -1,0 +1,12 @@
+pub mod Columns
+pub mod Filled
+pub mod Index
+pub mod Indexed
+pub mod Lending
+pub mod Log
+pub mod RowKeys
+pub mod Rows
+pub mod Select
+pub mod Sheet
+pub mod Slots
+pub mod TableRows

@@ -1,0 +1,6 @@
+pub mod Numerals
+pub mod Readings
+pub mod DayText
+pub mod FlagWords
+pub mod JoinedForms
+pub mod CheckLemmas

@@ -1,0 +1,5 @@
+use Rattle.std.proofs.Common.{length}
+use Rattle.word_core.proofs.pattern.+fits_pattern.Given as goal
+
+abbrev pub decreases-fits_pattern : goal.decreases-fits_pattern
+decreases-fits_pattern l = length l.pattern.now
