@@ -18,9 +18,9 @@ try: ## the first example, unproved, in about three minutes
 check: ## every test and the program, unproved: some 50 minutes of a processor; CRATE=order_core, JOBS=2
 	python3 tools/check.py $(if $(CRATE),--crate $(CRATE)) $(if $(JOBS),--jobs $(JOBS))
 
-# The program, built once it is proved, on the first example.
+# The program, built once it is proved, on the first example. Libraries are proved side by side.
 run: ## proves and builds the program, in one to two hours, and runs the first example
-	cd crates/invdesk && rt run < stdin
+	python3 tools/build.py < crates/invdesk/stdin
 
 # The gate: every proof from nothing, the must-fail edits, the tests, and the program that this built, beside Python's
 # libraries, curl, and the rules written once more. 'make test JOBS=2' runs two proofs side by side, and not as many as
@@ -30,7 +30,7 @@ test: ## the gate: all proofs, wrong bodies and tests, in two to three hours; JO
 
 # The program, built once it is proved.
 build: ## proves and builds the program
-	cd crates/invdesk && rt run < /dev/null
+	python3 tools/build.py < /dev/null
 
 # Installs the program with its page of man, the completions of bash, the unit of systemd with its user, and the
 # documents. Whoever packs it installs it below DESTDIR first: 'make install DESTDIR=/tmp/x PREFIX=/usr'.
@@ -92,7 +92,8 @@ page: build ## tries the page in Chromium and Firefox
 
 # The program on the worked examples with names, on the tutorial, on the move from spreadsheets, on a recall and on
 # mistakes, as a clerk asks it to stop, to check or to show a list, and beside the rules written once more in Python:
-# answers, reports, lists and tables of requests that are made up, and which changed files it opens.
+# answers, reports, lists and tables of requests that are made up, and which changed files it opens; and whether the time
+# of lines grows as their square.
 machine: build ## tries the program on examples, documents and lists, and beside the rules in Python
 	python3 tools/check_examples.py $(PROGRAM)
 	python3 tools/check_tutorial.py $(PROGRAM)
@@ -100,6 +101,7 @@ machine: build ## tries the program on examples, documents and lists, and beside
 	python3 tools/check_lists.py $(PROGRAM)
 	python3 tools/check_machine.py $(PROGRAM)
 	python3 tools/check_opening.py $(PROGRAM)
+	python3 tools/check_growth.py $(PROGRAM)
 
 # What is installed and packed: the page of man, the completions as bash asks for them, the unit with the words in it,
 # and the package of Debian with the program out of it.

@@ -4,7 +4,9 @@
 lines  Lines of each kind, twice: 20,000 and 40,000, or those of 500 builds and of 1,000, in memory and with a file on
        a memory disk; and as many lines among 10,000 rows and among 20,000, or among as many as stand beside them. It
        prints lines per second and peak memory of each run, and by what factor the time grows; among rows also by what
-       factor the time of the lines alone grows, without that of the rows that they are among.
+       factor the time of the lines alone grows, without that of the rows that they are among. Among the kinds are one
+       serial in many parts and in many families, serials that are in a large family and in as many others, and serials,
+       names and keys that have one hash in an earlier program.
 file   20,000 and 40,000 finds and removals on a file, on a disk and on a memory disk, once by a pipe and once line by
        line, each sent when the one before it was answered. Beside them, in the same run, the same writes in groups of
        the same size and alone: by Python's sqlite3; by a C program with prepared statements over the system's library,

@@ -1,5 +1,5 @@
 #!/usr/bin/env python3
-"""Looks whether what the documents cite is there.
+"""Looks whether what the documents and the heads of sources cite is there.
 
 - A clause: `crates/desk_core/src/shop.rt` `accepts` of `accept` is a clause of that function in that file.
 - A function or a type, `crates/desk_core/src/shop.rt` `accept`, or a definition, `crates/desk_core/specs/Key.antt`
@@ -14,6 +14,14 @@
 - A path: `src/run.rt` is a file of such a crate, `docs/HTTP.md` or `contrib/views.sql` one of the repository.
 - A call: `Shop::accept` is a function of that crate, or of some.
 - Any other name of two words or more, as `is_visible` or `IsDesk`, stands in some source.
+
+A head is the lines `//!` of a source, and is read as a document is, of its own crate. In it:
+
+- An item of a list `- `Desk::run`, `send`: ..` is of these calls, which are there; a trait may stand in the place of a call.
+  Names alone in brackets, as (`tells`, `crash`), are clauses of one of them, or members of the trait.
+- A numbered item `1. `tells`: ..` is of an invariant, which clauses of functions of that source have as their name, and so
+  have the names in brackets.
+- `exact` of `keep` is a clause of a function of that name.
 
 usage: tools/check_names.py"""
 import difflib
@@ -50,6 +58,10 @@ NAME = re.compile(r"[a-z]\w*_\w+|[A-Z][a-z]\w*[A-Z]\w*")
 CALL = re.compile(r"([A-Z]\w*)::([a-z]\w*)")
 # What may stand between two names, of which the later is told of the crate before the earlier.
 BETWEEN = re.compile(r"[\s,(]*(?:and|or|types?)?[\s,(]*")
+# An item of a head: what begins it, and the names before its colon.
+ITEM = re.compile(r"(- |\d+\. )((?:`[^`]+`(?:, | and )?)+)[^`:]*: ")
+# Names in brackets, with nothing but names.
+ASIDE = re.compile(r"\(((?:`[^`]+`(?:, |: | )?)+)\)")
 # Files of the example of a command that isn't there yet.
 EXAMPLES = {"specs/Scrap.antt", "src/commands/scrap.rt", "proofs/ScrapSound.antt", "specs/MODULE.antt"}
 
@@ -74,8 +86,9 @@ def words():
     """All words of the crates' sources, of what is made of tables, and of the unit of the service."""
     beside = [path for kind in ("sql", "service") for path in (TOP / "contrib").glob(f"*.{kind}")]
     others = set().union(*(re.findall(r"\w+", path.read_text()) for path in beside))
-    return others.union(*(re.findall(r"\w+", text_of(crate, f"{folder}/**/*.{suffix}")) for crate in CRATES
-                          for folder, suffix in [("src", "rt"), ("specs", "antt"), ("proofs", "antt")]))
+    texts = (re.sub(r"(?m)^//!.*$", "", text_of(crate, f"{folder}/**/*.{suffix}")) for crate in CRATES
+             for folder, suffix in [("src", "rt"), ("specs", "antt"), ("proofs", "antt")])
+    return others.union(*(re.findall(r"\w+", text) for text in texts))
 
 
 def declares(text, name):
@@ -327,12 +340,91 @@ class Checker:
         return module
 
 
+class HeadChecker(Checker):
+    """Goes over the head of a source, block by block: its paragraphs, and the items of its lists."""
+
+    def __init__(self, source, faults):
+        super().__init__(source, faults)
+        self.crate = source.relative_to(TOP / "crates").parts[0]
+
+    def check(self):
+        for number, text in self.blocks():
+            self.names(number, text, self.crate, None, False)
+            for clause, function in CLAUSE.findall(text):
+                if not any(clause in found for found in self.clauses_of(function)):
+                    self.fault(number, f"{clause} is no clause of a function {function} of {self.crate}")
+            item = ITEM.match(text)
+            if item:
+                self.item(number, item, [name for told in ASIDE.findall(text) for name in TOKEN.findall(told)])
+
+    def blocks(self):
+        """Each paragraph and each item, in one line, with the number of its first."""
+        number, block = 0, ""
+        for at, line in enumerate(lines_of(self.document), 1):
+            if not line.startswith("//!"):
+                break
+            line = line[3:].strip()
+            if not line or re.match(r"- |\d+\. ", line):
+                if block:
+                    yield number, block
+                number, block = at, line
+            else:
+                number, block = (number, f"{block} {line}") if block else (at, line)
+        if block:
+            yield number, block
+
+    def item(self, number, item, aside):
+        """Checks the names that begin an item, and those in brackets in it."""
+        subjects = TOKEN.findall(item[2])
+        if item[1] == "- ":
+            found = {name: self.clauses_of(name) for name in subjects}
+            for name in [name for name in subjects if not found[name] and not has_type(self.crate, name)]:
+                self.fault(number, f"no function {name} is in {self.crate}")
+            there = {clause for clauses in found.values() for names in clauses for clause in names}
+            there.update(*(self.members_of(name) for name in subjects))
+            told = [name for name in aside if re.fullmatch(r"[a-z]\w*", name) and name not in CRATES | KIT_CRATES]
+        elif re.fullmatch(r"[a-z]\w*", subjects[0]):
+            there = set(re.findall(r"(?m)^\s*(?:ensures|requires|ghost) (\w+)", self.document.read_text()))
+            told = [name for name in subjects + aside if re.fullmatch(r"[a-z]\w*", name)]
+        else:
+            return
+        for name in told:
+            if name not in there:
+                self.fault(number, f"{name} is no clause of {', '.join(subjects)}" if item[1] == "- " else
+                           f"{name} is no clause of a function here")
+
+    def clauses_of(self, call):
+        """The clauses of each function that is called so: of a type, or of a file, where these are told before `::`."""
+        owner, _, function = call.rpartition("::")
+        found = []
+        for path in sorted(folder_of(self.crate).glob("src/**/*.rt")):
+            of_type = re.search(rf"(?m)^(?:impl|pub trait)\b.*\b{owner}\b", path.read_text()) if owner else True
+            if of_type or path.stem == owner:
+                found.append(clauses(lines_of(path), function))
+        return [it for it in found if it is not None]
+
+    def members_of(self, name):
+        """The ghost members of a trait."""
+        text = text_of(self.crate, "src/**/*.rt")
+        trait = re.search(rf"(?ms)^pub trait {re.escape(name)}\b.*?^}}", text)
+        return re.findall(r"(?m)^    ghost (\w+):", trait[0]) if trait else []
+
+
+def heads_of_sources():
+    sources = (path for crate in sorted(CRATES) for path in sorted(folder_of(crate).glob("src/**/*.rt")))
+    return [path for path in sources if lines_of(path)[0].startswith("//!")]
+
+
 def main():
     faults = []
     for document in DOCUMENTS:
         check_places(document, faults)
         Checker(document, faults).check()
-    print("\n".join([*faults, f"{len(DOCUMENTS)} documents: {len(faults)} names don't stand where they are said to"]))
+    heads_told = heads_of_sources()
+    for source in heads_told:
+        HeadChecker(source, faults).check()
+    looked_at = f"{len(DOCUMENTS)} documents, {len(heads_told)} heads"
+    print("\n".join([*faults, f"{looked_at}: {len(faults)} names don't stand where they are said to"]))
     sys.exit(1 if faults else 0)
 
 

@@ -5,14 +5,13 @@ First it looks whether each wrong body still applies, whether each name that the
 whether the worked examples with names ask for what those with numbers do, and say each field in each form, and
 whether the page, the help, the page of man and the completions have what they take from the documents and from the
 program's words, and the program the page. Then 'rt ci' proves every crate from nothing, tries the must-fail edits, and
-runs the tests and the program. On four processors the crate that all others stand on comes first, by itself, so that
-it gets two of them. The program that this built is then tried as its owner would: with the examples with names, the
-tutorial, the move from spreadsheets, a recall and mistakes, with the words of a clerk, with lists, files, dumps,
-imports, questions to the tables, clients of HTTP, what its page reads, and kills, beside the rules written once more,
-and installed and packed.
+runs the tests and the program. The program that this built is then tried as its owner would: with the examples with
+names, the tutorial, the move from spreadsheets, a recall and mistakes, with the words of a clerk, with lists, files,
+dumps, imports, questions to the tables, clients of HTTP, what its page reads, and kills, beside the rules written once
+more, and installed and packed.
 Where a step fails, those behind it are not run. The last line is 'N passed, M failed': what 'rt ci' counts, and one
 for each script. Before it stands a table of what each crate's proof, tests and wrong bodies took, and waited for, and
-then what failed, once more. It takes two to three hours, of which the scripts take six minutes.
+then what failed, once more. It takes two and a half to three hours, of which the scripts take six minutes.
 
 usage: tools/gate.py [--jobs N | --only CHECK | --table [--graph FILE]]
   --jobs N       N proofs side by side; else as many as there are processors with 5.5 GB each
@@ -24,14 +23,11 @@ import pathlib
 import re
 import subprocess
 import sys
-import tempfile
 
 import proof_times
-from shared import TOP, copy_crates, expect
+from shared import TOP, expect
 
 PROGRAM = "crates/invdesk/out/invdesk"
-# All crates stand on it, so nothing is proved beside it.
-FIRST = "part_core"
 # What 'rt ci' writes of a proof, a wrong body, a test or a program that failed, and of which function. Much comes behind
 # it.
 LOST = re.compile(
@@ -61,6 +57,7 @@ AFTER = [
     f"check_machine.py {PROGRAM} --runs 9",
     f"check_opening.py {PROGRAM} --runs 3",
     f"check_package.py {PROGRAM}",
+    f"check_growth.py {PROGRAM}",
 ]
 
 
@@ -92,25 +89,6 @@ def echoed(words, **how):
     return lost, last.strip(), ran.returncode
 
 
-def may_prove_first():
-    """Whether FIRST is proved sooner by itself: where 'rt ci' chooses how many proofs run side by side, it gives one
-    alone two of four processors. What it proved has to be kept for the 'rt ci' behind it, and CI allows no names."""
-    how = {"stdout": subprocess.PIPE, "stderr": subprocess.STDOUT, "text": True, "check": False}
-    told = subprocess.run(["rt", "help"], **how).stdout
-    is_kept = "What a run passed is kept" in told
-    return is_kept and len(os.sched_getaffinity(0)) >= 4 and os.environ.get("CI") != "true"
-
-
-def is_first_refused():
-    """Proves FIRST by itself, in a copy without wrong bodies, which are tried beside other proofs later: whether it
-    isn't proved. Where 'rt' judged nothing, the 'rt ci' behind it has to say why."""
-    words = {name: value for name, value in os.environ.items() if name != "RT_JOBS"}
-    with tempfile.TemporaryDirectory(prefix="gate-") as folder:
-        copy_crates(folder, "must-fail")
-        print(f"== {FIRST}, before the others", flush=True)
-        return echoed(["rt", "ci", FIRST], cwd=folder, env=words)[-1] == 1
-
-
 def prove_all(jobs):
     """Runs 'rt ci' with so many proofs side by side: what `echoed` tells of it. Where a check was killed and that failed
     it, half as many are run once more: what passed is kept."""
@@ -126,9 +104,7 @@ def count_proofs(jobs):
     """Runs 'rt ci': how many passed, and how many failed, by its last line."""
     watch = proof_times.Watch()
     watch.start()
-    lost, last, status = [], "0 passed, 1 failed", 1
-    if jobs or not may_prove_first() or not is_first_refused():
-        lost, last, status = prove_all(jobs or proofs_at_once())
+    lost, last, status = prove_all(jobs or proofs_at_once())
     steps = watch.stop()
     proof_times.keep(steps)
     print("\n".join(proof_times.table_of(steps)), *lost, sep="\n", flush=True)
