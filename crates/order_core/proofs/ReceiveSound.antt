@@ -1,7 +1,7 @@
 -- What is received leaves orders, allocations and stock sound.
-use Rattle.std.proofs.Common.{◌≡◌, ℕ, ◌+◌, ◌≤◌, Bool, true, false, [], ◌∷◌}
+use Rattle.std.proofs.Common.{◌≡◌, ℕ, ◌+◌, Bool, true, false, [], ◌∷◌}
 use Rattle.std.proofs.Common.{Some, None, refl, sym, ap, ◌∙◌, subst, arith, eqb-true}
-use Rattle.std.specs.Prelude.{◌==◌, ◌||◌}
+use Rattle.std.specs.Prelude.{◌==◌}
 use Rattle.std.specs.FinMap as table
 use Rattle.std.proofs.lemmas.Bool.{eqb-false, ltb-false}
 use Rattle.part_core.specs.Catalogue.{Parts}
@@ -23,10 +23,9 @@ use Rattle.stock_core.specs.StockMachine.{Grows}
 use Rattle.stock_core.specs.declared.arrivals.Arrival.{Arrival}
 use Rattle.stock_core.specs.declared.arrivals.NewStock.{NewStock}
 use Rattle.stock_core.proofs.Checked.{good-quantity, sound-leads, there-row}
-use Rattle.stock_core.proofs.FoundSound.{leads-make_new}
-use Rattle.stock_core.proofs.HeldMoves.{holds-make_new}
-use Rattle.stock_core.proofs.Holding.{sound-held}
-use Rattle.stock_core.proofs.OutputsStay.{leaves-make_new}
+use Rattle.stock_core.proofs.FoundSound.{stage-make_new}
+use Rattle.stock_core.proofs.Holding.{none_but, sound-held}
+use Rattle.stock_core.proofs.Stages.{Stage}
 use Rattle.stock_core.proofs.Upright.{upright-of}
 use Rattle.word_core.specs.Side.{is_sale}
 use Rattle.word_core.specs.declared.refusal.Refusal.TheVariants.{NoSuch, BadNumber, Mismatch}
@@ -66,13 +65,15 @@ module _ (is_build : ℕ → Bool) (parts : Parts) (line location : ℕ) (new : 
   abbrev arrival : Arrival
   arrival = record { kind = kind.Received; place = At location; part = (line_at line b).part }
 
-  stock : IsSoundStock owners parts after.books × Grows b.books after.books
-  stock = sound-leads owners parts b.books after.books
-      (leads-make_new owners parts arrival new day b.books (upright-of owners parts b.books sound.stock) tt
+  stage : Stage owners parts none_but b.books after.books
+  stage =
+      stage-make_new owners parts arrival new day b.books (upright-of owners parts b.books sound.stock) tt refl
       old.part (there-row b.books.stock.locations location both.1)
       (good-quantity new.quantity (or_none (is_bad_quantity new.quantity) (given are_many new.serials) (passed BadNumber)).0)
-      (passed SerialTaken))
-      (passed Full)
+      (passed SerialTaken)
+
+  stock : IsSoundStock owners parts after.books × Grows b.books after.books
+  stock = sound-leads owners parts b.books after.books stage.leads (passed Full)
 
   abbrev changed : OrderLine
   changed = record (line_at line b) { done = (line_at line b).done + new.quantity }
@@ -123,14 +124,13 @@ module _ (is_build : ℕ → Bool) (parts : Parts) (line location : ℕ) (new : 
   }
 
   pub leaves-receive : LeavesOutputs b.books.stock.items after.books.stock.items
-  leaves-receive = leaves-make_new arrival new day b.books refl sound.stock.items.locations.some sound.stock.items.rows
+  leaves-receive = stage.leaves
 
   pub sound-receive : AreSoundBooks is_build parts after × Grows b.books after.books
   sound-receive = (
     record {
       stock = stock.0;
-      allocations = sound-held b.allocations b.books after.books sound.allocations stock.1.numbers
-          (holds-make_new arrival new day b.books sound.stock.items.locations.some sound.stock.items.rows);
+      allocations = sound-held b.allocations b.books after.books sound.allocations stock.1.numbers stage.holds;
       orders = record {
         orders =
             right-later (λ (o : Order). o.number) b.books.counter.next after.books.counter.next b.orders stock.1.numbers

@@ -1,7 +1,7 @@
 -- What passes its checks leaves the outputs of builds alone, step by step and command by command.
-use Rattle.std.proofs.Common.{◌≡◌, ℕ, ◌+◌, ◌-◌, ◌≤◌, Bool, true, false, not, List}
+use Rattle.std.proofs.Common.{◌≡◌, ℕ, ◌-◌, ◌≤◌, Bool, true, false, not, List}
 use Rattle.std.proofs.Common.{[], ◌∷◌, Option, Some, None, refl, ap, ◌∙◌, arith}
-use Rattle.std.specs.Prelude.{◌==◌, ◌&&◌, if◌then◌else◌, IsSome}
+use Rattle.std.specs.Prelude.{◌==◌, ◌&&◌, if◌then◌else◌}
 use Rattle.std.specs.FinMap as table
 use Rattle.std.proofs.lemmas.Bool.{ltb-false}
 use Rattle.part_core.specs.Catalogue.{Parts}
@@ -13,68 +13,49 @@ use Rattle.word_core.specs.declared.status.Status.{Status}
 use Rattle.word_core.specs.declared.refusal.Refusal.TheVariants.{BadNumber, WrongState, NotLoose, Short}
 use Rattle.word_core.proofs.CheckLemmas.{none-holds}
 use Rattle.sheet_core.proofs.Conditions.{not_false, or_none}
-use Rattle.sheet_core.proofs.RowLemmas.{right-new, right-none, right-number}
+use Rattle.sheet_core.proofs.RowLemmas.{right-none, right-number}
 use Rattle.bom_core.specs.Bills.{Bills}
-use Rattle.forest.specs.declared.entry.Kind.TheVariants as kind
 use Rattle.forest.specs.declared.item.Item.{Item}
 use Rattle.forest.specs.declared.place.Place.{Place}
 use Rattle.forest.specs.declared.place.Place.TheVariants.{At, In, Output, Sent, Used, Off, Gone}
-use Rattle.forest.specs.declared.place.Reason.TheVariants.{Counted, Disassembled, Removed}
+use Rattle.forest.specs.declared.place.Reason.TheVariants.{Counted, Removed}
 use Rattle.forest.specs.Forest.{is_at, is_off}
-use Rattle.forest.specs.Rows.{parent_in}
 use Rattle.alloc_core.specs.declared.allocation.Allocation.{Allocation}
-use Rattle.yard_core.specs.StockBooks.{StockBooks, with_stock}
+use Rattle.yard_core.specs.StockBooks.{StockBooks}
 use Rattle.yard_core.specs.Outputs.{LeavesOutputs, is_output}
-use Rattle.yard_core.specs.Stock.{IsSound, Stock, children_of, graft}
-use Rattle.yard_core.specs.Stock.{grow, item_at, lift, mark, pour, prune, shrink}
-use Rattle.yard_core.proofs.Grafting.{pruned}
-use Rattle.yard_core.proofs.Items.{own_number}
+use Rattle.yard_core.specs.Stock.{IsSound, Stock, graft}
+use Rattle.yard_core.specs.Stock.{grow, item_at, lift, mark, shrink}
 use Rattle.yard_core.proofs.Quiet.{leaves-more, leaves-none}
 use Rattle.yard_core.proofs.QuietMoves.{at-quiet, leaves-cut, leaves-graft, leaves-grow}
-use Rattle.yard_core.proofs.QuietMoves.{leaves-lift, leaves-make, leaves-mark, leaves-pour}
-use Rattle.yard_core.proofs.QuietMoves.{leaves-prune, leaves-shrink, left-quiet, own-right}
+use Rattle.yard_core.proofs.QuietMoves.{leaves-lift, leaves-mark}
+use Rattle.yard_core.proofs.QuietMoves.{leaves-shrink, own-right}
 use Rattle.stock_core.specs.Add.{add_checks}
 use Rattle.stock_core.specs.ItemTests.{has_less, has_more, is_loose}
 use Rattle.stock_core.specs.ItemTests.{is_serialised, quantity_at}
 use Rattle.stock_core.specs.Count.{count_checks, counted}
-use Rattle.stock_core.specs.Disassemble.{CanPruneEach, disassemble, disassemble_checks, prune_each}
 use Rattle.stock_core.specs.Install.{install, install_checks, put_in}
-use Rattle.stock_core.specs.Merge.{pour_each}
 use Rattle.stock_core.specs.Reinstate.{reinstate, reinstate_checks}
 use Rattle.stock_core.specs.Remove.{remove_checks, removed}
-use Rattle.stock_core.specs.Serialise.{serialise_checks}
 use Rattle.stock_core.specs.SetStatus.{set_status_checks}
 use Rattle.stock_core.specs.Sound.{IsSoundStock, Owners}
 use Rattle.stock_core.specs.Split.{split_checks}
 use Rattle.stock_core.specs.StockMachine.{checks, effect}
-use Rattle.stock_core.specs.Steps.{cut_each, cut_off, make_each, make_new, make_one, new_item, take}
+use Rattle.stock_core.specs.Steps.{cut_off, take}
 use Rattle.stock_core.specs.Transfer.{carried, transfer, transfer_checks}
-use Rattle.stock_core.specs.declared.arrivals.Arrival.{Arrival}
-use Rattle.stock_core.specs.declared.arrivals.NewStock.{NewStock}
 use Rattle.stock_core.specs.declared.stock_command.StockCommand.{StockCommand}
 use Rattle.stock_core.specs.declared.stock_command.StockCommand.TheVariants.{Found, Add, Remove, Count, Transfer, Split}
 use Rattle.stock_core.specs.declared.stock_command.StockCommand.TheVariants.{Merge, Serialise, SetStatus, Install}
 use Rattle.stock_core.specs.declared.stock_command.StockCommand.TheVariants.{Uninstall, Disassemble, Reinstate}
-use Rattle.stock_core.proofs.AllocationsLast.{cut-right, cut-smaller}
 use Rattle.stock_core.proofs.Checked.{good-quantity}
-use Rattle.stock_core.proofs.FoundSound.{with_serials}
-use Rattle.stock_core.proofs.Plain.{item-at, item_of}
-use Rattle.stock_core.proofs.Pours.{ArePourable, can-pour, pour-rest, pourable-checked}
-use Rattle.stock_core.proofs.Prunes.{back-checked, prune-checked, prune-inside}
-use Rattle.stock_core.proofs.Steps.{leads-pour}
-use Rattle.stock_core.proofs.Taking.{IsTaken, taken, there-loose}
+use Rattle.stock_core.proofs.DisassembleSound.{leaves-pruned, stage-disassemble}
+use Rattle.stock_core.proofs.FoundSound.{stage-found}
+use Rattle.stock_core.proofs.MergeSound.{stage-merge}
+use Rattle.stock_core.proofs.Prunes.{back-checked, prune-checked}
+use Rattle.stock_core.proofs.SerialiseSound.{cut-serialise}
+use Rattle.stock_core.proofs.Taking.{IsTaken, taken, there-loose, under-loose, under-own}
 use Rattle.stock_core.proofs.Upright.{Upright, upright-of}
 
--- what lies in an item is no output, nor is what is off the books
-inside-quiet : (q : Place) → IsSome (parent_in q) → is_output q ≡ false
-inside-quiet (At l) e = refl
-inside-quiet (In l) e = refl
-inside-quiet (Output l) e = cc
-inside-quiet (Sent l) e = refl
-inside-quiet (Used l) e = refl
-inside-quiet (Off l) e = refl
-inside-quiet Gone e = refl
-
+-- what is off the books is no output
 off-quiet : (q : Place) → is_off q ≡ true → is_output q ≡ false
 off-quiet (At l) e = refl
 off-quiet (In l) e = refl
@@ -83,46 +64,6 @@ off-quiet (Sent l) e = refl
 off-quiet (Used l) e = refl
 off-quiet (Off l) e = refl
 off-quiet Gone e = refl
-
--- a loose item stands under its own number
-under-loose : (n : ℕ) (s : Stock) → IsSound s → is_at (item_at n s).place ≡ true
-    → table.get s.items ((item_at n s).number ∷ []) ≡ Some (item_at n s)
-under-loose n s sound loose =
-    let there = there-loose n s loose in
-    ap (λ k. table.get s.items (k ∷ [])) (own_number s.items n (item_at n s) sound.items there) ∙ there
-
--- ---- new items
-
-module _ (a : Arrival) (out : is_output a.place ≡ false) (batch : Option (List ℕ)) (day : CivilDay) where
-  leaves-make_one : (q : ℕ) (serial : Option (List ℕ)) (b : StockBooks)
-      → StandRight (λ i. i.number) b.counter.next b.stock.items
-      → LeavesOutputs b.stock.items (make_one a q batch serial day b).stock.items
-  leaves-make_one q serial b rows =
-      leaves-make b.stock (own-right b.counter.next b.stock.items rows) day a.kind
-      (new_item b.counter.next a q batch serial) out
-      (right-none (λ (i : Item). i.number) b.counter.next b.counter.next b.stock.items rows (omega arith))
-
-  leaves-make_each : (xs : List (List ℕ)) (b : StockBooks) → 1 ≤ b.counter.next
-      → StandRight (λ i. i.number) b.counter.next b.stock.items
-      → LeavesOutputs b.stock.items (make_each a batch xs day b).stock.items
-  leaves-make_each [] b some rows = leaves-none b.stock.items
-  leaves-make_each (x ∷ xs) b some rows =
-      let after = make_one a 1 batch (Some x) day b in
-      leaves-more b.stock.items after.stock.items (make_each a batch xs day after).stock.items
-      (leaves-make_one 1 (Some x) b rows)
-      (leaves-make_each xs after (omega arith)
-      (right-new (λ (i : Item). i.number) b.counter.next (new_item b.counter.next a 1 batch (Some x)) b.stock.items
-      refl some rows))
-
-pub leaves-make_new : (a : Arrival) (new : NewStock) (day : CivilDay) (b : StockBooks) → is_output a.place ≡ false
-    → 1 ≤ b.counter.next → StandRight (λ i. i.number) b.counter.next b.stock.items
-    → LeavesOutputs b.stock.items (make_new a new day b).stock.items
-leaves-make_new a new day b out some rows = by_serials new.serials
-  where
-    by_serials : (o : Option (List (List ℕ)))
-        → LeavesOutputs b.stock.items (make_new a (with_serials o new) day b).stock.items
-    by_serials None = leaves-make_one a out new.batch day new.quantity None b rows
-    by_serials (Some xs) = leaves-make_each a out new.batch day xs b some rows
 
 -- ---- pieces
 
@@ -136,22 +77,6 @@ leaves-cut_off n q serial day b rows there out =
     let under = ap (λ k. table.get b.stock.items (k ∷ [])) own ∙ there in
     leaves-cut b.stock (own-right b.counter.next b.stock.items rows) day n under out q b.counter.next serial
     (right-none (λ (i : Item). i.number) b.counter.next b.counter.next b.stock.items rows (omega arith))
-
-leaves-cut_each : (n : ℕ) (xs : List (List ℕ)) (day : CivilDay) (b : StockBooks)
-    → StandRight (λ i. i.number) b.counter.next b.stock.items → 1 ≤ b.counter.next
-    → table.get b.stock.items (n ∷ []) ≡ Some (item_at n b.stock) → is_output (item_at n b.stock).place ≡ false
-    → LeavesOutputs b.stock.items (cut_each n xs day b).stock.items
-leaves-cut_each n [] day b rows some there out = leaves-none b.stock.items
-leaves-cut_each n (x ∷ xs) day b rows some there out =
-    let after = cut_off n 1 (Some x) day b in
-    let row = cut-smaller n 1 (Some x) day b rows some there in
-    let still =
-    ap (λ o. is_output (item_of o).place) row
-    ∙ left-quiet ((item_at n b.stock).quantity - 1) (item_at n b.stock).place out in
-    leaves-more b.stock.items after.stock.items (cut_each n xs day after).stock.items
-    (leaves-cut_off n 1 (Some x) day b rows there out)
-    (leaves-cut_each n xs day after (cut-right n 1 (Some x) day b rows some there) (omega arith)
-    (item-at n _ after.stock row) still)
 
 -- an amount is taken of a loose item
 pub leaves-take : (n q : ℕ) (day : CivilDay) (b : StockBooks) → StandRight (λ i. i.number) b.counter.next b.stock.items
@@ -206,39 +131,6 @@ module _ (n : ℕ) (s : Stock) (sound : IsSound s) (day : CivilDay) (loose : is_
       go false false true = leaves-grown (q - quantity_at s n)
       go false false false = leaves-shrink s sound.items.own day n under out Counted (quantity_at s n - q)
 
--- ---- items go into others, or come out, one after another
-
-leaves-pour_each : (owners : Owners) (parts : Parts) (into : ℕ) (ns : List ℕ) (day : CivilDay) (b : StockBooks)
-    → Upright owners parts b → ArePourable into ns b.stock
-    → LeavesOutputs b.stock.items (pour_each ns into day b.stock).items
-leaves-pour_each owners parts into [] day b up h = leaves-none b.stock.items
-leaves-pour_each owners parts into (n ∷ ns) day b up h =
-    let s = b.stock in
-    let can = can-pour into n ns day s up.stock h in
-    let after = with_stock (pour n into day s) b in
-    let one =
-    leaves-pour s up.stock.items.own day n into (under-loose n s up.stock can.from_loose)
-    (at-quiet (item_at n s).place can.from_loose)
-    (under-loose into s up.stock can.into_loose) (at-quiet (item_at into s).place can.into_loose) in
-    leaves-more s.items after.stock.items (pour_each ns into day after.stock).items one
-    (leaves-pour_each owners parts into ns day after (leads-pour owners parts b up n into day can).upright
-    (pour-rest into n ns day s up.stock h))
-
-leaves-pruned : (n l : ℕ) (day : CivilDay) (s : Stock) → IsSound s → table.get s.items (n ∷ []) ≡ Some (item_at n s)
-    → is_output (item_at n s).place ≡ false → LeavesOutputs s.items (prune n l day s).items
-leaves-pruned n l day s sound there out =
-    let under = ap (λ k. table.get s.items (k ∷ [])) (own_number s.items n (item_at n s) sound.items there) ∙ there in
-    leaves-prune s sound.items.own day n under out l
-
-leaves-prune_each : (ns : List ℕ) (l : ℕ) (day : CivilDay) (s : Stock) → IsSound s → CanPruneEach ns l day s
-    → LeavesOutputs s.items (prune_each ns l day s).items
-leaves-prune_each [] l day s sound can = leaves-none s.items
-leaves-prune_each (n ∷ ns) l day s sound can =
-    let after = prune n l day s in
-    leaves-more s.items after.items (prune_each ns l day after).items
-    (leaves-pruned n l day s sound can.0.there (inside-quiet (item_at n s).place can.0.inside))
-    (leaves-prune_each ns l day after (pruned n l s sound can.0 day).0 can.1)
-
 -- ---- commands
 
 module _ (owners : Owners) (day : CivilDay) (parts : Parts) (bills : Bills) (t : Table Allocation) (b : StockBooks)
@@ -282,32 +174,17 @@ module _ (owners : Owners) (day : CivilDay) (parts : Parts) (bills : Bills) (t :
       let loose = not_false (is_loose n s) (or_none (not (is_loose n s)) _ (passed NotLoose)).0 in
       leaves-put_in n q loose (good-quantity q (passed BadNumber)).0 (ltb-false (item_at n s).quantity q (passed Short)) m
 
-  leaves-disassemble : (n l : ℕ) → first (disassemble_checks n l day t b) ≡ None
-      → LeavesOutputs s.items (disassemble n l day b).stock.items
-  leaves-disassemble n l e =
-      let passed = none-holds (disassemble_checks n l day t b) e in
-      let inside = children_of n s in
-      let emptied = prune_each inside l day s in
-      let out = prune-inside n l day b sound.items.stock (not_false (is_loose n s) (passed NotLoose)) in
-      leaves-more s.items emptied.items (disassemble n l day b).stock.items
-      (leaves-prune_each inside l day s sound.items.stock out.0)
-      (leaves-lifted n emptied out.1.sound day out.1.loose (Off Disassembled) refl)
-
   leaves-reinstate : (n l : ℕ) → first (reinstate_checks n l day b) ≡ None
       → LeavesOutputs s.items (reinstate n l day b).stock.items
   leaves-reinstate n l e =
       let passed = none-holds (reinstate_checks n l day b) e in
-      let there = (back-checked n l day b e).there in
-      let under =
-      ap (λ k. table.get s.items (k ∷ [])) (own_number s.items n (item_at n s) sound.items.stock.items there) ∙ there in
+      let under = under-own n s sound.items.stock (back-checked n l day b e).there in
       leaves-lift s sound.items.stock.items.own day n under
       (off-quiet (item_at n s).place (not_false (is_off (item_at n s).place) (passed WrongState))) (At l) refl
 
   pub outputs-stay : (c : StockCommand) → first (checks c day parts bills t b) ≡ None
       → LeavesOutputs s.items (effect c day b).stock.items
-  outputs-stay (Found part l new) e =
-      leaves-make_new (record { kind = kind.Found; place = At l; part = part }) new day b refl
-      sound.items.locations.some sound.items.rows
+  outputs-stay (Found part l new) e = (stage-found owners part l new day parts b sound e).leaves
   outputs-stay (Add n q) e =
       leaves-grown n s sound.items.stock day (not_false (is_loose n s) (none-holds (add_checks n q day b) e NotLoose)) q
   outputs-stay (Remove n q) e =
@@ -320,17 +197,12 @@ module _ (owners : Owners) (day : CivilDay) (parts : Parts) (bills : Bills) (t :
   outputs-stay (Split n q) e =
       let loose = not_false (is_loose n s) (none-holds (split_checks n q day t b) e NotLoose) in
       leaves-cut_off n q None day b sound.items.rows (there-loose n s loose) (at-quiet (item_at n s).place loose)
-  outputs-stay (Merge into ns) e = leaves-pour_each owners parts into ns day b up (pourable-checked into ns day t b e)
-  outputs-stay (Serialise n q xs) e =
-      let loose = not_false (is_loose n s) (none-holds (serialise_checks n q xs day parts t b) e NotLoose) in
-      leaves-cut_each n xs day b sound.items.rows sound.items.locations.some (there-loose n s loose)
-      (at-quiet (item_at n s).place loose)
+  outputs-stay (Merge into ns) e = (stage-merge owners into ns day parts t b sound e).leaves
+  outputs-stay (Serialise n q xs) e = (cut-serialise owners n q xs day parts t b sound e).stage.leaves
   outputs-stay (SetStatus n status) e =
       leaves-marked n s sound.items.stock day
       (not_false (is_loose n s) (none-holds (set_status_checks n status day t b) e NotLoose)) status
   outputs-stay (Install n m q) e = leaves-install n m q e
-  outputs-stay (Uninstall n l) e =
-      let can = prune-checked n l day b e in
-      leaves-pruned n l day s sound.items.stock can.there (inside-quiet (item_at n s).place can.inside)
-  outputs-stay (Disassemble n l) e = leaves-disassemble n l e
+  outputs-stay (Uninstall n l) e = leaves-pruned n l day s sound.items.stock (prune-checked n l day b e)
+  outputs-stay (Disassemble n l) e = (stage-disassemble owners n l day parts t b sound e).leaves
   outputs-stay (Reinstate n l) e = leaves-reinstate n l e

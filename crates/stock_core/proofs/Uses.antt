@@ -80,6 +80,12 @@ full-used n e old new u =
 pub uses-as : (m n e f : ℕ) (a b : StockBooks) → m ≡ n → e ≡ f → Uses m e a b → Uses n f a b
 uses-as m n e f a b same alike u = subst (λ k. Uses k f a b) same (subst (λ k. Uses m k a b) alike u)
 
+-- one after the other, together counted otherwise
+pub uses-then : {m e n f k g : ℕ} {a b c : StockBooks} → Uses m e a b → Uses n f b c → k ≡ m + n → g ≡ e + f
+    → Uses k g a c
+uses-then {m = m} {e = e} {n = n} {f = f} {k = k} {g = g} {a = a} {b = b} {c = c} u v same alike =
+    uses-as (m + n) k (e + f) g a c (sym same) (sym alike) (uses-both m e n f a b c u v)
+
 pub uses-change : (c : Change) (day : CivilDay) (b : StockBooks) → IsHistory b.stock.history
     → Uses 0 (length c.notes) b (with_stock (by_change c day b.stock) b)
 uses-change c day b h = uses-moved (map row_of (c.roots ++ c.leaves)) c.notes day b h
@@ -99,10 +105,7 @@ uses-cut_each n [] day b h = uses-nothing b h
 uses-cut_each n (x ∷ xs) day b h =
     let one = uses-cut_off n 1 (Some x) day b h in
     let rest = uses-cut_each n xs day (cut_off n 1 (Some x) day b) one.history in
-    uses-as (1 + length xs) (length (x ∷ xs)) (1 + length xs) (length (x ∷ xs)) b
-    (cut_each n xs day (cut_off n 1 (Some x) day b)) (omega arith) (omega arith)
-    (uses-both 1 1 (length xs) (length xs) b (cut_off n 1 (Some x) day b)
-    (cut_each n xs day (cut_off n 1 (Some x) day b)) one rest)
+    uses-then one rest (omega arith) (omega arith)
 
 pub uses-make_one : (a : Arrival) (quantity : ℕ) (batch serial : Option (List ℕ)) (day : CivilDay) (b : StockBooks)
     → is_at a.place ≡ true → IsHistory b.stock.history
@@ -118,12 +121,9 @@ pub uses-make_each : (a : Arrival) (batch : Option (List ℕ)) (serials : List (
     → Uses (length serials) (length serials) b (make_each a batch serials day b)
 uses-make_each a batch [] day b loose h = uses-nothing b h
 uses-make_each a batch (x ∷ xs) day b loose h =
-    let next = make_one a 1 batch (Some x) day b in
     let one = uses-make_one a 1 batch (Some x) day b loose h in
-    let rest = uses-make_each a batch xs day next loose one.history in
-    uses-as (1 + length xs) (length (x ∷ xs)) (1 + length xs) (length (x ∷ xs)) b (make_each a batch xs day next)
-    (omega arith) (omega arith)
-    (uses-both 1 1 (length xs) (length xs) b next (make_each a batch xs day next) one rest)
+    let rest = uses-make_each a batch xs day (make_one a 1 batch (Some x) day b) loose one.history in
+    uses-then one rest (omega arith) (omega arith)
 
 pub uses-make_new : (a : Arrival) (new : NewStock) (day : CivilDay) (b : StockBooks) → is_at a.place ≡ true
     → IsHistory b.stock.history
@@ -141,10 +141,7 @@ uses-pour_each [] into day b h = uses-nothing b h
 uses-pour_each (n ∷ ns) into day b h =
     let next = with_stock (pour n into day b.stock) b in
     let one = uses-change (pour_change (tree_of n b.stock) (tree_of into b.stock)) day b h in
-    let rest = uses-pour_each ns into day next one.history in
-    uses-as 0 0 (1 + length ns) (length (n ∷ ns)) b (with_stock (pour_each ns into day next.stock) next) refl
-    (omega arith)
-    (uses-both 0 1 0 (length ns) b next (with_stock (pour_each ns into day next.stock) next) one rest)
+    uses-then one (uses-pour_each ns into day next one.history) refl (omega arith)
 
 -- ---- entries of lifts of loose items
 
