@@ -1,5 +1,5 @@
 -- What new outputs use: a number each, and no entry.
-use Rattle.std.proofs.Common.{ℕ, ◌+◌, List, [], ◌∷◌, length, Option, Some, None, refl, arith}
+use Rattle.std.proofs.Common.{ℕ, List, [], ◌∷◌, length, Option, Some, None, refl, arith}
 use Rattle.word_core.specs.Day.{CivilDay}
 use Rattle.forest.specs.declared.entry.Kind.TheVariants as kind
 use Rattle.forest.specs.declared.place.Place.TheVariants.{Output}
@@ -11,7 +11,7 @@ use Rattle.stock_core.specs.Arrives.{count_of}
 use Rattle.stock_core.specs.Steps.{make_each, make_new, make_one, new_item}
 use Rattle.stock_core.specs.declared.arrivals.NewStock.{NewStock}
 use Rattle.build_core.specs.NewOutputs.{begun_at}
-use Rattle.stock_core.proofs.Uses.{Uses, uses-as, uses-both, uses-change_drawn, uses-nothing}
+use Rattle.stock_core.proofs.Uses.{Uses, uses-change_drawn, uses-nothing, uses-then}
 
 module _ (build part : ℕ) where
   uses-one : (quantity : ℕ) (batch serial : Option (List ℕ)) (day : CivilDay) (b : StockBooks)
@@ -25,12 +25,9 @@ module _ (build part : ℕ) where
       → Uses (length serials) 0 b (make_each (begun_at build part) batch serials day b)
   uses-each batch [] day b h = uses-nothing b h
   uses-each batch (x ∷ xs) day b h =
-      let next = make_one (begun_at build part) 1 batch (Some x) day b in
       let one = uses-one 1 batch (Some x) day b h in
-      let rest = uses-each batch xs day next one.history in
-      uses-as (1 + length xs) (length (x ∷ xs)) (0 + 0) 0 b (make_each (begun_at build part) batch xs day next)
-      (omega arith) refl
-      (uses-both 1 0 (length xs) 0 b next (make_each (begun_at build part) batch xs day next) one rest)
+      let rest = uses-each batch xs day (make_one (begun_at build part) 1 batch (Some x) day b) one.history in
+      uses-then one rest (omega arith) refl
 
   pub uses-begun : (new : NewStock) (day : CivilDay) (b : StockBooks) → IsHistory b.stock.history
       → Uses (count_of new.serials) 0 b (make_new (begun_at build part) new day b)
