@@ -11,7 +11,7 @@ use Rattle.std.proofs.lemmas.List.Elements.{filter-append}
 use Rattle.std.proofs.lemmas.List.Sorted.{IsPermutation-map}
 use Rattle.std.proofs.Common.{get_or}
 use Rattle.sheet_core.specs.declared.slots.Held.{Held}
-use Rattle.sheet_core.specs.declared.slots.Found.{Found}
+use Rattle.sheet_core.specs.declared.slots.KeyedRow.{KeyedRow}
 use Rattle.sheet_core.specs.Sheet.{key_cmp, IsDistinct, table_of}
 use Rattle.sheet_core.specs.Slots.{with_row, rows_by, now_row, row_found}
 use Rattle.sheet_core.proofs.Ordered.{NoneFalls}
@@ -99,12 +99,12 @@ module _ {X : Type 0} where
       ∙ ap (λ rs. passing p (rows_by now_row (take i es)) ++ rs) (passing-with_row p k (now_row h))
 
 module _ {K X : Type 0} (digits : K → List ℕ) where
-  rows-found : (xs : List (Found K X))
-      → map (λ (f : Found K X). f.row.now) xs ≡ map (λ (e : List ℕ × X). e.1) (map (row_found digits) xs)
+  rows-found : (xs : List (KeyedRow K X))
+      → map (λ (f : KeyedRow K X). f.row.now) xs ≡ map (λ (e : List ℕ × X). e.1) (map (row_found digits) xs)
   rows-found [] = refl
   rows-found (x ∷ xs) = ap (λ l. x.row.now ∷ l) (rows-found xs)
 
-  NoneFalls-found : (xs : List (Found K X)) → IsSortedByKey (λ (f : Found K X). digits f.key.now) key_cmp xs
+  NoneFalls-found : (xs : List (KeyedRow K X)) → IsSortedByKey (λ (f : KeyedRow K X). digits f.key.now) key_cmp xs
       → NoneFalls (map (row_found digits) xs)
   NoneFalls-found [] up = tt
   NoneFalls-found (x ∷ []) up = tt
@@ -117,10 +117,10 @@ module _ {K X : Type 0} (digits : K → List ℕ) where
   )
 
   -- the rows of all that pass, once they are sorted
-  pub selected-all : (p : X → Bool) (found sorted : List (Found K X)) (rs : List (List ℕ × X)) → IsDistinct rs
+  pub selected-all : (p : X → Bool) (found sorted : List (KeyedRow K X)) (rs : List (List ℕ × X)) → IsDistinct rs
       → map (row_found digits) found ≡ passing p rs
-      → IsPermutation found sorted → IsSortedByKey (λ (f : Found K X). digits f.key.now) key_cmp sorted
-      → map (λ (f : Found K X). f.row.now) sorted ≡ filter p (table.values (table_of rs))
+      → IsPermutation found sorted → IsSortedByKey (λ (f : KeyedRow K X). digits f.key.now) key_cmp sorted
+      → map (λ (f : KeyedRow K X). f.row.now) sorted ≡ filter p (table.values (table_of rs))
   selected-all p found sorted rs d h moved up =
       let moved_too =
       subst (λ l. IsPermutation l (map (row_found digits) sorted)) h

@@ -5,7 +5,7 @@ use Rattle.std.specs.FinMap as table
 use Rattle.sheet_core.specs.Sheet.{IsDistinct, Table, table_of}
 use Rattle.sheet_core.specs.declared.slots.Held.{Held}
 use Rattle.sheet_core.specs.declared.slots.Held.TheVariants.{Settled, Added, Rewritten, Removed, Gone}
-use Rattle.sheet_core.specs.declared.slots.Found.{Found}
+use Rattle.sheet_core.specs.declared.slots.KeyedRow.{KeyedRow}
 
 module _ {K X : Type 0} (digits : K → List ℕ) where
   abbrev pub entry_of : K × Held X → List ℕ × Held X
@@ -16,7 +16,7 @@ module _ {K X : Type 0} (digits : K → List ℕ) where
   slots_of es = map entry_of es
 
   -- a row that was found, under its key
-  abbrev pub row_found : Found K X → List ℕ × X
+  abbrev pub row_found : KeyedRow K X → List ℕ × X
   row_found f = (digits f.key.now, f.row.now)
 
 -- a row or none under a key, before other rows

@@ -35,7 +35,7 @@ pub(crate) enum Held<R> {
 
 // A row that was found, and the key that it stands under.
 #[derive(Drop)]
-pub(crate) struct Found<'a, K, R> {
+pub(crate) struct KeyedRow<'a, K, R> {
     pub(crate) key: &'a K,
     pub(crate) row: &'a R,
 }
@@ -389,7 +389,7 @@ pub(crate) fn find_rows<'a, R: Row, F: Fn(&R) -> bool>(
     alloc: Global,
     slots: &'a IndexMap<R::Key, Held<R>, Seed>,
     test: F,
-) -> Result<Vec<Found<'a, R::Key, R>>, AllocError>
+) -> Result<Vec<KeyedRow<'a, R::Key, R>>, AllocError>
     requires { F.IsAlwaysCallable test }
     ensures { IfOk result (λ found. (p : R → Bool) → IsTest F.Fn test p
         → map (row_found R.Key.digits) found.items
@@ -402,7 +402,7 @@ pub(crate) fn find_rows<'a, R: Row, F: Fn(&R) -> bool>(
         };
         if let Some(row) = held.row() {
             if test(row) {
-                found.push(Found { key, row })?;
+                found.push(KeyedRow { key, row })?;
             }
         }
     }
@@ -410,7 +410,7 @@ pub(crate) fn find_rows<'a, R: Row, F: Fn(&R) -> bool>(
 }
 
 // Sorts by key.
-pub(crate) fn sort_found<'a, R: Row>(found: &mut Vec<Found<'a, R::Key, R>>)
+pub(crate) fn sort_found<'a, R: Row>(found: &mut Vec<KeyedRow<'a, R::Key, R>>)
     ensures permutation { IsPermutation found.old.items found.new.items }
     ensures sorted { IsSortedByKey (λ f. R.Key.digits f.key.now) key_cmp found.new.items }
 {
@@ -420,7 +420,7 @@ pub(crate) fn sort_found<'a, R: Row>(found: &mut Vec<Found<'a, R::Key, R>>)
 // The rows of these.
 pub(crate) fn rows_of<'a, R: Row>(
     alloc: Global,
-    found: &[Found<'a, R::Key, R>],
+    found: &[KeyedRow<'a, R::Key, R>],
 ) -> Result<Vec<&'a R>, AllocError>
     ensures { IfOk result (λ rows. map (λ r. r.now) rows.items ≡ map (λ f. f.row.now) found.now) }
 {

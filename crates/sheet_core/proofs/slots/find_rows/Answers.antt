@@ -1,6 +1,6 @@
 use Rattle.std.proofs.Common.{◌≡◌, ◌++◌, ◌∷◌, [], cond, map, take, option_copied, refl, sym, ap, ◌∙◌, arith, Vec, Global}
 use Rattle.std.proofs.lemmas.List.{take_all, map-append, append-nil}
-use Rattle.sheet_core.specs.declared.slots.Found.{Found}
+use Rattle.sheet_core.specs.declared.slots.KeyedRow.{KeyedRow}
 use Rattle.sheet_core.specs.Slots.{now_row, row_found, rows_by, slots_of}
 use Rattle.sheet_core.proofs.Scans.{one_passing, passing-more}
 use Rattle.sheet_core.proofs.Selects.{passing}
@@ -30,7 +30,7 @@ loop-i-preserved g c = record {
             let one =
             ap (one_passing p k) (sym c.row.ensures ∙ ap option_copied w.in-Some-row.is)
             ∙ ap (λ b. cond b ((k, w.in-Some-row.row.now) ∷ []) []) (sym answer ∙ w.if-test.true) in
-            ap (λ (v : Vec (Found _ _) Global). map (row_found digits) v.items) w.found-is
+            ap (λ (v : Vec (KeyedRow _ _) Global). map (row_found digits) v.items) w.found-is
             ∙ ap (map (row_found digits)) w.in_ok-push.ensures.items
             ∙ map-append (row_found digits) c.loop-i.found.items _
             ∙ ap (λ l. l ++ (k, w.in-Some-row.row.now) ∷ []) before
@@ -42,12 +42,12 @@ loop-i-preserved g c = record {
             let none =
             ap (one_passing p k) (sym c.row.ensures ∙ ap option_copied w.in-Some-row.is)
             ∙ ap (λ b. cond b ((k, w.in-Some-row.row.now) ∷ []) []) (sym answer ∙ w.if-test.false) in
-            ap (λ (v : Vec (Found _ _) Global). map (row_found digits) v.items) w.found-is
+            ap (λ (v : Vec (KeyedRow _ _) Global). map (row_found digits) v.items) w.found-is
             ∙ before
             ∙ sym (more ∙ ap (λ l. so_far ++ l) none ∙ append-nil so_far)
         | in_default-row w ↦
             let none = ap (one_passing p k) (sym c.row.ensures ∙ ap option_copied w.in_default-row.is) in
-            ap (λ (v : Vec (Found _ _) Global). map (row_found digits) v.items) w.found-is
+            ap (λ (v : Vec (KeyedRow _ _) Global). map (row_found digits) v.items) w.found-is
             ∙ before
             ∙ sym (more ∙ ap (λ l. so_far ++ l) none ∙ append-nil so_far)
       ];
