@@ -15,7 +15,7 @@ use Rattle.sheet_core.specs.Slots.{with_row}
 use Rattle.sheet_core.proofs.Conditions.{and_both}
 use Rattle.sheet_core.proofs.Entries.{find_in}
 use Rattle.sheet_core.proofs.Keys.{key_eq, keys_total, keys_exact, key_eq-true}
-use Rattle.sheet_core.proofs.Scans.{of_rows}
+use Rattle.sheet_core.proofs.Scans.{any-left, any-met, of_rows, passes}
 use Rattle.sheet_core.proofs.Selects.{passing, values-passing, none-passing}
 use Rattle.sheet_core.proofs.Selects.{AreAbove, AreAbove-passing, Rises, Rises-from}
 
@@ -27,6 +27,37 @@ module _ {X : Type 0} (p : X → Bool) where
   pub filter-left : (k : List ℕ) (x : X) (rs : List (List ℕ × X)) → p x ≡ false
       → filter p (of_rows (with_row k (Some x) rs)) ≡ filter p (of_rows rs)
   filter-left k x rs fails = ap (λ b. cond b (x ∷ filter p (of_rows rs)) (filter p (of_rows rs))) fails
+
+  -- the rows at numbers, of which n is the first
+  module _ (t : Table X) (ns ms : List ℕ) (n : ℕ) (first : ns ≡ n ∷ ms) where
+    pub any-at_met : (x : X) → table.get t (n ∷ []) ≡ Some x → p x ≡ true
+        → list_any p (of_rows (rows_at t ns)) ≡ true
+    any-at_met x row met =
+        any-met p (rows_at t ns) (rows_at t ms) (n ∷ []) (table.get t (n ∷ [])) (ap (λ l. rows_at t l) first) x row met
+
+    pub any-at_left : (o : Option X) → table.get t (n ∷ []) ≡ o → passes p o ≡ false
+        → list_any p (of_rows (rows_at t ns)) ≡ list_any p (of_rows (rows_at t ms))
+    any-at_left o row fails =
+        any-left p (rows_at t ns) (rows_at t ms) (n ∷ []) (table.get t (n ∷ [])) (ap (λ l. rows_at t l) first)
+        (ap (passes p) row ∙ fails)
+
+    filter-at : (o : Option X) → table.get t (n ∷ []) ≡ o
+        → filter p (of_rows (rows_at t ns)) ≡ filter p (of_rows (with_row (n ∷ []) o (rows_at t ms)))
+    filter-at o row =
+        ap (λ l. filter p (of_rows (rows_at t l))) first
+        ∙ ap (λ r. filter p (of_rows (with_row (n ∷ []) r (rows_at t ms)))) row
+
+    pub filter-at_taken : (x : X) → table.get t (n ∷ []) ≡ Some x → p x ≡ true
+        → filter p (of_rows (rows_at t ns)) ≡ x ∷ filter p (of_rows (rows_at t ms))
+    filter-at_taken x row met = filter-at (Some x) row ∙ filter-taken (n ∷ []) x (rows_at t ms) met
+
+    pub filter-at_left : (x : X) → table.get t (n ∷ []) ≡ Some x → p x ≡ false
+        → filter p (of_rows (rows_at t ns)) ≡ filter p (of_rows (rows_at t ms))
+    filter-at_left x row fails = filter-at (Some x) row ∙ filter-left (n ∷ []) x (rows_at t ms) fails
+
+    pub filter-at_none : table.get t (n ∷ []) ≡ None
+        → filter p (of_rows (rows_at t ns)) ≡ filter p (of_rows (rows_at t ms))
+    filter-at_none none = filter-at None none
 
   -- a row or none, where it passes
   abbrev passed : Option X → Option X

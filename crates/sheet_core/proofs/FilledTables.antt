@@ -4,12 +4,20 @@ use Rattle.std.specs.Prelude.{◌↔◌}
 use Rattle.std.specs.FinMap as table
 use Rattle.sheet_core.specs.Filled.{filled, filled_onto, StandUnderKeys}
 use Rattle.sheet_core.specs.Rows.{EachRow}
-use Rattle.sheet_core.specs.Sheet.{Table, key_cmp}
+use Rattle.sheet_core.specs.Sheet.{Rows, Table, key_cmp, now_of}
 use Rattle.sheet_core.proofs.RowLemmas.{get-insert_cases}
 use Rattle.sheet_core.proofs.Standing.{Stands, each-value, get-Stands}
 
 module _ {X : Type 0} where
   module _ (key_of : X → List ℕ) where
+    -- a sheet so far, kept, which the rows that are left make the one of all these rows
+    abbrev pub IsFilling : Rows X → List X → List X → Type 0
+    IsFilling sheet left all =
+        record {
+          rows : filled_onto key_of (now_of sheet) left ≡ filled key_of all;
+          before : sheet.before ≡ now_of sheet;
+        }
+
     own-insert : (t : Table X) (x : X) → StandUnderKeys key_of t → StandUnderKeys key_of (table.insert t (key_of x) x)
     own-insert t x own k y e =
         elim (get-insert_cases t (key_of x) x k y e) [ inl i ↦ i.0 ∙ ap key_of i.1 | inr i ↦ own k y i ]

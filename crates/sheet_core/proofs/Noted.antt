@@ -12,7 +12,8 @@ use Rattle.std.proofs.lemmas.List.Sorted.{sum_by-IsPermutation}
 use Rattle.sheet_core.specs.declared.slots.Held.{Held}
 use Rattle.sheet_core.specs.declared.slots.Held.TheVariants.{Settled, Added, Rewritten, Removed, Gone}
 use Rattle.sheet_core.specs.Slots.{is_changed, noted, times, row_before, now_row, rows_by}
-use Rattle.sheet_core.specs.Slots.{with_row, noted_at, ArePlaces, NoneFrom, IsUnnoted}
+use Rattle.sheet_core.specs.Sheet.{IsDistinct}
+use Rattle.sheet_core.specs.Slots.{with_row, noted_at, ArePlaces, AreSlots, NoneFrom, IsUnnoted}
 
 -- two numbers are the same or not
 pub same_or_other : (a b : ℕ) → (a ≡ b) ⊎ (a ≢ b)
@@ -229,6 +230,30 @@ module _ {X : Type 0} where
           length_more : (xs : List ℕ) → length (xs ++ i ∷ []) ≡ length xs + 1
           length_more [] = refl
           length_more (x ∷ xs) = let r = length_more xs in omega arith
+
+  pub slots-sorted : {is js : List ℕ} {es : List (List ℕ × Held X)} → AreSlots es is → IsPermutation is js
+      → AreSlots es js
+  slots-sorted {is} {js} {es} s moved =
+      record { distinct = s.distinct; places = ArePlaces-sorted is js es s.places moved }
+
+  -- the last of the places is taken from the list
+  module _ {es : List (List ℕ × Held X)} {is : List ℕ} (left : List ℕ) (i : ℕ) (last : is ≡ left ++ i ∷ [])
+      (s : AreSlots es is) where
+    places-with_last : ArePlaces (left ++ i ∷ []) es
+    places-with_last = subst (λ l. ArePlaces l es) last s.places
+
+    pub popped-within : i < length es
+    popped-within = place-within left i es places-with_last
+
+    pub popped-slots : (fs : List (List ℕ × Held X)) → IsDistinct fs → IsUnnoted es fs i → AreSlots fs left
+    popped-slots fs d u = record { distinct = d; places = ArePlaces-pop left i es places-with_last fs u }
+
+    module _ (up : IsNonDecreasing is) where
+      pub popped-rest : IsNonDecreasing left
+      popped-rest = places-rest left i es places-with_last (subst IsNonDecreasing last up)
+
+      pub popped-last : NoneFrom (i + 1) es
+      popped-last = none-behind left i es places-with_last (subst IsNonDecreasing last up)
 
   pub before-settled : (h : Held X) → is_changed h ≡ false → row_before h ≡ now_row h
   before-settled (Settled x) settled = refl

@@ -1,10 +1,11 @@
 -- The rows of the slots from a place on, and up to it.
-use Rattle.std.proofs.Common.{◌≡◌, ℕ, suc, zero, Bool, false, cond, ◌||◌, ◌+◌, List, [], ◌∷◌, ◌++◌}
+use Rattle.std.proofs.Common.{◌≡◌, ℕ, suc, zero, Bool, true, false, cond, ◌||◌, ◌+◌, List, [], ◌∷◌, ◌++◌}
 use Rattle.std.proofs.Common.{map, take, drop, Option, Some, None, refl, sym, ap, ◌∙◌, subst, arith}
 use Rattle.std.specs.Prelude.{slice_get, filter, sum_by}
 use Rattle.std.specs.FinMap as table
 use Rattle.std.specs.List.{list_any}
 use Rattle.std.specs.List.Sorted.{IsPermutation, IsSortedByKey}
+use Rattle.std.specs.Map.{values_of}
 use Rattle.std.specs.Ordering.{is_lt}
 use Rattle.std.proofs.lemmas.List.Sums.{sum_by-cons}
 use Rattle.std.proofs.lemmas.List.Elements.{filter-append}
@@ -13,7 +14,8 @@ use Rattle.std.proofs.Common.{get_or}
 use Rattle.sheet_core.specs.declared.slots.Held.{Held}
 use Rattle.sheet_core.specs.declared.slots.KeyedRow.{KeyedRow}
 use Rattle.sheet_core.specs.Sheet.{key_cmp, IsDistinct, table_of}
-use Rattle.sheet_core.specs.Slots.{with_row, rows_by, now_row, row_found}
+use Rattle.sheet_core.specs.Slots.{with_row, rows_by, now_row, row_found, slots_of}
+use Rattle.sheet_core.proofs.Lookups.{slot_of_value}
 use Rattle.sheet_core.proofs.Ordered.{NoneFalls}
 use Rattle.sheet_core.proofs.Selects.{passing, sorted-passing, values-passing}
 
@@ -97,6 +99,46 @@ module _ {X : Type 0} where
       ap (passing p) (rows-take now_row es i (i + 1) k h at refl)
       ∙ filter-append (λ (e : List ℕ × X). p e.1) (rows_by now_row (take i es)) (with_row k (now_row h) [])
       ∙ ap (λ rs. passing p (rows_by now_row (take i es)) ++ rs) (passing-with_row p k (now_row h))
+
+-- a row or none under a key, before other rows: whether one passes
+module _ {X : Type 0} (p : X → Bool) (rs rest : List (List ℕ × X)) (k : List ℕ) (o : Option X)
+    (is : rs ≡ with_row k o rest) where
+  any-here : list_any p (of_rows rs) ≡ (passes p o || list_any p (of_rows rest))
+  any-here = ap (λ l. list_any p (of_rows l)) is ∙ any-with_row p k o rest
+
+  pub any-met : (x : X) → o ≡ Some x → p x ≡ true → list_any p (of_rows rs) ≡ true
+  any-met x row met = any-here ∙ ap (λ b. b || list_any p (of_rows rest)) (ap (passes p) row ∙ met)
+
+  pub any-left : passes p o ≡ false → list_any p (of_rows rs) ≡ list_any p (of_rows rest)
+  any-left fails = any-here ∙ ap (λ b. b || list_any p (of_rows rest)) fails
+
+-- the rows of the slots from the place of a value on
+module _ {K X : Type 0} (digits : K → List ℕ) (es : List (K × Held X)) (i : ℕ) (h : Held X)
+    (value : slice_get (values_of es) i ≡ Some h) where
+  abbrev left_from : ℕ → List (List ℕ × X)
+  left_from j = rows_by now_row (drop j (slots_of digits es))
+
+  rows-from : left_from i ≡ with_row (slot_of_value digits es i h value).0 (now_row h) (left_from (i + 1))
+  rows-from =
+      let s = slot_of_value digits es i h value in rows-drop now_row (slots_of digits es) i (i + 1) s.0 h s.1 refl
+
+  pub any-from_met : (p : X → Bool) (x : X) → now_row h ≡ Some x → p x ≡ true
+      → list_any p (of_rows (rows_by now_row (drop i (slots_of digits es)))) ≡ true
+  any-from_met p x row met =
+      any-met p (left_from i) (left_from (i + 1)) (slot_of_value digits es i h value).0 (now_row h) rows-from x row met
+
+  pub any-from_left : (p : X → Bool) → passes p (now_row h) ≡ false
+      → list_any p (of_rows (rows_by now_row (drop i (slots_of digits es))))
+      ≡ list_any p (of_rows (rows_by now_row (drop (i + 1) (slots_of digits es))))
+  any-from_left p fails =
+      any-left p (left_from i) (left_from (i + 1)) (slot_of_value digits es i h value).0 (now_row h) rows-from fails
+
+  pub sum-from : (f : X → ℕ)
+      → sum_by f (of_rows (rows_by now_row (drop i (slots_of digits es))))
+      ≡ measured f (now_row h) + sum_by f (of_rows (rows_by now_row (drop (i + 1) (slots_of digits es))))
+  sum-from f =
+      ap (λ rs. sum_by f (of_rows rs)) rows-from
+      ∙ sum-with_row f (slot_of_value digits es i h value).0 (now_row h) (left_from (i + 1))
 
 module _ {K X : Type 0} (digits : K → List ℕ) where
   rows-found : (xs : List (KeyedRow K X))

@@ -1,8 +1,6 @@
-use Rattle.std.proofs.Common.{◌≡◌, ◌+◌, drop, option_copied, refl, sym, ap, ◌∙◌, arith}
-use Rattle.std.specs.Prelude.{sum_by}
-use Rattle.sheet_core.specs.Slots.{now_row, rows_by, slots_of}
-use Rattle.sheet_core.proofs.Lookups.{slot_of_value}
-use Rattle.sheet_core.proofs.Scans.{measured, of_rows, rows-drop, sum-with_row}
+use Rattle.std.proofs.Common.{◌≡◌, option_copied, refl, sym, ap, ◌∙◌, arith}
+use Rattle.sheet_core.specs.Slots.{now_row}
+use Rattle.sheet_core.proofs.Scans.{measured, sum-from}
 use Rattle.sheet_core.proofs.slots.sum_rows.Goals.{in-Some, in_default}
 use Rattle.sheet_core.proofs.slots.sum_rows.Goals as goal
 
@@ -14,14 +12,9 @@ loop-i-preserved g c = record {
     | in_default w ↦ let is = w.total-is in omega arith
   ];
   left = λ f is.
-      let es = slots_of g.R.Key.RowKey.digits c.args.slots.now.entries in
-      let i = c.loop-i.i in
       let h = c.index.result.now in
-      let s = slot_of_value g.R.Key.RowKey.digits c.args.slots.now.entries i h c.index.ensures in
-      let rest = rows_by now_row (drop (i + 1) es) in
       let step =
-      ap (λ rs. sum_by f (of_rows rs)) (rows-drop now_row es i (i + 1) s.0 h s.1 refl)
-      ∙ sum-with_row f s.0 (now_row h) rest in
+      sum-from g.R.Key.RowKey.digits c.args.slots.now.entries c.loop-i.i h c.index.ensures f in
       let before = c.loop-i.invariant.left f is in
       elim c.match-row.branch [
         | in-Some w ↦

@@ -1,11 +1,11 @@
-use Rattle.std.proofs.Common.{◌≡◌, ◌||◌, ◌∷◌, [], true, false, refl, sym, ap, ◌∙◌}
-use Rattle.std.specs.FinMap as table
+use Rattle.std.proofs.Common.{◌≡◌, Some, None, refl, sym, ap, ◌∙◌}
 use Rattle.std.specs.List.{list_any}
 use Rattle.std.specs.Map.Iter.{deref}
 use Rattle.std.proofs.lemmas.Map.Iter.{rest_all}
 use Rattle.sheet_core.specs.Index.{numbers_of, rows_at}
 use Rattle.sheet_core.specs.Sheet.{now_of}
-use Rattle.sheet_core.proofs.Scans.{any-with_row, of_rows, passes}
+use Rattle.sheet_core.proofs.FiledRows.{any-at_left, any-at_met}
+use Rattle.sheet_core.proofs.Scans.{of_rows}
 use Rattle.sheet_core.proofs.index.Index.any_row.Goals as goal
 
 pub loop-filing-init : goal.loop-filing-init
@@ -18,49 +18,31 @@ loop-filing-init g c = record {
 
 pub returns-then-test-clause-any : goal.returns-then-test-clause-any
 returns-then-test-clause-any g c = λ p is.
-    let t = now_of c.args.sheet.now in
-    let n = c.in-Some.filing.now.number in
-    let rest = rows_at t (numbers_of c.next.new.self) in
-    let step =
-    ap (λ fs. list_any p (of_rows (rows_at t (numbers_of fs)))) c.in-Some.ensures.steps
-    ∙ any-with_row p (n ∷ []) (table.get t (n ∷ [])) rest in
-    let row = sym c.in-Some-get.ensures in
-    let answer : c.test.result ≡ p c.in-Some-get.row.now =
-    is c.in-Some-get.row.now c.test.result
-    (record { shown = _; shows = refl; says = record { met = c.test.ensures } }) in
-    let here : passes p (table.get t (n ∷ [])) ≡ true = ap (passes p) row ∙ sym answer ∙ c.if-test.true in
-    sym (sym (c.loop-filing.invariant.left p is) ∙ step ∙ ap (λ b. b || list_any p (of_rows rest)) here)
+    let x = c.in-Some-get.row.now in
+    let answer : c.test.result ≡ p x =
+    is x c.test.result (record { shown = _; shows = refl; says = record { met = c.test.ensures } }) in
+    sym (sym (c.loop-filing.invariant.left p is)
+    ∙ any-at_met p (now_of c.args.sheet.now) _ (numbers_of c.next.new.self) c.in-Some.filing.now.number
+    (ap (λ fs. numbers_of fs) c.in-Some.ensures.steps) x (sym c.in-Some-get.ensures) (sym answer ∙ c.if-test.true))
 
 pub loop-filing-preserved-else-test : goal.loop-filing-preserved-else-test
 loop-filing-preserved-else-test g c = record {
   callable = c.loop-filing.invariant.callable;
   left = λ p is.
-      let t = now_of c.args.sheet.now in
-      let n = c.in-Some.filing.now.number in
-      let rest = rows_at t (numbers_of c.next.new.self) in
-      let step =
-      ap (λ fs. list_any p (of_rows (rows_at t (numbers_of fs)))) c.in-Some.ensures.steps
-      ∙ any-with_row p (n ∷ []) (table.get t (n ∷ [])) rest in
-      let row = sym c.in-Some-get.ensures in
-      let answer : c.test.result ≡ p c.in-Some-get.row.now =
-      is c.in-Some-get.row.now c.test.result
-      (record { shown = _; shows = refl; says = record { met = c.test.ensures } }) in
-      let none : passes p (table.get t (n ∷ [])) ≡ false = ap (passes p) row ∙ sym answer ∙ c.if-test.false in
-      sym (step ∙ ap (λ b. b || list_any p (of_rows rest)) none) ∙ c.loop-filing.invariant.left p is;
+      let x = c.in-Some-get.row.now in
+      let answer : c.test.result ≡ p x =
+      is x c.test.result (record { shown = _; shows = refl; says = record { met = c.test.ensures } }) in
+      sym (any-at_left p (now_of c.args.sheet.now) _ (numbers_of c.next.new.self) c.in-Some.filing.now.number
+      (ap (λ fs. numbers_of fs) c.in-Some.ensures.steps) (Some x) (sym c.in-Some-get.ensures) (sym answer ∙ c.if-test.false))
+      ∙ c.loop-filing.invariant.left p is;
 }
 
 pub loop-filing-preserved : goal.loop-filing-preserved
 loop-filing-preserved g c = record {
   callable = c.loop-filing.invariant.callable;
   left = λ p is.
-      let t = now_of c.args.sheet.now in
-      let n = c.in-Some.filing.now.number in
-      let rest = rows_at t (numbers_of c.next.new.self) in
-      let step =
-      ap (λ fs. list_any p (of_rows (rows_at t (numbers_of fs)))) c.in-Some.ensures.steps
-      ∙ any-with_row p (n ∷ []) (table.get t (n ∷ [])) rest in
-      let row = sym c.in_default.ensures in
-      sym (step ∙ ap (λ o. passes p o || list_any p (of_rows rest)) row) ∙ c.loop-filing.invariant.left p is;
+      sym (any-at_left p (now_of c.args.sheet.now) _ (numbers_of c.next.new.self) c.in-Some.filing.now.number
+      (ap (λ fs. numbers_of fs) c.in-Some.ensures.steps) None (sym c.in_default.ensures) refl) ∙ c.loop-filing.invariant.left p is;
 }
 
 pub returns-clause-any : goal.returns-clause-any

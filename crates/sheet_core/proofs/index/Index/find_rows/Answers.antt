@@ -5,8 +5,7 @@ use Rattle.std.proofs.lemmas.List.{map-append}
 use Rattle.std.proofs.lemmas.Map.Iter.{rest_all}
 use Rattle.sheet_core.specs.Index.{numbers_of, rows_at}
 use Rattle.sheet_core.specs.Sheet.{now_of}
-use Rattle.sheet_core.specs.Slots.{with_row}
-use Rattle.sheet_core.proofs.FiledRows.{filter-left, filter-taken}
+use Rattle.sheet_core.proofs.FiledRows.{filter-at_left, filter-at_none, filter-at_taken}
 use Rattle.sheet_core.proofs.Scans.{of_rows}
 use Rattle.sheet_core.proofs.index.Index.find_rows.Goals as goal
 
@@ -25,23 +24,17 @@ pub loop-filed-preserved-in-Continue-1 : goal.loop-filed-preserved-in-Continue-1
 loop-filed-preserved-in-Continue-1 g c = record {
   callable = c.loop-filed.invariant.callable;
   found = λ p is.
-      let t = now_of c.args.sheet.now in
-      let n = c.in-Some.filed.now.number in
-      let rest = rows_at t (numbers_of c.next.new.self) in
-      let step = ap (λ fs. filter p (of_rows (rows_at t (numbers_of fs)))) c.in-Some.ensures.steps in
-      let row = sym c.in-Some-get.ensures in
       let x = c.in-Some-get.row.now in
       let answer : c.test.result ≡ p x =
       is x c.test.result (record { shown = _; shows = refl; says = record { met = c.test.ensures } }) in
       let old = map (λ r. r.now) c.loop-filed.found.items in
+      let rest = filter p (of_rows (rows_at (now_of c.args.sheet.now) (numbers_of c.next.new.self))) in
       let taken =
-      step
-      ∙ ap (λ o. filter p (of_rows (with_row (n ∷ []) o rest))) row
-      ∙ filter-taken p (n ∷ []) x rest (sym answer ∙ c.if-test.true) in
-      ap (λ found. map (λ r. r.now) found ++ filter p (of_rows rest)) c.in_ok-push.ensures.items
-      ∙ ap (λ found. found ++ filter p (of_rows rest))
-      (map-append (λ r. r.now) c.loop-filed.found.items (c.in-Some-get.row ∷ []))
-      ∙ append_assoc old (x ∷ []) (filter p (of_rows rest))
+      filter-at_taken p (now_of c.args.sheet.now) _ (numbers_of c.next.new.self) c.in-Some.filed.now.number
+      (ap (λ fs. numbers_of fs) c.in-Some.ensures.steps) x (sym c.in-Some-get.ensures) (sym answer ∙ c.if-test.true) in
+      ap (λ found. map (λ r. r.now) found ++ rest) c.in_ok-push.ensures.items
+      ∙ ap (λ found. found ++ rest) (map-append (λ r. r.now) c.loop-filed.found.items (c.in-Some-get.row ∷ []))
+      ∙ append_assoc old (x ∷ []) rest
       ∙ ap (λ l. old ++ l) (sym taken)
       ∙ c.loop-filed.invariant.found p is;
 }
@@ -50,33 +43,23 @@ pub loop-filed-preserved-else-test : goal.loop-filed-preserved-else-test
 loop-filed-preserved-else-test g c = record {
   callable = c.loop-filed.invariant.callable;
   found = λ p is.
-      let t = now_of c.args.sheet.now in
-      let n = c.in-Some.filed.now.number in
-      let rest = rows_at t (numbers_of c.next.new.self) in
-      let step = ap (λ fs. filter p (of_rows (rows_at t (numbers_of fs)))) c.in-Some.ensures.steps in
-      let row = sym c.in-Some-get.ensures in
       let x = c.in-Some-get.row.now in
       let answer : c.test.result ≡ p x =
       is x c.test.result (record { shown = _; shows = refl; says = record { met = c.test.ensures } }) in
-      let old = map (λ r. r.now) c.loop-filed.found.items in
       let left =
-      step
-      ∙ ap (λ o. filter p (of_rows (with_row (n ∷ []) o rest))) row
-      ∙ filter-left p (n ∷ []) x rest (sym answer ∙ c.if-test.false) in
-      ap (λ l. old ++ l) (sym left) ∙ c.loop-filed.invariant.found p is;
+      filter-at_left p (now_of c.args.sheet.now) _ (numbers_of c.next.new.self) c.in-Some.filed.now.number
+      (ap (λ fs. numbers_of fs) c.in-Some.ensures.steps) x (sym c.in-Some-get.ensures) (sym answer ∙ c.if-test.false) in
+      ap (λ l. map (λ r. r.now) c.loop-filed.found.items ++ l) (sym left) ∙ c.loop-filed.invariant.found p is;
 }
 
 pub loop-filed-preserved : goal.loop-filed-preserved
 loop-filed-preserved g c = record {
   callable = c.loop-filed.invariant.callable;
   found = λ p is.
-      let t = now_of c.args.sheet.now in
-      let n = c.in-Some.filed.now.number in
-      let rest = rows_at t (numbers_of c.next.new.self) in
-      let step = ap (λ fs. filter p (of_rows (rows_at t (numbers_of fs)))) c.in-Some.ensures.steps in
-      let none = sym c.in_default.ensures in
-      ap (λ l. map (λ r. r.now) c.loop-filed.found.items ++ l)
-      (sym (step ∙ ap (λ o. filter p (of_rows (with_row (n ∷ []) o rest))) none)) ∙ c.loop-filed.invariant.found p is;
+      let left =
+      filter-at_none p (now_of c.args.sheet.now) _ (numbers_of c.next.new.self) c.in-Some.filed.now.number
+      (ap (λ fs. numbers_of fs) c.in-Some.ensures.steps) (sym c.in_default.ensures) in
+      ap (λ l. map (λ r. r.now) c.loop-filed.found.items ++ l) (sym left) ∙ c.loop-filed.invariant.found p is;
 }
 
 pub returns-clause-found : goal.returns-clause-found

@@ -1,20 +1,15 @@
 use Rattle.std.proofs.Common.{◌+◌, is_some, refl, sym, ap, ◌∙◌, arith}
 use Rattle.std.specs.FinMap as table
 use Rattle.sheet_core.specs.Slots.{now_row, slots_of, table_by}
-use Rattle.sheet_core.proofs.SlotLemmas.{get-no_slot, len-put_new, len-put_same, len-table}
-use Rattle.sheet_core.proofs.Writes.{length-slots}
+use Rattle.sheet_core.proofs.SlotLemmas.{get-no_slot, len-put_new, len-put_same}
+use Rattle.sheet_core.proofs.Writes.{few-rows}
 use Rattle.sheet_core.proofs.sheet.Sheet.put.Goals as goal
 
 pub overflow_add-self : goal.overflow_add-self
 overflow_add-self g c =
-    let es = slots_of g.R.Key.RowKey.digits c.self.inside.slots.entries in
-    omega (
-      arith,
-      c.self.invariant.len,
-      len-table now_row es,
-      length-slots g.R.Key.RowKey.digits c.self.inside.slots.entries,
-      c.rewrite.ensures.few,
-    )
+    let few =
+    few-rows g.R.Key.RowKey.digits c.self.inside.slots.entries _ c.self.invariant.len c.rewrite.ensures.few in
+    omega arith
 
 pub invariant_of-self-then-not-had : goal.invariant_of-self-then-not-had
 invariant_of-self-then-not-had g c =
@@ -42,14 +37,9 @@ invariant_of-self-else-not-had g c =
 
 pub overflow_add-self-in-None : goal.overflow_add-self-in-None
 overflow_add-self-in-None g c =
-    let es = slots_of g.R.Key.RowKey.digits c.self.inside.slots.entries in
-    omega (
-      arith,
-      c.self.invariant.len,
-      len-table now_row es,
-      length-slots g.R.Key.RowKey.digits c.self.inside.slots.entries,
-      c.add.ensures.few,
-    )
+    let few =
+    few-rows g.R.Key.RowKey.digits c.self.inside.slots.entries _ c.self.invariant.len c.add.ensures.few in
+    omega arith
 
 pub invariant_of-self-in-None : goal.invariant_of-self-in-None
 invariant_of-self-in-None g c =
