@@ -23,7 +23,7 @@ use Rattle.sheet_core.proofs.Standing.{Stands, Stands-get, any-found, any-from, 
 
 module _ {X : Type 0} where
   -- what the rows that pass add
-  among-added : (added : X → List ℕ) (test : X → Bool) (xs : List X) (p : ℕ)
+  pub among-added : (added : X → List ℕ) (test : X → Bool) (xs : List X) (p : ℕ)
       → is_among (flat_map added (filter test xs)) p ≡ list_any (λ x. test x && is_among (added x) p) xs
   among-added added test [] p = refl
   among-added added test (x ∷ xs) p =
