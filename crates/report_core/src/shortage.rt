@@ -3,7 +3,7 @@ ghost use Rattle.std.specs.Prelude.{◌≡◌, map, IfOk};
 ghost use Rattle.part_core.specs.CatalogueView.{parts_of};
 ghost use Rattle.desk_core.specs.ShopView.{state_of};
 ghost use Rattle.report_core.specs.Lines.{Gives, fields_of, lines_of};
-ghost use Rattle.report_core.specs.Shortage.{shortage_line, shortage_lines};
+ghost use Rattle.report_core.specs.Shortage.{shortage_line, shortage_lines, wants_of};
 
 use crate::fields::{amount_field, name_field, number_field};
 use crate::lines::Report;
@@ -43,6 +43,20 @@ fn shortage_lines(
     Ok(lines)
 }
 
+/// What the build of that number still wants.
+pub fn wants_of(alloc: Global, shop: &Shop, number: u64) -> Result<Vec<Shortage>, AllocError>
+    ensures { IfOk result (λ wants. wants.items ≡ wants_of number (state_of shop.now)) }
+{
+    shortages(
+        alloc,
+        shop.catalogue(),
+        shop.boms(),
+        shop.builds(),
+        shop.allocations(),
+        number,
+    )
+}
+
 /// What the build of that number still wants: for each line of its bill that is counted, in order of number, the line,
 /// its component's name, what is required, what is allocated and what is missing. NoSuch where there is no such build;
 /// one that isn't open has no lines.
@@ -52,14 +66,7 @@ pub fn shortage(alloc: Global, shop: &Shop, number: u64) -> Result<Report, CoreF
     if shop.builds().build(number).is_none() {
         return Err(CoreFault::Refused(Refusal::NoSuch));
     }
-    let rows = shortages(
-        alloc,
-        shop.catalogue(),
-        shop.boms(),
-        shop.builds(),
-        shop.allocations(),
-        number,
-    )?;
+    let rows = wants_of(alloc, shop, number)?;
     let lines = shortage_lines(alloc, shop.catalogue(), rows.as_slice())?;
     Ok(Report::new(lines))
 }
