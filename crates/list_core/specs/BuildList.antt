@@ -3,7 +3,6 @@ use Rattle.std.specs.Prelude.{ℕ, ◌||◌, not, Bool, List, [], ◌∷◌, ◌
 use Rattle.std.specs.FinMap as table
 use Rattle.part_core.specs.Catalogue.{part_in}
 use Rattle.build_core.specs.Builds.{is_open}
-use Rattle.build_core.specs.Shortage.{shortages}
 use Rattle.build_core.specs.declared.build.Build.{Build}
 use Rattle.build_core.specs.declared.shortage.Shortage.{Shortage}
 use Rattle.build_core.specs.declared.state.BuildState.{BuildState}
@@ -14,6 +13,7 @@ use Rattle.list_core.specs.Past.{past_of}
 use Rattle.list_core.specs.declared.past.Subject.TheVariants.{Builds}
 use Rattle.report_core.specs.Fields.{name_of}
 use Rattle.report_core.specs.Lines.{Lines}
+use Rattle.report_core.specs.Shortage.{wants_of}
 
 abbrev pub build_state_name : BuildState → List ℕ
 build_state_name Pending = codes "pending"
@@ -67,10 +67,6 @@ bare_build_row s build =
 abbrev pub build_rows_by : State → Build → List Shortage → Lines
 build_rows_by s build [] = bare_build_row s build ∷ []
 build_rows_by s build (r ∷ rs) = map (build_line_row s build) (r ∷ rs)
-
--- what the build of that number still wants
-abbrev pub wants_of : ℕ → State → List Shortage
-wants_of number s = shortages number s.parts s.bills s.builds s.spent s.allocations
 
 -- a row for each line of its bill that counts, while it is open; else one for the build alone
 abbrev pub build_rows : State → Build → Lines

@@ -27,7 +27,8 @@ use Rattle.build_core.specs.declared.build.Build as builds
 use Rattle.build_core.specs.declared.shortage.Shortage.{Shortage}
 use Rattle.desk_core.specs.Machine.{State}
 use Rattle.list_core.specs.Amounts.{free_of}
-use Rattle.list_core.specs.BuildList.{build_state_name, wants_of}
+use Rattle.list_core.specs.BuildList.{build_state_name}
+use Rattle.report_core.specs.Shortage.{wants_of}
 use Rattle.report_core.specs.Fields.{name_of}
 use Rattle.list_core.specs.ItemList.{where_text}
 use Rattle.list_core.specs.OrderList.{order_state_name, outstanding}

@@ -7,7 +7,7 @@ use Rattle.bom_core.specs.Bills.{part_rows}
 use Rattle.build_core.specs.declared.shortage.Shortage.{Shortage}
 use Rattle.desk_core.specs.Machine.{State}
 use Rattle.list_core.specs.Amounts.{free_amount}
-use Rattle.list_core.specs.BuildList.{wants_of}
+use Rattle.report_core.specs.Shortage.{wants_of}
 use Rattle.report_core.specs.Lines.{Lines}
 
 abbrev pub wants_header : List (List ℕ)

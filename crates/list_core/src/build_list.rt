@@ -9,7 +9,7 @@ ghost use Rattle.desk_core.specs.ShopView.{state_of};
 ghost use Rattle.list_core.specs.Amounts.{free_amount};
 ghost use Rattle.list_core.specs.BuildList.{bare_build_row, build_fields, build_header, build_line_row};
 ghost use Rattle.list_core.specs.FreeAmounts.{AreFree};
-ghost use Rattle.list_core.specs.BuildList.{build_list, build_rows, build_rows_by, build_state_name, wants_of};
+ghost use Rattle.list_core.specs.BuildList.{build_list, build_rows, build_rows_by, build_state_name};
 ghost use Rattle.list_core.specs.Past.{IsPast};
 ghost use Rattle.report_core.specs.Fields.{name_of};
 ghost use Rattle.report_core.specs.Lines.{fields_of, lines_of};
@@ -17,11 +17,12 @@ ghost use Rattle.report_core.specs.Lines.{fields_of, lines_of};
 use crate::free_amounts::{FreeAmount, free_amounts, free_in};
 use crate::past::{Past, Subject, past_fields, past_of};
 use crate::rows::push_empty;
-use build_core::{Build, BuildState, Shortage, shortages};
+use build_core::{Build, BuildState, Shortage};
 use desk_core::Shop;
 use part_core::Sheet;
 use report_core::Report;
 use report_core::fields::{amount_field, name_field, number_field, words_line};
+use report_core::shortage::wants_of;
 use std::alloc::{AllocError, Global};
 use yard_core::rows_in_order;
 
@@ -186,20 +187,6 @@ fn push_rows_by(
         return Ok(());
     }
     push_want_rows(alloc, shop, found, past, build, wants, rows)
-}
-
-/// What the build of that number still wants.
-pub(crate) fn wants_of(alloc: Global, shop: &Shop, number: u64) -> Result<Vec<Shortage>, AllocError>
-    ensures { IfOk result (λ wants. wants.items ≡ wants_of number (state_of shop.now)) }
-{
-    shortages(
-        alloc,
-        shop.catalogue(),
-        shop.boms(),
-        shop.builds(),
-        shop.allocations(),
-        number,
-    )
 }
 
 /// The rows of a build come behind the rows so far.

@@ -20,7 +20,7 @@ ghost use Rattle.report_core.specs.Lines.{fields_of};
 ghost use Rattle.list_core.specs.Ways.{way_text};
 
 use crate::amounts::free_of;
-use crate::build_list::{build_state_name, wants_of};
+use crate::build_list::build_state_name;
 use crate::item_list::where_field;
 use crate::order_list::{order_state_name, outstanding};
 use crate::part_list::{line_words, push_word_if, spaced};
@@ -33,6 +33,7 @@ use part_core::{
     Batch, Field, FieldKind, Flags, Formed, Id, NamedRow, RowKind, Serial, Sheet, Worded,
 };
 use report_core::fields::{name_field, number_field, words_line};
+use report_core::shortage::wants_of;
 use std::alloc::{AllocError, Global};
 use yard_core::Item;
 

@@ -3,17 +3,17 @@ ghost use Rattle.std.specs.Prelude.{◌≡◌, ◌∷◌, [], filter, flat_map, 
 ghost use Rattle.std.specs.FinMap as table;
 ghost use Rattle.sheet_core.specs.Sheet.{now_of};
 ghost use Rattle.desk_core.specs.ShopView.{state_of};
-ghost use Rattle.list_core.specs.BuildList.{wants_of};
 ghost use Rattle.list_core.specs.Gathered.{gathered, gathered_row, is_lacking, want_in, with_row};
 ghost use Rattle.report_core.specs.Lines.{fields_of, lines_of};
+ghost use Rattle.report_core.specs.Shortage.{wants_of};
 ghost use Rattle.list_core.specs.ShortageList.{all_wants, shortage_list, wants_header};
 
 use crate::amounts::{added, free_amount};
-use build_core::{Build, Shortage, shortages};
+use build_core::{Build, Shortage};
 use desk_core::Shop;
 use part_core::{Id, Part, Row, Sheet};
-use report_core::Report;
 use report_core::fields::{amount_field, number_field};
+use report_core::{Report, shortage};
 use std::alloc::{AllocError, Global};
 use yard_core::rows_in_order;
 
@@ -111,14 +111,7 @@ fn wants_of(alloc: Global, shop: &Shop, builds: &[&Build]) -> Result<Sheet<Want>
 {
     let mut wants = Sheet::new(alloc, shop.catalogue().seed());
     for build in builds {
-        let rows = shortages(
-            alloc,
-            shop.catalogue(),
-            shop.boms(),
-            shop.builds(),
-            shop.allocations(),
-            build.number,
-        )?;
+        let rows = shortage::wants_of(alloc, shop, build.number)?;
         gather_all(&mut wants, rows.as_slice())?;
     }
     Ok(wants)

@@ -3,7 +3,7 @@ use Rattle.std.specs.Prelude.{flat_map}
 use Rattle.std.specs.FinMap as table
 use Rattle.sheet_core.specs.Sheet.{now_of}
 use Rattle.desk_core.specs.ShopView.{state_of}
-use Rattle.list_core.specs.BuildList.{wants_of}
+use Rattle.report_core.specs.Shortage.{wants_of}
 use Rattle.list_core.specs.Gathered.{gathered}
 use Rattle.list_core.proofs.shortage_list.wants_of.Given as goal
 
