@@ -1,5 +1,5 @@
 //! What the lines of a build's bill need, and what is missing for them.
-ghost use Rattle.std.specs.Prelude.{◌≡◌, ◌*◌, ◌&&◌, ◌∷◌, [], not, IfOk, Some, None, map};
+ghost use Rattle.std.specs.Prelude.{◌≡◌, ◌*◌, ◌∷◌, [], IfOk, map};
 ghost use Rattle.std.specs.FinMap as table;
 ghost use Rattle.std.specs.List.{list_any};
 ghost use Rattle.part_core.specs.CatalogueView.{parts_of};
@@ -9,9 +9,9 @@ ghost use Rattle.alloc_core.specs.AllocationsView.{allocations_now};
 ghost use Rattle.yard_core.specs.YardView.{stock_of};
 ghost use Rattle.build_core.specs.BuildsView.{builds_now, spent_now};
 ghost use Rattle.build_core.specs.BuildBooks.{build_books};
-ghost use Rattle.build_core.specs.Needs.{has_tracked, is_below_need, is_named_right};
-ghost use Rattle.build_core.specs.Needs.{is_suited, is_tracked, is_untracked, lacks_for_build};
-ghost use Rattle.build_core.specs.Needs.{is_untracked_of, lacks_for_output, line_in, needed_whole, required, required_of, wanted_whole};
+ghost use Rattle.build_core.specs.Needs.{has_tracked, is_lacking, is_named_right, is_needed_by};
+ghost use Rattle.build_core.specs.Needs.{is_suited, is_tracked, is_untracked, is_untracked_of, lacks_for, line_in};
+ghost use Rattle.build_core.specs.Needs.{needed_whole, required, required_of, wanted_whole};
 
 use crate::build::Build;
 use crate::builds::Builds;
@@ -115,8 +115,19 @@ pub fn required(
     }
 }
 
-/// Whether less is allocated for the line than it needs.
-fn is_below_need(
+/// Whether the line is needed there: of the output that is named, or else of the whole build.
+fn is_needed_by(catalogue: &Catalogue, line: &Line, output: Option<Id>) -> bool
+    ensures { result ≡ is_needed_by (parts_of catalogue.now) output line.now }
+{
+    match output {
+        None => is_untracked(catalogue, line),
+        Some(_) => is_tracked(catalogue, line),
+    }
+}
+
+/// Whether the line is needed there, isn't optional, and less is allocated for it than it needs.
+fn is_lacking(
+    catalogue: &Catalogue,
     builds: &Builds,
     allocations: &Allocations,
     yard: &Yard,
@@ -124,107 +135,48 @@ fn is_below_need(
     build: &Build,
     output: Option<Id>,
 ) -> bool
-    ensures { result ≡ is_below_need line.now build.now output (spent_now builds.now)
-        (allocations_now allocations.now) (stock_of yard.now) }
+    ensures { result ≡ is_lacking (parts_of catalogue.now) build.now output
+        (spent_now builds.now) (allocations_now allocations.now) (stock_of yard.now) line.now }
 {
-    let allocated = allocations.allocated_for_line(build.number, line.number, output);
-    allocated < needed(builds, yard, line, build, output)
-}
-
-/// Whether the line is tracked, isn't optional, and less is allocated for it than the output needs.
-fn lacks_tracked(
-    catalogue: &Catalogue,
-    builds: &Builds,
-    allocations: &Allocations,
-    yard: &Yard,
-    line: &Line,
-    build: &Build,
-    output: Id,
-) -> bool
-    ensures { result ≡ (is_tracked (parts_of catalogue.now) line.now
-        && not line.now.flags.optional && is_below_need line.now build.now (Some output)
-        (spent_now builds.now) (allocations_now allocations.now) (stock_of yard.now)) }
-{
-    is_tracked(catalogue, line)
+    is_needed_by(catalogue, line, output)
         && !line.flags.optional
-        && is_below_need(builds, allocations, yard, line, build, Some(output))
+        && allocations.allocated_for_line(build.number, line.number, output)
+            < needed(builds, yard, line, build, output)
 }
 
-/// Whether the line is neither tracked nor optional, and less is allocated for it than the build needs.
-fn lacks_untracked(
-    catalogue: &Catalogue,
-    builds: &Builds,
-    allocations: &Allocations,
-    yard: &Yard,
-    line: &Line,
-    build: &Build,
-) -> bool
-    ensures { result ≡ (is_untracked (parts_of catalogue.now) line.now
-        && not line.now.flags.optional && is_below_need line.now build.now None
-        (spent_now builds.now) (allocations_now allocations.now) (stock_of yard.now)) }
-{
-    is_untracked(catalogue, line)
-        && !line.flags.optional
-        && is_below_need(builds, allocations, yard, line, build, None)
-}
-
-/// Whether one of the lines lacks something for the output.
-fn any_lacks_tracked(
+/// Whether one of the lines lacks something for the output that is named, or else for the whole build.
+fn any_lacking(
     catalogue: &Catalogue,
     builds: &Builds,
     allocations: &Allocations,
     yard: &Yard,
     lines: &[&Line],
     build: &Build,
-    output: Id,
+    output: Option<Id>,
 ) -> bool
-    ensures { result ≡ list_any (λ l. is_tracked (parts_of catalogue.now) l
-        && not l.flags.optional && is_below_need l build.now (Some output)
-        (spent_now builds.now) (allocations_now allocations.now) (stock_of yard.now)) (map (λ l. l.now) lines.now) }
+    ensures { result ≡ list_any (is_lacking (parts_of catalogue.now) build.now output
+        (spent_now builds.now) (allocations_now allocations.now) (stock_of yard.now))
+        (map (λ l. l.now) lines.now) }
 {
-    lines.iter().any(|line| lacks_tracked(
-        catalogue,
-        builds,
-        allocations,
-        yard,
-        line,
-        build,
-        output,
-    ))
+    lines.iter().any(|line| is_lacking(catalogue, builds, allocations, yard, line, build, output))
 }
 
-/// Whether one of the lines lacks something for the build.
-fn any_lacks_untracked(
-    catalogue: &Catalogue,
-    builds: &Builds,
-    allocations: &Allocations,
-    yard: &Yard,
-    lines: &[&Line],
-    build: &Build,
-) -> bool
-    ensures { result ≡ list_any (λ l. is_untracked (parts_of catalogue.now) l
-        && not l.flags.optional && is_below_need l build.now None
-        (spent_now builds.now) (allocations_now allocations.now) (stock_of yard.now)) (map (λ l. l.now) lines.now) }
-{
-    lines.iter().any(|line| lacks_untracked(catalogue, builds, allocations, yard, line, build))
-}
-
-/// Whether a tracked line that isn't optional is allocated below its need for the output. An error is one of
-/// memory.
-pub(crate) fn lacks_for_output(
+/// Whether a line that isn't optional is allocated below its need: a tracked one below its need for the output that is
+/// named, or, where none is, an untracked one below its need for the whole build. An error is one of memory.
+pub(crate) fn lacks_for(
     catalogue: &Catalogue,
     boms: &Boms,
     builds: &Builds,
     floor: &Floor,
     build: &Build,
-    output: Id,
+    output: Option<Id>,
 ) -> Result<bool, AllocError>
-    ensures { IfOk result (λ lacks. lacks ≡ lacks_for_output
+    ensures { IfOk result (λ lacks. lacks ≡ lacks_for
         (parts_of catalogue.now) (bills_of boms.now) build.now output
         (build_books builds.now floor.now)) }
 {
     let lines = boms.effective(catalogue, build.part)?;
-    Ok(any_lacks_tracked(
+    Ok(any_lacking(
         catalogue,
         builds,
         &floor.allocations,
@@ -232,29 +184,6 @@ pub(crate) fn lacks_for_output(
         lines.as_slice(),
         build,
         output,
-    ))
-}
-
-/// Whether an untracked line that isn't optional is allocated below its need. An error is one of memory.
-pub(crate) fn lacks_for_build(
-    catalogue: &Catalogue,
-    boms: &Boms,
-    builds: &Builds,
-    floor: &Floor,
-    build: &Build,
-) -> Result<bool, AllocError>
-    ensures { IfOk result (λ lacks. lacks ≡ lacks_for_build
-        (parts_of catalogue.now) (bills_of boms.now) build.now
-        (build_books builds.now floor.now)) }
-{
-    let lines = boms.effective(catalogue, build.part)?;
-    Ok(any_lacks_untracked(
-        catalogue,
-        builds,
-        &floor.allocations,
-        &floor.stock.yard,
-        lines.as_slice(),
-        build,
     ))
 }
 
