@@ -234,6 +234,17 @@ impl Builds {
         self.rows.put(row)
     }
 
+    /// A copy of a build. An error is one of memory.
+    fn copy_of(&self, number: Id) -> Result<Build, AllocError>
+        requires there { IsThere (builds_now self.now) number }
+        ensures { IfOk result (λ row. row ≡ build_in number (builds_now self.now)) }
+    {
+        let Some(build) = self.rows.get(number) else {
+            unreachable!()
+        };
+        build.copy(self.alloc)
+    }
+
     /// A build gets another state. An error is one of memory.
     pub(crate) fn set_state(&mut self, number: Id, state: BuildState) -> Result<(), AllocError>
         requires there { IsThere (builds_now self.old) number }
@@ -244,10 +255,7 @@ impl Builds {
         ensures before { builds_before self.new ≡ builds_before self.old }
         ensures spent_before { spent_before self.new ≡ spent_before self.old }
     {
-        let Some(build) = self.rows.get(number) else {
-            unreachable!()
-        };
-        let mut row = build.copy(self.alloc)?;
+        let mut row = self.copy_of(number)?;
         row.state = state;
         self.rows.put(row)
     }
@@ -263,10 +271,7 @@ impl Builds {
         ensures before { builds_before self.new ≡ builds_before self.old }
         ensures spent_before { spent_before self.new ≡ spent_before self.old }
     {
-        let Some(build) = self.rows.get(number) else {
-            unreachable!()
-        };
-        let mut row = build.copy(self.alloc)?;
+        let mut row = self.copy_of(number)?;
         row.done += more;
         self.rows.put(row)
     }
