@@ -1,10 +1,10 @@
 -- An amount that is taken of a loose item: the other rows stay, what is left or taken is no higher, and outputs stay.
 use Rattle.std.proofs.Common.{◌≡◌, ◌⊎◌, inl, inr, ℕ, ◌+◌, ◌-◌, ◌≤◌, Bool, true, false, []}
-use Rattle.std.proofs.Common.{◌∷◌, Option, Some, None, refl, sym, ap, ◌∙◌, arith, eqb-true}
+use Rattle.std.proofs.Common.{◌∷◌, List, Option, Some, None, refl, sym, ap, ◌∙◌, arith, eqb-true}
 use Rattle.std.specs.Prelude.{◌==◌, if◌then◌else◌}
 use Rattle.std.specs.FinMap as table
 use Rattle.std.proofs.lemmas.Bool.{ltb-true}
-use Rattle.part_core.specs.Catalogue.{Parts}
+use Rattle.part_core.specs.Catalogue.{Parts, family}
 use Rattle.word_core.specs.Day.{CivilDay}
 use Rattle.sheet_core.specs.Sheet.{Table}
 use Rattle.sheet_core.proofs.RowLemmas.{right-none, right-number}
@@ -18,12 +18,13 @@ use Rattle.yard_core.proofs.Items.{outside}
 use Rattle.yard_core.proofs.Keeping.{is_cut_off, leaf_at}
 use Rattle.yard_core.proofs.Quiet.{leaves-changed, leaves-more, leaves-new, leaves-none}
 use Rattle.yard_core.proofs.QuietMoves.{at-quiet, left-quiet}
-use Rattle.yard_core.proofs.Rows.{get-other, get-own}
+use Rattle.yard_core.proofs.Rows.{get-other}
 use Rattle.stock_core.specs.ItemTests.{has_more}
 use Rattle.stock_core.specs.Sound.{Owners}
 use Rattle.stock_core.specs.Steps.{cut_off, take}
+use Rattle.stock_core.proofs.Kept.{IsFree}
 use Rattle.stock_core.proofs.Plain.{IsPlain, item-at, item_of, refilled}
-use Rattle.stock_core.proofs.Steps.{can-cut, serial-one}
+use Rattle.stock_core.proofs.Steps.{can-cut, piece, piece-cut, serial-one, smaller-cut}
 use Rattle.stock_core.proofs.Taking.{there-loose}
 use Rattle.stock_core.proofs.Upright.{Upright}
 use Rattle.build_core.proofs.Roots.{same-height, tree-cut}
@@ -87,14 +88,11 @@ module _ (owners : Owners) (parts : Parts) (n q : ℕ) (day : CivilDay) (b : Sto
     abbrev smaller : Item
     smaller = refilled (x.quantity - q) x
 
+    no_serial : (t : List ℕ) → None ≡ Some t → IsFree parts (family x.part parts) t s.items
+    no_serial t none = cc
+
     abbrev part : Item
-    part = record {
-      number = m;
-      part = x.part;
-      lot = record { batch = x.lot.batch; serial = None; status = x.lot.status };
-      quantity = q;
-      place = x.place;
-    }
+    part = piece owners parts b up n is_there q None can no_serial
 
     abbrev rest : Table Item
     rest = table.insert s.items (x.number ∷ []) smaller
@@ -110,12 +108,10 @@ module _ (owners : Owners) (parts : Parts) (n q : ℕ) (day : CivilDay) (b : Sto
             cc
 
     row-part : table.get after.stock.items (m ∷ []) ≡ Some part
-    row-part = get-own m part rest
+    row-part = piece-cut owners parts b up n is_there q None can no_serial day
 
     row-smaller : table.get after.stock.items (n ∷ []) ≡ Some smaller
-    row-smaller =
-        get-other m n part rest (turned n m is_other)
-        ∙ ap (λ k. table.get rest (k ∷ [])) (sym own) ∙ get-own x.number smaller s.items
+    row-smaller = smaller-cut owners parts b up n is_there q None can no_serial day
 
     row-other : (k : ℕ) → (k == n) ≡ false → (k == m) ≡ false
         → table.get after.stock.items (k ∷ []) ≡ table.get s.items (k ∷ [])
