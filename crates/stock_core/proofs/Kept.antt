@@ -46,13 +46,7 @@ changed_to status quantity place x =
 
 -- an item with another serial
 abbrev with_serial : Option (List ℕ) → Item → Item
-with_serial o x = record {
-  number = x.number;
-  part = x.part;
-  lot = record { batch = x.lot.batch; serial = o; status = x.lot.status };
-  quantity = x.quantity;
-  place = x.place;
-}
+with_serial o x = record x { lot = record x.lot { serial = o } }
 
 -- what is loose isn't gone
 pub stays-loose : (l : Place) → is_at l ≡ true → is_gone l ≡ false
