@@ -1,12 +1,12 @@
 -- Orders stay sound beside what changes elsewhere: the stock, the allocations of others, the numbers that are drawn.
-use Rattle.std.proofs.Common.{◌≡◌, ℕ, ◌≤◌, Bool, true, List, [], ◌∷◌, Some, refl, sym, ap, subst, arith}
-use Rattle.std.specs.Prelude.{unwrap_or, ◌==◌}
+use Rattle.std.proofs.Common.{◌≡◌, ℕ, ◌+◌, ◌≤◌, Bool, true, List, [], ◌∷◌, Some, refl, sym, ap, ◌∙◌, subst, arith}
+use Rattle.std.specs.Prelude.{filter, unwrap_or, ◌==◌}
 use Rattle.std.specs.FinMap as table
 use Rattle.part_core.specs.Catalogue.{Parts}
 use Rattle.word_core.specs.Counter.{Numbering}
 use Rattle.sheet_core.specs.Rows.{StayThere}
 use Rattle.sheet_core.specs.Sheet.{Table}
-use Rattle.sheet_core.proofs.RowLemmas.{each-empty, right-empty, right-later}
+use Rattle.sheet_core.proofs.RowLemmas.{each-empty, right-empty}
 use Rattle.sheet_core.specs.TableRows.{without_rows}
 use Rattle.alloc_core.specs.AllocMachine as alloc
 use Rattle.alloc_core.specs.Allocations.{is_for_sale, is_for_sale_line, sum_where}
@@ -28,16 +28,16 @@ use Rattle.order_core.specs.Orders.{OrderBooks}
 use Rattle.order_core.specs.Sound.{AreSoundOrders, IsSoundLine, IsSoundPurpose}
 use Rattle.order_core.specs.declared.line.OrderLine.{OrderLine}
 use Rattle.order_core.specs.declared.order.Order.{Order}
-use Rattle.order_core.proofs.Kept.{lines-same, part-stays, purpose-kept}
+use Rattle.order_core.proofs.Kept.{lines-drawn, lines-same, orders-drawn, part-stays, purpose-kept}
 
 -- what a command on stock, or on builds, does to the stock
 pub orders-beside : (parts : Parts) (b : OrderBooks) (c : StockBooks) → Grows b.books c
     → AreSoundAllocations b.allocations b.books → AreSoundOrders parts b → AreSoundOrders parts (record b { books = c })
 orders-beside parts b c grows held sound = record {
   orders =
-      right-later (λ (o : Order). o.number) b.books.counter.next c.counter.next b.orders grows.numbers sound.orders;
+      orders-drawn b.books.counter.next c.counter.next b.orders grows.numbers sound.orders;
   lines =
-      right-later (λ (l : OrderLine). l.number) b.books.counter.next c.counter.next b.lines grows.numbers sound.lines;
+      lines-drawn b.books.counter.next c.counter.next b.lines grows.numbers sound.lines;
   each_line =
       λ k l at. let h = sound.each_line k l at in
       record { order = h.order; part = h.part; some = h.some; fits = h.fits; needed = h.needed };
@@ -69,9 +69,9 @@ module _ (parts : Parts) (b : OrderBooks) (allocations : Table Allocation) (c : 
   orders-beside_builds : AreSoundOrders parts after
   orders-beside_builds = record {
     orders =
-        right-later (λ (o : Order). o.number) b.books.counter.next c.counter.next b.orders grows.numbers sound.orders;
+        orders-drawn b.books.counter.next c.counter.next b.orders grows.numbers sound.orders;
     lines =
-        right-later (λ (l : OrderLine). l.number) b.books.counter.next c.counter.next b.lines grows.numbers sound.lines;
+        lines-drawn b.books.counter.next c.counter.next b.lines grows.numbers sound.lines;
     each_line = λ k l at.
         let h = sound.each_line k l at in
         record {
@@ -88,6 +88,14 @@ pub sound-beside_builds : SoundBesideBuilds
 sound-beside_builds parts b allocations books held grows none sound =
     orders-beside_builds parts b allocations books grows held none sound
 
+-- what allocations that go have of a sum, and what the others have, is what all had
+pub sum-without : (mine test : Allocation → Bool) (t : Table Allocation)
+    → sum_where mine (filter test (table.values t)) + sum_where mine (table.values (without_rows test t))
+    ≡ sum_where mine (table.values t)
+sum-without mine test t =
+    ap (λ xs. sum_where mine (filter test (table.values t)) + sum_where mine xs) (values-without test t)
+    ∙ sum-split mine test (table.values t)
+
 -- some allocations go
 pub orders-without : (parts : Parts) (b : OrderBooks) (test : Allocation → Bool) → AreSoundOrders parts b
     → AreSoundOrders parts (record b { allocations = without_rows test b.allocations })
@@ -103,12 +111,7 @@ orders-without parts b test sound =
             part = h.part;
             some = h.some;
             fits = h.fits;
-            needed = omega (
-              arith,
-              h.needed,
-              ap (sum_where mine) (values-without test b.allocations),
-              sum-split mine test (table.values b.allocations),
-            );
+            needed = omega (arith, h.needed, sum-without mine test b.allocations);
           };
       each_sale =
           λ k a at. purpose-kept b after a.item a.purpose (λ order m is. refl) (lines-same b.lines) refl
@@ -130,8 +133,8 @@ pub orders-later : (old new : Parts) (b : OrderBooks) (counter : Numbering) → 
     → AreSoundOrders new (record b { books = record { stock = b.books.stock; counter = counter } })
 orders-later old new b counter stay le sound =
     let after : OrderBooks = record b { books = record { stock = b.books.stock; counter = counter } } in record {
-      orders = right-later (λ (o : Order). o.number) b.books.counter.next counter.next b.orders le sound.orders;
-      lines = right-later (λ (l : OrderLine). l.number) b.books.counter.next counter.next b.lines le sound.lines;
+      orders = orders-drawn b.books.counter.next counter.next b.orders le sound.orders;
+      lines = lines-drawn b.books.counter.next counter.next b.lines le sound.lines;
       each_line = λ k l at.
           let h = sound.each_line k l at in
           record { order = h.order; part = stay (l.part ∷ []) h.part; some = h.some; fits = h.fits; needed = h.needed };
@@ -146,8 +149,8 @@ pub orders-items : (parts : Parts) (b : OrderBooks) (c : StockBooks) → c.stock
     → AreSoundOrders parts (record b { books = c })
 orders-items parts b c same le sound =
     let after : OrderBooks = record b { books = c } in record {
-      orders = right-later (λ (o : Order). o.number) b.books.counter.next c.counter.next b.orders le sound.orders;
-      lines = right-later (λ (l : OrderLine). l.number) b.books.counter.next c.counter.next b.lines le sound.lines;
+      orders = orders-drawn b.books.counter.next c.counter.next b.orders le sound.orders;
+      lines = lines-drawn b.books.counter.next c.counter.next b.lines le sound.lines;
       each_line =
           λ k l at. let h = sound.each_line k l at in
           record { order = h.order; part = h.part; some = h.some; fits = h.fits; needed = h.needed };

@@ -1,9 +1,10 @@
 -- What is asked of allocations for sales holds on, where lines and items stay of their orders and parts.
-use Rattle.std.proofs.Common.{◌≡◌, ℕ, true, [], ◌∷◌, Option, Some, refl, sym, ap, ◌∙◌}
+use Rattle.std.proofs.Common.{◌≡◌, ℕ, ◌≤◌, true, [], ◌∷◌, Option, Some, refl, sym, ap, ◌∙◌}
 use Rattle.std.specs.Prelude.{unwrap_or}
 use Rattle.std.specs.FinMap as table
+use Rattle.sheet_core.specs.Rows.{StandRight}
 use Rattle.sheet_core.specs.Sheet.{Table}
-use Rattle.sheet_core.proofs.RowLemmas.{row_there, there}
+use Rattle.sheet_core.proofs.RowLemmas.{right-later, row_there, there}
 use Rattle.alloc_core.specs.declared.purpose.Purpose.{Purpose}
 use Rattle.alloc_core.specs.declared.purpose.Purpose.TheVariants.{Sale, Build}
 use Rattle.yard_core.specs.Stock.{Stock, item_at}
@@ -16,6 +17,7 @@ use Rattle.word_core.specs.Side.{is_sale}
 use Rattle.order_core.specs.Orders.{OrderBooks, is_in_progress, line_at, no_line, order_at}
 use Rattle.order_core.specs.Sound.{IsSoundPurpose, IsSoundSale}
 use Rattle.order_core.specs.declared.line.OrderLine.{OrderLine}
+use Rattle.order_core.specs.declared.order.Order.{Order}
 
 -- each line that was there is there, of its order and of its part
 abbrev pub LinesStay : Table OrderLine → Table OrderLine → Type 0
@@ -28,6 +30,16 @@ lines-same t n l e = (l, e, refl, refl)
 
 abbrev pub line_of : Option OrderLine → OrderLine
 line_of o = unwrap_or o no_line
+
+-- as more numbers are drawn, orders stand under their own numbers still
+pub orders-drawn : (next more : ℕ) (t : Table Order) → next ≤ more → StandRight (λ (o : Order). o.number) next t
+    → StandRight (λ (o : Order). o.number) more t
+orders-drawn = right-later (λ (o : Order). o.number)
+
+-- and so do their lines
+pub lines-drawn : (next more : ℕ) (t : Table OrderLine) → next ≤ more
+    → StandRight (λ (l : OrderLine). l.number) next t → StandRight (λ (l : OrderLine). l.number) more t
+lines-drawn = right-later (λ (l : OrderLine). l.number)
 
 -- the part of a loose item stays
 pub part-stays : (old new : Stock) → PartsStay old new → (n : ℕ) → is_at (item_at n old).place ≡ true

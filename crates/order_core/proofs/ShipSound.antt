@@ -10,19 +10,18 @@ use Rattle.sheet_core.specs.Rows.{EachRow}
 use Rattle.word_core.specs.declared.refusal.Refusal.TheVariants.{NoSuch, Full}
 use Rattle.word_core.proofs.CheckLemmas.{NoneHolds, none-holds}
 use Rattle.sheet_core.proofs.Conditions.{some-there, turned}
-use Rattle.sheet_core.proofs.RowLemmas.{right-later, right-number}
+use Rattle.sheet_core.proofs.RowLemmas.{right-number}
 use Rattle.forest.specs.declared.item.Item.{Item}
 use Rattle.forest.specs.declared.place.Place.TheVariants.{Sent}
 use Rattle.forest.specs.Forest.{row_of}
 use Rattle.forest.specs.Moves.{lifted_root}
-use Rattle.alloc_core.specs.Allocations.{is_for_sale_line, is_owned, sum_where}
+use Rattle.alloc_core.specs.Allocations.{is_for_sale_line, is_owned}
 use Rattle.alloc_core.specs.declared.allocation.Allocation.{Allocation}
 use Rattle.alloc_core.specs.declared.purpose.Owner.{Owner}
 use Rattle.alloc_core.specs.declared.purpose.Owner.TheVariants as owner
 use Rattle.alloc_core.proofs.Covers.{IsCovered, covered-of, covered-split}
 use Rattle.alloc_core.proofs.Sound.{sound-served}
-use Rattle.alloc_core.proofs.Sums.{sum-split}
-use Rattle.sheet_core.proofs.TableRows.{get-without, values-without}
+use Rattle.sheet_core.proofs.TableRows.{get-without}
 use Rattle.yard_core.specs.StockBooks.{StockBooks}
 use Rattle.yard_core.specs.Stock.{item_at, tree_of}
 use Rattle.yard_core.specs.Outputs.{LeavesOutputs}
@@ -42,8 +41,8 @@ use Rattle.order_core.specs.Orders.{OrderBooks, owners_beside}
 use Rattle.order_core.specs.Ship.{delivered, sale_rows, sent_for, ship, ship_checks}
 use Rattle.order_core.specs.Sound.{AreSoundBooks, AreSoundOrders, IsSoundLine}
 use Rattle.order_core.specs.declared.line.OrderLine.{OrderLine}
-use Rattle.order_core.specs.declared.order.Order.{Order}
-use Rattle.order_core.proofs.Kept.{LinesStay, part-stays, purpose-kept}
+use Rattle.order_core.proofs.Kept.{LinesStay, lines-drawn, orders-drawn, part-stays, purpose-kept}
+use Rattle.order_core.proofs.Beside.{sum-without}
 use Rattle.sheet_core.proofs.Mapped.{get-mapped, right-mapped, row-mapped}
 
 -- an item that was taken goes to the customer
@@ -143,23 +142,15 @@ module _ (is_build : ℕ → Bool) (parts : Parts) (n : ℕ) (day : CivilDay) (b
         part = h.part;
         some = h.some;
         fits = h.fits;
-        needed = omega (
-          arith,
-          h.needed,
-          ap (sum_where test) (values-without (is_owned own) b.allocations),
-          sum-split test (is_owned own) all,
-        );
+        needed = omega (arith, h.needed, sum-without test (is_owned own) b.allocations);
       } in
       subst (IsSoundLine parts after) (sym was.2) now
 
   orders : AreSoundOrders parts after
   orders = record {
     orders =
-        right-later (λ (o : Order). o.number) b.books.counter.next after.books.counter.next b.orders stock.1.numbers
-        sound.orders.orders;
-    lines =
-        right-later (λ (l : OrderLine). l.number) b.books.counter.next after.books.counter.next after.lines
-        stock.1.numbers
+        orders-drawn b.books.counter.next after.books.counter.next b.orders stock.1.numbers sound.orders.orders;
+    lines = lines-drawn b.books.counter.next after.books.counter.next after.lines stock.1.numbers
         (right-mapped (delivered (sale_rows n b)) (λ (l : OrderLine). l.number) (λ l. refl) b.books.counter.next b.lines
         sound.orders.lines);
     each_line = each-line;
