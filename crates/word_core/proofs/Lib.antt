@@ -4,3 +4,4 @@ pub mod DayText
 pub mod FlagWords
 pub mod JoinedForms
 pub mod CheckLemmas
+pub mod Appending

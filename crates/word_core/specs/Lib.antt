@@ -13,6 +13,7 @@ pub mod Numbered
 pub mod Pattern
 pub mod Quantity
 pub mod Refusal
+pub mod Sending
 pub mod Serial
 pub mod Serials
 pub mod Side

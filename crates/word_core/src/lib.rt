@@ -1,5 +1,6 @@
 //! What commands say and are answered: numbers, quantities, texts, lists of serials, days, flags and so on, each within
-//! its limits; refusals and the order of checks; the forms of commands; and the counter.
+//! its limits; refusals and the order of checks; the forms of commands; and the counter. Beside them stand whole
+//! writes.
 //!
 //! What the calls promise, with the clauses that say it:
 //!
@@ -7,6 +8,7 @@
 //!   one.
 //! - `Formed`, the trait of commands: a command's fields fill its form (`fills`) and make it again (`back`), whatever
 //!   fills a form is a command (`made`), and no member stands twice (`distinct`).
+//! - `write_whole`, `send`: write a text whole (`whole`), after a fault a front of it (`front`: `Sending.AppendsFront`).
 #![tactic(auto)]
 
 mod answer;
@@ -22,6 +24,7 @@ mod number;
 mod pattern;
 mod quantity;
 mod refusal;
+mod sending;
 mod serial;
 mod serials;
 mod side;
@@ -41,6 +44,7 @@ pub use limits::{Limits, MOST};
 pub use number::{is_drawn, is_same_number};
 pub use quantity::{LARGEST, Quantity, is_bad_quantity};
 pub use refusal::{CoreFault, Refusal};
+pub use sending::{WriteFailed, flush, send, write_whole};
 pub use serial::{Serial, Serials, are_serial};
 pub use serials::{SerialFault, read_serials, serial_range};
 pub use side::Side;
