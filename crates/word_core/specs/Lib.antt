@@ -8,6 +8,7 @@ pub mod FormLaws
 pub mod FormTables
 pub mod Forms
 pub mod JoinedForms
+pub mod Kinds
 pub mod Named
 pub mod Numbered
 pub mod Pattern

@@ -1,6 +1,6 @@
 //! What commands say and are answered: numbers, quantities, texts, lists of serials, days, flags and so on, each within
-//! its limits; refusals and the order of checks; the forms of commands; and the counter. Beside them stand whole
-//! writes.
+//! its limits; refusals and the order of checks; the forms of commands; and the counter. Beside them stand the names of
+//! reports and of the kinds of imports, which files, lines and requests say alike, and whole writes.
 //!
 //! What the calls promise, with the clauses that say it:
 //!
@@ -19,6 +19,7 @@ mod fields;
 mod flags;
 mod form;
 mod formed;
+mod kinds;
 mod limits;
 mod number;
 mod pattern;
@@ -40,6 +41,7 @@ pub use fields::Fields;
 pub use flags::{Flag, Flags, NO_FLAGS};
 pub use form::{Form, form_in};
 pub use formed::Formed;
+pub use kinds::{ImportKind, ReportName, import_kind_named, report_named};
 pub use limits::{Limits, MOST};
 pub use number::{is_drawn, is_same_number};
 pub use quantity::{LARGEST, Quantity, is_bad_quantity};
