@@ -121,7 +121,12 @@ fn files_have_the_same_bytes(rt: HostRuntime) -> Result<(), Fail> {
     let first = files(alloc, Seed::new(0))?;
     let second = files(alloc, Seed::new(7))?;
     let (log, db) = (first.log.bytes(), first.db.bytes());
-    assert!(rt; log.len() + db.len() > 65536, "{} and {}", log.len(), db.len());
+    assert!(rt;
+        log.len() + db.len() > 65536,
+        "{} and {}",
+        log.len(),
+        db.len()
+    );
     assert!(rt; log == second.log.bytes());
     assert!(rt; db == second.db.bytes());
     Ok(())
